@@ -18,7 +18,7 @@ from ..program import Converted, Failed, Program
 from ..readings.unnamed import copy_of_some
 from ..terminal import spelled
 from ..units import Offset
-from .outcomes import Fate, Row
+from .outcomes import Ended, Fate, Row
 from .steps import Contents, Opened
 
 CHANGED_MEANWHILE = "it changed in the meantime: stop the program that writes to it, and run this again"
@@ -108,9 +108,9 @@ class Conversion:
         says = [with_call(str(failed)), cause, "%d of %d messages are there" % (sum(there), len(whole))]
         return Left("; ".join(filter(None, says)), Reason.CONVERT_FAILED)
 
-    def settled(self, row: Row, fault: Optional[OSError]) -> Row:
-        """The row of a mailbox that was verified, once its disk was synced and that is noted, or with what failed."""
-        verified, row = row.verified, replace(row, verified=None)
+    def settled(self, ended: Ended, fault: Optional[OSError]) -> Row:
+        """The row of a mailbox, once its disk was synced and that is noted if it was verified, or with what failed."""
+        row, verified = ended
         if verified is None:
             return row
         try:

@@ -24,7 +24,7 @@ from ..readings.unnamed import unnamed
 from ..units import Say, silent
 from .answers import note_no_mail
 from .converting import Conversion
-from .outcomes import BY_NO_MAIL, Fate, Row, row_left
+from .outcomes import BY_NO_MAIL, Ended, Fate, Row, row_left
 from .postponed import prepared_in
 from .preparing import FirstPass, LastPass
 from .replica import has_failed, is_free, is_prepared, note_begun, reader_in, take_back
@@ -56,28 +56,30 @@ class Migration:
         need."""
         self.record.write, self.want_room, self.program.alive = parent.write, parent.want_room, parent.number
 
-    def run(self, path: bytes, name: bytes, say: Say = silent, follow: bool = False, why: Optional[Left] = None) -> Row:
+    def run(
+        self, path: bytes, name: bytes, say: Say = silent, follow: bool = False, why: Optional[Left] = None
+    ) -> Ended:
         """Migrates a mailbox into the folder of this name. `say` takes the progress. If `why` is a reason why not, a
         mailbox with mail is left for that reason."""
         try:
             if is_no_mail(path):
-                return Row(path, b"", "", None, Fate.NO_MAIL)
+                return Ended(Row(path, b"", "", None, Fate.NO_MAIL))
             row = self.row_unchanged(path, name, say) if self.how.prepare and not why else None
             if row:
-                return row
+                return Ended(row)
             with self.opened(path, say, follow, not (why or self.how.now)) as mailbox:
                 opened = Opened.into(self.root, name, mailbox)
                 try:
-                    return self.judge(opened, why) if why else self.migrate(opened)
+                    return Ended(self.judge(opened, why)) if why else self.migrate(opened)
                 except OtherKind as left:
                     if self.how.is_spared(path, not isinstance(left, NotKnown)):
-                        return self.spare(opened, left.kind)
+                        return Ended(self.spare(opened, left.kind))
                     left.put(self.how.where(self.root, opened))
                     raise
         except NoMail as found:
-            return Row(path, b"", found.kind, None, Fate.NO_MAIL)
+            return Ended(Row(path, b"", found.kind, None, Fate.NO_MAIL))
         except (Fault, OSError) as fault:
-            return row_left(path, name, fault)
+            return Ended(row_left(path, name, fault))
 
     def row_unchanged(self, path: bytes, name: bytes, say: Say) -> Optional[Row]:
         """The row of a mailbox that is prepared, and whose file has not changed since."""
@@ -107,12 +109,12 @@ class Migration:
             note_no_mail(self.record, opened.mailbox)
         return Row(opened.mailbox.path, b"", kind, None, Fate.NO_MAIL, remarks=(BY_NO_MAIL,))
 
-    def migrate(self, opened: Opened, making: Optional[Making] = None) -> Row:
+    def migrate(self, opened: Opened, making: Optional[Making] = None) -> Ended:
         """Does what is left to do, and returns what became of the mailbox."""
         if not self.how.is_labelled and line_of(self.record, opened.mailbox):
             undo = replace(self.how, is_labelled=True).undo(self.root, opened)
             left = Left(WITH_LABELS, Reason.ANOTHER_READING, (Answer(undo),))
-            return row_left(opened.mailbox.path, b"", left, None, opened.mailbox.size)
+            return Ended(row_left(opened.mailbox.path, b"", left, None, opened.mailbox.size))
         verified, ledger, self.kept = self.verified[opened.name], self.kept, None
         if not ledger or ledger.folder != opened.folder:
             ledger = Ledger(opened.folder, verified)
@@ -121,12 +123,12 @@ class Migration:
         else:
             transfer = transfer_of(self.conversion, self.how, opened, ledger, verified)
         transfer.want_room = self.want_room
-        row = transfer.run()
-        if row.verified and row.verified.batch:
-            verified[row.verified.batch] = row.verified.names
-            ledger.end(row.verified.batch, row.verified.names)
-        self.kept = None if row.fate is Fate.LEFT else ledger
-        return row
+        ended = Ended(transfer.run(), transfer.verified)
+        if ended.verified and ended.verified.batch:
+            verified[ended.verified.batch] = ended.verified.names
+            ledger.end(ended.verified.batch, ended.verified.names)
+        self.kept = None if ended.row.fate is Fate.LEFT else ledger
+        return ended
 
 
 def transfer_of(conversion: Conversion, how: How, opened: Opened, ledger: Ledger, verified: Container[int]) -> Transfer:

@@ -1,7 +1,7 @@
 """What became of a mailbox, and who is told of it."""
 import enum
 from dataclasses import dataclass, replace
-from typing import Optional, Union
+from typing import NamedTuple, Optional, Union
 
 from ..faults import Fault, Left, Reason, next_of, reason_of_fault, why_left
 from ..ledger.record import Verified
@@ -47,8 +47,6 @@ class Row:
     reason: Optional[Reason] = None
     # how many bytes it has, if that is known
     size: Optional[int] = None
-    # what is known of a mailbox that is done, until that is on the disk and in the record
-    verified: Optional[Verified] = None
     # what else is to be said of it, the lines of mail that are shown, and what is to be done next
     remarks: tuple[Remark, ...] = ()
     quotes: tuple[Quote, ...] = ()
@@ -76,6 +74,18 @@ class Row:
         if self.fate == Fate.NO_MAIL:
             return BY_NO_MAIL in self.remarks
         return self.fate not in (Fate.BEFORE, Fate.WHOLE) or bool(self.says)
+
+
+class Ended(NamedTuple):
+    """What became of a mailbox and, if it was verified, what is to be noted of it once its disk was synced."""
+
+    row: Row
+    verified: Optional[Verified] = None
+
+    @property
+    def maildirs(self) -> list[bytes]:
+        """The folders whose disks are to be synced."""
+        return [self.verified.folder] if self.verified else []
 
 
 class Observer:

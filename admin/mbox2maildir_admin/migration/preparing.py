@@ -25,7 +25,7 @@ from ..maildir.mounts import want_syncs
 from ..nexts import Does, Next, Remark
 from ..progress import Spent
 from ..readings.plans import Plan
-from ..readings.reading import UNDECIDED, Reading
+from ..readings.reading import Reading
 from ..readings.texts import Choice
 from ..terminal import named
 from ..units import Place, counted
@@ -233,7 +233,7 @@ class FirstPass(LastPass):
         if not choice.plan.messages:
             if not self.how.dry:
                 self.clear()
-            return self.row_prepared(choice.plan, None)
+            return self.row_prepared(choice.plan)
         self.remarks += want_syncs(self.opened.folder, self.how.any_disk)
         with self.read(choice) as contents:
             match = self.matched(contents)
@@ -244,14 +244,14 @@ class FirstPass(LastPass):
         """Places what is nowhere, and verifies all."""
         reading, placing, prepared = self.passed(), self.placing(match), self.prepared
         if self.how.dry:
-            return self.row_prepared(choice.plan, None)
+            return self.row_prepared(choice.plan)
         note_answer(self.record, self.opened, choice.plan)
         origin = self.origin(contents)
         is_same = prepared.is_whole and len(match.need) == 0 and prepared.count() == len(prepared.table)
         if is_same and prepared.origin and prepared.origin.key == origin.key:
             self.is_changed = False
             note_state(prepared, origin)
-            return self.row_prepared(choice.plan, None)
+            return self.row_prepared(choice.plan)
         self.want_room_for(contents, placing)
         one, verified = self.bringing(contents, match, placing), self.begin_pass(contents, origin)
         self.conversion.convert(self.opened, contents, placing, verified)
@@ -259,7 +259,8 @@ class FirstPass(LastPass):
         text = text_of(self.how, choice, contents)
         prepared.noted.reading = in_milliseconds(self.opened.mailbox.took) if text else reading
         prepared.write_whole(origin, text)
-        return self.row_prepared(choice.plan, verified)
+        self.verified = verified
+        return self.row_prepared(choice.plan)
 
     def begin_pass(self, contents: Contents, origin: Origin) -> Verified:
         """Notes in the list what is going to be placed."""
@@ -267,15 +268,14 @@ class FirstPass(LastPass):
         self.prepared.make_folder()
         self.opened.make_folder()
         self.prepared.append(origin.line(), *self.prepared.names())
-        opened, count = self.opened, len(contents.inventory)
-        if not self.record.prepared(opened.name):
-            self.record.add(Note.PREPARED, self.known.key, count, unspelled(self.path), contents.words)
-        words = self.known.key, count, unspelled(self.path), contents.words, opened.folder, opened.mailbox.state
-        return Verified(*words, is_prepared=True)
+        words = self.known.key, len(contents.inventory), unspelled(self.path), contents.words
+        if not self.record.prepared(self.opened.name):
+            self.record.add(Note.PREPARED, *words)
+        return Verified(*words, self.opened.folder, self.opened.mailbox.state, is_prepared=True)
 
-    def row_prepared(self, plan: Plan, verified: Optional[Verified]) -> Row:
+    def row_prepared(self, plan: Plan) -> Row:
         """The row of a mailbox that is prepared, or would be."""
         if self.how.dry:
-            return replace(self.row(plan, verified), fate=Fate.WOULD_PREPARE)
+            return replace(self.row(plan), fate=Fate.WOULD_PREPARE)
         spent = Spent(self.passed(), self.passed() if self.is_changed else self.prepared.noted.foreseen())
-        return replace(self.row(plan, verified), fate=Fate.PREPARED, spent=spent)
+        return replace(self.row(plan), fate=Fate.PREPARED, spent=spent)

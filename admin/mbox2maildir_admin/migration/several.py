@@ -26,7 +26,7 @@ from ..terminal import named, operand, text_of, word
 from .dovecot import OLD_SUBSCRIPTIONS, SUBSCRIPTIONS, Dovecot, subscribe
 from .leftovers import Leftovers
 from .mailbox import Migration
-from .outcomes import Fate, Observer, Row, row_left, with_name
+from .outcomes import Ended, Fate, Observer, Row, row_left, with_name
 from .places import Pairs, Planned, UserHome, has_record, recorded, where_it_went
 from .postponed import postponed_rows
 from .servers import Place, locations, want_unread
@@ -135,7 +135,7 @@ class Several:
         plan = plan if folder else self.pairs.without_folders_in_inbox(plan, self.files_given())
         if how.postponed:
             for row in postponed_rows(self.migration.record, self.migration.root, plan, self.names, how.dry):
-                self.report(row)
+                self.report(Ended(row))
         self.observer.total += len(plan)
         # a symbolic link may give a folder two names, and it has one ledger
         groups = groups_of([one.folder and os.path.realpath(one.folder_in(self.migration.root)) for one in plan])
@@ -156,8 +156,8 @@ class Several:
     def migrate_at_once(self, plan: Sequence[Planned], groups: Sequence[Places], jobs: int) -> None:
         """Migrates the mailboxes of several folders at the same time. Rows come in the order of the plan."""
 
-        def leave(place: int, why: str, reason: Reason) -> Row:
-            return row_left(plan[place].path, plan[place].folder, Left(why, reason))
+        def leave(place: int, why: str, reason: Reason) -> Ended:
+            return Ended(row_left(plan[place].path, plan[place].folder, Left(why, reason)))
 
         orders = Orders(
             functools.partial(self.work, plan),
@@ -189,14 +189,14 @@ class Several:
                 parent.begin(place)
                 parent.end(place, self.run_named(plan[place]))
 
-    def report(self, row: Row) -> None:
+    def report(self, ended: Ended) -> None:
         """Reports what became of a name: of subscriptions once they are written, and of a mailbox that was verified,
         and all after it, once that is on the disk."""
-        if row.fate == Fate.NO_MAIL:
-            self.found[row.path] = row
-        if row.path not in self.subscriptions or row.fate != Fate.NO_MAIL:
-            maildirs = [row.verified.folder] if row.verified else []
-            self.syncs.add(maildirs, lambda fault: self.observer.row(self.migration.conversion.settled(row, fault)))
+        if ended.row.fate == Fate.NO_MAIL:
+            self.found[ended.row.path] = ended.row
+        if ended.row.path not in self.subscriptions or ended.row.fate != Fate.NO_MAIL:
+            settled = functools.partial(self.migration.conversion.settled, ended)
+            self.syncs.add(ended.maildirs, lambda fault: self.observer.row(settled(fault)))
 
     def progress(self, who: str, doing: str, place: Optional[int] = None, size: Optional[int] = None) -> None:
         """Passes on how far a mailbox is. Syncs if others have waited for long enough meanwhile."""
@@ -243,7 +243,7 @@ class Several:
         plan = tree.placed(self.migration.record, self.migration.root, self.taken, self.is_no_mail)
         maildirs = [maildir.row(self.migration.root, self.taken) for maildir in tree.maildirs]
         for row in [*tree.rows, *maildirs]:
-            self.report(row)
+            self.report(Ended(row))
         return plan
 
     def found_copy(self, path: bytes, remark: Remark) -> None:
@@ -253,13 +253,14 @@ class Several:
     def is_no_mail(self, one: Planned) -> bool:
         """Whether a file that would go into the folder of another one holds no mail."""
         looked_at = functools.partial(self.migration.run, one.path, one.folder, why=Left("it is only looked at"))
-        return is_empty(one.path) or looked_at().fate == Fate.NO_MAIL
+        return is_empty(one.path) or looked_at().row.fate == Fate.NO_MAIL
 
-    def run_named(self, one: Planned) -> Row:
+    def run_named(self, one: Planned) -> Ended:
         """Migrates a mailbox. Its row says which other name its folder had, and which other names the file has."""
-        row = self.with_inbox(one, with_name(self.run_one(one), one.before))
-        others = self.others.get(one.path)
-        return replace(row, remarks=(*row.remarks, also_named(others))) if others and row.is_said() else row
+        ended, others = self.run_one(one), self.others.get(one.path)
+        row = self.with_inbox(one, with_name(ended.row, one.before))
+        row = replace(row, remarks=(*row.remarks, also_named(others))) if others and row.is_said() else row
+        return Ended(row, ended.verified)
 
     def with_inbox(self, one: Planned, row: Row) -> Row:
         """The row of a mailbox that is one of several Inboxes, with the command that puts it into INBOX instead."""
@@ -271,24 +272,24 @@ class Several:
         shell = into if options.dry else "%s && %s" % (line_of(undo), into)
         return replace(row, next=(*row.next, *in_shell(shell, Does.INTO_INBOX)))
 
-    def run_one(self, one: Planned) -> Row:
+    def run_one(self, one: Planned) -> Ended:
         """Migrates a mailbox."""
         if self.own and one.folder not in (INBOX, b""):
             try:
                 want_own(one.folder_in(self.migration.root))
             except Fault as fault:
-                return row_left(one.path, one.folder, fault)
+                return Ended(row_left(one.path, one.folder, fault))
         if one.reason is Reason.NO_FOLDER and is_empty(one.path):
-            return Row(one.path, b"", "", None, Fate.NO_MAIL)
+            return Ended(Row(one.path, b"", "", None, Fate.NO_MAIL))
         if one.target and one.why:
-            return row_left(one.path, b"", one.why)
+            return Ended(row_left(one.path, b"", one.why))
         say = Beat(functools.partial(self.progress, named(one.path)))
         follow = not self.own and one.path in self.names
-        row = self.migration.run(one.target or one.path, one.folder, say, follow, one.why)
+        row, verified = self.migration.run(one.target or one.path, one.folder, say, follow, one.why)
         if one.why and one.reason is Reason.COPY and row.fate == Fate.LEFT:
             # whatever its text is, this reason comes first
             row = replace(row, why=str(one.why), reason=one.reason, quotes=(), next=one.why.next)
-        return replace(row, path=one.path)
+        return Ended(replace(row, path=one.path), verified)
 
     def subscribe(self) -> None:
         """Writes the subscriptions of trees. Those that can't be written are left."""

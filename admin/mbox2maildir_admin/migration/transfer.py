@@ -65,7 +65,8 @@ class Transfer:
         self.known = Known(self.record, ledger, opened)
         # whether the names in the folder were those of the last end, when this began
         self.is_unread = False
-        # what is to be said of it
+        # what was verified of it, which is to be noted once its disk is synced; and what is to be said of it
+        self.verified: Optional[Verified] = None
         self.remarks: list[Remark] = [*opened.mailbox.remarks]
 
     @property
@@ -113,7 +114,7 @@ class Transfer:
                 raise self.asked(question) from question
             return row
 
-    def row_before(self, words: Optional[str], more: list[Remark], verified: Optional[Verified] = None) -> Row:
+    def row_before(self, words: Optional[str], more: list[Remark]) -> Row:
         """The row of a mailbox that was done before by the words of a plan, with what else is said of it."""
         mailbox, name = self.opened.mailbox, self.opened.name
         of_uids = self.how.extra.remarks_on_done(name) if mailbox.size else []
@@ -123,7 +124,7 @@ class Transfer:
         elif self.known.is_older:
             of_folder = [Remark("ledger-older", OLDER % counted(self.known.lacking(), "message"))]
         says = (*of_uids, *remarks_on_dropped(words), *of_folder, *more)
-        return Row(mailbox.path, name, "", None, Fate.BEFORE, size=mailbox.size, verified=verified, remarks=says)
+        return Row(mailbox.path, name, "", None, Fate.BEFORE, size=mailbox.size, remarks=says)
 
     def row_of_question(self, question: Question) -> Optional[Row]:
         """The row of a mailbox about which there is a question, if it was done before as it was read then, or was
@@ -179,7 +180,7 @@ class Transfer:
                 self.ledger.note_empty(self.path, self.opened.mailbox.key())
                 note_empty(self.record, self.opened)
                 note_answer(self.record, self.opened, choice.plan)
-            return self.row(choice.plan, None)
+            return self.row(choice.plan)
         self.remarks += want_syncs(self.opened.folder, self.how.any_disk)
         self.want_ended()
         with self.read(choice) as contents:
@@ -202,10 +203,10 @@ class Transfer:
         """How the program is to place what is nowhere."""
         return Placing(match)
 
-    def row(self, plan: Plan, verified: Optional[Verified], then: Next = NOTHING) -> Row:
+    def row(self, plan: Plan, then: Next = NOTHING) -> Row:
         """The row of a mailbox that is done, or would be."""
         mailbox, fate = self.opened.mailbox, Fate.WOULD if self.how.dry else Fate.DONE
-        row = Row(mailbox.path, self.opened.name, plan.kind, plan.messages, fate, size=mailbox.size, verified=verified)
+        row = Row(mailbox.path, self.opened.name, plan.kind, plan.messages, fate, size=mailbox.size)
         return replace(row, remarks=(*plan.remarks, *self.remarks), next=then)
 
     def make_folder(self) -> None:
@@ -269,8 +270,9 @@ class Transfer:
     def row_known(self, contents: Contents, match: Match) -> Row:
         """The row of a mailbox that has nothing new. The ledger notes that it was read."""
         remarks = [*remarks_on_lost(match), *remarks_on_flags(self.ledger, self.path, contents)]
-        verified = None if self.how.dry else with_names(self.begin(contents, Placing(match), 0), self.is_unread)
-        return self.row_before(contents.words, remarks, verified)
+        if not self.how.dry:
+            self.verified = with_names(self.begin(contents, Placing(match), 0), self.is_unread)
+        return self.row_before(contents.words, remarks)
 
     def take_steps(self, choice: Choice, contents: Contents, match: Match) -> Row:
         """Places what is nowhere, and does what else is to be done."""
@@ -290,7 +292,7 @@ class Transfer:
             then += (Answer(self.how.undo(self.root, there), Does.UNDO_THERE),)
         if self.how.dry:
             self.remarks += self.how.extra.foresee(one)
-            return self.row(choice.plan, None, then)
+            return self.row(choice.plan, then)
         back = self.may_come_back(match)
         may_be_cut = names_that_may_be_cut(self.ledger, self.path, match)
         may_be_cut |= names_of_no_line(self.ledger, self.path, match, self.known.begun_at or 0)
@@ -301,7 +303,8 @@ class Transfer:
         if back:
             says = BACK % counted(min(back, len(contents.inventory)), "message")
             self.remarks.append(Remark("came-back", says))
-        return self.row(choice.plan, with_names(verified, self.is_unread), then)
+        self.verified = with_names(verified, self.is_unread)
+        return self.row(choice.plan, then)
 
     def want_room_for(self, contents: Contents, placing: Placing) -> None:
         """Raises Left if there is no space for what is to be placed, and for the lines of the ledger."""
@@ -319,17 +322,8 @@ class Transfer:
         head = Head(placing.count_of_lines(), len(match.need), back, times, key, contents.words, self.path, inode)
         self.is_unread = not self.ledger.ended or self.ledger.names_then == sum_of_names(opened.folder)
         number = self.ledger.begin(head, placing.lines())
-        messages = len(contents.inventory)
-        verified = Verified(
-            self.known.key,
-            messages,
-            unspelled(self.path),
-            contents.words,
-            opened.folder,
-            mailbox.state,
-            self.ledger.number,
-            number,
-        )
+        words = self.known.key, len(contents.inventory), unspelled(self.path), contents.words
+        verified = Verified(*words, opened.folder, mailbox.state, self.ledger.number, number)
         self.record.add_step(Step.BEGUN, verified, self.ledger.size)
         return verified
 

@@ -13,7 +13,7 @@ from ..labels.sorting import Sorted
 from ..ledger.history import Entry
 from ..ledger.ledger import Ledger
 from ..ledger.match import Match, cores_of
-from ..ledger.record import Record, Verified
+from ..ledger.record import Record
 from ..maildir.space import Need
 from ..mbox.inventory import Inventory
 from ..migration.converting import Conversion
@@ -136,6 +136,6 @@ class FolderTransfer(Transfer):
             if self.gone:
                 yield Remark(NO_LONGER, GONE % counted(self.gone, "message"))
 
-    def row(self, plan: Plan, verified: Optional[Verified], then: Next = NOTHING) -> Row:
+    def row(self, plan: Plan, then: Next = NOTHING) -> Row:
         """The row of the folder, with the size of its messages."""
-        return replace(super().row(plan, verified, then), size=sum(self.source.sizes(self.opened.name)))
+        return replace(super().row(plan, then), size=sum(self.source.sizes(self.opened.name)))

@@ -26,7 +26,7 @@ from ..mbox.locks import open_mailbox
 from ..migration.answers import answer_to
 from ..migration.leftovers import name_of
 from ..migration.mailbox import Migration
-from ..migration.outcomes import Fate, Observer, Row, row_left
+from ..migration.outcomes import Ended, Fate, Observer, Row, row_left
 from ..migration.replica import is_prepared
 from ..migration.several import refuse
 from ..migration.steps import How, Opened, Options
@@ -213,14 +213,13 @@ class Takeout:
         most = max(sum(source.sizes(folder)) for folder in source.sorted.places)
         self.migration.want_room(Need.of(self.root, sizes, 0 if self.how.dry else most))
 
-    def bring(self, source: Source, opened: Opened) -> Row:
-        """Brings the messages of one folder, and returns its row."""
+    def bring(self, source: Source, opened: Opened) -> Ended:
+        """Brings the messages of one folder."""
         try:
             return self.migration.migrate(opened, functools.partial(FolderTransfer, source))
         except (Fault, OSError) as fault:
-            return row_left(opened.mailbox.path, opened.name, fault)
+            return Ended(row_left(opened.mailbox.path, opened.name, fault))
 
-    def report(self, row: Row) -> None:
+    def report(self, ended: Ended) -> None:
         """Reports what became of a folder, and of all after it, once that is on the disk."""
-        maildirs = [row.verified.folder] if row.verified else []
-        self.syncs.add(maildirs, lambda fault: self.observer.row(self.migration.conversion.settled(row, fault)))
+        self.syncs.add(ended.maildirs, lambda fault: self.observer.row(self.migration.conversion.settled(ended, fault)))

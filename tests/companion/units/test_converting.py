@@ -14,7 +14,7 @@ from mbox2maildir_admin.ledger.placing import Placing
 from mbox2maildir_admin.ledger.record import Record, Verified
 from mbox2maildir_admin.mbox.inventory import Inventory
 from mbox2maildir_admin.migration.converting import CHANGED_MEANWHILE, LATER, ONCE, SYNC_FAILED, Conversion
-from mbox2maildir_admin.migration.outcomes import Fate, Row
+from mbox2maildir_admin.migration.outcomes import Ended, Fate, Row
 from mbox2maildir_admin.migration.steps import Contents, Opened
 from mbox2maildir_admin.program import Converted, Failed, Program
 from mbox2maildir_admin.terminal import spelled
@@ -252,14 +252,14 @@ class ConversionTest(ConversionCase):
         """The mailbox is left, with its row; so the rows of others that wait for the same sync come too."""
         self.fill(ONE)
         with self.begun() as (conversion, opened, _, _, verified):
-            done = Row(opened.mailbox.path, opened.name, "", 1, Fate.DONE, "", verified=verified)
+            done = Ended(Row(opened.mailbox.path, opened.name, "", 1, Fate.DONE), verified)
             for fault, why in (
                 (PlaceFault("the record is full"), "the record is full"),
                 (OSError(5, "no disk"), "no disk"),
             ):
                 with mock.patch.object(conversion.record, "write", side_effect=fault):
                     row = conversion.settled(done, None)
-                self.assertEqual((row.fate, row.why, row.verified), (Fate.LEFT, why, None))
+                self.assertEqual((row.fate, row.why), (Fate.LEFT, why))
 
     def ends(self, row: Row) -> list[tuple[int, bool]]:
         """The batches that have ended by the ledger, and whether the record has the mailbox as done."""
@@ -270,12 +270,12 @@ class ConversionTest(ConversionCase):
         """The end of the batch, and then that the mailbox is done."""
         self.fill(ONE)
         with self.begun() as (conversion, opened, _, _, verified):
-            done = Row(opened.mailbox.path, opened.name, "", 1, Fate.DONE, "", verified=verified)
+            done = Ended(Row(opened.mailbox.path, opened.name, "", 1, Fate.DONE), verified)
             row = conversion.settled(done, None)
             (line,) = conversion.record.last_steps(b".")
             self.assertEqual((line.what, line.ledger), (Step.DONE, verified.ledger))
             self.assertEqual(line.size, (self.maildir / "mbox2maildir-messages").stat().st_size)
-            self.assertEqual((self.ends(row), row.verified), ([(1, True)], None))
+            self.assertEqual(self.ends(row), [(1, True)])
         self.assertEqual(self.words(), ["begun", "done"])
 
     def test_what_is_noted_if_the_sync_failed_or_it_changed(self) -> None:
@@ -287,7 +287,7 @@ class ConversionTest(ConversionCase):
             self.make_home("home-%d" % len(words))
             self.fill(ONE)
             with self.begun() as (conversion, opened, _, _, verified):
-                done = Row(opened.mailbox.path, opened.name, "", 1, Fate.DONE, "", verified=verified)
+                done = Ended(Row(opened.mailbox.path, opened.name, "", 1, Fate.DONE), verified)
                 if not fault:
                     os.utime(str(self.box), (1, 1))
                 row = conversion.settled(done, fault)
@@ -298,7 +298,7 @@ class ConversionTest(ConversionCase):
         """The record does not have it as done then."""
         self.fill(ONE)
         with self.begun() as (conversion, opened, _, _, verified):
-            done = Row(opened.mailbox.path, opened.name, "", 1, Fate.DONE, "", verified=verified)
+            done = Ended(Row(opened.mailbox.path, opened.name, "", 1, Fate.DONE), verified)
             (self.maildir / "mbox2maildir-messages").chmod(0o622)
             row = conversion.settled(done, None)
         self.assertEqual((row.fate, row.reason, self.words()), (Fate.LEFT, Reason.LEDGER, ["begun"]))

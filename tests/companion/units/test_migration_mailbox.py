@@ -399,7 +399,7 @@ class OneMailboxTest(BecomesTest):
         """Migrates the mailbox, and does something besides. Returns its row."""
         self.make_folders()
         with Record.open(self.root) as record:
-            return Migration(Function(), self.root, record, How(extra=extra)).run(self.path, b".")
+            return Migration(Function(), self.root, record, How(extra=extra)).run(self.path, b".").row
 
     def test_a_message_that_is_there_twice(self) -> None:
         """What other programs have there is no second copy of this one; another file under its base is."""
