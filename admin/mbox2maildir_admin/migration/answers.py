@@ -7,7 +7,7 @@ from ..maildir.folders import INBOX
 from ..mbox.mailbox import Mailbox
 from ..nexts import Remark
 from ..readings.plans import Plan, Question
-from ..readings.reading import UNDECIDED, Reading
+from ..readings.reading import UNDECIDED, Reading, renumbered
 from ..units import Line
 from .steps import Opened
 
@@ -39,7 +39,7 @@ def answer_to(record: Record, opened: Opened, question: Question) -> Optional[Re
         names = answer.text | answer.begin
         is_whole = answer == answer.decided and (answer.word or answer.drop and not names)
         if is_whole and answer.of == tie and names <= set(lines):
-            return question.tied(answer.renumbered(lines))
+            return question.tied(renumbered(answer, lines))
     return None
 
 

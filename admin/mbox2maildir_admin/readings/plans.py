@@ -19,7 +19,7 @@ from ..nexts import Quote, Remark
 from ..units import Line, Offset
 from .asking import Choosable, with_meanings
 from .quoting import Counts, measured
-from .reading import BY_LENGTHS, CR, CRLF, MBOXCL2, MBOXRD, PLAIN, UNDECIDED, UNQUOTED, Reading
+from .reading import BY_LENGTHS, CR, CRLF, MBOXCL2, MBOXRD, PLAIN, UNDECIDED, UNQUOTED, Reading, renumbered
 from .remarks import remark_on_deleted, remarks_on, remarks_on_text
 from .verdict import DROP_DELETED, Verdict, is_against_lengths, is_answer, look_at, reading_of
 
@@ -136,7 +136,7 @@ def plan_of(mailbox: Mailbox, read: Read = Look.read, decision: Reading = UNDECI
     if not verdict.answers:
         return plan
     order = {line: Line(number) for number, line in enumerate(verdict.doubtful(), 1)}
-    answer = decision.decided.renumbered(order)._replace(of=verdict.tied(mailbox, UNDECIDED).of)
+    answer = renumbered(decision.decided, order)._replace(of=verdict.tied(mailbox, UNDECIDED).of)
     return replace(plan, answer=answer)
 
 

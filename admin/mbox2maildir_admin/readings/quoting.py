@@ -47,13 +47,10 @@ class Beginnings:
 
 
 class Quoter:
-    """Gives a text as it is read to a function that takes bytes, and counts what it gave. Right lengths may be left
-    out."""
+    """Gives a text as it is read to a function that takes bytes, and counts what it gave."""
 
-    def __init__(
-        self, how: Reading, mailbox: Mailbox, start: Offset, take: Callable[[bytes], object], no_lengths: bool = False
-    ) -> None:
-        self.how, self.mailbox, self.start, self.take, self.no_lengths = how, mailbox, start, take, no_lengths
+    def __init__(self, how: Reading, mailbox: Mailbox, start: Offset, take: Callable[[bytes], object]) -> None:
+        self.how, self.mailbox, self.start, self.take = how, mailbox, start, take
         # lines that begin messages, lines that are quoted, and messages by Thunderbird's mark
         self.messages = self.quoted = 0
         self.marks: dict[Deleted, int] = dict.fromkeys(Deleted, 0)
@@ -62,9 +59,8 @@ class Quoter:
         # bytes
         self.read = self.given = self.left_out = self.added = 0
         self.lines = set(how.text | how.begin)
-        # the offsets between which nothing begins a message, by the length of the last one; and the field with that
-        # length, if it is left out
-        self.body = self.field = (0, 0)
+        # the offsets between which nothing begins a message, by the length of the last one
+        self.body = (0, 0)
         self.is_dropped, self.cr = False, b""
 
     def run(self) -> "Quoter":
@@ -74,7 +70,7 @@ class Quoter:
                 self.mark(part)
             else:
                 self.read += len(part.piece)
-                self.put(self.without_field(part))
+                self.put(self.kept_of(part))
         self.give(self.cr)
         self.beginnings.quoted_before.append(self.quoted)
         if self.lines:
@@ -148,19 +144,14 @@ class Quoter:
         end = header.message_end(self.mailbox) if self.how.word in BY_LENGTHS else None
         if end:
             self.body = (header.offset, end)
-            if self.no_lengths:
-                start, end_of_field = header.span(b"content-length")
-                self.field = (header.offset + start, header.offset + end_of_field)
         mark = deleted_in(header.text)
         if mark:
             self.marks[mark] += 1
         self.is_dropped = self.how.drop and mark is Deleted.YES
 
-    def without_field(self, part: Part) -> bytes:
-        """A piece of the text without the length, if that is left out."""
-        left, right = (min(max(0, offset - part.offset), len(part.piece)) for offset in self.field)
-        self.left_out += max(0, right - left)
-        return part.piece[:left] + part.piece[right:] if left < right else part.piece
+    def kept_of(self, part: Part) -> bytes:
+        """What is given of a piece of the text: all of it."""
+        return part.piece
 
     def put(self, piece: bytes) -> None:
         """Gives a piece with the line ends that are wanted, unless its message is left out."""
@@ -208,6 +199,26 @@ class Quoter:
             )
 
 
+class WithoutLengths(Quoter):
+    """Gives the text without right lengths, which are wrong once lines are quoted."""
+
+    # the offsets of the field with the last right length
+    field = (0, 0)
+
+    def take_header(self, header: Header) -> None:
+        """Takes also where the field with the length is."""
+        super().take_header(header)
+        if self.body[1]:
+            start, end = header.span(b"content-length")
+            self.field = (header.offset + start, header.offset + end)
+
+    def kept_of(self, part: Part) -> bytes:
+        """A piece of the text without the length."""
+        left, right = (min(max(0, offset - part.offset), len(part.piece)) for offset in self.field)
+        self.left_out += max(0, right - left)
+        return part.piece[:left] + part.piece[right:] if left < right else part.piece
+
+
 def write_copy(how: Reading, mailbox: Mailbox, start: Offset, wanted: int, copy: Copy, is_bare: bool = False) -> Quoter:
     """Writes a copy without right lengths that has as many messages as wanted, bare or not, and gives it its name.
     Returns its Quoter."""
@@ -224,10 +235,10 @@ def quoted_into(
     """Gives a text as it is read, bare or not, but without right lengths, to a function that takes bytes. Returns its
     Quoter, and how many bytes were given."""
     if not is_bare:
-        quoter = Quoter(how, mailbox, start, take, True).run()
+        quoter: Quoter = WithoutLengths(how, mailbox, start, take).run()
         return quoter, quoter.given
     stripper = Stripper(lambda piece, _: take(piece))
-    quoter = Quoter(how, mailbox, start, stripper.update, True).run()
+    quoter = WithoutLengths(how, mailbox, start, stripper.update).run()
     stripper.end()
     return quoter, stripper.given
 

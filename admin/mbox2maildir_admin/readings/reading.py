@@ -56,7 +56,7 @@ class Reading(NamedTuple):
     def of_text(self) -> "Reading":
         """How all of the text is read. What it has as bare text, and what goes into each of several folders, depends
         only on that."""
-        return self._replace(dropped=0, part="", bare=False)
+        return Reading(self.word, self.text, self.begin, self.of, self.drop, self.alone, self.ends)
 
     def options(self) -> list[str]:
         """What a human may decide of it, as words of a command."""
@@ -87,13 +87,14 @@ class Reading(NamedTuple):
         found = found._replace(part=named.get("labels", ""), bare=BARE in named)
         return found if found.words() == words else cls()
 
-    def renumbered(self, new: Mapping[Line, Line]) -> "Reading":
-        """The same with other numbers of its lines, as far as these have new ones."""
-        text, begin = (frozenset(new[line] for line in lines if line in new) for lines in (self.text, self.begin))
-        return self._replace(text=text, begin=begin)
-
 
 UNDECIDED, PLAIN = Reading(), Reading(MBOXRD)
+
+
+def renumbered(reading: Reading, new: Mapping[Line, Line]) -> Reading:
+    """The same reading with other numbers of its lines, as far as these have new ones."""
+    text, begin = (frozenset(new[line] for line in lines if line in new) for lines in reading[1:3])
+    return reading._replace(text=text, begin=begin)
 
 
 def numbers(lines: Iterable[Line]) -> str:

@@ -4,7 +4,7 @@ from unittest import mock
 
 from mbox2maildir_admin.faults import Fault
 from mbox2maildir_admin.mbox import parts
-from mbox2maildir_admin.readings.quoting import Counts, Quoter, measured
+from mbox2maildir_admin.readings.quoting import Counts, Quoter, WithoutLengths, measured
 from mbox2maildir_admin.readings.reading import PLAIN, Reading
 from mbox2maildir_admin.units import Line, Offset
 
@@ -15,11 +15,11 @@ LENGTH = b"Content-Length: %d\n"
 
 
 class QuotingTest(unittest.TestCase):
-    def copied(self, how: Reading, text: bytes, start: int = 0, no_lengths: bool = False) -> bytes:
-        """The copy of a text that is read in this way, with right lengths or without."""
+    def copied(self, how: Reading, text: bytes, start: int = 0, kind: type[Quoter] = Quoter) -> bytes:
+        """The copy of a text that is read in this way."""
         pieces: list[bytes] = []
         with source_of(text) as mailbox:
-            quoter = Quoter(how, mailbox, Offset(start), pieces.append, no_lengths).run()
+            quoter = kind(how, mailbox, Offset(start), pieces.append).run()
             quoter.check(quoter.given, quoter.counts().messages)
         return b"".join(pieces)
 
@@ -27,7 +27,7 @@ class QuotingTest(unittest.TestCase):
         text = A + LENGTH % 11 + b"\nFrom me on\n\n" + B + LENGTH % 3 + b"\nhi\n\n" + B + LENGTH % 9 + b"\nhi\n"
         for word in ("mboxcl", "mboxcl2"):
             wanted = A + b"\n>From me on\n\n" + B + b"\nhi\n\n" + B + LENGTH % 9 + b"\nhi\n"
-            self.assertEqual(self.copied(Reading(word), text, 0, True), wanted)
+            self.assertEqual(self.copied(Reading(word), text, 0, WithoutLengths), wanted)
         self.assertEqual(self.copied(Reading("mboxcl2"), text), text.replace(b"From me", b">From me"))
 
     def test_line_ends(self) -> None:

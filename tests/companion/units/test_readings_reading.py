@@ -3,7 +3,7 @@ import unittest
 
 from mbox2maildir_admin.readings.plans import plan_of
 from mbox2maildir_admin.readings.quoting import Quoter
-from mbox2maildir_admin.readings.reading import UNDECIDED, WORDS, Reading, lines_named
+from mbox2maildir_admin.readings.reading import UNDECIDED, WORDS, Reading, lines_named, renumbered
 from mbox2maildir_admin.units import Line, Offset
 
 from tests.support.mail import bodies_of
@@ -162,7 +162,8 @@ class WordsTest(unittest.TestCase):
 
     def test_other_numbers_of_lines(self) -> None:
         new = {Line(7): Line(1), Line(9): Line(2)}
-        self.assertEqual(Reading("mboxo", lines(7), lines(9, 12)).renumbered(new), Reading("mboxo", lines(1), lines(2)))
+        found = renumbered(Reading("mboxo", lines(7), lines(9, 12)), new)
+        self.assertEqual(found, Reading("mboxo", lines(1), lines(2)))
 
     def test_lines(self) -> None:
         self.assertEqual(lines_named(["7,9", "12"]), lines(7, 9, 12))
