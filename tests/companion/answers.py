@@ -287,7 +287,7 @@ def of_words_that_were_typed(home: Path) -> None:
     expect(["migrate", "--now", "--as", "mboxcl2", "M", "tree"], home, 0, None)
     notes = notes_in(home)
     equal("whose answers are noted", sorted(note.split()[0] for note in notes), ["more", "part"])
-    equal("what each is for", len({note.split()[1] for note in notes}), 2)
+    equal("what each is for", len({re.findall(r"\bof=(\w+)", note)[0] for note in notes}), 2)
     mailbox(home / "tree/part", PART + NEW)
     mailbox(home / "tree/more", PART.replace(b"hello", b"hallo") + B + b"\nyes\nFrom me to you.\n\n")
     status, out, _ = run(["migrate", "--now", "M", "tree"], home)

@@ -33,19 +33,14 @@ class Found(NamedTuple):
 
 
 class Check:
-    """The messages of a text from a place on, and which of them are found in a Maildir."""
+    """The messages of a text, and which of them are found in a Maildir."""
 
-    def __init__(
-        self, inventory: Inventory, first: Place = Place(0), say: Say = silent, others: Others = Others()
-    ) -> None:
+    def __init__(self, inventory: Inventory, say: Say = silent, others: Others = Others()) -> None:
         self.inventory, self.doubts = inventory, inventory.doubts
-        self.others = others
+        self.others, self.say = others, say
         # the digests of the messages whose files have another name
         self.renamed: dict[Place, bytes] = {}
-        self.first, self.say = first, say
         self.owner: Optional[int] = None
-        # whether mail may be missing, since it was converted long ago
-        self.may_be_nowhere = False
         # whether a message's file was verified before, and is not read again
         self.is_verified: Callable[[Place], bool] = lambda place: False
         # by message: how it is found, and the path of its file if that has another name
@@ -62,16 +57,9 @@ class Check:
         self.strangers: dict[bytes, bytes] = {}
 
     @classmethod
-    def of(
-        cls,
-        maildir: bytes,
-        inventory: Inventory,
-        first: Place = Place(0),
-        say: Say = silent,
-        others: Others = Others(),
-    ) -> "Check":
+    def of(cls, maildir: bytes, inventory: Inventory, say: Say = silent, others: Others = Others()) -> "Check":
         """Looks into a Maildir, also for the other forms that the messages may have."""
-        self = cls(inventory, first, say, others)
+        self = cls(inventory, say, others)
         self.look(maildir)
         return self
 
@@ -96,8 +84,8 @@ class Check:
         for digest, places in self.others.digests.items():
             for place in places:
                 self.take_copy(place, digest)
-        for digest in filter(self.is_wanted, self.copies):
-            for name, path in self.copies[digest].items():
+        for copies in self.copies.values():
+            for name, path in copies.items():
                 if not is_own(name) or self.others.has_doubled(name):
                     self.doubles.append(path)
         self.find_doubles(maildir)
@@ -113,27 +101,17 @@ class Check:
         homes: collections.defaultdict[Place, list[bytes]] = collections.defaultdict(list)
         for name, path in paths_of(maildir) if self.met_again else ():
             place = self.inventory.place(name)
-            if place is not None and place >= self.first and place in self.met_again:
+            if place is not None and place in self.met_again:
                 homes[place].append(path)
         for paths in homes.values():
             # a file that was moved is there only once
             self.doubles += [path for path in paths if os.path.lexists(path)][1:]
 
-    def is_wanted(self, digest: bytes) -> bool:
-        """Whether a message from the first place on may have a file of this digest."""
-        places = self.others.digests.get(digest, [])
-        return not self.first or self.is_new(digest) or any(place >= self.first for place in places)
-
-    def is_new(self, digest: bytes) -> bool:
-        """Whether a message from the first place on has this digest."""
-        last = self.inventory.table.last(digest)
-        return last is not None and last >= self.first
-
     def is_home(self, again: bool, name: bytes) -> bool:
         """Whether the file of this name is read as a message's. In a listing after the first one, this holds only if
         the message has no file so far."""
         place = self.inventory.place(name)
-        if place is None or place < self.first or self.is_verified(place):
+        if place is None or self.is_verified(place):
             return False
         return not again or self.states[place] == State.NOWHERE
 
@@ -142,12 +120,8 @@ class Check:
         place = self.inventory.place(name)
         if place is None:
             self.look_at_other(name, path)
-            return
-        digest = bytes.fromhex(name[:64].decode())
-        if place < self.first and not self.is_new(digest):
-            self.states[place] = State.THERE
         elif not again or self.states[place] == State.NOWHERE:
-            self.look_at_home(place, path, digest, read)
+            self.look_at_home(place, path, bytes.fromhex(name[:64].decode()), read)
 
     def look_at_other(self, name: bytes, path: bytes) -> None:
         """Looks at a file that has no message's base."""
@@ -156,7 +130,7 @@ class Check:
         if name in self.met or base and not self.may_have(bytes.fromhex(base["digest"].decode())):
             return
         if self.sizes is None:
-            self.sizes = {*self.inventory.sizes[self.first :], *self.others.sizes}
+            self.sizes = {*self.inventory.sizes, *self.others.sizes}
         digest, owner = digest_of(path, self.sizes)
         if digest:
             self.met.add(name)
@@ -192,7 +166,7 @@ class Check:
 
     def count(self, state: State) -> int:
         """How many messages are found in this state."""
-        return self.states.count(state, self.first)
+        return self.states.count(state)
 
     def found(self, state: State) -> Iterator[Found]:
         """The messages that are found in this state."""
@@ -202,8 +176,8 @@ class Check:
 
     def is_right(self) -> bool:
         """Whether each message is there exactly once, in a file of its owner."""
-        lacks = self.count(State.NOWHERE) and not self.may_be_nowhere
-        return not (lacks or self.count(State.OTHER) or self.doubles or self.strangers or self.doubts.count)
+        is_wrong = self.count(State.NOWHERE) or self.count(State.OTHER)
+        return not (is_wrong or self.doubles or self.strangers or self.doubts.count)
 
     def report(self) -> str:
         """What is said unless each message is there exactly once."""

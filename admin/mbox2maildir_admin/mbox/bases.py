@@ -143,8 +143,3 @@ class Table:
     def has(self, digest: bytes) -> bool:
         """Whether a message has this digest."""
         return self.place_at(digest, 1) is not None
-
-    def last(self, digest: bytes) -> Optional[Place]:
-        """The place of the last message that was added with this digest; None if there is none."""
-        first = self.place_at(digest, 1)
-        return first if first is None else self.place_at(digest, self.repeats.get(first, 1))

@@ -17,16 +17,16 @@ HOMES = {"new/" + base_of(ONE): ONE, "cur/%s:2,S" % base_of(TWO): TWO, "cur/%s:2
 
 
 class CheckTest(unittest.TestCase):
-    def check(self, files: dict[str, bytes], first: int = 0, owner: int = 0) -> Check:
+    def check(self, files: dict[str, bytes], owner: int = 0) -> Check:
         """Looks for the three messages among files of a Maildir whose owner's number is higher by this much."""
         with folder() as here, source_of(TEXT) as mailbox:
             make(here, {"new/": b"", "cur/": b"", **files})
             inventory = Inventory.read(mailbox, Offset(0))
             if not owner:
-                return Check.of(here, inventory, Place(first))
+                return Check.of(here, inventory)
             state = mock.Mock(wraps=os.stat(here), st_uid=os.geteuid() + owner, st_mtime=1)
             with mock.patch(CHECKING + "os.stat", return_value=state):
-                return Check.of(here, inventory, Place(first))
+                return Check.of(here, inventory)
 
     def test_each_is_there(self) -> None:
         check = self.check(HOMES)
@@ -53,17 +53,6 @@ class CheckTest(unittest.TestCase):
             check = self.check({**HOMES, double: ONE})
             self.assertEqual((check.count(State.THERE), len(check.doubles), check.is_right()), (3, 1, False), double)
 
-    def test_a_user_s_copy_of_an_old_message(self) -> None:
-        """It counts only if it is also a copy of a new message; here all messages have the same size."""
-        for copied, first, doubles in ((TWO, 2, 0), (ONE, 2, 1), (TWO, 1, 1), (TWO, 0, 1)):
-            check = self.check({**HOMES, "cur/1.host:2,": copied}, first)
-            self.assertEqual((len(check.doubles), check.is_right()), (doubles, not doubles), (copied, first))
-
-    def test_a_second_file_of_an_old_message(self) -> None:
-        for copied, first, doubles in ((TWO, 2, 0), (TWO, 1, 1)):
-            check = self.check({**HOMES, "new/" + base_of(copied): copied}, first)
-            self.assertEqual(len(check.doubles), doubles, (copied, first))
-
     def test_other_mail_of_the_same_size(self) -> None:
         homes = {name: text for name, text in HOMES.items() if text == ONE}
         for other in ("cur/1.host:2,", "cur/" + base_of(b"mix\n")):
@@ -81,25 +70,6 @@ class CheckTest(unittest.TestCase):
             check = Check.of(here, Inventory.read(mailbox, Offset(0)))
         self.assertEqual((check.count(State.THERE), check.is_right()), (1, False))
         self.assertIn("; 1 From_ line may contain mail", check.report())
-
-    def test_from_a_place_on(self) -> None:
-        homes = {name: text for name, text in HOMES.items() if text == ONE}
-        self.assertFalse(self.check(homes).is_right())
-        check = self.check(homes, first=2)
-        self.assertEqual((check.count(State.THERE), check.is_right()), (1, True))
-
-    def test_files_of_messages_before_that_place(self) -> None:
-        """They are not looked at, whoever owns them and whatever they hold, except those that equal a wanted
-        message."""
-        two = "cur/%s:2,S" % base_of(TWO)
-        check = self.check({**HOMES, two: b"changed\n"}, first=2, owner=1)
-        self.assertEqual(set(check.strangers), {base_of(ONE).encode(), base_of(ONE, 2).encode()})
-        self.assertEqual(list(check.found(State.OTHER)), [])
-
-    def test_moved_since_they_were_converted(self) -> None:
-        check = self.check({})
-        check.may_be_nowhere = True
-        self.assertEqual((check.count(State.NOWHERE), check.is_right()), (3, True))
 
     def test_a_file_that_a_mail_program_moves_meanwhile(self) -> None:
         """A listing has its name in `new`, and it is in `cur` once it is read. The next listing has it there."""
