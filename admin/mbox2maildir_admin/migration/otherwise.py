@@ -103,12 +103,11 @@ class Before(NamedTuple):
 def want_same_reading(how: How, known: Known, choice: Choice, contents: Contents) -> None:
     """Raises Left if more of what the ledger has of a mailbox is in it as it was read then, with what to run."""
     before, root, opened = Before.of(known, contents.reading), known.root, known.opened
-    is_bare, as_then = before.reading.bare, before.reading.of_text
-    command = how.command(root, opened, again=how.again, dovecot=is_bare)
-    if before.batch and not how.again and is_bare != contents.reading.bare:
-        says = "its conversion was begun %s --dovecot" % ("with" if is_bare else "without")
+    command = how.command(root, opened, again=how.again, dovecot=before.reading.bare)
+    if before.batch and not how.again and before.reading.bare != contents.reading.bare:
+        says = "its conversion was begun %s --dovecot" % ("with" if before.reading.bare else "without")
         raise Left(says, Reason.ANOTHER_READING, (Answer(command),))
-    if as_then == contents.reading.of_text:
+    if before.reading.of_text == contents.reading.of_text:
         return
     plan = plan_then(choice.mailbox, before.reading)
     if not plan:
@@ -120,7 +119,7 @@ def want_same_reading(how: How, known: Known, choice: Choice, contents: Contents
     if before.batch:
         says = BEGUN_OTHERWISE % (then, len(inventory), now, len(contents.inventory))
     else:
-        says = READ_OTHERWISE % (as_then.words(), counted(then - now, "message"))
+        says = READ_OTHERWISE % (before.reading.of_text.words(), counted(then - now, "message"))
     is_done = bool(before.source and before.source.key == tuple(opened.mailbox.key()))
     decision = decision_by(choice.mailbox, plan)
     if how.decision.word and is_done or not is_enough(choice.mailbox, decision, disk_of(root, how.dry)):
