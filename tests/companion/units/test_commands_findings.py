@@ -8,7 +8,7 @@ from mbox2maildir_admin.commands import verify
 from mbox2maildir_admin.commands.command_line import CommandLine
 from mbox2maildir_admin.commands.findings import LINES, Kind, ObjectFindings, Sort, findings_of
 from mbox2maildir_admin.commands.kind import add_kind
-from mbox2maildir_admin.faults import Fault, Reason
+from mbox2maildir_admin.faults import Fault, Reason, Status
 from mbox2maildir_admin.mbox.inventory import Inventory
 from mbox2maildir_admin.mbox.lines import Said
 from mbox2maildir_admin.nexts import Quote, Todo, task
@@ -100,6 +100,6 @@ class KindTest(unittest.TestCase):
         add_kind(line)
         with folder() as here, printed() as caught:
             make(here, {"box": ONE})
-            self.assertTrue(line.commands["kind"].run(["--json", (here + b"/box").decode()]))
+            self.assertEqual(line.commands["kind"].run(["--json", (here + b"/box").decode()]), Status.WELL)
         self.assertEqual([one["messages"] for one in objects(caught.out)], [1])
         self.assertIs(findings_of(False), LINES)
