@@ -23,7 +23,7 @@ _mbox2maildir_admin() {
     local place=0 index options=--help
     COMPREPLY=()
     if ((COMP_CWORD == 1)); then
-        _mbox2maildir_offer -W 'kind quote dates migrate verify --help --version' -- "$2"
+        _mbox2maildir_offer -W 'kind quote dates migrate verify back --help --version' -- "$2"
         return
     fi
     case ${COMP_WORDS[1]} in
@@ -31,23 +31,25 @@ _mbox2maildir_admin() {
         dates) options+=' --header' ;;
         kind) options+=' --json' ;;
         verify) options+=' --json --all --users --maildir --tree --jobs --names --report' ;;
+        back) options+=' --dry-run --moved --now --json --report' ;;
         migrate) options+=' --prepare --postponed --unread --gone --dry-run --folder --labels --label --again --dovecot --as --text --begin --of --drop-deleted --no-mail --now --any-disk --keep-envelopes --json --no-questions --report --undo --users --maildir --tree --jobs --names --list --by-size' ;;
     esac
     for ((index = 2; index < COMP_CWORD; index++)); do
         case ${COMP_WORDS[index]} in
-            --as | --text | --begin | --of | --jobs | --output | -o | --folder | --maildir | --tree | --no-mail | --names | --report) ((index++)) ;;
+            --as | --text | --begin | --of | --jobs | --output | -o | --folder | --maildir | --tree | --no-mail | --names | --moved | --report) ((index++)) ;;
             -*) ;;
             *) ((++place)) ;;
         esac
     done
     case ${COMP_WORDS[1]},$place,$3 in
         *,--as) _mbox2maildir_offer -W 'mboxrd mboxo mboxcl mboxcl2 unquoted' -- "$2" ;;
+        *,--moved) _mbox2maildir_offer -W 'stay copy' -- "$2" ;;
         *,--text | *,--begin | *,--of | *,--jobs | *,--folder | *,--maildir | *,--tree | *,--no-mail) ;;
         *,--names | *,--report) _mbox2maildir_offer -A file -- "$2" ;;
         *) case ${COMP_WORDS[1]},$place,$2 in
             *,*,-*) _mbox2maildir_offer -W "$options" -- "$2" ;;
-            dates,0,* | verify,0,* | migrate,0,*) _mbox2maildir_offer -A directory -- "$2" ;;
-            kind,* | quote,0,* | dates,* | migrate,* | verify,*) _mbox2maildir_offer -A file -- "$2" ;;
+            dates,0,* | verify,0,* | migrate,0,* | back,0,*) _mbox2maildir_offer -A directory -- "$2" ;;
+            kind,* | quote,0,* | dates,* | migrate,* | verify,* | back,*) _mbox2maildir_offer -A file -- "$2" ;;
         esac ;;
     esac
 }

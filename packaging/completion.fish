@@ -47,10 +47,11 @@ complete -c mbox2maildir-admin -n __mbox2maildir_first -a quote -d 'write a copy
 complete -c mbox2maildir-admin -n __mbox2maildir_first -a dates -d 'give converted files the dates of their From_ lines'
 complete -c mbox2maildir-admin -n __mbox2maildir_first -a migrate -d 'do the whole migration of mailboxes into a Maildir'
 complete -c mbox2maildir-admin -n __mbox2maildir_first -a verify -d 'look whether each message is in the Maildir'
+complete -c mbox2maildir-admin -n __mbox2maildir_first -a back -d 'append what is new in a Maildir to the old mailboxes'
 complete -c mbox2maildir-admin -n '__mbox2maildir_at migrate 0 9999' -l keep-envelopes -d 'keep the From_ lines in a file of each folder'
 complete -c mbox2maildir-admin -n '__mbox2maildir_at kind 0 9999; or __mbox2maildir_at quote 0 0' -F
-complete -c mbox2maildir-admin -n '__mbox2maildir_at dates 1 9999; or __mbox2maildir_at verify 1 9999; or __mbox2maildir_at migrate 1 9999' -F
-complete -c mbox2maildir-admin -n '__mbox2maildir_at dates 0 0; or __mbox2maildir_at verify 0 0; or __mbox2maildir_at migrate 0 0' -a '(__fish_complete_directories)'
+complete -c mbox2maildir-admin -n '__mbox2maildir_at dates 1 9999; or __mbox2maildir_at verify 1 9999; or __mbox2maildir_at migrate 1 9999; or __mbox2maildir_at back 1 9999' -F
+complete -c mbox2maildir-admin -n '__mbox2maildir_at dates 0 0; or __mbox2maildir_at verify 0 0; or __mbox2maildir_at migrate 0 0; or __mbox2maildir_at back 0 0' -a '(__fish_complete_directories)'
 set -l __mbox2maildir_decides '__mbox2maildir_at quote 0 1; or __mbox2maildir_at migrate 0 9999'
 complete -c mbox2maildir-admin -n $__mbox2maildir_decides -l as -x -a 'mboxrd mboxo mboxcl mboxcl2 unquoted' -d 'how mailboxes were written'
 complete -c mbox2maildir-admin -n $__mbox2maildir_decides -l text -x -d 'lines that are mail'
@@ -74,7 +75,7 @@ complete -c mbox2maildir-admin -n '__mbox2maildir_at migrate 0 9999' -l dovecot 
 complete -c mbox2maildir-admin -n '__mbox2maildir_at migrate 0 9999' -l no-mail -x -d 'pass over what is not known by its path'
 complete -c mbox2maildir-admin -n '__mbox2maildir_at migrate 0 9999' -l now -d 'wait for no quiet minute'
 complete -c mbox2maildir-admin -n '__mbox2maildir_at migrate 0 9999' -l any-disk -d 'migrate even where a power cut could take mail away'
-complete -c mbox2maildir-admin -n '__mbox2maildir_at kind 0 9999; or __mbox2maildir_at migrate 0 9999; or __mbox2maildir_at verify 0 9999' -l json -d 'print objects of JSON'
+complete -c mbox2maildir-admin -n '__mbox2maildir_at kind 0 9999; or __mbox2maildir_at migrate 0 9999; or __mbox2maildir_at verify 0 9999; or __mbox2maildir_at back 0 9999' -l json -d 'print objects of JSON'
 complete -c mbox2maildir-admin -n '__mbox2maildir_at migrate 0 9999' -l report -r -F -d 'new file for these objects'
 complete -c mbox2maildir-admin -n '__mbox2maildir_at migrate 0 9999' -l no-questions -d 'ask nothing on a terminal'
 complete -c mbox2maildir-admin -n '__mbox2maildir_at migrate 0 9999' -l users -d 'migrate a spool, each mailbox as its user'
@@ -84,6 +85,10 @@ complete -c mbox2maildir-admin -n '__mbox2maildir_at migrate 0 9999' -l jobs -x 
 complete -c mbox2maildir-admin -n '__mbox2maildir_at migrate 0 9999' -l names -r -F -d 'file with the names of users'
 complete -c mbox2maildir-admin -n '__mbox2maildir_at migrate 0 9999' -l list -d 'only print these users'
 complete -c mbox2maildir-admin -n '__mbox2maildir_at migrate 0 9999' -l by-size -d 'list the largest mailbox first'
+complete -c mbox2maildir-admin -n '__mbox2maildir_at back 0 9999' -l dry-run -d 'print what would go back'
+complete -c mbox2maildir-admin -n '__mbox2maildir_at back 0 9999' -l moved -x -a 'stay copy' -d 'what becomes of what people moved'
+complete -c mbox2maildir-admin -n '__mbox2maildir_at back 0 9999' -l now -d 'wait for no quiet minute'
+complete -c mbox2maildir-admin -n '__mbox2maildir_at back 0 9999' -l report -r -F -d 'new file for objects of JSON'
 complete -c mbox2maildir-admin -n '__mbox2maildir_at verify 0 9999' -l all -d 'name files without mail too'
 complete -c mbox2maildir-admin -n '__mbox2maildir_at verify 0 9999' -l users -d 'check a spool, each mailbox as its user'
 complete -c mbox2maildir-admin -n '__mbox2maildir_at verify 0 9999' -l maildir -x -d 'Maildir of each home'

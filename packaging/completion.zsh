@@ -25,6 +25,7 @@ _mbox2maildir_admin() {
         'dates:give converted files the dates of their From_ lines'
         'migrate:do the whole migration of mailboxes into a Maildir'
         'verify:look whether each message is in the Maildir'
+        'back:append what is new in a Maildir to the old mailboxes'
     )
     if ((CURRENT == 2)); then
         [[ $PREFIX == -* ]] && offered=('--help:print help' '--version:print the version')
@@ -64,6 +65,11 @@ _mbox2maildir_admin() {
                 '--jobs[how many folders or users at a time]:number' '--names[file with the names of users]:file:_files' \
                 '--list[only print these users]' '--by-size[list the largest mailbox first]' \
                 ':Maildir, or old spool:_path_files -/' '*:mailbox:_files'
+            ;;
+        back)
+            _arguments '--help[print help]' '--dry-run[print what would go back]' '--moved[what people moved]:word:(stay copy)' \
+                '--now[wait for no quiet minute]' '--json[print objects of JSON]' \
+                '--report[write these objects to a new file]:file:_files' ':Maildir:_path_files -/' '*:mailbox:_files'
             ;;
         verify)
             _arguments '--help[print help]' '--json[print objects of JSON]' '--all[name files without mail too]' \

@@ -11,7 +11,7 @@ from .terminal import LINE, OutputFault, complain, drop, flush, open_streams
 
 
 # the words, in the order of the help: a run imports the module of one
-WORDS = "kind", "quote", "dates", "migrate", "verify"
+WORDS = "kind", "quote", "dates", "migrate", "verify", "back"
 EXAMPLES = """\
 examples:
   %s kind ~/mail                         # what is there

@@ -99,6 +99,11 @@ class Reason(Phrase):
     CONVERT_FAILED = "convert-failed", "The program mbox2maildir failed, or is missing."
     SYNC_FAILED = "sync-failed", "A sync of the disk failed."
     NOT_VERIFIED = "not-verified", "Not every message is there exactly once."
+    NOT_HELD = "not-held", "Its form cannot hold some of the mail that would go back into it."
+    TORN = (
+        "torn",
+        "A run was killed while it appended to it, and another program has written after that: a message is cut.",
+    )
     UNDO = "undo", "It cannot be undone without harm to other mail, or its undo was interrupted."
     # what is wrong with the Maildir or its record
     NO_MAILDIR = "no-maildir", "The Maildir, or its folder, is not there, or something else is in its place."

@@ -16,7 +16,7 @@ from pathlib import Path
 from tests.support.cases import LeftOut, run_cases
 from tests.support.checks import PATIENCE, TOP, equal
 
-WORDS = ["dates", "kind", "migrate", "quote", "verify"]
+WORDS = ["back", "dates", "kind", "migrate", "quote", "verify"]
 # a line whose last word is completed, and what is offered
 LINES = [
     ("mbox2maildir ", ["convert", "list", "rewrite"]),
@@ -45,6 +45,10 @@ LINES = [
     ("mbox2maildir-admin dates --h", ["--header", "--help"]),
     ("mbox2maildir-admin dates --header M", ["Maildir/"]),
     ("mbox2maildir-admin dates --header Maildir a", ["archive.mbox"]),
+    ("mbox2maildir-admin back --m", ["--moved"]),
+    ("mbox2maildir-admin back --moved c", ["copy"]),
+    ("mbox2maildir-admin back --moved copy M", ["Maildir/"]),
+    ("mbox2maildir-admin back Maildir archive.mbox a", ["archive.mbox"]),
     ("mbox2maildir-admin verify arch", []),
     ("mbox2maildir-admin verify --j", ["--jobs", "--json"]),
     ("mbox2maildir-admin verify --json M", ["Maildir/"]),

@@ -82,6 +82,7 @@ class ObjectReporter(Reporter):
                 "seconds": round(self.seconds(), 3),
                 "last_pass_seconds": rounded(self.last_pass()),
                 "says": line,
+                "next": objects_of(self.then),
             }
         )
 

@@ -15,19 +15,21 @@ from ..mbox.core import SHORT
 from ..mbox.locks import WITHOUT_LOCKS
 from ..terminal import named
 
-# the word of a message: its file was placed by this mailbox; brought by another one; nobody's. And what a mailbox no
-# longer has
-PLACED, SHARED, FOREIGN, LOST = b"p", b"s", b"f", b"l"
+# the word of a message: its file was placed by this mailbox; brought by another one; nobody's; nobody's, and `back` has
+# appended the message to the mailbox. And what a mailbox no longer has
+PLACED, SHARED, FOREIGN, RETURNED, LOST = b"p", b"s", b"f", b"b", b"l"
+# the words of files that no mailbox brought
+NOBODYS = FOREIGN, RETURNED
 # stands for a name that a line cannot have
 NAMELESS = b"-"
 NAME = re.compile(rb"[!-~]+\Z")
 HEAD = re.compile(rb"mbox2maildir\t1\t([0-9a-f]{32})\Z")
 # `=` stands for the first digits of the name
 MESSAGE = re.compile(
-    rb"^([psfl])\t((?=[0-9a-f]{32})[!-~]+(?=\t=)|[!-~]+(?=\t[0-9a-f]))\t(=|[0-9a-f]{32})(?:\t([0-9a-f]{32}))?\n", re.M
+    rb"^([psfbl])\t((?=[0-9a-f]{32})[!-~]+(?=\t=)|[!-~]+(?=\t[0-9a-f]))\t(=|[0-9a-f]{32})(?:\t([0-9a-f]{32}))?\n", re.M
 )
 # a line of something else
-OTHER_LINE = re.compile(rb"^(?![psfl]\t).*\n", re.M)
+OTHER_LINE = re.compile(rb"^(?![psfbl]\t).*\n", re.M)
 BATCH = re.compile(
     rb"@\t(\d{1,18})\t(\d{1,18})\t(\d{1,18})\t(\d{1,18})\t((?:-?\d{1,19}(?:,-?\d{1,19})*)?)"
     rb"\t(\d{1,18})-([0-9a-f]{64})(?:-(\d{1,20}))?\t([!-~][ -~]*)\t([^\t]+)\Z"
@@ -193,6 +195,11 @@ def put(number: int, piece: bytes) -> None:
     while written < len(piece):
         # a disk that is full says so now
         written += os.write(number, piece[written:])
+
+
+def word_for_others(word: bytes) -> bytes:
+    """The word of a file, whose line has this word, in the line of another mailbox."""
+    return FOREIGN if word in NOBODYS else SHARED
 
 
 def digest_at(digests: Union[bytes, bytearray], at: int) -> bytes:

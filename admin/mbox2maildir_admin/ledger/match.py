@@ -18,7 +18,7 @@ from ..units import Place, Say, silent
 from .batches import Line, State
 from .files import Files
 from .ledger import Ledger
-from .lines import FOREIGN, NAMELESS, PLACED, SHARED, Brought, counted_in
+from .lines import FOREIGN, NAMELESS, PLACED, SHARED, Brought, counted_in, word_for_others
 
 # tells whether a message is marked as deleted in its mailbox
 IsDeleted = Callable[[Place], bool]
@@ -270,7 +270,7 @@ class Serving:
         path, claims = self.match.path, self.claims(bare)
         lines = [one for one in self.lines if one.path != path and one.state in (State.HELD, State.FORMER)]
         for line in sorted(lines, key=lambda line: not self.is_there(line.message.name)):
-            one, word = line.message, FOREIGN if line.message.word == FOREIGN else SHARED
+            one, word = line.message, word_for_others(line.message.word)
             if count <= 0 or not self.waiting:
                 return
             if one.bare == bare and self.take(word, one.name, most=max(1, claims[one.name])):
@@ -294,7 +294,7 @@ class Serving:
             may_serve = line.state in (State.OPEN, State.DROPPED) and one.bare == bare
             if not (may_serve or is_mine and line.state is not State.HELD):
                 continue
-            word = one.word if is_mine and one.word != SHARED or one.word == FOREIGN else SHARED
+            word = one.word if is_mine and one.word != SHARED else word_for_others(one.word)
             if self.waiting and one.name in self.match.present and self.take(word, one.name):
                 self.match.seen.regained += line.state is State.FORMER
 
@@ -322,7 +322,7 @@ class Serving:
         for line in sorted(self.lines, key=lambda line: line.path != self.match.path):
             word, name = line.message.word, line.message.name
             if self.waiting and name in self.match.present:
-                kept = word if line.path == self.match.path or word == FOREIGN else SHARED
+                kept = word if line.path == self.match.path else word_for_others(word)
                 self.take(kept, name)
         for name in unnamed:
             if self.waiting and self.take(FOREIGN, name):

@@ -18,6 +18,8 @@ LEDGER = b"mbox2maildir-messages"
 ENVELOPES = b"mbox2maildir-envelopes.gz"
 # and a list of what is prepared there
 PREPARED = b"mbox2maildir-prepared"
+# and what is going to be appended to its mailbox
+GOES_BACK = b"mbox2maildir-back"
 
 
 def want_maildir(maildir: bytes) -> None:

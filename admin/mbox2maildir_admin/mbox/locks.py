@@ -1,10 +1,12 @@
-"""Opens a mailbox as delivery programs expect it: it waits for a quiet minute, and then locks it for reading."""
+"""Opens a mailbox as delivery programs expect it: it waits for a quiet minute, and then locks it for reading, or for
+writing."""
 import contextlib
 import errno
 import fcntl
 import os
 import struct
 import time
+from typing import NamedTuple
 
 from ..faults import Left, Reason, next_of, reason_of_fault
 from ..nexts import Remark
@@ -26,11 +28,26 @@ LOCK = b".lock"
 LOCKED, WITHOUT_LOCKS = (errno.EAGAIN, errno.EACCES), (errno.ENOLCK, errno.ENOSYS, errno.EOPNOTSUPP)
 
 
-def open_mailbox(path: bytes, say: Say = silent, follow: bool = False, quiet: bool = True) -> Mailbox:
+class Kind(NamedTuple):
+    """What a mailbox is locked for: how it is opened, and the locks of flock and of fcntl."""
+
+    flags: int
+    file: int
+    record: int
+
+
+# what is written is appended, wherever the file ends then
+READING = Kind(os.O_RDONLY, fcntl.LOCK_SH, fcntl.F_RDLCK)
+WRITING = Kind(os.O_RDWR | os.O_APPEND, fcntl.LOCK_EX, fcntl.F_WRLCK)
+
+
+def open_mailbox(
+    path: bytes, say: Say = silent, follow: bool = False, quiet: bool = True, kind: Kind = READING
+) -> Mailbox:
     """Opens a mailbox, waits until it was left alone for a minute if `quiet` says so, and locks it. It is digested
     while it is read. Raises Left if it can't be opened or locked, or has large holes."""
     try:
-        number = open_plain(path, 0 if follow else os.O_NOFOLLOW)
+        number = open_plain(path, kind.flags | (0 if follow else os.O_NOFOLLOW))
     except OSError as fault:
         is_link = fault.errno == errno.ELOOP
         if is_link:
@@ -39,11 +56,12 @@ def open_mailbox(path: bytes, say: Say = silent, follow: bool = False, quiet: bo
     try:
         mailbox = Mailbox(path, number, Digest(), say)
         if quiet:
-            lock_quiet(mailbox)
+            lock_quiet(mailbox, kind)
         else:
-            lock(number)
+            lock(number, kind)
             mailbox.take_state()
-        look_for_lock_file(mailbox)
+        if kind is READING:
+            look_for_lock_file(mailbox)
         if has_holes(number, mailbox.size):
             raise Left("more than 16 MB of it are holes, which were never written: find a complete copy", Reason.HOLES)
         return mailbox
@@ -52,12 +70,12 @@ def open_mailbox(path: bytes, say: Say = silent, follow: bool = False, quiet: bo
         raise
 
 
-def lock_quiet(mailbox: Mailbox) -> None:
+def lock_quiet(mailbox: Mailbox, kind: Kind = READING) -> None:
     """Locks a mailbox once it was left alone for a minute. Until then, deliveries find it unlocked."""
     end = time.monotonic() + PATIENCE
     while True:
         wait_for_quiet(mailbox, end)
-        lock(mailbox.number)
+        lock(mailbox.number, kind)
         mailbox.take_state()
         if seconds_to_wait(mailbox) <= 0:
             return
@@ -65,12 +83,12 @@ def lock_quiet(mailbox: Mailbox) -> None:
         unlock(mailbox.number)
 
 
-def lock(number: int) -> None:
-    """Locks a text for reading, by the locks that deliveries take for writing. Nothing is locked on a disk without
-    locks. Raises Left if another program has it locked."""
-    for take in (lock_file, lock_record):
+def lock(number: int, kind: Kind = READING) -> None:
+    """Locks a text by the locks that deliveries take for writing. Nothing is locked on a disk without locks. Raises
+    Left if another program has it locked."""
+    for take, its in ((lock_file, kind.file), (lock_record, kind.record)):
         try:
-            take(number)
+            take(number, its)
         except OSError as fault:
             if fault.errno in LOCKED:
                 raise Left("another program has locked it: wait, or stop that program", Reason.LOCKED) from fault

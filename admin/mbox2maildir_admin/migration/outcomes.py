@@ -24,6 +24,10 @@ class Fate(enum.Enum):
     WOULD_PREPARE = "would be prepared"
     UNDONE = "undone"
     WOULD_UNDO = "would be undone"
+    # by `back`: a mailbox has the mail of its folder, or would have it, or there was none for it
+    BACK = "back"
+    WOULD_BACK = "would go back"
+    NOTHING_NEW = "nothing new"
     # by `verify`: each message is there exactly once, or not
     WHOLE = "whole"
     NOT_WHOLE = "not whole"
@@ -53,6 +57,8 @@ class Row:
     next: Next = NOTHING
     # what a first pass has spent on it, if it measured that
     spent: Optional[Spent] = None
+    # whether it is on the way from the folder into the mailbox
+    is_back: bool = False
 
     @property
     def says(self) -> str:
@@ -73,7 +79,7 @@ class Row:
         """Whether the row is printed, and not only counted in the sum."""
         if self.fate == Fate.NO_MAIL:
             return BY_NO_MAIL in self.remarks
-        return self.fate not in (Fate.BEFORE, Fate.WHOLE) or bool(self.says)
+        return self.fate not in (Fate.BEFORE, Fate.NOTHING_NEW, Fate.WHOLE) or bool(self.says)
 
 
 class Ended(NamedTuple):

@@ -8,20 +8,26 @@ from typing import Optional
 
 from ..faults import Reason, Status
 from ..maildir.folders import folder_named
-from ..nexts import lines_below
+from ..nexts import NOTHING, Next, lines_below
 from ..progress import AtWork, Estimate, Progress, Task, duration, length
 from ..terminal import LINE, complain, flush, named, put
 from ..units import WAITING, counted
 from .outcomes import Fate, Observer, Row
 
 # the mailboxes whose messages and bytes are summed up
-SUMMED = Fate.DONE, Fate.WOULD, Fate.PREPARED, Fate.WOULD_PREPARE, Fate.WHOLE, Fate.NOT_WHOLE
+SUMMED = (
+    *(Fate.DONE, Fate.WOULD, Fate.PREPARED, Fate.WOULD_PREPARE),
+    *(Fate.BACK, Fate.WOULD_BACK, Fate.WHOLE, Fate.NOT_WHOLE),
+)
 # the steps of a mailbox, by the first word of what is said of its progress
 STEPS = MappingProxyType({"reading": 1, "copying": 1, "looking": 2, "converting": 3, "dating": 4, "verifying": 5})
 
 
 class Reporter(Observer):
     """Prints rows, and how far the mailboxes are. A migration has steps."""
+
+    # what is to be done once all is done
+    then: Next = NOTHING
 
     def __init__(self, clock: Callable[[], float] = time.monotonic, steps: Mapping[str, int] = STEPS) -> None:
         self.clock, self.start = clock, clock()
@@ -106,6 +112,8 @@ class Reporter(Observer):
         """Prints the sums, and what else is to be said with them. Returns the status: all is well if there was a
         mailbox, and nothing is left."""
         LINE.clear()
+        if self.report:
+            self.report.then = self.then
         is_reported = self.report is None or self.report.end_with((self.total, self.at_once), *more)
         sums = sums_of(self.counts, self.faults)
         if self.total and not sum(self.counts.values()):
@@ -148,14 +156,17 @@ class Reporter(Observer):
         for group in groups_of(self.reasons):
             put(group)
         put(line)
+        for below in lines_below((), self.then):
+            put(below)
         flush()
 
 
 def head_of(row: Row, user: Optional[str] = None) -> str:
     """What stands in a row before its fate: the mailbox, its folder, its kind and how many messages it has."""
     what = ", ".join(filter(None, [row.kind, "messages %d" % row.messages if row.messages is not None else ""]))
-    where = " -> %s" % folder_named(row.folder) if row.folder else ""
-    return "%s%s: %s" % (label_of(row, user), where, what + ": " if what else "")
+    names = [label_of(row, user), folder_named(row.folder) if row.folder else ""]
+    way = " -> ".join(filter(None, reversed(names) if row.is_back else names))
+    return "%s: %s" % (way, what + ": " if what else "")
 
 
 def label_of(row: Row, user: Optional[str]) -> str:

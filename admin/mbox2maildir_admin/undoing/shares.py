@@ -9,7 +9,7 @@ from typing import Optional
 from ..ledger.batches import Line, State
 from ..ledger.files import forms_in
 from ..ledger.ledger import Ledger
-from ..ledger.lines import BATCH, FOREIGN, NAMELESS, PLACED, Brought, pieces_in
+from ..ledger.lines import BATCH, NAMELESS, NOBODYS, PLACED, Brought, pieces_in
 from ..maildir.files import names_of
 from ..mbox.bases import base_in, before_info, is_own
 
@@ -99,9 +99,9 @@ class Shares:
     def take(self, line: Line, has: collections.Counter[bytes], holder: Optional[str], lacking: list[Line]) -> None:
         """Takes a line of the mailbox."""
         one, is_there = line.message, line.message.name in self.there
-        if not is_there and (one.word == FOREIGN or holder):
+        if not is_there and (one.word in NOBODYS or holder):
             self.miss(line)
-        elif one.word == FOREIGN:
+        elif one.word in NOBODYS:
             self.foreign += 1
         elif holder:
             self.kept[holder] += 1

@@ -176,10 +176,10 @@ class QuietTest(unittest.TestCase):
         with self.box(60, [30.5]) as (path, clock):
             take, late = locks.lock, [clock.slept]
 
-            def lock(number: int) -> None:
+            def lock(number: int, kind: locks.Kind) -> None:
                 while late:
                     clock.change(late.pop())
-                take(number)
+                take(number, kind)
 
             with mock.patch.object(locks, "lock", lock), open_mailbox(path) as mailbox:
                 # another one found the mailbox unlocked meanwhile

@@ -1,0 +1,150 @@
+"""Which mailbox the mail of a folder goes back to: the one that the folder has its mail from, wherever both are now;
+else the one of the folder's name; else a new one."""
+import collections
+import os
+from collections.abc import Iterator, Sequence
+from typing import NamedTuple, Optional
+
+from ..faults import Left, Reason
+from ..ledger.history import names_of
+from ..ledger.ledger import Ledger
+from ..ledger.record import Record, unspelled
+from ..ledger.strangers import folders_in
+from ..maildir.folders import INBOX, folder_named, folder_on_disk, folder_path, name_given
+from ..maildir.making import sync_folder
+from ..migration.places import Planned, recorded
+from ..migration.trees import Tree
+from ..readings.copies import COMPRESSED
+from ..terminal import named
+
+NO_TREE = "%s has no mailbox: name the folder of the old mailboxes too, in which one is made for it"
+NO_INBOX = "INBOX has no mailbox: name the one of the inbox too, such as /var/mail/NAME, even if it is not there"
+GONE = "its mailbox is gone: %s"
+# what the name of a mailbox ends in that stands beside another one, which takes nothing
+BESIDE = b"-back"
+# how many names are tried for a new mailbox
+NAMES = 100
+
+
+class Place(NamedTuple):
+    """A mailbox, and whether it is made if it is not there."""
+
+    path: bytes
+    is_new: bool = False
+
+
+class Places:
+    """The mailboxes of the folders of a Maildir, among those at some paths."""
+
+    def __init__(self, root: bytes, record: Record, names: Sequence[bytes]) -> None:
+        self.root, self.record, self.names = root, record, names
+        self.trees = [name for name in names if os.path.isdir(name)]
+        # by folders, as they are named on the disk: the mailboxes, in the order of the names
+        self.found: collections.defaultdict[bytes, list[bytes]] = collections.defaultdict(list)
+        for name in names:
+            for one in self.planned(name):
+                if one.folder:
+                    self.found[one.folder].append(one.target or one.path)
+
+    def planned(self, name: bytes) -> Iterator[Planned]:
+        """The mailboxes at a path, with their folders."""
+        if os.path.isdir(name):
+            yield from Tree(name, self.root).read().placed(self.record, self.root, set())
+            return
+        one = recorded(Planned(name, INBOX), self.record, self.root)
+        is_known = bool(self.record.folders_of(name)) or not os.path.isfile(name)
+        yield one if is_known else one._replace(folder=self.folder_of_moved(name))
+
+    def folder_of_moved(self, path: bytes) -> bytes:
+        """The folder of a mailbox that the record does not know by its path: the one whose ledger shows that it is the
+        file of a mailbox that is gone from its path; else INBOX."""
+        inode = os.stat(path).st_ino
+        for place in folders_in(self.root):
+            ledger = Ledger(place)
+            gone = [one for one in ledger.sources if not os.path.lexists(unspelled(one))]
+            if any(ledger.sources[one].inode == inode for one in gone):
+                return INBOX if place == self.root else os.path.basename(place)
+        return INBOX
+
+    def all_of(self, folder: bytes) -> list[bytes]:
+        """The mailboxes of a folder."""
+        return self.found.get(folder, [])
+
+    def first(self, folder: bytes) -> Optional[bytes]:
+        """The first mailbox of a folder; None if it has none."""
+        return next(iter(self.all_of(folder)), None)
+
+    def of(self, folder: bytes) -> list[Place]:
+        """The mailboxes of a folder, of which the first one that takes mail gets it; those that brought mail come
+        first. Raises Left if there is none, and none can be made."""
+        paths = Ledger(folder_path(self.root, folder)).paths()
+        found = self.all_of(folder)
+        there = [one for one in found if os.path.lexists(one)]
+        there.sort(key=lambda one: not set(names_of(one)) & set(paths))
+        gone = [one for one in paths if not os.path.lexists(unspelled(one))]
+        if there:
+            return [Place(one) for one in there]
+        if paths and len(gone) == len(paths):
+            raise Left(GONE % named(unspelled(gone[0])), Reason.MISSING)
+        if folder == INBOX:
+            if not found:
+                raise Left(NO_INBOX, Reason.NO_MAILBOX)
+            return [Place(found[0], True)]
+        return [self.new(folder, paths)]
+
+    def new(self, folder: bytes, paths: Sequence[str]) -> Place:
+        """The new mailbox of a folder, in the first tree."""
+        if not self.trees:
+            raise Left(NO_TREE % folder_named(folder), Reason.NO_MAILBOX)
+        parts, tree = name_given(folder).split(b"/"), self.trees[0]
+        nested = os.path.join(tree, *parts)
+        if folder_on_disk(os.path.relpath(nested, tree)) == folder and self.is_free(nested, paths):
+            return Place(nested, True)
+        return self.first_free(os.path.join(tree, b"-".join(parts)), paths)
+
+    def beside(self, path: bytes, folder: bytes) -> Place:
+        """The new mailbox beside one that takes nothing."""
+        path = next((path[: -len(end)] for end in COMPRESSED if path.endswith(end)), path)
+        return self.first_free(path + BESIDE, Ledger(folder_path(self.root, folder)).paths())
+
+    def first_free(self, path: bytes, paths: Sequence[str]) -> Place:
+        """The first of the names for a new mailbox that is free."""
+        names = [path, *(b"%s-%d" % (path, number) for number in range(2, NAMES))]
+        found = next((one for one in names if self.is_free(one, paths)), None)
+        if found is None:
+            raise Left("no name is free for a new mailbox: %s" % named(path), Reason.NO_MAILBOX)
+        return Place(found, True)
+
+    @staticmethod
+    def is_free(path: bytes, paths: Sequence[str]) -> bool:
+        """Whether a mailbox can be made at a path, or was made there before for a folder whose ledger has these
+        paths."""
+        if os.path.lexists(path):
+            is_file = os.path.isfile(path) and not os.path.islink(path)
+            return is_file and (not os.path.getsize(path) or bool(set(names_of(path)) & set(paths)))
+        above = os.path.dirname(os.path.abspath(path))
+        while not os.path.lexists(above):
+            above = os.path.dirname(above)
+        return os.path.isdir(above)
+
+
+def make_mailbox(path: bytes) -> None:
+    """Makes a mailbox that is not there, which only its owner may read, and the folders above it. They are on the disk
+    then."""
+    above = os.path.dirname(os.path.abspath(path))
+    if not os.path.isdir(above):
+        make_folders(above)
+    try:
+        os.close(os.open(path, os.O_WRONLY | os.O_CREAT | os.O_EXCL | os.O_NOFOLLOW | os.O_CLOEXEC, 0o600))
+    except FileExistsError:
+        return
+    sync_folder(above)
+
+
+def make_folders(path: bytes) -> None:
+    """Makes a folder, and those above it."""
+    above = os.path.dirname(path)
+    if not os.path.isdir(above):
+        make_folders(above)
+    os.mkdir(path, 0o700)
+    sync_folder(above)

@@ -1,0 +1,116 @@
+"""How a mailbox is read, before and after something is appended, and whether that gives back what was written."""
+import os
+from collections.abc import Sequence
+from typing import NamedTuple, Optional
+
+from ..faults import Fault, Left, Reason
+from ..kinds.starts import text_start
+from ..mbox.core import Core
+from ..mbox.inventory import Inventory
+from ..mbox.mailbox import Mailbox
+from ..program import Program
+from ..readings.earlier import plan_then
+from ..readings.plans import plan_of
+from ..readings.reading import MBOXRD, Reading
+from ..readings.texts import Choice, form_of
+from ..readings.unnamed import unnamed
+from .dialect import Dialect
+
+NO_LONGER = "it can no longer be read as it was read when it was migrated (%s)"
+# begins what stands for the reading of a mailbox that would be left
+ASKED = "?"
+
+
+class Forms(NamedTuple):
+    """The core of a message whose last line has ended, as it has in a mailbox; and the bare forms that one may give
+    back."""
+
+    core: bytes
+    bares: tuple[bytes, ...]
+
+    @classmethod
+    def of(cls, text: bytes) -> "Forms":
+        """The forms of a message."""
+        pairs = [forms_of(one) for one in ([text] if text.endswith(b"\n") else [text, text + b"\n"])]
+        return cls(pairs[-1][0], tuple(bare for _, bare in pairs))
+
+    def is_at(self, inventory: Inventory, place: int) -> bool:
+        """Whether a text has this message at a place."""
+        return inventory.core(place) == self.core and inventory.bare(place) in self.bares
+
+
+def forms_of(text: bytes) -> tuple[bytes, bytes]:
+    """The core and the bare form of a message."""
+    core = Core()
+    core.update(text)
+    return core.end()
+
+
+def reading_now(mailbox: Mailbox) -> str:
+    """The words by which a mailbox is read as it is now; a word for why not, if it would be left."""
+    if not mailbox.size:
+        return MBOXRD
+    try:
+        return plan_of(mailbox).reading.words()
+    except Left as left:
+        return ASKED + left.reason.word
+
+
+def takes_mail(mailbox: Mailbox, words: str) -> Optional[Dialect]:
+    """The dialect of a mailbox that is read by these words; None if it takes nothing: it is packed, or of another kind,
+    or the words name no dialect."""
+    if mailbox.size and (text_start(mailbox) is None or form_of(mailbox)):
+        return None
+    return Dialect.of_words(words)
+
+
+def messages_by(words: str, mailbox: Mailbox, disk: bytes, program: Optional[Program] = None) -> Inventory:
+    """The messages of a mailbox that is read by these words. A copy is on the disk of a folder. If a program is
+    given, it must list the same messages."""
+    if not mailbox.size:
+        return Inventory()
+    plan = plan_then(mailbox, Reading.of_words(words))
+    if not plan:
+        raise Left(NO_LONGER % words, Reason.ANOTHER_READING)
+    with Choice(mailbox, plan.bared(False)).text(disk) as text:
+        if not program:
+            return text.messages()
+        with program.listing(text.mailbox.number, text.start) as listing:
+            return text.messages(listing)
+
+
+def are_at(forms: Sequence[Forms], inventory: Inventory, first: int = 0) -> bool:
+    """Whether a text has these messages, and no others, from a place on."""
+    if len(inventory) != first + len(forms):
+        return False
+    return all(form.is_at(inventory, first + place) for place, form in enumerate(forms))
+
+
+class Held(NamedTuple):
+    """Tells whether a mailbox gives messages back: by which words it is read, whether something is asked about it
+    anyhow, and a folder on whose disk copies are made."""
+
+    words: str
+    is_asked: bool
+    disk: bytes
+
+    @classmethod
+    def by(cls, mailbox: Mailbox, words: str, disk: bytes) -> "Held":
+        """That of a mailbox as it is now."""
+        return cls(words, reading_now(mailbox).startswith(ASKED), disk)
+
+    def are(self, forms: Sequence[Forms], text: Mailbox) -> bool:
+        """Whether a text has exactly these messages, and nobody would be asked how it is read."""
+        try:
+            is_clear = self.is_asked or not reading_now(text).startswith(ASKED)
+            return is_clear and are_at(forms, messages_by(self.words, text, self.disk))
+        except Fault:
+            return False
+
+    def has(self, form: Forms, text: bytes) -> bool:
+        """The same for one message alone."""
+        with unnamed(self.disk) as file:
+            file.write(text)
+            file.flush()
+            with Mailbox(b"", os.dup(file.fileno())) as mailbox:
+                return self.are([form], mailbox)

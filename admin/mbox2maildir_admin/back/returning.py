@@ -1,0 +1,294 @@
+"""One mailbox, and the mail of its folder that goes back into it."""
+import collections
+import contextlib
+import os
+from collections.abc import Iterator, Sequence
+from dataclasses import replace
+from typing import NamedTuple, Optional
+
+from ..faults import Left, Reason
+from ..ledger.history import Step
+from ..ledger.ledger import Ledger
+from ..ledger.lines import RETURNED, Brought, Head, note_end
+from ..ledger.match import cores_of
+from ..ledger.record import Record, Verified, unspelled
+from ..maildir.files import names_of
+from ..maildir.space import Need, want_room
+from ..mbox.bases import before_info
+from ..mbox.files import open_file
+from ..mbox.inventory import Inventory
+from ..mbox.lock_file import lock_file_of
+from ..mbox.locks import READING, WRITING, open_mailbox
+from ..mbox.mailbox import Mailbox
+from ..migration.known import Known
+from ..migration.outcomes import Fate, Row
+from ..migration.steps import Opened
+from ..nexts import Remark, Todo, task
+from ..program import Program
+from ..readings.texts import disk_of
+from ..terminal import named
+from ..units import Line, Say, Size, counted, silent
+from .appending import append, before_of, recover, take_back
+from .beside import Beside, Draft
+from .dialect import Dialect, Letter
+from .mails import Mail
+from .reading import Forms, Held, are_at, messages_by, reading_now, takes_mail
+from .steps import How, NotAsItIs, Outcome, TakesNothing, Target
+
+FILE_CHANGED = "%s was changed meanwhile: stop the program that did it, and run this again"
+MISREAD = "what was appended is not read back as it is, so it was taken back"
+REPLACED = "another file has its place meanwhile: run this again"
+# how many bytes at the end of a mailbox show whether its last message has ended
+ENDS = 3
+
+
+class Entry(NamedTuple):
+    """A message that is going to be appended: its file, its forms, and where its text is in the draft."""
+
+    mail: Mail
+    forms: Forms
+    start: int
+    size: int
+
+
+class Returning:
+    """Appends to a mailbox what did not come from it."""
+
+    def __init__(self, program: Program, root: bytes, record: Record, how: How, say: Say = silent) -> None:
+        self.program, self.root, self.record, self.how, self.say = program, root, record, how, say
+        self.disk = disk_of(root, how.dry)
+
+    def run(self, target: Target) -> Outcome:
+        """Appends the mail. Raises TakesNothing if the mailbox takes none."""
+        # root follows no symbolic link, which may lead anywhere
+        path = target.path if os.geteuid() == 0 else os.path.realpath(target.path)
+        with self.opened(path) as mailbox:
+            return self.bring_into(target, Opened.into(self.root, target.folder, mailbox))
+
+    @contextlib.contextmanager
+    def opened(self, path: bytes) -> Iterator[Mailbox]:
+        """Opens a mailbox, and holds all of its locks."""
+        if self.how.dry and not os.path.lexists(path):
+            with Mailbox(path, os.open(os.devnull, os.O_RDONLY)) as mailbox:
+                yield mailbox
+            return
+        kind = READING if self.how.dry else WRITING
+        with contextlib.ExitStack() as stack:
+            mailbox = stack.enter_context(open_mailbox(path, self.say, False, not self.how.now, kind))
+            if mailbox.state.st_uid != os.geteuid():
+                raise Left("it belongs to another user", Reason.OTHER_OWNER, task(Todo.AS_OWNER))
+            if not self.how.dry:
+                stack.enter_context(lock_file_of(mailbox, os.path.realpath(self.root)))
+                mailbox.take_state()
+            if not os.path.samestat(os.stat(path), mailbox.state):
+                raise Left(REPLACED, Reason.CHANGED)
+            yield mailbox
+
+    def bring_into(self, target: Target, opened: Opened) -> Outcome:
+        """Does it for an open mailbox."""
+        known = Known(self.record, Ledger(opened.folder), opened)
+        path, now = self.path_in(known), reading_now(opened.mailbox)
+        # programs that deliver without lengths may have changed how it is read since it was migrated
+        for words in dict.fromkeys([known.ledger.words_of(path) if path else now, now]):
+            dialect = takes_mail(opened.mailbox, words)
+            if dialect:
+                inventory = messages_by(words, opened.mailbox, self.disk, self.program)
+                known.take_place(inventory, self.how.dry)
+                try:
+                    return Appending(self, target, known, Read(words, dialect, inventory)).run()
+                except NotAsItIs:
+                    continue
+        raise TakesNothing("nothing can be appended to it", Reason.OTHER_KIND)
+
+    def recover(self, path: bytes, beside: Beside) -> Optional[Line]:
+        """Takes back what a killed run appended to a mailbox in part. Returns the line of a message that stays cut, if
+        one does."""
+        with self.opened(path) as mailbox:
+            return recover(mailbox, beside)
+
+    @staticmethod
+    def path_in(known: Known) -> str:
+        """The path of a mailbox as its ledger spells it, also if it was moved from there; empty if the ledger does not
+        have it."""
+        ledger, mailbox = known.ledger, known.opened.mailbox
+        paths = ledger.paths()
+        if known.path in paths:
+            return known.path
+        gone = (one for one in paths if not os.path.lexists(unspelled(one)))
+        return next((one for one in gone if ledger.is_of(one, mailbox.key(), mailbox.state.st_ino)), "")
+
+
+class Read(NamedTuple):
+    """A mailbox as it is read: by which words, in which dialect, and its messages."""
+
+    words: str
+    dialect: Dialect
+    inventory: Inventory
+
+
+class Appending:
+    """The mail that goes back into one open mailbox."""
+
+    def __init__(
+        self,
+        returning: Returning,
+        target: Target,
+        known: Known,
+        read: Read,
+    ) -> None:
+        self.returning, self.target, self.opened, self.known = returning, target, known.opened, known
+        self.words, self.dialect, self.inventory = read
+        inventory = read.inventory
+        source = known.ledger.sources.get(known.path)
+        # how often the mailbox has each core, and no ledger says why
+        self.extra = cores_of(inventory) - (source.has() if source else collections.Counter())
+        # what it has already, and what it cannot hold
+        self.there: list[Mail] = []
+        self.refused: list[Mail] = []
+
+    @property
+    def mailbox(self) -> Mailbox:
+        """The mailbox."""
+        return self.opened.mailbox
+
+    def run(self) -> Outcome:
+        """Appends what the mailbox does not have."""
+        rest = []
+        for mail in self.target.mails:
+            if self.extra[mail.core] > 0:
+                self.extra[mail.core] -= 1
+                self.there.append(mail)
+            else:
+                rest.append(mail)
+        size, entries = 0, []
+        with self.draft() as draft:
+            entries = self.drafted(draft, rest)
+            size = draft.size if entries else 0
+            if not self.returning.how.dry:
+                self.bring(draft, entries)
+        return Outcome(self.row(entries, size), self.refused)
+
+    def draft(self) -> Draft:
+        """The draft, which a dry run has where nobody looks."""
+        if self.returning.how.dry:
+            return Draft.unnamed(self.returning.disk)
+        return Draft.in_folder(self.opened.folder)
+
+    def drafted(self, draft: Draft, mails: Sequence[Mail]) -> list[Entry]:
+        """Writes messages as the mailbox has them. What it cannot hold is left out."""
+        entries = self.spelled(draft, mails)
+        held = Held.by(self.mailbox, self.words, self.returning.disk)
+        with draft.text() as text:
+            if not entries or held.are([one.forms for one in entries], text):
+                return entries
+            texts = ((one, os.pread(draft.number, one.size, one.start)) for one in entries)
+            bad = [one for one, its in texts if not held.has(one.forms, its)]
+        if not bad:
+            raise NotAsItIs(MISREAD, Reason.MISREAD)
+        self.refused += [one.mail for one in bad]
+        draft.clear()
+        return self.drafted(draft, [one.mail for one in entries if one not in bad])
+
+    def spelled(self, draft: Draft, mails: Sequence[Mail]) -> list[Entry]:
+        """Writes messages as the mailbox has them."""
+        draft.add(self.dialect.gap_after(self.mailbox.at(self.mailbox.size - ENDS, ENDS)))
+        entries = []
+        for number, mail in enumerate(mails, 1):
+            self.returning.say("reading file %d of %d" % (number, len(mails)))
+            letter = letter_of(self.opened.folder, mail)
+            if letter:
+                forms = Forms.of(letter.text)
+                if forms.core != mail.core:
+                    raise Left(FILE_CHANGED % named(mail.path), Reason.CHANGED)
+                start = draft.size
+                draft.begin(self.dialect.spelled(letter))
+                entries.append(Entry(mail, forms, start, draft.size - start))
+        return entries
+
+    def bring(self, draft: Draft, entries: Sequence[Entry]) -> None:
+        """Appends what was drafted, and has the ledger say so."""
+        if not entries and not self.there:
+            return
+        if not entries:
+            os.fsync(self.mailbox.number)
+            self.end(self.begin(entries, self.mailbox.key()), self.inventory)
+            return
+        want_room(Need.of(os.path.dirname(self.mailbox.path), [], draft.size))
+        reads = reading_now(self.mailbox)
+        beside = draft.finish(before_of(self.mailbox))
+        try:
+            number = self.begin(entries, self.key_after(beside))
+            append(self.mailbox, beside)
+            found = self.verified(beside, entries, reads)
+            # once the ledger says that it went back, no run may take it for a part, and cut it off
+            beside.remove()
+            self.end(number, found)
+        finally:
+            beside.close()
+
+    def key_after(self, beside: Beside) -> tuple[int, str]:
+        """The size and the SHA-256 of the mailbox once all is appended."""
+        assert self.mailbox.digest, "it is digested while it is read"
+        hashed, reader = self.mailbox.digest.hash.copy(), beside.reader()
+        for block in iter(lambda: reader.read(1 << 20), b""):
+            hashed.update(block)
+        return self.mailbox.size + beside.size, hashed.hexdigest()
+
+    def begin(self, entries: Sequence[Entry], key: tuple[int, str]) -> int:
+        """Notes in the ledger what goes back, and what is there already. Returns the number of the batch."""
+        ledger, bares = self.known.ledger, {}
+        for place in range(len(self.inventory) if self.there else 0):
+            bares[self.inventory.core(place)] = self.inventory.bare(place)
+        lines = [Brought(RETURNED, one.before, one.core, bares[one.core]) for one in self.there]
+        lines += [Brought(RETURNED, one.mail.before, one.forms.core, one.forms.bares[-1]) for one in entries]
+        head = Head(len(lines), 0, 0, (), key, self.words, self.known.path, self.mailbox.state.st_ino)
+        return ledger.begin(head, lines)
+
+    def verified(self, beside: Beside, entries: Sequence[Entry], reads: str) -> Inventory:
+        """The messages of the mailbox with what was appended. Raises Left if any of them is not as it is to be: then
+        the mailbox is as it was before."""
+        mailbox, count = self.mailbox, len(self.inventory)
+        try:
+            found = messages_by(self.words, mailbox, self.returning.disk, self.returning.program)
+            is_right = are_at([one.forms for one in entries], found, count)
+            cores = self.inventory.cores
+            if not is_right or found.cores[: len(cores)] != cores or reading_now(mailbox) != reads:
+                raise NotAsItIs(MISREAD, Reason.MISREAD)
+        except BaseException:
+            take_back(mailbox, beside)
+            raise
+        return found
+
+    def end(self, number: int, inventory: Inventory) -> None:
+        """Notes that what went back was verified, and is on the disk; and that the mailbox is done, if the Maildir has
+        all that is in it."""
+        ledger, opened = self.known.ledger, self.opened
+        size = note_end(opened.folder, number)
+        ledger.end(number)
+        if +self.extra:
+            return
+        key = self.known.key._replace(size=Size(self.mailbox.size), digest=self.mailbox.key()[1])
+        path = unspelled(self.known.path)
+        state = os.fstat(self.mailbox.number)
+        done = Verified(key, len(inventory), path, self.words, opened.folder, state, ledger.number, number)
+        self.returning.record.add_step(Step.DONE, done, size)
+
+    def row(self, entries: Sequence[Entry], size: int) -> Row:
+        """The row of the mailbox."""
+        is_dry = self.returning.how.dry
+        fate = (Fate.WOULD_BACK if is_dry else Fate.BACK) if entries or self.there else Fate.NOTHING_NEW
+        count, there = len(entries) + len(self.there), len(self.there)
+        row = Row(self.target.path, self.target.folder, self.dialect.word, count, fate, size=size, is_back=True)
+        says = [Remark("there-already", "%s there already" % counted(there, "message"), there)] if there else []
+        return replace(row, remarks=(*self.mailbox.remarks, *says, *self.target.remarks))
+
+
+def letter_of(folder: bytes, mail: Mail) -> Optional[Letter]:
+    """The message of a file, which programs may have renamed; None if it was removed meanwhile."""
+    for name, path in [(mail.name, mail.path), *names_of(folder)]:
+        if before_info(name) != mail.before:
+            continue
+        with contextlib.suppress(FileNotFoundError), open_file(path, os.O_NOFOLLOW) as file:
+            flags = name.partition(b":2,")[2].decode("ascii", "replace")
+            return Letter(file.readall(), flags, os.path.basename(os.path.dirname(path)) == b"cur", mail.time)
+    return None

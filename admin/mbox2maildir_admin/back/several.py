@@ -1,0 +1,202 @@
+"""The mail of a Maildir on its way back, folder by folder."""
+import collections
+import contextlib
+import functools
+import itertools
+import os
+from collections.abc import Iterator, Sequence
+from dataclasses import replace
+from typing import Optional, Union
+
+from ..faults import Fault, Left, PlaceFault, Reason
+from ..ledger.record import Record, unspelled
+from ..ledger.strangers import folders_in
+from ..maildir.folders import INBOX, folder_named, folder_path
+from ..maildir.making import GOES_BACK, RECORD
+from ..maildir.roots import real_place, want_roots_alone
+from ..mbox.lock_file import drop_left
+from ..migration.outcomes import Fate, Observer, Row, row_left
+from ..nexts import NOTHING, Next, Remark, run_next
+from ..program import Program, find_program
+from ..progress import Beat
+from ..terminal import named, operand
+from ..units import counted
+from .beside import Beside
+from .mails import Mail, Sorted, copied, sorted_mail
+from .places import Place, Places, make_mailbox
+from .returning import Returning
+from .steps import How, Outcome, TakesNothing, Target, left_unheld
+
+NO_RECORD = "%s: it has no record, so nothing was migrated into it"
+TORN = "the message that begins in line %d is cut: a run was killed there, and another program has written after it"
+NOT_READ_BACK = "what would be appended to it would not be read back as it is"
+CANNOT_HOLD, TAKES_NOTHING = "%s cannot hold this", "%s takes nothing"
+Remarks = tuple[Remark, ...]
+# what the name of a Maildir ends in that has been moved aside
+ASIDE = b".back"
+
+
+def bring_back(root: bytes, names: Sequence[bytes], how: How, copies: bool, observer: Observer) -> Next:
+    """Brings the mail back that is in a Maildir of the user who runs this, and did not come from the mailboxes at some
+    paths. What was moved in the Maildir goes back too if `copies` says so. Returns what moves the Maildir aside."""
+    if os.geteuid() == 0:
+        # a symbolic link above it may lead elsewhere by then
+        root = real_place(root)
+        want_roots_alone(root)
+    if not os.path.lexists(os.path.join(root, RECORD)):
+        raise PlaceFault(NO_RECORD % named(root), Reason.NO_MAILDIR)
+    os.umask(0o077)
+    with Record.open(root, not how.dry) as record:
+        several = Several(Program(find_program()), root, record, how, observer)
+        return several.run(Places(root, record, names), copies)
+
+
+class Several:
+    """The folders of a Maildir whose mail goes back."""
+
+    def __init__(self, program: Program, root: bytes, record: Record, how: How, observer: Observer) -> None:
+        self.program, self.root, self.record, self.how, self.observer = program, root, record, how, observer
+        self.is_right = True
+
+    def run(self, places: Places, copies: bool) -> Next:
+        """Brings back the mail of each folder, and tells its row."""
+        if not self.how.dry:
+            self.drop_locks(places)
+        say = Beat(functools.partial(self.observer.progress, named(self.root)))
+        found = sorted_mail(self.root, self.record, say)
+        found = copied(found) if copies else found
+        mails: collections.defaultdict[bytes, list[Mail]] = collections.defaultdict(list)
+        for mail in found.new:
+            mails[mail.folder].append(mail)
+        folders = list(self.folders(found, {*mails, *places.found}))
+        self.observer.total += len(folders)
+        for folder in folders:
+            self.observer.begin()
+            for row in self.rows(folder, mails[folder], remarks_on(found, folder), places):
+                self.is_right = self.is_right and not row.left_for
+                self.observer.row(row)
+        return self.aside()
+
+    def drop_locks(self, places: Places) -> None:
+        """Removes the locks that a killed run left. If it had noted the end of a mailbox, nothing may go back into that
+        any more, and nobody else would remove them."""
+        for path in itertools.chain.from_iterable(places.found.values()):
+            drop_left(path, os.path.realpath(self.root))
+
+    def folders(self, found: Sorted, wanted: set[bytes]) -> Iterator[bytes]:
+        """The folders with mail that goes back, or with a mailbox, and those about which something is to be said."""
+        wanted.update(slot.folder for slot in (*found.deleted, *found.changed))
+        wanted.update(mail.folder for mail, _ in found.moved)
+        for path in folders_in(self.root):
+            folder = INBOX if path == self.root else os.path.basename(path)
+            if folder in wanted or os.path.lexists(os.path.join(path, GOES_BACK)):
+                yield folder
+
+    def rows(self, folder: bytes, mails: Sequence[Mail], remarks: Remarks, places: Places) -> Iterator[Row]:
+        """The row of the mailbox to which the mail of a folder goes back; and that of a mailbox beside it, which gets
+        what it cannot hold."""
+        path = folder_path(self.root, folder)
+        try:
+            yield from self.recovered(folder, places)
+            if not mails:
+                yield nothing_new(places.first(folder) or path, folder, remarks)
+                return
+            several = places.of(folder)
+        except (Fault, OSError) as fault:
+            yield left(path, folder, fault, len(mails), remarks)
+            return
+        for place in several:
+            found = self.brought(place, Target(place.path, folder, mails, remarks))
+            if found:
+                yield found.row
+                yield from self.rows_beside(Target(place.path, folder, found.refused), places, CANNOT_HOLD)
+                return
+        yield from self.rows_beside(Target(several[0].path, folder, mails, remarks), places, TAKES_NOTHING)
+
+    def recovered(self, folder: bytes, places: Places) -> Iterator[Row]:
+        """Takes back what a killed run appended in part. The row of a mailbox in which a message stays cut."""
+        beside = None if self.how.dry else Beside.left_in(folder_path(self.root, folder))
+        if not beside:
+            return
+        with contextlib.closing(beside):
+            paths = [one for one in (unspelled(beside.before.path), *places.all_of(folder)) if os.path.isfile(one)]
+            same = [one for one in paths if os.stat(one).st_ino == beside.before.inode]
+            # another file at its path may be a copy of it
+            for path in (same or paths)[:1]:
+                line = Returning(self.program, self.root, self.record, self.how).recover(path, beside)
+                if line is not None:
+                    yield left(path, folder, Left(TORN % line, Reason.TORN), 0)
+            if os.path.lexists(beside.path):
+                beside.remove()
+
+    def rows_beside(self, target: Target, places: Places, why: str) -> Iterator[Row]:
+        """The row of the mailbox beside one that does not get this mail, if there is some."""
+        path, folder, mails, remarks = target
+        if not mails:
+            return
+        try:
+            other = places.beside(path, folder)
+        except Fault as fault:
+            yield left(path, folder, fault, len(mails), remarks)
+            return
+        says = Remark("beside", why % named(path))
+        found = self.brought(other, Target(other.path, folder, mails, (says, *remarks)))
+        if found:
+            yield left_unheld(found.row, found.refused) if found.refused else found.row
+        else:
+            yield left(other.path, folder, Left(NOT_READ_BACK, Reason.NOT_HELD), len(mails))
+
+    def brought(self, place: Place, target: Target) -> Optional[Outcome]:
+        """What became of a mailbox to which mail goes back, and which is made if it is missing; None if it takes
+        nothing."""
+        try:
+            if place.is_new and not self.how.dry:
+                make_mailbox(place.path)
+            say = Beat(functools.partial(self.observer.progress, named(target.path)))
+            return Returning(self.program, self.root, self.record, self.how, say).run(target)
+        except TakesNothing:
+            return None
+        except (Fault, OSError) as fault:
+            return Outcome(left(target.path, target.folder, fault, len(target.mails), target.remarks), ())
+
+    def aside(self) -> Next:
+        """What moves the Maildir aside, once all of its mail is back."""
+        if self.how.dry or not self.is_right:
+            return NOTHING
+        names = (self.root.rstrip(b"/") + ASIDE + end for end in (b"", *(b"-%d" % number for number in range(2, 100))))
+        name = next((name for name in names if not os.path.lexists(name)), None)
+        return run_next("mv", "-nT", operand(self.root), operand(name)) if name else NOTHING
+
+
+def left(path: bytes, folder: bytes, fault: Union[Fault, OSError], count: int, remarks: Remarks = ()) -> Row:
+    """The row of a mailbox to which nothing went back, of so many messages."""
+    return replace(row_left(path, folder, fault), messages=count, remarks=remarks, is_back=True)
+
+
+def nothing_new(path: bytes, folder: bytes, remarks: Remarks) -> Row:
+    """The row of a mailbox of whose folder no mail goes back."""
+    return Row(path, folder, "", 0, Fate.NOTHING_NEW, remarks=remarks, is_back=True)
+
+
+def remarks_on(found: Sorted, folder: bytes) -> Remarks:
+    """What is said of the mail that came from the mailbox of a folder, and of what was moved there."""
+    return tuple(remarks_in(found, folder))
+
+
+def remarks_in(found: Sorted, folder: bytes) -> Iterator[Remark]:
+    """The same."""
+    came: collections.Counter[bytes] = collections.Counter(
+        slot.folder for mail, slot in found.moved if mail.folder == folder
+    )
+    for other, count in came.items():
+        says = "%s that people moved here from %s %s in the mailbox of that"
+        stay = "stays" if count == 1 else "stay"
+        yield Remark("moved", says % (counted(count, "message"), folder_named(other), stay))
+    for word, slots, says in (
+        ("deleted", found.deleted, "%s that %s deleted in the Maildir %s still there"),
+        ("changed", found.changed, "%s that %s changed in the Maildir %s there as before"),
+    ):
+        count = sum(slot.folder == folder for slot in slots)
+        if count:
+            verbs = ("was", "is") if count == 1 else ("were", "are")
+            yield Remark(word, says % (counted(count, "message"), *verbs))

@@ -1,0 +1,56 @@
+"""What the steps of the way back pass on to each other."""
+from collections.abc import Sequence
+from dataclasses import dataclass, replace
+from typing import NamedTuple
+
+from ..faults import Left, Reason
+from ..migration.outcomes import Fate, Row
+from ..nexts import Remark
+from ..terminal import NAMED, named
+from ..units import counted
+from .mails import Mail
+
+NOT_HELD = "it cannot hold %s, which %s in the Maildir alone: %s"
+
+
+class TakesNothing(Left):
+    """A mailbox to which nothing is appended: it is packed, of another kind, or nothing says how it is written."""
+
+
+class NotAsItIs(Left):
+    """A mailbox that would not be read, with what was appended, as it is to be."""
+
+
+@dataclass(frozen=True)
+class How:
+    """How mail goes back: whether nothing is written, and whether no quiet minute is waited for."""
+
+    dry: bool = False
+    now: bool = False
+
+
+class Target(NamedTuple):
+    """A mailbox, its folder by the name on the disk, and the mail that goes back into it."""
+
+    path: bytes
+    folder: bytes
+    mails: Sequence[Mail]
+    remarks: tuple[Remark, ...] = ()
+
+
+class Outcome(NamedTuple):
+    """The row of a mailbox, and the mail that it cannot hold."""
+
+    row: Row
+    refused: Sequence[Mail]
+
+
+def left_unheld(row: Row, refused: Sequence[Mail]) -> Row:
+    """The row of a mailbox that cannot hold some of the mail, which no other one takes."""
+    names = ", ".join(named(one.path) for one in refused[:NAMED])
+    more = " and %d more" % (len(refused) - NAMED) if len(refused) > NAMED else ""
+    stay = "stays" if len(refused) == 1 else "stay"
+    why = NOT_HELD % (counted(len(refused), "message"), stay, names + more)
+    return replace(
+        row, fate=Fate.LEFT, reason=row.reason or Reason.NOT_HELD, why="; ".join(filter(None, [row.why, why]))
+    )

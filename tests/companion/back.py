@@ -1,0 +1,113 @@
+#!/usr/bin/env -S python3 -B
+"""mbox2maildir-admin back: random histories of a Maildir, and the mailboxes after the way back, beside a model.
+
+BACK_SEEDS says how many histories there are of each dialect, and BACK_FIRST the first one.
+"""
+import os
+from collections import Counter
+from functools import partial
+
+from tests.support.archives import fresh
+from tests.support.cases import Failed, run_cases
+from tests.support.rewriting.runs import Ran
+from tests.support.wayback.dialects import DIALECTS, Dialect, bare
+from tests.support.wayback.histories import BESIDE, Appended, History, shown_of, tail_of, text_at
+
+SEEDS, FIRST = int(os.environ.get("BACK_SEEDS") or 3), int(os.environ.get("BACK_FIRST") or 0)
+BACK = ["back", "--json", "--now", "M", "mail", "spool"]
+
+
+class Trial:
+    """The way back after a history."""
+
+    def __init__(self, history: History) -> None:
+        self.history, self.home = history, history.home
+        self.before = self.texts()
+        self.sure, self.any_of, _ = history.wanted()
+
+    def texts(self) -> dict[str, bytes]:
+        """The mailboxes by their folders."""
+        return {folder: text_at(self.home.path / path) for folder, path in self.history.paths().items()}
+
+    def wants(self, is_right: bool, what: str, *ran: Ran) -> None:
+        """Fails if something is not right."""
+        if not is_right:
+            raise Failed("\n".join([what, *(f"{one.status}: {one.output}" for one in ran)]))
+
+    def added(self) -> dict[str, list[Appended]]:
+        """What was appended to each mailbox."""
+        found = {}
+        for folder, text in self.texts().items():
+            tail = tail_of(self.before[folder], text)
+            found[folder] = [shown_of(*one) for one in self.dialect_of(folder).read(tail)]
+        return found
+
+    def check(self, ran: Ran) -> None:
+        """Each message is in one mailbox, with its bytes."""
+        self.wants(ran.status == 0, "status", ran)
+        rest = Counter(self.history.appended(one) for one in self.any_of)
+        spare = len({one.number for one in self.any_of})
+        count = 0
+        for folder, several in self.added().items():
+            its, is_beside = folder.rstrip(BESIDE), folder.endswith(BESIDE)
+            sure = Counter(self.sure.get(its, {}))
+            for one in list(sure):
+                if folder_refuses(self, its, one) != is_beside:
+                    del sure[one]
+            there = Counter(several)
+            self.wants(not sure - there, f"{folder}: missing {dict(sure - there)}, too much {dict(there - sure)}", ran)
+            more = there - sure
+            self.wants(not more - rest, f"{folder}: too much {dict(more - rest)}", ran)
+            rest -= more
+            count += sum(more.values())
+        self.wants(count == len(self.any_of) - spare, f"{count} of {len(self.any_of)}", ran)
+
+    def dialect_of(self, folder: str) -> Dialect:
+        """The dialect of the mailbox of a folder."""
+        return self.history.dialect if self.before[folder] else DIALECTS["mboxrd"]
+
+    def run(self) -> None:
+        """Goes back, twice, and migrates again, into the same Maildir and into a new one."""
+        history, home = self.history, self.home
+        names = sorted(str(path) for path in home.maildir.glob("**/*") if "/new/" in str(path) or "/cur/" in str(path))
+        ran = home.place.run(BACK)
+        self.check(ran)
+        texts = self.texts()
+        again = home.place.run(BACK)
+        self.wants(self.texts() == texts, "a second run changes something", ran, again)
+        self.wants(again.status == ran.status, "a second run ends otherwise", ran, again)
+        several = history.migrate("M")
+        now = sorted(str(path) for path in home.maildir.glob("**/*") if "/new/" in str(path) or "/cur/" in str(path))
+        self.wants(now == names, f"migrate places {set(now) ^ set(names)}", ran, *several)
+        history.migrate("N")
+        for folder, text in texts.items():
+            wanted = Counter(bare(message) for _, message in self.dialect_of(folder).read(text))
+            place = history.place_of(folder)
+            found = Counter(bare(one.text) for one in history.files("N") if one.folder == place)
+            self.wants(found == wanted, f"{folder}: missing {wanted - found}, too much {found - wanted}", ran)
+
+
+def folder_refuses(trial: Trial, folder: str, one: Appended) -> bool:
+    """Whether the mailbox of a folder cannot hold a message."""
+    return bool(trial.before[folder]) and not trial.history.holds(one.bare)
+
+
+def histories(dialect: str) -> None:
+    """A case: some histories of one dialect."""
+    wrong = []
+    for seed in range(FIRST, FIRST + SEEDS):
+        with fresh() as home:
+            history = History(home, seed, dialect)
+            try:
+                history.begin()
+                history.act(history.draw.randrange(4, 20))
+                Trial(history).run()
+            except Failed as failed:
+                wrong.append(f"seed {seed}: {failed}")
+    print(f"{dialect}: {SEEDS} histories, {len(wrong)} wrong", flush=True)
+    if wrong:
+        raise Failed("\n".join(wrong[:3]))
+
+
+if __name__ == "__main__":
+    run_cases({name: partial(histories, name) for name in DIALECTS})

@@ -1,0 +1,149 @@
+"""What is appended to a mailbox, and taken back: only what this program wrote, in the same file, after the same
+beginning."""
+import contextlib
+import errno
+import os
+from collections.abc import Iterator
+from pathlib import Path
+from unittest import mock
+
+from mbox2maildir_admin.back import appending
+from mbox2maildir_admin.back.appending import append, before_of, recover, take_back
+from mbox2maildir_admin.back.beside import UNFINISHED, Beside, Draft, End
+from mbox2maildir_admin.faults import Left, Reason
+from mbox2maildir_admin.maildir.making import GOES_BACK
+from mbox2maildir_admin.mbox.digest import Digest
+from mbox2maildir_admin.mbox.mailbox import Mailbox
+
+from tests.support.units import FolderTest
+
+OLD, MAILS = b"From a\n\nold\n\n", (b"From b\n\nbee\n\n", b"From c\n\nsea\n\n")
+TAIL = b"".join(MAILS)
+
+
+class AppendingTest(FolderTest):
+    def setUp(self) -> None:
+        super().setUp()
+        self.path = self.write("box", OLD)
+
+    @contextlib.contextmanager
+    def opened(self) -> Iterator[Mailbox]:
+        """The mailbox, open for writing."""
+        with Mailbox(self.path, os.open(self.path, os.O_RDWR | os.O_APPEND), Digest()) as mailbox:
+            yield mailbox
+
+    def beside(self, mailbox: Mailbox) -> Beside:
+        """A file beside, with what is to be appended."""
+        with Draft.in_folder(self.here) as draft:
+            for one in MAILS:
+                draft.begin(one)
+            return draft.finish(before_of(mailbox))
+
+    def text(self) -> bytes:
+        """What the mailbox has."""
+        return Path(os.fsdecode(self.path)).read_bytes()
+
+    def names(self) -> list[bytes]:
+        """What is in the folder."""
+        return sorted(os.listdir(self.here))
+
+    def test_all_is_appended(self) -> None:
+        with self.opened() as mailbox, contextlib.closing(self.beside(mailbox)) as beside:
+            append(mailbox, beside)
+            self.assertEqual(beside.end_of(mailbox), End.WHOLE)
+        self.assertEqual(self.text(), OLD + TAIL)
+
+    def test_it_says_what_it_was_for(self) -> None:
+        with self.opened() as mailbox:
+            self.beside(mailbox).close()
+            found = Beside.left_in(self.here)
+            assert found, "it is there"
+            self.assertEqual(
+                (found.before, found.size, found.starts), (before_of(mailbox), len(TAIL), [0, len(MAILS[0])])
+            )
+            found.close()
+
+    def test_one_that_is_not_whole_says_nothing(self) -> None:
+        with self.opened() as mailbox:
+            self.beside(mailbox).close()
+        path = Path(os.fsdecode(self.here), GOES_BACK.decode())
+        whole = path.read_bytes()
+        for text in (b"", whole[:-1], whole[1:], whole.replace(b"bee", b"boo"), whole + b"x"):
+            path.write_bytes(text)
+            self.assertIsNone(Beside.left_in(self.here))
+            self.assertEqual(self.names(), [b"box"])
+
+    def test_a_draft_leaves_nothing(self) -> None:
+        with Draft.in_folder(self.here) as draft:
+            draft.add(b"x")
+            self.assertEqual(self.names(), [b"box", GOES_BACK + UNFINISHED])
+        self.assertEqual(self.names(), [b"box"])
+
+    def test_what_ends_it_takes_it_back(self) -> None:
+        for error, reason in ((errno.ENOSPC, Reason.NO_ROOM), (errno.EDQUOT, Reason.NO_ROOM), (errno.EIO, None)):
+            with self.subTest(error=error), self.opened() as mailbox:
+
+                def write(number: int, piece: bytes, error: int = error) -> None:
+                    os.write(number, piece[:5])
+                    raise OSError(error, os.strerror(error))
+
+                with contextlib.closing(self.beside(mailbox)) as beside:
+                    with mock.patch.object(appending, "write_all", write), self.assertRaises((Left, OSError)) as raised:
+                        append(mailbox, beside)
+                self.assertEqual(getattr(raised.exception, "reason", None), reason)
+                self.assertEqual((self.text(), self.names()), (OLD, [b"box"]))
+
+    def test_a_failed_sync_takes_it_back(self) -> None:
+        with self.opened() as mailbox, contextlib.closing(self.beside(mailbox)) as beside:
+            syncs = [OSError(errno.EIO, "lost"), None, None]
+            with mock.patch("os.fsync", side_effect=syncs), self.assertRaises(OSError):
+                append(mailbox, beside)
+        self.assertEqual(self.text(), OLD)
+
+    def test_a_signal_takes_it_back(self) -> None:
+        with self.opened() as mailbox, contextlib.closing(self.beside(mailbox)) as beside:
+            with mock.patch("os.fsync", side_effect=[KeyboardInterrupt, None, None]), self.assertRaises(
+                KeyboardInterrupt
+            ):
+                append(mailbox, beside)
+        self.assertEqual(self.text(), OLD)
+
+    def test_what_others_wrote_is_never_cut(self) -> None:
+        torn = TAIL[: len(MAILS[0]) + 9]
+        for what, text, line in (
+            ("mail after a message", OLD + MAILS[0] + b"From d\n\n", None),
+            ("mail after a torn message", OLD + torn + b"\nFrom d\n\n", 9),
+            ("mail alone", OLD + b"From d\n\n", None),
+            ("a beginning that changed", OLD.replace(b"old", b"odd") + torn, None),
+            ("a mailbox that is shorter", OLD[:-3], None),
+            ("mail after all of it", OLD + TAIL + b"From d\n\n", None),
+        ):
+            with self.subTest(what=what):
+                self.write("box", OLD)
+                with self.opened() as mailbox, contextlib.closing(self.beside(mailbox)) as beside:
+                    with open(self.path, "r+b") as file:
+                        file.write(text)
+                        file.truncate()
+                    self.assertFalse(take_back(mailbox, beside))
+                    self.assertEqual((self.text(), recover(mailbox, beside)), (text, line))
+                self.assertEqual((self.text(), self.names()), (text, [b"box"]))
+
+    def test_what_a_killed_run_left(self) -> None:
+        for count in (0, 1, 9, len(MAILS[0]), len(TAIL) - 1, len(TAIL)):
+            with self.subTest(count=count):
+                self.write("box", OLD)
+                with self.opened() as mailbox, contextlib.closing(self.beside(mailbox)) as beside:
+                    os.write(mailbox.number, TAIL[:count])
+                    mailbox.take_state()
+                    self.assertIsNone(recover(mailbox, beside))
+                wanted = OLD + TAIL if count == len(TAIL) else OLD
+                self.assertEqual((self.text(), self.names()), (wanted, [b"box"]))
+
+    def test_a_copy_of_the_mailbox_is_not_cut(self) -> None:
+        with self.opened() as mailbox:
+            beside = self.beside(mailbox)
+        os.rename(self.path, self.path + b".old")
+        self.write("box", OLD + TAIL[:9])
+        with self.opened() as mailbox, contextlib.closing(beside):
+            self.assertEqual(recover(mailbox, beside), 5)
+        self.assertEqual(self.text(), OLD + TAIL[:9])

@@ -1,0 +1,326 @@
+"""The way back of a small Maildir: which mailbox gets what, and what the rows say."""
+import gzip
+import os
+from pathlib import Path
+from typing import Any
+from unittest import mock
+
+from mbox2maildir_admin.back import places as mailboxes
+from mbox2maildir_admin.back import reading, returning, several
+from mbox2maildir_admin.back.beside import Beside
+from mbox2maildir_admin.back.dialect import Dialect, Letter
+from mbox2maildir_admin.back.mails import sorted_mail
+from mbox2maildir_admin.back.places import Places, make_mailbox
+from mbox2maildir_admin.back.reading import Forms, Held, messages_by, reading_now, takes_mail
+from mbox2maildir_admin.back.steps import How
+from mbox2maildir_admin.back.several import Several
+from mbox2maildir_admin.commands import back as command
+from mbox2maildir_admin.commands.back import add_back
+from mbox2maildir_admin.faults import Fault, Left, Reason
+from mbox2maildir_admin.ledger.record import Record
+from mbox2maildir_admin.mbox.locks import open_mailbox
+from mbox2maildir_admin.migration.outcomes import Fate, Row
+from mbox2maildir_admin.migration.several import run_all
+from mbox2maildir_admin.migration.steps import Options
+
+from tests.support.mail import A, ONE, TWO
+from tests.support.migrating import Function, HomeTest, Listener
+from tests.support.units import source_of
+
+NEW = b"Subject: new\n\nFrom me\n"
+LENGTHS = A + b"Content-Length: 4\n\nyes\n\n"
+
+
+class BackTest(HomeTest):
+    def setUp(self) -> None:
+        super().setUp()
+        self.tree = self.home / "mail"
+        self.tree.mkdir()
+
+    def write_box(self, name: str, text: bytes) -> Path:
+        """A mailbox that was left alone for a while."""
+        path = self.home / name
+        path.parent.mkdir(parents=True, exist_ok=True)
+        path.write_bytes(text)
+        os.utime(str(path), (1e9, 1e9))
+        return path
+
+    def migrate_all(self, *names: str, **options: Any) -> None:
+        """Migrates mailboxes and trees."""
+        paths = [os.fsencode(str(self.home / name)) for name in names]
+        run_all(Options(now=True, **options), self.root, paths, Listener(), Function())
+
+    def deliver(self, folder: str, text: bytes = NEW, name: str = "1.M1.host") -> Path:
+        """A program places a file in a folder."""
+        for sub in ("tmp", "new", "cur"):
+            (self.maildir / folder / sub).mkdir(parents=True, exist_ok=True)
+        path = self.maildir / folder / "new" / name
+        path.write_bytes(text)
+        return path
+
+    def back(self, *names: str, copies: bool = False, **how: Any) -> list[Row]:
+        """Goes back into these mailboxes, and returns the rows."""
+        paths = [os.fsencode(str(self.home / name)) for name in names or ("mail",)]
+        listener = Listener()
+        with Record.open(self.root, not how.get("dry")) as record:
+            one = Several(Function(), self.root, record, How(now=True, **how), listener)
+            one.run(Places(self.root, record, paths), copies)
+        return listener.rows
+
+    def fates(self, rows: list[Row]) -> dict[str, tuple[Fate, object]]:
+        """The fate of each mailbox, and how many messages went back."""
+        return {os.path.relpath(os.fsdecode(row.path), str(self.home)): (row.fate, row.messages) for row in rows}
+
+    def test_new_mail_and_new_folders(self) -> None:
+        box = self.write_box("mail/sent", ONE)
+        self.migrate_all("mail")
+        kept = self.deliver(".sent")
+        self.deliver(".lists.sheds", b"Subject: shed\n\nx\n", "2.M2.host")
+        would = {"mail/sent": (Fate.WOULD_BACK, 1), "mail/lists/sheds": (Fate.WOULD_BACK, 1)}
+        self.assertEqual(self.fates(self.back(dry=True)), would)
+        self.assertEqual((box.read_bytes(), (self.tree / "lists").exists()), (ONE, False))
+        self.assertEqual(self.fates(self.back()), {name: (Fate.BACK, 1) for name in would})
+        self.assertTrue(box.read_bytes().startswith(ONE + b"From MAILER-DAEMON "))
+        self.assertTrue(box.read_bytes().endswith(b"\nSubject: new\n\n>From me\n\n"))
+        self.assertEqual((self.tree / "lists/sheds").stat().st_mode & 0o777, 0o600)
+        self.assertEqual(kept.read_bytes(), NEW)
+        again = self.fates(self.back())
+        self.assertEqual(again, {name: (Fate.NOTHING_NEW, 0) for name in would})
+
+    def test_mail_that_is_deleted_after_a_run_was_killed(self) -> None:
+        """What is left of what was appended looks like a part of it."""
+        box = self.write_box("mail/sent", ONE)
+        self.migrate_all("mail")
+        self.deliver(".sent")
+        more = b"Subject: more\n\nx\n"
+        self.deliver(".sent", more, "2.M2.host")
+        with mock.patch.object(Beside, "remove", side_effect=KeyboardInterrupt), self.assertRaises(KeyboardInterrupt):
+            self.back()
+        text = box.read_bytes()
+        box.write_bytes(text[: text.rindex(b"From MAILER-DAEMON")])
+        self.back()
+        self.assertEqual([box.read_bytes().count(b"Subject: %s\n" % one) for one in (b"new", b"more")], [1, 1])
+
+    def test_a_lock_that_a_killed_run_left(self) -> None:
+        """It was killed after it had noted that all is back, so that nothing may go back when it is run again."""
+        self.write_box("mail/sent", ONE)
+        self.migrate_all("mail")
+        self.deliver(".sent")
+        lock, texts, unlink = self.tree / "sent.lock", [], os.unlink
+
+        def keep(path: bytes) -> None:
+            if path == os.fsencode(str(lock)):
+                texts.append(lock.read_bytes())
+            unlink(path)
+
+        with mock.patch("os.unlink", keep):
+            self.back()
+        lock.write_bytes(texts[0])
+        self.back(dry=True)
+        self.assertTrue(lock.exists())
+        self.assertEqual(self.fates(self.back()), {"mail/sent": (Fate.NOTHING_NEW, 0)})
+        self.assertFalse(lock.exists())
+
+    def test_what_was_deleted_since_stays_so(self) -> None:
+        box = self.write_box("mail/sent", ONE)
+        self.migrate_all("mail")
+        self.deliver(".sent")
+        self.back()
+        box.write_bytes(ONE)
+        self.migrate_all("mail")
+        self.assertEqual(self.fates(self.back()), {"mail/sent": (Fate.NOTHING_NEW, 0)})
+        self.assertEqual(box.read_bytes(), ONE)
+
+    def test_what_the_mailbox_has_already(self) -> None:
+        """Somebody has appended it by hand."""
+        box = self.write_box("mail/sent", ONE)
+        self.migrate_all("mail")
+        self.deliver(".sent")
+        text = box.read_bytes() + b"From a@b Mon Mar  3 09:12:44 2025\nSubject: new\nStatus: O\n\n>From me\n\n"
+        box.write_bytes(text)
+        row = self.back()[0]
+        self.assertEqual((row.fate, row.messages, [one.word for one in row.remarks]), (Fate.BACK, 1, ["there-already"]))
+        self.assertEqual(box.read_bytes(), text)
+
+    def test_moved(self) -> None:
+        self.write_box("mail/sent", ONE)
+        self.write_box("mail/work", TWO)
+        self.migrate_all("mail")
+        file = next((self.maildir / ".sent/new").iterdir())
+        file.rename(self.maildir / ".work/cur" / (file.name + ":2,S"))
+        rows = self.back()
+        self.assertEqual(self.fates(rows)["mail/work"], (Fate.NOTHING_NEW, 0))
+        self.assertEqual([one.word for row in rows for one in row.remarks], ["moved"])
+        rows = self.back(copies=True)
+        self.assertEqual(self.fates(rows), {"mail/sent": (Fate.NOTHING_NEW, 0), "mail/work": (Fate.BACK, 1)})
+        self.assertEqual(self.fates(self.back(copies=True))["mail/work"], (Fate.NOTHING_NEW, 0))
+
+    def test_deleted_and_changed(self) -> None:
+        self.write_box("mail/sent", ONE + TWO)
+        self.migrate_all("mail")
+        one, two = sorted((self.maildir / ".sent/new").iterdir())
+        one.unlink()
+        two.write_bytes(b"X-Scan: yes\n" + two.read_bytes())
+        rows = self.back()
+        self.assertEqual([remark.word for remark in rows[0].remarks], ["deleted", "changed"])
+
+    def test_a_packed_one_takes_nothing(self) -> None:
+        self.write_box("mail/sent.gz", gzip.compress(ONE))
+        self.migrate_all("mail")
+        self.deliver(".sent")
+        rows = self.back()
+        self.assertEqual(self.fates(rows), {"mail/sent-back": (Fate.BACK, 1)})
+        self.assertEqual([one.word for one in rows[0].remarks], ["beside"])
+        self.deliver(".sent", b"Subject: more\n\nx\n", "3.M3.host")
+        self.assertEqual(self.fates(self.back()), {"mail/sent-back": (Fate.BACK, 1)})
+
+    def test_what_it_cannot_hold_goes_beside_it(self) -> None:
+        self.write_box("mail/sent", LENGTHS)
+        self.migrate_all("mail")
+        self.deliver(".sent", b"Subject: a\n\nFrom a@b Mon Mar  3 09:12:44 2025\n")
+        self.deliver(".sent", b"Subject: b\n\nFrom me\n", "2.M2.host")
+        rows = self.back()
+        self.assertEqual(self.fates(rows), {"mail/sent": (Fate.BACK, 1), "mail/sent-back": (Fate.BACK, 1)})
+        self.assertIn(b"Content-Length: 8\n\nFrom me\n", (self.tree / "sent").read_bytes())
+
+    def test_a_folder_below_a_mailbox(self) -> None:
+        self.write_box("mail/sent", ONE)
+        self.migrate_all("mail")
+        self.deliver(".sent.below")
+        self.assertEqual(self.fates(self.back())["mail/sent-below"], (Fate.BACK, 1))
+
+    def test_a_folder_that_was_renamed(self) -> None:
+        self.write_box("mail/sent", ONE)
+        self.migrate_all("mail")
+        (self.maildir / ".sent").rename(self.maildir / ".gone")
+        self.deliver(".gone")
+        self.assertEqual(self.fates(self.back()), {"mail/sent": (Fate.BACK, 1)})
+
+    def test_a_tree_that_was_moved(self) -> None:
+        self.write_box("mail/sent", ONE)
+        self.migrate_all("mail")
+        self.deliver(".sent")
+        self.tree.rename(self.home / "other")
+        self.assertEqual(self.fates(self.back("other")), {"other/sent": (Fate.BACK, 1)})
+        self.assertEqual(self.fates(self.back("other")), {"other/sent": (Fate.NOTHING_NEW, 0)})
+
+    def test_an_inbox(self) -> None:
+        self.write_box("mail/sent", ONE)
+        self.migrate_all("mail")
+        self.deliver("")
+        row = self.back()[0]
+        self.assertEqual((row.reason, row.messages), (Reason.NO_MAILBOX, 1))
+        self.assertEqual(self.fates(self.back("mail", "spool/mia"))["spool/mia"], (Fate.BACK, 1))
+        self.assertEqual((self.home / "spool/mia").stat().st_mode & 0o777, 0o600)
+
+    def test_without_a_tree(self) -> None:
+        self.write_box("spool", ONE)
+        self.migrate_all("spool")
+        self.deliver(".new")
+        rows = {row.folder: row for row in self.back("spool")}
+        self.assertEqual(rows[b".new"].reason, Reason.NO_MAILBOX)
+
+    def test_a_mailbox_that_is_gone(self) -> None:
+        box = self.write_box("mail/sent", ONE)
+        self.migrate_all("mail")
+        self.deliver(".sent")
+        box.unlink()
+        self.assertEqual(self.back()[0].reason, Reason.MISSING)
+        self.assertFalse(box.exists())
+
+    def test_a_file_that_changes_meanwhile(self) -> None:
+        self.write_box("mail/sent", ONE)
+        self.migrate_all("mail")
+        file, find = self.deliver(".sent"), sorted_mail
+
+        def change(*words: Any) -> Any:
+            found = find(*words)
+            file.write_bytes(NEW + b"more\n")
+            return found
+
+        with mock.patch.object(several, "sorted_mail", change):
+            self.assertEqual(self.back()[0].reason, Reason.CHANGED)
+        self.assertEqual((self.tree / "sent").read_bytes(), ONE)
+
+    def test_what_is_not_read_back_is_taken_back(self) -> None:
+        box = self.write_box("mail/sent", ONE)
+        self.migrate_all("mail")
+        self.deliver(".sent")
+        with mock.patch.object(returning, "are_at", lambda *_: False):
+            self.assertEqual([row.reason for row in self.back()], [Reason.NOT_HELD])
+        self.assertEqual((box.read_bytes(), list(self.maildir.glob("*/mbox2maildir-back*"))), (ONE, []))
+        self.assertEqual(self.fates(self.back()), {"mail/sent": (Fate.BACK, 1)})
+
+    def test_mail_without_a_length_came(self) -> None:
+        """Then the mailbox is read otherwise than when it was migrated, and is written so."""
+        box = self.write_box("mail/sent", LENGTHS)
+        self.migrate_all("mail")
+        self.deliver(".sent")
+        box.write_bytes(LENGTHS + TWO)
+        self.assertEqual(self.fates(self.back()), {"mail/sent": (Fate.BACK, 1)})
+        self.assertTrue(box.read_bytes().endswith(b"Subject: new\n\n>From me\n\n"))
+
+    def test_another_users_mailbox(self) -> None:
+        self.write_box("mail/sent", ONE)
+        self.migrate_all("mail")
+        self.deliver(".sent")
+        opened = open_mailbox
+
+        def of_another(*words: Any) -> Any:
+            mailbox = opened(*words)
+            mailbox.state = mock.Mock(st_uid=os.geteuid() + 1)
+            return mailbox
+
+        with mock.patch.object(returning, "open_mailbox", of_another):
+            self.assertEqual(self.back()[0].reason, Reason.OTHER_OWNER)
+        self.assertEqual((self.tree / "sent").read_bytes(), ONE)
+
+
+class PartsTest(HomeTest):
+    def test_a_mailbox_is_made_once(self) -> None:
+        path = os.fsencode(str(self.home / "a/b/c"))
+        make_mailbox(path)
+        Path(os.fsdecode(path)).write_bytes(ONE)
+        make_mailbox(path)
+        self.assertEqual(Path(os.fsdecode(path)).read_bytes(), ONE)
+
+    def test_names_for_new_mailboxes(self) -> None:
+        for name in ("mail/x-back", "mail/x-back-2"):
+            (self.home / name).parent.mkdir(exist_ok=True)
+            (self.home / name).write_bytes(ONE)
+        with Record.open(self.root, False) as record:
+            places = Places(self.root, record, [os.fsencode(str(self.home / "mail"))])
+            self.assertTrue(places.beside(os.fsencode(str(self.home / "mail/x.gz")), b".x").path.endswith(b"/x-back-3"))
+            with mock.patch.object(mailboxes, "NAMES", 2), self.assertRaises(Left):
+                places.beside(os.fsencode(str(self.home / "mail/x")), b".x")
+
+    def test_how_a_mailbox_is_read(self) -> None:
+        for text, wanted in ((b"", "mboxrd"), (ONE, "mboxrd"), (LENGTHS, "mboxcl2"), (b"Maildir\n", "?not-known")):
+            with self.subTest(text=text), source_of(text) as mailbox:
+                self.assertTrue(reading_now(mailbox).startswith(wanted), reading_now(mailbox))
+
+    def test_what_takes_mail(self) -> None:
+        with source_of(ONE) as mailbox:
+            self.assertEqual(takes_mail(mailbox, "mboxo"), Dialect("mboxo"))
+            self.assertIsNone(takes_mail(mailbox, "unquoted"))
+            self.assertEqual(len(messages_by("mboxrd", mailbox, self.here)), 1)
+            with self.assertRaises(Left):
+                messages_by("nonsense", mailbox, self.here)
+        with source_of(b"Maildir\n") as mailbox:
+            self.assertIsNone(takes_mail(mailbox, "mboxrd"))
+
+    def test_what_is_held(self) -> None:
+        mail = b"Subject: a\n\n>From me\n"
+        for word, is_held in (("mboxrd", True), ("mboxo", False), ("mboxcl", True), ("mboxcl2", True)):
+            text = Dialect(word).spelled(Letter(mail))
+            self.assertEqual(Held(word, True, self.here).has(Forms.of(mail), text), is_held, word)
+        self.assertFalse(Held("mboxrd", True, self.here).has(Forms.of(mail), b"no mailbox\n"))
+        self.assertEqual(len(reading.Forms.of(b"a").bares), 2)
+
+    def test_the_command(self) -> None:
+        line = mock.Mock()
+        add_back(line)
+        self.assertEqual(line.add.call_args.args[:2], ("back", command.do_back))
+        with self.assertRaises(Fault) as raised:
+            several.bring_back(self.root, [], How(), False, Listener())
+        self.assertEqual(raised.exception.reason, Reason.NO_MAILDIR)

@@ -1,0 +1,281 @@
+"""Random histories of a Maildir that was migrated from old mailboxes, and what is to be in these after the way back."""
+import collections
+import os
+import re
+import time
+import typing
+from collections import Counter
+from collections.abc import Iterator
+from pathlib import Path
+from random import Random
+from typing import NamedTuple, Optional
+
+from tests.support.archives import Home, objects
+from tests.support.cases import Failed
+from tests.support.rewriting.runs import Ran
+from tests.support.wayback.dialects import DIALECTS, bare, field_of
+
+MAIL = "mail"
+# stands for the mailbox beside that of a folder, which gets what that cannot hold
+BESIDE = "!"
+# the mailboxes by their folders
+BOXES = {"": "spool", ".sent": "mail/sent", ".lists.b": "mail/lists/b", ".empty": "mail/empty"}
+FOLDERS = [*BOXES, ".new", ".lists.sheds"]
+NEW = {".new": "mail/new", ".lists.sheds": "mail/lists/sheds", ".sent.below": "mail/sent-below"}
+LINES = [
+    b"hello\n", b"From me to you\n", b"From a@b Mon Mar  3 09:12:44 2025\n", b">From the shed\n", b">>From afar\n",
+    b"\n", b"\n", b"ends in CR LF\r\n", b"From me\r\n", b"a\0b\n", b"se\xf1or \xe4\n", b"From: x\n", b"> From\n",
+    b"x" * 2000 + b"\n", b"Content-Length: 4\n", b"Status: RO\n", b"a\rb\n", b".\n",
+]  # fmt: skip
+FIELDS = [
+    b"Return-Path: <alva@example.org>\n", b"Content-Length: 3\n", b"Status: RO\n", b"X-UID: 7\n", b"X-Status: F\n",
+    b"content-length:  999999\n", b"X-IMAPbase: 1 2\n", b"Subject: a\n", b"Received: by x\n\tfor y\n", b"Lines: 3\n",
+]  # fmt: skip
+DATED = re.compile(rb"(?m)^From .* [A-Z][a-z][a-z] [A-Z][a-z][a-z] +\d+ \d\d:\d\d:\d\d \d{4}\r?$")
+ID = re.compile(rb"(?m)^Message-ID: <(\d+)@")
+INFO = ["", ":2,", ":2,S", ":2,FS", ":2,RS", ":2,ST", ":2,DF", ":2,PS"]
+
+
+class File(NamedTuple):
+    """A file of mail: its folder, whether it is in `new` or `cur`, its name, its message, and the number of that."""
+
+    folder: str
+    sub: str
+    name: str
+    text: bytes
+    number: int
+
+
+class Appended(NamedTuple):
+    """What is to be appended for a file: the message as the mailbox gives it back, the sender, and its flags."""
+
+    bare: bytes
+    sender: bytes
+    status: bytes
+    x_status: bytes
+
+
+class History:
+    """A home with mailboxes of one dialect, which were migrated, and what people did in the Maildir then."""
+
+    def __init__(self, home: Home, seed: int, dialect: str = "") -> None:
+        self.home, self.draw = home, Random(seed)
+        self.dialect = DIALECTS[dialect or self.draw.choice(list(DIALECTS))]
+        self.last = 0
+        # the folder from which each known message came, and the names of its mailbox's folder by now
+        self.known: dict[int, str] = {}
+        self.boxes = dict(BOXES)
+        self.edited: set[int] = set()
+        # the mailboxes that were not empty
+        self.filled: set[str] = set()
+
+    def message(self, is_plain: bool = False) -> bytes:
+        """A new message."""
+        draw, self.last = self.draw, self.last + 1
+        fields = draw.sample(FIELDS, draw.randrange(4))
+        if is_plain:
+            fields = [one for one in fields if not one.lower().startswith(b"content-length")]
+        fields.insert(draw.randrange(len(fields) + 1), b"Message-ID: <%d@example.org>\n" % self.last)
+        body = b"".join(draw.choices(LINES, k=draw.randrange(8)))
+        if draw.random() < 0.2 and not is_plain:
+            body = body[:-1]
+        head = b"".join(fields)
+        if draw.random() < 0.1 and not is_plain:
+            head, body = head.replace(b"\n", b"\r\n"), body.replace(b"\r\n", b"\n").replace(b"\n", b"\r\n")
+            return head + b"\r\n" + body
+        if draw.random() < 0.05 and not is_plain:
+            return head
+        return head + b"\n" + body
+
+    def begin(self) -> None:
+        """Writes the mailboxes, and migrates them."""
+        self.home.begin("--jobs", "1")
+        for path in self.boxes.values():
+            count = 0 if path.endswith("empty") else self.draw.randrange(1, 5)
+            messages = [self.message(True) for _ in range(count)]
+            messages = [one for one in messages if self.holds(one)]
+            for one in messages:
+                self.known[self.number_of(one)] = next(folder for folder, its in self.boxes.items() if its == path)
+            line = b"From a@b Mon Mar  3 09:12:44 2025"
+            text = b"".join(self.dialect.write(bare(one), line) for one in messages)
+            if text and self.draw.random() < 0.3 and not self.dialect.has_lengths:
+                text = text[: -1 - self.dialect.crlf]
+            file = self.home.path / path
+            file.parent.mkdir(parents=True, exist_ok=True)
+            self.home.write(path, text)
+            self.filled |= {path} if text else set()
+        self.home.place.own(*(self.home.path / MAIL).glob("**/*"), self.home.path / MAIL)
+        self.migrate("M")
+        for folder in self.boxes:
+            self.home.place.own(self.path(folder))
+
+    def migrate(self, maildir: str) -> list[Ran]:
+        """Migrates each mailbox, and must be done."""
+        several = []
+        for words in self.commands(maildir):
+            ran = self.home.place.run(["migrate", "--json", "--now", *words])
+            if ran.status != 0 and '"no mail": 1' not in ran.output:
+                raise Failed(f"{words}: {ran.status}: {ran.output}")
+            several.append(ran)
+        return several
+
+    def commands(self, maildir: str) -> Iterator[list[str]]:
+        """The words that migrate each mailbox. If none needs words, all of a tree are migrated at once. The record
+        knows the folder of a mailbox beside another one."""
+        if not self.dialect.words:
+            yield [maildir, "mail", "spool"]
+        for folder, path in self.paths().items():
+            is_beside = folder.endswith(BESIDE)
+            if not (self.home.path / path).exists() or not self.dialect.words and path != "spool-back":
+                continue
+            place = self.place_of(folder) if maildir != "M" else "" if is_beside else folder
+            name = ["--folder", place[1:].replace(".", "/")] if place else []
+            yield [*(self.dialect.words if path in self.filled else ()), *name, maildir, path]
+
+    def holds(self, message: bytes) -> bool:
+        """Whether a mailbox of the dialect can hold a message, so that nobody is asked how it is read: by its length, a
+        line that looks like a From_ line belongs to a mail."""
+        is_asked = self.dialect.quotes == "none" and DATED.search(message)
+        return self.dialect.holds(message) and not is_asked
+
+    def paths(self) -> dict[str, str]:
+        """The mailboxes by their folders, with those of new folders, and those beside others."""
+        paths = {**{folder: path for folder, path in NEW.items() if folder not in self.boxes}, **self.boxes}
+        return {**paths, **{folder + BESIDE: path + "-back" for folder, path in self.boxes.items()}}
+
+    def place_of(self, folder: str) -> str:
+        """The folder of a new Maildir for the mailbox of a folder."""
+        if self.dialect.words and not folder.endswith(BESIDE):
+            return folder
+        path = self.paths()[folder]
+        return "." + path.split("/", 1)[1].replace("/", ".") if "/" in path else {"spool": ""}.get(path, "." + path)
+
+    def path(self, folder: str) -> Path:
+        """The path of a folder."""
+        return self.home.maildir / folder if folder else self.home.maildir
+
+    @staticmethod
+    def number_of(text: bytes) -> int:
+        """The number of a message."""
+        found = ID.search(text)
+        if not found:
+            raise Failed(f"no number: {text[:100]!r}")
+        return int(found[1])
+
+    def files(self, maildir: str = "M") -> Iterator[File]:
+        """All mail."""
+        root = self.home.path / maildir
+        for folder in [root, *sorted(root.glob(".*"))]:
+            for sub in ("new", "cur"):
+                for path in sorted((folder / sub).glob("*")) if (folder / sub).is_dir() else ():
+                    text = path.read_bytes()
+                    its = "" if folder == root else folder.name
+                    yield File(its, sub, path.name, text, self.number_of(text))
+
+    def file(self, one: File) -> Path:
+        """The path of a file."""
+        return self.path(one.folder) / one.sub / one.name
+
+    def put(self, folder: str, text: bytes, name: str = "") -> None:
+        """A program places a file."""
+        for sub in ("tmp", "new", "cur"):
+            (self.path(folder) / sub).mkdir(parents=True, exist_ok=True)
+        info = self.draw.choice(INFO)
+        path = self.path(folder) / ("cur" if info else "new") / ((name or f"17000.M{self.draw.random()}.host") + info)
+        path.write_bytes(text)
+        when = self.draw.randrange(10**9, 17 * 10**8)
+        os.utime(str(path), (when, when))
+        self.home.place.own(self.path(folder), *self.path(folder).glob("*"), path)
+
+    def act(self, count: int) -> None:
+        """People work in the Maildir."""
+        for _ in range(count):
+            there = list(self.files())
+            one = self.draw.choice(there) if there else None
+            what = self.draw.choice(["deliver"] * 5 + ["flag", "move", "move", "copy", "delete", "edit", "rename"])
+            if what == "deliver" or not one:
+                self.put(self.draw.choice(FOLDERS + [".sent.below"] * (self.draw.random() < 0.1)), self.message())
+            elif what == "flag":
+                before = one.name.partition(":")[0]
+                self.file(one).rename(self.path(one.folder) / "cur" / (before + self.draw.choice(INFO[1:])))
+            elif what in ("move", "copy") and one.number not in self.edited:
+                keeps = self.draw.random() < 0.3 and what == "move"
+                name = one.name.partition(":")[0] if keeps else ""
+                if what == "move":
+                    self.file(one).unlink()
+                self.put(self.draw.choice(FOLDERS), one.text, name)
+            elif what == "delete":
+                self.file(one).unlink()
+            elif what == "edit" and one.number in self.known:
+                keeps = sum(each.number == one.number for each in there) == 1 and one.folder == self.home_of(one.number)
+                if keeps and re.match(r"[0-9a-f]{64}\.\d+(:|\Z)", one.name):
+                    self.file(one).write_bytes(b"X-Scan: yes\n" + one.text)
+                    self.edited.add(one.number)
+            elif what == "rename" and ".lists.b" in self.boxes and self.draw.random() < 0.3:
+                self.path(".lists.b").rename(self.path(".renamed"))
+                self.boxes[".renamed"] = self.boxes.pop(".lists.b")
+                self.known = {number: ".renamed" if its == ".lists.b" else its for number, its in self.known.items()}
+
+    def home_of(self, number: int) -> Optional[str]:
+        """The folder of a message's mailbox."""
+        return self.known.get(number)
+
+    def appended(self, one: File) -> Appended:
+        """What is to be appended for a file."""
+        sender = re.search(rb"(?m)^Return-Path: <([^>]*)>", one.text.replace(b"\r\n", b"\n").partition(b"\n\n")[0])
+        flags = one.name.partition(":2,")[2]
+        status = b"R" * ("S" in flags) + b"O" * (one.sub == "cur")
+        letters = {"R": b"A", "F": b"F", "D": b"T", "T": b"D"}
+        x_status = b"".join(sorted(letters[flag] for flag in flags if flag in letters))
+        return Appended(bare(one.text), sender[1] if sender else b"MAILER-DAEMON", status, x_status)
+
+    def wanted(self) -> "tuple[dict[str, typing.Counter[Appended]], list[File], dict[int, int]]":
+        """By folders, what is to be appended for certain; the files of which all but one are; and what cannot be held,
+        how often."""
+        several: collections.defaultdict[int, list[File]] = collections.defaultdict(list)
+        for one in self.files():
+            several[one.number].append(one)
+        sure: collections.defaultdict[str, Counter[Appended]] = collections.defaultdict(Counter)
+        any_of: list[File] = []
+        for number, files in several.items():
+            home = self.home_of(number)
+            at_home = [one for one in files if one.folder == home]
+            if home is None:
+                for one in files:
+                    sure[one.folder][self.appended(one)] += 1
+            elif len(files) > 1:
+                away = [one for one in files if one.folder != home]
+                for one in away if at_home else []:
+                    sure[one.folder][self.appended(one)] += 1
+                any_of += at_home if len(at_home) > 1 else [] if at_home else files
+        refused: dict[int, int] = {}
+        return dict(sure), any_of, refused
+
+
+def text_at(path: Path) -> bytes:
+    """What a file has; nothing if there is none."""
+    return path.read_bytes() if path.exists() else b""
+
+
+def tail_of(before: bytes, after: bytes) -> bytes:
+    """What was appended to a mailbox, which must have stayed as it was. A line that had not ended may have ended."""
+    if not after.startswith(before):
+        raise Failed("what was there before has changed")
+    tail = after[len(before) :]
+    while before and tail.startswith((b"\n", b"\r\n")):
+        tail = tail[1 + tail.startswith(b"\r") :]
+    return tail
+
+
+def shown_of(from_line: bytes, message: bytes) -> Appended:
+    """A message that was appended."""
+    words = from_line.split(b" ")
+    stamp = time.strptime(b" ".join(words[2:]).strip().decode(), "%a %b %d %H:%M:%S %Y")
+    assert stamp.tm_year >= 1970, from_line
+    x_status = bytes(sorted(field_of(message, b"X-Status")))
+    return Appended(bare(message), words[1], field_of(message, b"Status"), x_status)
+
+
+def rows_of(ran: Ran) -> list[dict[str, typing.Any]]:
+    """The rows that were printed."""
+    return [row for row in objects(ran.output) if row["type"] == "row"]
