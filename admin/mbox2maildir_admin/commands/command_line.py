@@ -105,6 +105,7 @@ class Command(Parser):
             return self.task(given)
         except WrongOptions as wrong:
             self.error(str(wrong))
+            return Status.LEFT
 
 
 class CommandLine:
@@ -138,6 +139,7 @@ class CommandLine:
         for name in self.parser.read(words).operands:
             self.parser.error("%s: no such command%s" % (shown(name), like(os.fsdecode(name), self.commands)))
         self.parser.error("the command is missing: %s" % ", ".join(self.commands))
+        return Status.LEFT
 
 
 def like(name: str, known: Iterable[str]) -> str:
