@@ -2,7 +2,7 @@
 and where the pages are installed; what a page names by its path is there, also by its path within a crate; code that it
 shows is in the sources, each file of which begins with a line that says what is in it; docs/PROMISES.md names what is
 in the files that it has a reader read, and each file that reaches the machine; the texts that the program tells are
-those of the page of the manual and of docs/MAILBOXES.md, and so are the reasons of the companion, with the words of its
+those of the page of the manual and of docs/LEFT.md, and so are the reasons of the companion, with the words of its
 schema; the pages of the manual please mandoc; docs/PROMISES.md names the kit of `rt version`; and README.md has counts
 of docs/COMPARISON.md. What wants a tool that is missing is left out."""
 import importlib
@@ -27,7 +27,7 @@ MANUAL_OF_ADMIN = TOP / "docs/mbox2maildir-admin.1"
 MANUALS = sorted(TOP.glob("docs/*.1"))
 # the files that say something about a package
 PACKAGED = [TOP / "packaging/package", TOP / "debian/control", TOP / "debian/README.source"]
-MAILBOXES = TOP / "docs/MAILBOXES.md"
+LEFT = TOP / "docs/LEFT.md"
 INSTALLED = "/usr/share/doc/mbox2maildir"
 LINK = re.compile(r"\]\(([^)#]*)(?:#([^)]*))?\)")
 # an anchor that a row of a table has
@@ -180,10 +180,10 @@ def wrong_texts() -> Iterator[str]:
     specs = "\n".join(text_of(path) for path in sorted(TOP.glob("crates/maildir_commands/specs/**/*.antt")))
     told = {*(said(text, lambda _: "n") for text in FAULT_TEXT.findall(specs)), *TOLD.findall(specs)}
     manual = text_of(MANUAL)
-    errors = match_in(ERRORS, text_of(MAILBOXES))[0]
+    errors = match_in(ERRORS, text_of(LEFT))[0]
     for name, page in (
         ("the page of the manual", set(DIAGNOSTIC.findall(manual))),
-        ("docs/MAILBOXES.md", {re.sub(r"\b\d+\b", "n", text) for text in ERROR.findall(errors)}),
+        ("docs/LEFT.md", {re.sub(r"\b\d+\b", "n", text) for text in ERROR.findall(errors)}),
     ):
         yield from (f"{name} does not tell of: {text}" for text in sorted(told - page))
         yield from (f"{name} tells of what the program does not tell: {text}" for text in sorted(page - told))
@@ -200,17 +200,17 @@ def wrong_reasons() -> Iterator[str]:
     reasons = importlib.import_module("mbox2maildir_admin.faults").Reason
     told = [(reason.word, reason.says) for reason in reasons]
     manual = [(word, " ".join(says.split())) for word, says in REASON_ITEM.findall(text_of(MANUAL_OF_ADMIN))]
-    tables = "".join(REASONS.findall(text_of(MAILBOXES)))
+    tables = "".join(REASONS.findall(text_of(LEFT)))
     schema = json.loads(text_of(TOP / "docs/rows.schema.json"))["$defs"]["reason"]["enum"]
     words = [word for word, _ in told]
     if schema != words:
         yield f"docs/rows.schema.json has the reasons {schema}, and the companion has {words}"
-    for name, found in (("the page of the manual", manual), ("docs/MAILBOXES.md", REASON.findall(tables))):
+    for name, found in (("the page of the manual", manual), ("docs/LEFT.md", REASON.findall(tables))):
         yield from (f"{name} does not tell of the reason {one}" for one in told if found.count(one) != 1)
         yield from (f"{name} tells of a reason that the companion has not: {one}" for one in found if one not in told)
     later = [reason.word for reason in reasons if reason.status == 75]
-    if SPAN.findall(match_in(LATER, text_of(MAILBOXES))[1]) != later:
-        yield f"docs/MAILBOXES.md: another run settles {later}"
+    if SPAN.findall(match_in(LATER, text_of(LEFT))[1]) != later:
+        yield f"docs/LEFT.md: another run settles {later}"
 
 
 def printed_by(*words: str) -> str:

@@ -17,7 +17,7 @@ from tests.support.sources import carriers, functions, items, public_contracts
 
 PROMISES = TOP / "docs/PROMISES.md"
 # their capital words are folders
-OF_MAILBOXES = ("MIGRATE.md", "MAILBOXES.md")
+OF_MAILBOXES = ("SERVER.md", "BACK.md", "DELIVERY.md", "FORMATS.md", "LEFT.md", "LARGE.md")
 PAGES = [*(TOP / name for name in ("README.md", "CONTRIBUTING.md")), *sorted(TOP.glob("docs/*.md"))]
 CLAUSE = re.compile(r"\bensures (?:(\w+) )?\{")
 SPAN = re.compile(r"`([^`]+)`")

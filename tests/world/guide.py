@@ -1,5 +1,5 @@
-"""Runs what README.md, docs/OWN-MAIL.md, docs/MIGRATE.md, docs/MAILBOXES.md and docs/LEDGER.md show: each command, in
-the order of its page, on small files of the formats that the pages speak of.
+"""Runs what README.md and the pages of docs for users show: each command, in the order of its page, on small files of
+the formats that the pages speak of.
 
 A block is some indented lines, the first of which begins with `$ `, or with `# ` if it is for root. If a command ends
 in `<<'END'`, it goes on to the line `END`. The lines below a command are what it prints; `...` stands for anything in a
@@ -41,7 +41,9 @@ from tests.support.homes import (
 from tests.support.mail import A, B, MAY, with_length
 from tests.support.printed import rows_in
 
-PAGES = ["README.md", "docs/OWN-MAIL.md", "docs/MIGRATE.md", "docs/MAILBOXES.md", "docs/LEDGER.md"]
+PAGES = ["README.md", *(f"docs/{name}.md" for name in ("OWN-MAIL", "SERVER", "FORMATS", "LEFT", "LEDGER"))]
+# a page whose commands go on where those of another one have ended
+FOLLOWING = {"docs/SERVER.md": "docs/BACK.md"}
 BLOCK = re.compile(r"^ {4}[$#] .*\n(?: {4}.*\n)*", re.MULTILINE)
 TOOLS = ["doveadm", "runuser", "strace"]
 # the folder of the mailboxes that the page names, which is below the home here
@@ -230,6 +232,8 @@ def make_files(home: Path) -> None:
         path.write_bytes(content)
         os.utime(path, LONG_AGO)
     (home / "homes" / OWNER).mkdir(parents=True)
+    for sub in ("cur", "new", "tmp"):
+        (home / "Maildir" / sub).mkdir(parents=True)
     shutil.copytree(TOP / "examples", home / "examples")
     # those of a clone may be a moment old
     for path in (home / "examples").iterdir():
@@ -368,7 +372,7 @@ def follow(page: str) -> None:
         guide = Guide(home)
         text = text_of(TOP / page)
         guide.kinds(text)
-        for block in BLOCK.finditer(text):
+        for block in BLOCK.finditer(text + text_of(TOP / FOLLOWING[page]) if page in FOLLOWING else text):
             guide.block(block[0])
         if guide.home.joinpath(f"{PUBLIC}.since").is_dir():
             public = (home / PUBLIC / "2004").read_bytes()
@@ -380,7 +384,7 @@ def follow(page: str) -> None:
 def append_again(guide: Guide, end: str, meanwhile: str) -> None:
     """Appends mail by the page's script while no file may be long, and once more. The last line of the old mailbox ends
     like this, and this is added to it meanwhile."""
-    page, letters = text_of(TOP / "docs/MIGRATE.md"), [ALVA + str(number) * 5000 + "\n\n" for number in range(8)]
+    page, letters = text_of(TOP / "docs/BACK.md"), [ALVA + str(number) * 5000 + "\n\n" for number in range(8)]
     block = next(block[0] for block in BLOCK.finditer(page) if "cat >append.sh" in block[0])
     make, append = (command for _, command, _ in steps_of([line[4:] for line in block.splitlines()]))
     old, since = guide.home / "mail/sent", guide.home / "since/sent"

@@ -1,4 +1,4 @@
-"""Compares the tables of programs in docs/MAILBOXES.md with the programs.
+"""Compares the tables of programs in docs/FORMATS.md with the programs.
 
 Each program that is installed and writes mailboxes writes one. Its kind must be that of the row, also by the companion.
 Then the commands are run that the companion says are next, and the bodies must be those that were put in. Each program
@@ -29,7 +29,7 @@ from tests.support.dovecot.settings import settings_here
 from tests.support.homes import OWNER, as_owner, fresh_home, hand_over, install, mail_in, own_dovecot
 from tests.support.printed import commands_in
 
-PAGE = text_of(TOP / "docs/MAILBOXES.md")
+PAGE = text_of(TOP / "docs/FORMATS.md")
 # a program that never ends is left out; on a machine that has much to do, others end late
 SECONDS = 120
 PATH = f"{os.environ['PATH']}:/usr/sbin:/usr/lib/dovecot:/usr/bin/mh:/usr/libexec/opensmtpd"

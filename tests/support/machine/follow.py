@@ -14,7 +14,7 @@ from tests.support.dovecot.served import Shown, differences
 from tests.support.machine import virtual
 from tests.support.machine.letters import DOMAIN, NO_MAIL, USERS, Letters, numbers, of_then, renamed, shown
 from tests.support.machine.moved import MovedList, is_refused
-from tests.support.machine.page import MAILBOXES, MIGRATE
+from tests.support.machine.page import REFERENCE, SERVER
 from tests.support.machine.root import GLIBC
 from tests.support.machine.servers import Machine, owner, root
 
@@ -42,11 +42,11 @@ lists/sheds
 # `x`, by a digest that is fast: there are many logins
 PASSWORD = "$1$mail$HgxvIOKf2hbaCBNB2BqUs1"
 # what Dovecot prints of a file that is no mailbox
-HARMLESS = MIGRATE.span("isn't a valid mbox file")
+HARMLESS = SERVER.span("isn't a valid mbox file")
 # longer than what the page says to wait, in seconds
 QUIET = 61
 # a first pass over all users
-PASS = MAILBOXES.line("mbox2maildir-admin migrate --users --tree mail --dovecot --prepare /var/mail")
+PASS = REFERENCE.line("mbox2maildir-admin migrate --users --tree mail --dovecot --prepare /var/mail")
 
 
 class Follower:
@@ -107,7 +107,7 @@ class Follower:
         """Rehearses with all users, while mail arrives, and changes nothing."""
         self.look(*USERS)
         spool = {path: path.read_bytes() for path in Path("/var/mail").iterdir()}
-        line = MIGRATE.line("--dry-run --now /var/mail").replace("--tree", "--dovecot --tree")
+        line = SERVER.line("--dry-run --now /var/mail").replace("--tree", "--dovecot --tree")
         said = root(line, 1)
         equal("what a rehearsal leaves", reasons(said), self.left)
         equal("the spool after a rehearsal", {path: path.read_bytes() for path in spool}, spool)
@@ -127,8 +127,8 @@ class Follower:
     def try_with_one(self) -> None:
         """Tries it with mia, into a Maildir that nobody reads. Dovecot shows it by the options of its version."""
         self.look("mia")
-        root(MIGRATE.line("--maildir Trial"))
-        old, new = MIGRATE.line("doveadm -o 'mail_location="), MIGRATE.line("doveadm -o mail_driver=")
+        root(SERVER.line("--maildir Trial"))
+        old, new = SERVER.line("doveadm -o 'mail_location="), SERVER.line("doveadm -o mail_driver=")
         said = root(self.machine.of_version(old, new))
         folders = dict(re.findall(r"(?m)^(.*?) messages=(\d+)", said))
         seen = renamed(self.before["mia"])[0]
@@ -170,17 +170,17 @@ class Follower:
         equal("mia's login", is_refused(self.machine, "mia"), True)
         self.machine.redirect("mia")
         self.letters.send("mia", "alva")
-        root(MAILBOXES.span("doveadm fetch -u mia uid mailbox"))
+        root(REFERENCE.span("doveadm fetch -u mia uid mailbox"))
         time.sleep(QUIET)
-        root(MIGRATE.line("mv /var/mail/mia /var/mail/mia.old"))
-        owner("mia", MIGRATE.line("mv ~/mail ~/mail.old"))
+        root(SERVER.line("mv /var/mail/mia /var/mail/mia.old"))
+        owner("mia", SERVER.line("mv ~/mail ~/mail.old"))
         for part in ("migrate --dry-run ~/Maildir", "migrate ~/Maildir /var/mail/mia.old ~/mail.old"):
-            said = owner("mia", MIGRATE.line(part).replace("migrate ", "migrate --dovecot ", 1))
+            said = owner("mia", SERVER.line(part).replace("migrate ", "migrate --dovecot ", 1))
             equal(f"what is left: {said}", reasons(said), {})
             equal("whose inbox was prepared", prepared(said), {"/var/mail/mia.old"})
             self.letters.send("mia")
         self.machine.set_separator()
-        root(MAILBOXES.span("doveadm reload"))
+        root(REFERENCE.span("doveadm reload"))
         self.list.add()
         Path("/etc/dovecot/deny-users").write_text("nobody\n", encoding="utf-8")
         self.machine.release()
@@ -211,7 +211,7 @@ class Follower:
         # mia's old mailbox is still in the spool
         self.pass_once({**self.left, "no-user": 1})
         self.as_before("mia")
-        root(MIGRATE.line("--list /var/mail"))
+        root(SERVER.line("--list /var/mail"))
         if self.machine.way != "lda":
             # which needs /var/mail open to all
             self.write_no_flags()
@@ -220,22 +220,22 @@ class Follower:
         self.machine.redirect_all()
         self.redirect_procmail()
         self.letters.send()
-        printed = root(MIGRATE.line("doveadm fetch -F /root/names uid"), 65).splitlines()
+        printed = root(SERVER.line("doveadm fetch -F /root/names uid"), 65).splitlines()
         equal("what is printed but of files without mail", [line for line in printed if HARMLESS not in line], [])
         self.machine.stop()
         time.sleep(QUIET)
         self.letters.send(*others)
-        root(f"{MIGRATE.span('mkdir -m 711 /var/mail.alone')} && mv /var/mail/mia.old /var/mail.alone")
-        root(MIGRATE.line("mkdir -m 711 /var/mail.old && mv"))
-        dry = MIGRATE.line("--dry-run /var/mail.old").replace("--tree", "--dovecot --tree")
+        root(f"{SERVER.span('mkdir -m 711 /var/mail.alone')} && mv /var/mail/mia.old /var/mail.alone")
+        root(SERVER.line("mkdir -m 711 /var/mail.old && mv"))
+        dry = SERVER.line("--dry-run /var/mail.old").replace("--tree", "--dovecot --tree")
         line = dry.replace(" --dry-run", "")
         equal("what would be left", reasons(root(dry, 1)), self.left)
         said = root(line, 1)
         equal("what is left", reasons(said), self.left)
         equal("whose inbox was prepared", prepared(said), set(others))
         self.deal_with(said, line)
-        equal("folders that are only prepared", root(MAILBOXES.line("find /home -name")), "")
-        said = root(MIGRATE.line("verify --users"))
+        equal("folders that are only prepared", root(REFERENCE.line("find /home -name")), "")
+        said = root(SERVER.line("verify --users"))
         equal(f"who is to be looked at: {said}", re.findall(r"(?m)^(\S+): not whole: ", said), [])
         self.machine.set_maildirs()
         self.list.forget()
@@ -252,15 +252,15 @@ class Follower:
         """In a folder that users may not enter, Dovecot writes no flags, which only what it prints says."""
         client = self.machine.server.client("alva", "INBOX")
         client.store("3", "+FLAGS", r"(\Flagged)")
-        line = MIGRATE.line("doveadm fetch -F /root/names uid").replace("cd / && ", "")
-        equal("whether it says so", MIGRATE.span("open(.) failed") in root(f"{line} || true"), True)
+        line = SERVER.line("doveadm fetch -F /root/names uid").replace("cd / && ", "")
+        equal("whether it says so", SERVER.span("open(.) failed") in root(f"{line} || true"), True)
         client.logout()
 
     def redirect_procmail(self) -> None:
         """Redirects procmail where a user has it, by its rows."""
         path = Path("/home/emil/.procmailrc")
         if path.exists():
-            before, recipe = (MAILBOXES.cells(name)[-1] for name in ("procmail", "procmail's recipes"))
+            before, recipe = (REFERENCE.cells(name)[-1] for name in ("procmail", "procmail's recipes"))
             equal("procmail's row", ("the same" in before or "3.22" in before, "/.lists/" in recipe), (True, True))
             text = (
                 path.read_text(encoding="utf-8")
@@ -286,7 +286,7 @@ def install() -> None:
     if kind == "deb":
         root("apt-get -qy install /srv/mbox2maildir_*.deb")
     else:
-        root(f"cd {folder}\n{MAILBOXES.block('dpkg-deb -x libc6_')}")
+        root(f"cd {folder}\n{REFERENCE.block('dpkg-deb -x libc6_')}")
 
 
 def reasons(said: str) -> dict[str, int]:

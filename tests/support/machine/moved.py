@@ -4,7 +4,7 @@ import imaplib
 import time
 
 from tests.support.checks import equal
-from tests.support.machine.page import MAILBOXES
+from tests.support.machine.page import REFERENCE
 from tests.support.machine.servers import SYSTEM, Machine, change, root
 
 MIGRATED = "/etc/dovecot/migrated"
@@ -17,23 +17,23 @@ class MovedList:
 
     def __init__(self, machine: Machine) -> None:
         self.machine = machine
-        self.block = MAILBOXES.block(machine.of_version("  args = ", "  passwd_file_path = ") + MIGRATED)
-        self.setting = f"\n  {MAILBOXES.span('result_success')}"
+        self.block = REFERENCE.block(machine.of_version("  args = ", "  passwd_file_path = ") + MIGRATED)
+        self.setting = f"\n  {REFERENCE.span('result_success')}"
         # the line of mia, and what it says of where mail is
         words = machine.of_version("userdb_mail=", "userdb_mail_driver=")
-        self.line = MAILBOXES.line(f"echo 'mia:::::::{words}")
+        self.line = REFERENCE.line(f"echo 'mia:::::::{words}")
         self.fields = self.line.split(":::::::")[1].split("'")[0]
 
     def make(self) -> None:
         """Has Dovecot look its users up in the list too."""
-        root(MAILBOXES.span(f"chmod 644 {MIGRATED}"))
+        root(REFERENCE.span(f"chmod 644 {MIGRATED}"))
         for databases in self.machine.databases():
             change(SYSTEM, f"(?<={databases})$", self.setting)
         with open(SYSTEM, "a", encoding="utf-8") as file:
             file.write("\n" + self.block)
         if self.machine.way == "lda":
-            root(MAILBOXES.span("mailbox_command=/"))
-        root(MAILBOXES.span("doveadm reload"))
+            root(REFERENCE.span("mailbox_command=/"))
+        root(REFERENCE.span("doveadm reload"))
         self.machine.answers()
 
     def forget(self) -> None:

@@ -9,10 +9,10 @@ SPAN = re.compile(r"`([^`\n]+)`")
 
 
 class Page:
-    """A page of docs by its name."""
+    """Pages of docs by their names."""
 
-    def __init__(self, name: str) -> None:
-        self.name, self.text = name, text_of(TOP / "docs" / name)
+    def __init__(self, *names: str) -> None:
+        self.name, self.text = " ".join(names), "\n".join(text_of(TOP / "docs" / name) for name in names)
         self.blocks = [textwrap.dedent(block) for block in CODE.findall(self.text)]
 
     def the_one(self, found: set[str], part: str) -> str:
@@ -44,4 +44,4 @@ def spans(cell: str) -> list[str]:
     return SPAN.findall(cell)
 
 
-MIGRATE, MAILBOXES = Page("MIGRATE.md"), Page("MAILBOXES.md")
+SERVER, REFERENCE = Page("SERVER.md"), Page("DELIVERY.md", "FORMATS.md", "LEFT.md", "LARGE.md")

@@ -8,7 +8,7 @@ from pathlib import Path
 from tests.support.checks import PATIENCE, equal
 from tests.support.dovecot.server import Dovecot
 from tests.support.dovecot.settings import NEW, settings_here
-from tests.support.machine.page import MAILBOXES, MIGRATE, spans
+from tests.support.machine.page import REFERENCE, SERVER, spans
 
 DOVECOT, EXIM = Path("/etc/dovecot"), Path("/etc/exim4/update-exim4.conf.conf")
 # where Debian has the databases of users
@@ -114,7 +114,7 @@ class Machine:
 
     def stop(self) -> None:
         """Stops both servers, by the page's command."""
-        root(MAILBOXES.span("systemctl stop dovecot postfix").replace("postfix", self.agent))
+        root(REFERENCE.span("systemctl stop dovecot postfix").replace("postfix", self.agent))
 
     def answers(self) -> None:
         """Waits until Dovecot answers."""
@@ -129,26 +129,26 @@ class Machine:
     def redirect(self, user: str) -> None:
         """Redirects the mail of a user, or holds it if Dovecot delivers."""
         if self.by_dovecot:
-            root(MIGRATE.span("postconf -e defer_transports=local &&"))
+            root(SERVER.span("postconf -e defer_transports=local &&"))
         else:
-            owner(user, MIGRATE.line(">~/.forward"))
+            owner(user, SERVER.line(">~/.forward"))
 
     def redirect_all(self) -> None:
         """Redirects the mail of all users, or holds it if Dovecot delivers."""
         rows = {"postfix": "Postfix", "exim": "Exim of Debian"}
         if self.by_dovecot:
-            root(MIGRATE.span("postconf -e defer_transports=local &&"))
+            root(SERVER.span("postconf -e defer_transports=local &&"))
         elif self.way == "exim":
-            setting, path, *commands = spans(MAILBOXES.cells(rows[self.way])[0])
+            setting, path, *commands = spans(REFERENCE.cells(rows[self.way])[0])
             change(Path(path), "^dc_localdelivery=.*", setting)
             root(" && ".join([*commands, "/etc/init.d/exim4 reload"]))
         else:
-            root(" && ".join(spans(MAILBOXES.cells(rows[self.way])[0])))
+            root(" && ".join(spans(REFERENCE.cells(rows[self.way])[0])))
 
     def release(self) -> None:
         """Releases the mail that was held."""
         if self.by_dovecot:
-            root(MIGRATE.span("&& postqueue -f"))
+            root(SERVER.span("&& postqueue -f"))
 
     def refuse(self, user: str) -> None:
         """Refuses the logins of a user, as the page says, and ends the sessions."""
@@ -160,7 +160,7 @@ class Machine:
             path.write_text(f"{begun}passdb deny {{\n" + re.sub("(?m)^#", "", lines), encoding="utf-8")
         root("doveadm reload")
         # it ends with another status if nobody has a session
-        root(MAILBOXES.span("doveadm kick mia").replace("mia", user) + " || true")
+        root(REFERENCE.span("doveadm kick mia").replace("mia", user) + " || true")
 
     def databases(self) -> list[str]:
         """What stands before the settings of each database of users."""
@@ -170,10 +170,10 @@ class Machine:
 
     def set_separator(self) -> None:
         """Sets the separator of the namespace."""
-        change(DOVECOT / "conf.d/10-mail.conf", r"^  #separator = *$", f"  {MIGRATE.span('separator = /')}")
+        change(DOVECOT / "conf.d/10-mail.conf", r"^  #separator = *$", f"  {SERVER.span('separator = /')}")
 
     def set_maildirs(self) -> None:
         """Sets the place of the mail of all users."""
-        cell = MAILBOXES.cells("all users")[self.is_new]
+        cell = REFERENCE.cells("all users")[self.is_new]
         for setting in spans(cell):
             change(DOVECOT / "conf.d/10-mail.conf", rf"^{setting.split(' = ')[0]} = .*", setting)

@@ -2,7 +2,7 @@
 where their mail is, and gets their mail from Postfix by LMTP."""
 from pathlib import Path
 
-from tests.support.machine.page import MAILBOXES
+from tests.support.machine.page import REFERENCE
 from tests.support.machine.servers import DOVECOT, SYSTEM, Machine, root
 
 NAME = "vera@virtual.example"
@@ -49,9 +49,9 @@ def place(where: str) -> None:
 
 def migrate() -> str:
     """Migrates the user's mail, while it waits, and returns what is printed."""
-    root(MAILBOXES.span("defer_transports=local,lmtp") + " && postfix reload && systemctl stop dovecot")
+    root(REFERENCE.span("defer_transports=local,lmtp") + " && postfix reload && systemctl stop dovecot")
     root(f"cd {HOME} && mv inbox inbox.old && mv mail mail.old")
-    line = MAILBOXES.span("runuser -u vmail -- mbox2maildir-admin migrate")
+    line = REFERENCE.span("runuser -u vmail -- mbox2maildir-admin migrate")
     return root(
         line.replace("/srv/mail/mia /srv/old/mia", f"--now --dovecot {HOME}/Maildir {HOME}/inbox.old {HOME}/mail.old")
     )
