@@ -16,6 +16,7 @@ from tests.support.rewriting.letters import content
 from tests.support.rewriting.ledger import INTERNAL
 
 ID = re.compile(rb"(?mi)^Message-ID: *<([^>]*)>")
+TOLD_GONE = re.compile(r"\b(\d+) that \S+ brought are gone")
 Counts = typing.Counter[bytes]
 
 
@@ -72,6 +73,8 @@ class Folders:
         self.bytes = set()  # type: set[bytes]
         # what runs that were killed have done, and nobody has said yet, by folders
         self.owed = collections.defaultdict(Counter)  # type: collections.defaultdict[str, typing.Counter[str]]
+        # how many messages the rows of each mailbox said that another one brought and nobody has now
+        self.told = Counter()  # type: typing.Counter[str]
 
     def kept(self) -> "Folders":
         """The same as it is now."""
@@ -164,10 +167,13 @@ class Folders:
     def missing(self, row: Row, messages: Counts) -> Iterator[str]:
         """What is wrong with what is not there of a mailbox that is done."""
         shelf = self.shelves[row["folder"] or "INBOX"]
-        gone = 0
+        # people may copy a message, and remove the first file: then the row says once that it is gone
+        self.told[row["path"]] += sum(map(int, TOLD_GONE.findall(texts_of(row))))
+        told, gone = self.told[row["path"]], 0
         for what, count in messages.items():
             taken = shelf.taken[what] + shelf.gone[what]
-            if shelf.seen[what] + taken < count:
+            told -= max(0, count - shelf.seen[what] - taken)
+            if shelf.seen[what] + taken < count and told < 0:
                 yield f"done, and {shelf.seen[what]} of {count} there, {taken} taken: {what[:100]!r}"
             gone += max(0, count - shelf.seen[what])
         if gone and not numbers_in(row) and "gone" not in texts_of(row):
