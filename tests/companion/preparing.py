@@ -11,7 +11,7 @@ from collections.abc import Sequence
 from pathlib import Path
 
 from tests.support import accounts
-from tests.support.checks import equal
+from tests.support.checks import LATER, equal, matches
 from tests.support.homes import ADMIN, check_all, expect, mailbox, run, script, subjects, want_users
 from tests.support.mail import ONE, THREE, TWO
 from tests.support.printed import rows_in
@@ -19,7 +19,7 @@ from tests.support.schema import wrong
 
 USERS = ["m91one", "m91two"]
 ESTIMATE = "a last pass would now take some ..."
-LATER = "nothing of it counts as done before migrate runs without --prepare"
+ONLY_PREPARED = "nothing of it counts as done before migrate runs without --prepare"
 MBOX = "mail_location = mbox:~/mail:INBOX=/var/mail/%u"
 NEW_MBOX = "mail_driver = mbox\nmail_path = %{home}/mail\nmail_inbox_path = /var/mail/%{user}"
 
@@ -39,11 +39,11 @@ def printed(home: Path) -> None:
     row = "old/%s -> %s: mboxrd or mboxo, messages %d: "
     prepare = ["migrate", "--prepare", "--jobs", "2", "M", "old"]
     first = row % ("a", "a", 2) + "prepared\n" + row % ("b", "b", 1) + "prepared\n"
-    expect(prepare, home, 0, f"{first}2 mailboxes: 2 prepared; {ESTIMATE}; {LATER}\n")
+    expect(prepare, home, 0, f"{first}2 mailboxes: 2 prepared; {ESTIMATE}; {ONLY_PREPARED}\n")
     mailbox(home / "old/a", TWO + THREE)
     second = row % ("a", "a", 2) + "prepared, 1 prepared before, 1 message removed\n"
     second += "old/b -> b: messages 1: prepared, 1 prepared before\n"
-    expect(prepare, home, 0, f"{second}2 mailboxes: 2 prepared; {ESTIMATE}; {LATER}\n")
+    expect(prepare, home, 0, f"{second}2 mailboxes: 2 prepared; {ESTIMATE}; {ONLY_PREPARED}\n")
     status, out, _ = run([*prepare[:2], "--json", *prepare[2:]], home)
     objects = [json.loads(line) for line in out.splitlines()]
     equal("what is wrong with the objects", [wrong(one) for one in objects], [[], [], []])
@@ -101,7 +101,8 @@ def one_at_work(home: Path) -> None:
                 equal("the first pass", first.poll(), None)
                 time.sleep(0.1)
             status, out, err = run(["migrate", "--now", "M", "box"], home)
-            assert (status, out) == (1, "") and "another migrate is at work in M" in err, (status, out, err)
+            equal("the last pass", (status, out), (LATER, ""))
+            matches("what it says", err, "mbox2maildir-admin: another migrate is at work in M, ...\n")
         finally:
             (home / "go").touch()
     equal("the status of the first pass", first.returncode, 0)
