@@ -16,7 +16,6 @@ from tests.support.rewriting.letters import content
 from tests.support.rewriting.ledger import INTERNAL
 
 ID = re.compile(rb"(?mi)^Message-ID: *<([^>]*)>")
-TOLD_GONE = re.compile(r"\b(\d+) that \S+ brought are gone")
 Counts = typing.Counter[bytes]
 
 
@@ -73,8 +72,6 @@ class Folders:
         self.bytes = set()  # type: set[bytes]
         # what runs that were killed have done, and nobody has said yet, by folders
         self.owed = collections.defaultdict(Counter)  # type: collections.defaultdict[str, typing.Counter[str]]
-        # how many messages the rows of each mailbox said that another one brought and nobody has now
-        self.told = Counter()  # type: typing.Counter[str]
 
     def kept(self) -> "Folders":
         """The same as it is now."""
@@ -167,13 +164,10 @@ class Folders:
     def missing(self, row: Row, messages: Counts) -> Iterator[str]:
         """What is wrong with what is not there of a mailbox that is done."""
         shelf = self.shelves[row["folder"] or "INBOX"]
-        # people may copy a message, and remove the first file: then the row says once that it is gone
-        self.told[row["path"]] += sum(map(int, TOLD_GONE.findall(texts_of(row))))
-        told, gone = self.told[row["path"]], 0
+        gone = 0
         for what, count in messages.items():
             taken = shelf.taken[what] + shelf.gone[what]
-            told -= max(0, count - shelf.seen[what] - taken)
-            if shelf.seen[what] + taken < count and told < 0:
+            if shelf.seen[what] + taken < count:
                 yield f"done, and {shelf.seen[what]} of {count} there, {taken} taken: {what[:100]!r}"
             gone += max(0, count - shelf.seen[what])
         if gone and not numbers_in(row) and "gone" not in texts_of(row):

@@ -46,7 +46,7 @@ class Several(Tree):
             self.wrong.append("done, and a further run does more")
 
     def run_next(self, left: dict[str, Row]) -> bool:
-        """Runs a command that one of the rows prints. Returns whether there is one, and one that is right."""
+        """Runs a command that one of the rows prints. Returns whether there is one."""
         commands = [
             (row["path"], command["argv"])
             for row in left.values()
@@ -54,11 +54,11 @@ class Several(Tree):
             if "argv" in command and command["argv"][0].startswith("mbox2maildir-admin")
             if "--undo" not in command["argv"] and "kind" not in command["argv"]
         ]
+        if not commands:
+            return False
         right = [words for path, words in commands if self.is_right(path, words)]
-        self.noted["no answer is right"] += bool(commands and not right)
-        if right:
-            self.carry_out(self.draw.choice(right)[2:])
-        return bool(right)
+        self.carry_out(self.draw.choice(right or [words for _, words in commands])[2:])
+        return True
 
     def is_right(self, path: str, words: Sequence[str]) -> bool:
         """Whether a command makes no mail that nobody sent: a human answers by the lines that are shown."""
