@@ -142,7 +142,7 @@ def install(folder: Path) -> None:
         return
     shutil.copy(program(), str(folder / "mbox2maildir"))
     shutil.copy(str(ADMIN), str(folder))
-    shutil.copytree(str(PACKAGE), str(folder / PACKAGE.name), ignore=shutil.ignore_patterns("__pycache__"))
+    shutil.copytree(str(PACKAGE), str(folder / PACKAGE.name))
     open_to_others(folder)
 
 

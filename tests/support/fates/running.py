@@ -68,7 +68,7 @@ def install(folder: Path) -> None:
         os.symlink(str(ADMIN), str(folder / COMPANION))
         return
     shutil.copy(program(), str(folder / "mbox2maildir"))
-    shutil.copytree(str(ADMIN), str(folder / "admin"), ignore=shutil.ignore_patterns("__pycache__"))
+    shutil.copytree(str(ADMIN), str(folder / "admin"))
     os.symlink(f"admin/{COMPANION}", str(folder / COMPANION))
     open_to_others(folder)
 
