@@ -98,6 +98,8 @@ yes
 2.39.5
 
 """
+# the second From_ line has no date
+NO_DATE = f"{ALVA}\nhello\n\nFrom boris@example.com\nFrom: boris@example.com\nSubject: two\n\nyes\n\n"
 # in Thunderbird 153's form; the lines that it adds before and after a message end in CR LF
 THUNDERBIRD = (
     "From - Mon Mar 03 09:12:44 2025\r\nX-Mozilla-Status: 0001\nSubject: one\n\nhello\n\r\n"
@@ -192,6 +194,7 @@ def make_files(home: Path) -> None:
         "old/mac.mbox": MAC.encode(),
         "old/mboxo.mbox": MBOXO.encode(),
         "old/mutt.mbox": MUTT.encode(),
+        "old/no-date.mbox": NO_DATE.encode(),
         "old/notes.txt": b"notes\n",
         "old/patches.mbox": PATCHES.encode(),
         "old/snail.mbox": SNAIL.encode(),
