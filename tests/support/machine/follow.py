@@ -107,7 +107,7 @@ class Follower:
         """Rehearses with all users, while mail arrives, and changes nothing."""
         self.look(*USERS)
         spool = {path: path.read_bytes() for path in Path("/var/mail").iterdir()}
-        line = SERVER.line("--dry-run --now /var/mail").replace("--tree", "--dovecot --tree")
+        line = SERVER.line("--dry-run --now /var/mail")
         said = root(line, 1)
         equal("what a rehearsal leaves", reasons(said), self.left)
         equal("the spool after a rehearsal", {path: path.read_bytes() for path in spool}, spool)
@@ -227,8 +227,7 @@ class Follower:
         self.letters.send(*others)
         root(f"{SERVER.span('mkdir -m 711 /var/mail.alone')} && mv /var/mail/mia.old /var/mail.alone")
         root(SERVER.line("mkdir -m 711 /var/mail.old && mv"))
-        dry = SERVER.line("--dry-run /var/mail.old").replace("--tree", "--dovecot --tree")
-        line = dry.replace(" --dry-run", "")
+        dry, line = SERVER.line("--dry-run /var/mail.old"), SERVER.line("--dovecot /var/mail.old")
         equal("what would be left", reasons(root(dry, 1)), self.left)
         said = root(line, 1)
         equal("what is left", reasons(said), self.left)

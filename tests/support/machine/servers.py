@@ -129,7 +129,7 @@ class Machine:
     def redirect(self, user: str) -> None:
         """Redirects the mail of a user, or holds it if Dovecot delivers."""
         if self.by_dovecot:
-            root(SERVER.span("postconf -e defer_transports=local &&"))
+            root(SERVER.line("postconf -e defer_transports=local &&"))
         else:
             owner(user, SERVER.line(">~/.forward"))
 
@@ -137,7 +137,7 @@ class Machine:
         """Redirects the mail of all users, or holds it if Dovecot delivers."""
         rows = {"postfix": "Postfix", "exim": "Exim of Debian"}
         if self.by_dovecot:
-            root(SERVER.span("postconf -e defer_transports=local &&"))
+            root(SERVER.line("postconf -e defer_transports=local &&"))
         elif self.way == "exim":
             setting, path, *commands = spans(REFERENCE.cells(rows[self.way])[0])
             change(Path(path), "^dc_localdelivery=.*", setting)
@@ -148,7 +148,7 @@ class Machine:
     def release(self) -> None:
         """Releases the mail that was held."""
         if self.by_dovecot:
-            root(SERVER.span("&& postqueue -f"))
+            root(SERVER.line("&& postqueue -f"))
 
     def refuse(self, user: str) -> None:
         """Refuses the logins of a user, as the page says, and ends the sessions."""
