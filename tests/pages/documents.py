@@ -81,7 +81,7 @@ def links_to_nothing(top: Path, pages: Sequence[Path]) -> Iterator[str]:
 
 
 def wrong_files() -> Iterator[str]:
-    """CONTRIBUTING.md tells its reader to read the first line of each file of the code."""
+    """docs/ARCHITECTURE.md tells its reader to read the first line of each file of the code."""
     for path in sorted(TOP.glob("crates/*/src/**/*.rt")):
         if not re.match(r"//!? \w", text_of(path)):
             yield f"{path.relative_to(TOP)}: no line at the start says what is in it"
@@ -101,13 +101,13 @@ def wrong_paths() -> Iterator[str]:
 
 
 def wrong_picture() -> Iterator[str]:
-    """The picture of CONTRIBUTING.md has each crate, and each room of the companion."""
-    picture = text_of(TOP / "CONTRIBUTING.md").split("```text\n")[1].split("```")[0]
+    """The picture of docs/ARCHITECTURE.md has each crate, and each room of the companion."""
+    picture = text_of(TOP / "docs/ARCHITECTURE.md").split("```text\n")[1].split("```")[0]
     crates = (path.name for path in TOP.glob("crates/*") if (path / "src").is_dir())
     rooms = (path.parent.name for path in TOP.glob("admin/mbox2maildir_admin/*/__init__.py"))
     for name in sorted([*crates, *rooms]):
         if not re.search(rf"\b{name}\b", picture):
-            yield f"CONTRIBUTING.md: the picture has no {name}"
+            yield f"docs/ARCHITECTURE.md: the picture has no {name}"
 
 
 def wrong_reading() -> Iterator[str]:
