@@ -51,7 +51,7 @@ class Note(enum.Enum):
     EMPTY = "empty"
     # which folders a mailbox has by its labels
     LABELS = "labels"
-    # a mailbox that was prepared in a folder; and that nothing is prepared there any more
+    # a mailbox that was prepared in a folder; and that nothing is prepared there any more, or done without mail
     PREPARED = "prepared"
     UNPREPARED = "unprepared"
 
@@ -165,6 +165,8 @@ class History:
             self._prepared[folder], self.has_prepared = entry, True
         elif entry.what in (Note.UNPREPARED, Step.DONE):
             self._prepared.pop(folder, None)
+        if entry.what is Note.UNPREPARED:
+            self._notes.pop((Note.EMPTY, folder), None)
 
     def prepared(self, folder: bytes) -> Optional[Entry]:
         """The mailbox that a folder was prepared from last, if nothing of the folder is done since."""
@@ -242,6 +244,10 @@ class History:
     def longest_written(self, folder: bytes) -> int:
         """The size of the largest file that was to be written into a folder."""
         return max((note.key.size for note in self._notes[Note.WROTE, folder]), default=0)
+
+    def empty(self) -> list[Entry]:
+        """The last line of each folder that a mailbox of no byte has."""
+        return [several[-1] for (note, _), several in self._notes.items() if note is Note.EMPTY and several]
 
     def noting(self, note: Note, folder: bytes, path: bytes) -> list[Entry]:
         """The lines that note this with a path, in their order."""

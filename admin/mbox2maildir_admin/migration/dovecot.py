@@ -74,6 +74,8 @@ class Dovecot(Extra):
         for name in (KEYWORDS, LIST):
             remove_part(one.opened.folder, name)
         if reading:
+            if one.is_begun:
+                remove_lists(self.record, one.opened)
             self.write(one, reading)
         elif one.contents.is_bare:
             give_flags(one)
@@ -134,7 +136,8 @@ class Dovecot(Extra):
                 raise Left("%s is there: %s" % (named(name), NUMBERED_BY_DOVECOT), Reason.NUMBERED)
         if LIST in there:
             is_same = numbered is not None and numbered.key == Key(opened.name, *opened.mailbox.key())
-            return None if is_same else [WHAT_IS_NEW]
+            # one that a killed run has written was read by nobody, and the mailbox may have changed since
+            return None if is_same or one.is_begun else [WHAT_IS_NEW]
         return [DONE_WITHOUT] if one.is_grown else None
 
     def is_own(self, opened: Opened, name: bytes) -> bool:

@@ -8,7 +8,7 @@ from typing import NamedTuple
 
 from ..faults import Fault, PlaceFault, Reason
 from ..flags.dovecot_headers import home_of_text
-from ..ledger.history import names_of
+from ..ledger.history import Note, names_of
 from ..ledger.ledger import Ledger
 from ..ledger.lines import PLACED
 from ..ledger.prepared import Prepared
@@ -17,6 +17,7 @@ from ..ledger.record import Record, unspelled
 from ..ledger.strangers import folders_in
 from ..maildir import files
 from ..maildir.checking import first_of
+from ..maildir.folders import INBOX, folder_path
 from ..mbox.bases import own_base_in
 from ..mbox.files import BLOCK, open_file, read_up_to
 from ..nexts import Remark
@@ -26,7 +27,7 @@ from .dovecot import Dovecot, names_in
 from .leftovers import MAILBOX_GONE, name_of
 from .outcomes import Fate, Row
 from .places import Planned
-from .replica import has_failed, take_back, tree_above
+from .replica import empty, has_failed, holds_nothing, take_back, tree_above
 from .steps import How, Opened
 
 # the size and the digest of no mailbox
@@ -189,4 +190,32 @@ def postponed_rows(
             path = unspelled(one.ledger.paths()[0])
             postpone(record, one, origin_of(one.ledger, path, names), dry)
             fate = Fate.WOULD_PREPARE if dry else Fate.PREPARED
-            yield Row(path, one.name, "", None, fate, remarks=(Remark("mailbox-gone", MAILBOX_GONE),))
+            yield row_gone(path, one.name, fate)
+    yield from rows_without_mail(record, root, plan, names, dry)
+
+
+def row_gone(path: bytes, name: bytes, fate: Fate) -> Row:
+    """The row of a folder whose mailbox is gone."""
+    return Row(path, name, "", None, fate, remarks=(Remark("mailbox-gone", MAILBOX_GONE),))
+
+
+def rows_without_mail(
+    record: Record, root: bytes, plan: Sequence[Planned], names: Sequence[bytes], dry: bool
+) -> Iterator[Row]:
+    """Removes the folders that mailboxes without mail got, if they hold nothing: a first pass makes none for these.
+    Yields the rows of those whose mailboxes are gone."""
+    went = {one.folder for one in plan}
+    for line in record.empty():
+        name, path = line.key.folder, unspelled(line.path)
+        folder, is_gone = folder_path(root, name), bool(tree_above(path, names)) and not os.path.lexists(path)
+        prepared, ledger = Prepared.read(folder), Ledger(folder)
+        is_there, is_used = os.path.lexists(folder), name == INBOX or prepared.is_there or bool(ledger.paths())
+        if is_used or not (is_gone or name in went) or is_there and not holds_nothing(folder):
+            continue
+        if is_there and not dry:
+            prepared.is_made = True
+            empty(record, name, ledger, prepared)
+        if not dry:
+            record.add(Note.UNPREPARED, line.key, 0, path)
+        if is_gone:
+            yield row_gone(path, name, Fate.WOULD_UNDO if dry else Fate.UNDONE)

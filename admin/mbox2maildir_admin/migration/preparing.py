@@ -198,8 +198,17 @@ class FirstPass(LastPass):
         line = self.known.done_by(True)
         if line:
             return self.row_before(line.plan, [])
+        if self.is_made_anew():
+            with self.choice() as choice:
+                return self.row_prepared(choice.plan)
         self.want_free()
         return self.choose()
+
+    def is_made_anew(self) -> bool:
+        """Whether the mailbox has no byte and brought nothing, and another one is done in its folder: a program that
+        delivers makes such a file once the old one was moved away."""
+        is_other = bool(self.ledger.sources) and self.path not in self.ledger.paths()
+        return is_other and not self.opened.mailbox.size and not self.prepared.is_there
 
     def want_free(self) -> None:
         """Raises Left if the folder cannot be prepared from this mailbox."""

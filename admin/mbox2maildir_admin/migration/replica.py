@@ -1,6 +1,7 @@
 """What is only prepared in a folder: who reads there, which of its files a mailbox wants, and how it is taken back or
 removed."""
 import array
+import contextlib
 import os
 from collections.abc import Sequence
 from typing import Optional
@@ -186,18 +187,23 @@ def empty(record: Record, name: bytes, ledger: Ledger, prepared: Prepared) -> No
         ledger.forget_all()
 
 
+def holds_nothing(folder: bytes) -> bool:
+    """Whether a folder has no mail, and nothing else but what a pass makes there."""
+    names = set(os.listdir(folder)) - {*SUBFOLDERS, MARK, LEDGER, PREPARED, NEXT_LIST}
+    return not names and not any(names_in(os.path.join(folder, sub)) for sub in SUBFOLDERS)
+
+
 def clear_folder(prepared: Prepared) -> bool:
     """Removes what makes a folder one of a Maildir, and its ledger, if it was made for this and holds nothing else.
     Returns whether it did. The list is still there, so that another run can go on."""
     folder = prepared.folder
-    subs = [sub for sub in SUBFOLDERS if os.path.isdir(os.path.join(folder, sub))]
-    names = set(os.listdir(folder)) - {*SUBFOLDERS, MARK, LEDGER, PREPARED, NEXT_LIST}
-    if not prepared.is_made or names or any(os.listdir(os.path.join(folder, sub)) for sub in subs):
+    if not prepared.is_made or not holds_nothing(folder):
         return False
-    for sub in subs:
-        os.rmdir(os.path.join(folder, sub))
+    for sub in SUBFOLDERS:
+        with contextlib.suppress(FileNotFoundError):
+            os.rmdir(os.path.join(folder, sub))
     for name in (MARK, LEDGER):
-        if os.path.lexists(os.path.join(folder, name)):
+        with contextlib.suppress(FileNotFoundError):
             os.unlink(os.path.join(folder, name))
     return True
 

@@ -79,6 +79,24 @@ class DovecotTest(DovecotCase):
         self.became(Fate.DONE)
         self.assertFalse(part.exists())
 
+    def test_a_mailbox_changed_after_a_run_was_killed(self) -> None:
+        """Its list of UIDs has not been read by anybody: it is written anew, and is that of one run."""
+        third = DATED + b"X-UID: 9\nStatus: R\nSubject: three\n\nhello\n\n"
+        keyword = third.replace(b"Status: R", b"X-Keywords: Bar")
+        for later in (NUMBERED + third, NUMBERED.replace(b"9 Foo", b"9 Foo Bar") + keyword):
+            lists = []
+            for is_killed in (False, True):
+                self.make_home(f"home-{len(later)}-{int(is_killed)}")
+                if is_killed:
+                    self.fill(NUMBERED)
+                    self.became(Fate.DONE)
+                    self.kill(1)
+                self.fill(later)
+                self.became(Fate.DONE)
+                lists.append((self.uids(), (self.maildir / "dovecot-keywords").read_bytes()))
+            self.assertEqual([uid for uid, _ in lists[0][0][1]], ["5", "7", "9"])
+            self.assertEqual(*lists)
+
     def test_it_grew(self) -> None:
         self.fill(NUMBERED)
         self.became(Fate.DONE)

@@ -174,6 +174,55 @@ class OnceMoreTest(PostponedTest):
         self.has(ONE)
 
 
+class WithoutMailTest(PostponedTest):
+    """A mailbox of a tree that had no mail when it was done: it got a folder."""
+
+    def migrate_tree(self, **options: Any) -> list[Fate]:
+        """Migrates the tree, and returns the fates of its mailboxes."""
+        listener = Listener()
+        run_all(Options(**options), self.root, [os.fsencode(self.home / "tree")], listener, Function())
+        return [row.fate for row in listener.rows]
+
+    def test_its_folder_goes(self) -> None:
+        """The last pass makes it again, unless the mailbox is gone by then."""
+        for name in ("", "clear_folder", "remove_aside", "Record.add"):
+            for is_gone in (False, True):
+                self.make_home(f"home-{name}-{int(is_gone)}")
+                empty, folder = self.home / "tree/a", self.maildir / ".a"
+                empty.parent.mkdir()
+                empty.touch()
+                (empty.parent / "b").write_bytes(ONE)
+                self.assertEqual(self.migrate_tree(now=True), [Fate.DONE] * 2)
+                if name:
+                    with mock.patch.object(*target_of(name), side_effect=Killed), self.assertRaises(Killed):
+                        self.migrate_tree(prepare=True, postponed=True)
+                self.assertEqual(self.migrate_tree(prepare=True, postponed=True), [Fate.PREPARED] * 2)
+                self.assertFalse(folder.exists())
+                if is_gone:
+                    empty.unlink()
+                self.assertEqual(self.migrate_tree(now=True), [Fate.DONE] * (2 - is_gone))
+                self.assertEqual(folder.exists(), not is_gone)
+
+    def test_it_is_gone(self) -> None:
+        """Its folder goes, unless something came there."""
+        for name in ("", "cur/delivered", "dovecot.index.log"):
+            self.make_home("home-" + name.replace("/", "-"))
+            empty, folder = self.home / "tree/a", self.maildir / ".a"
+            empty.parent.mkdir()
+            empty.touch()
+            (empty.parent / "b").write_bytes(ONE)
+            self.migrate_tree(now=True)
+            if name:
+                (folder / name).write_bytes(b"Subject: x\n\n")
+            empty.unlink()
+            fates = self.migrate_tree(prepare=True, postponed=True, dry=True)
+            self.assertEqual(fates, [Fate.WOULD_UNDO][bool(name) :] + [Fate.WOULD_PREPARE])
+            self.assertTrue(folder.exists())
+            fates = self.migrate_tree(prepare=True, postponed=True)
+            self.assertEqual(fates, [Fate.UNDONE][bool(name) :] + [Fate.PREPARED])
+            self.assertEqual(folder.exists(), bool(name))
+
+
 def target_of(name: str) -> tuple[object, str]:
     """What has a name in the module that takes back."""
     owner, _, method = name.rpartition(".")

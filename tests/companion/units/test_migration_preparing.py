@@ -136,6 +136,22 @@ class RefusedTest(PreparingTest):
         self.assertIs(self.prepare().fate, Fate.BEFORE)
         self.left(self.prepare(ONE + TWO), "mail of a mailbox is in its folder already")
 
+    def test_an_empty_file_in_place_of_what_is_done(self) -> None:
+        """A program that delivers makes one once the old mailbox was moved away. It has nothing to prepare."""
+        self.move_box("box.old")
+        self.finish(ONE)
+        (path,) = (self.maildir / "new").iterdir()
+        path.rename(self.maildir / "cur" / (path.name + ":2,S"))
+        (self.maildir / "dovecot.index.log").touch()
+        self.move_box("box")
+        for dry, fate in ((True, Fate.WOULD_PREPARE), (False, Fate.PREPARED)):
+            row = self.prepare(b"", dry=dry)
+            self.assertEqual((row.fate, row.messages, told(row)), (fate, 0, ""))
+        self.assertFalse(self.prepared_list().exists())
+        self.left(self.prepare(TWO), "mail of a mailbox is in its folder already")
+        self.move_box("box.old")
+        self.left(self.prepare(b""), "mail of a mailbox is in its folder already")
+
     def test_a_second_mailbox_of_a_folder(self) -> None:
         self.prepare(ONE)
         self.move_box("second")
