@@ -87,6 +87,7 @@ complete -c mbox2maildir-admin -n '__mbox2maildir_at migrate 0 9999' -l list -d 
 complete -c mbox2maildir-admin -n '__mbox2maildir_at migrate 0 9999' -l by-size -d 'list the largest mailbox first'
 complete -c mbox2maildir-admin -n '__mbox2maildir_at back 0 9999' -l dry-run -d 'print what would go back'
 complete -c mbox2maildir-admin -n '__mbox2maildir_at back 0 9999' -l moved -x -a 'stay copy' -d 'what becomes of what people moved'
+complete -c mbox2maildir-admin -n '__mbox2maildir_at back 0 9999' -l dovecot -d 'carry over UIDs, keywords and subscriptions'
 complete -c mbox2maildir-admin -n '__mbox2maildir_at back 0 9999' -l now -d 'wait for no quiet minute'
 complete -c mbox2maildir-admin -n '__mbox2maildir_at back 0 9999' -l report -r -F -d 'new file for objects of JSON'
 complete -c mbox2maildir-admin -n '__mbox2maildir_at verify 0 9999' -l all -d 'name files without mail too'

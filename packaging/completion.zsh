@@ -68,7 +68,7 @@ _mbox2maildir_admin() {
             ;;
         back)
             _arguments '--help[print help]' '--dry-run[print what would go back]' '--moved[what people moved]:word:(stay copy)' \
-                '--now[wait for no quiet minute]' '--json[print objects of JSON]' \
+                '--dovecot[carry over UIDs, keywords and subscriptions]' '--now[wait for no quiet minute]' '--json[print objects of JSON]' \
                 '--report[write these objects to a new file]:file:_files' ':Maildir:_path_files -/' '*:mailbox:_files'
             ;;
         verify)

@@ -18,12 +18,14 @@ X_STATUS = {"R": b"A", "F": b"F", "D": b"T", "T": b"D"}
 
 
 class Letter(NamedTuple):
-    """A message for a mailbox: its bytes, its flags, whether a reader has met it, and its time in seconds."""
+    """A message for a mailbox: its bytes, its flags, whether a reader has met it, its time in seconds, and further
+    fields in which programs note what they know of it."""
 
     text: bytes
     flags: str = ""
     is_old: bool = False
     time: int = FIRST_TIME
+    notes: tuple[bytes, ...] = ()
 
 
 class Dialect(NamedTuple):
@@ -99,7 +101,8 @@ def date_of(seconds: int) -> bytes:
 
 
 def fields_of(letter: Letter, end: bytes) -> bytes:
-    """The fields for the flags of a message."""
+    """The fields for the flags of a message, and the further ones."""
     status = b"".join(value for flag, value in STATUS.items() if flag in letter.flags) + b"O" * letter.is_old
     others = b"".join(value for flag, value in X_STATUS.items() if flag in letter.flags)
-    return (b"Status: %s%s" % (status, end)) * bool(status) + (b"X-Status: %s%s" % (others, end)) * bool(others)
+    flags = [b"Status: " + status] * bool(status) + [b"X-Status: " + others] * bool(others)
+    return b"".join(field + end for field in (*flags, *letter.notes))

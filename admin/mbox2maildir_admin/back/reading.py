@@ -1,6 +1,7 @@
 """How a mailbox is read, before and after something is appended, and whether that gives back what was written."""
+import contextlib
 import os
-from collections.abc import Sequence
+from collections.abc import Callable, Sequence
 from typing import NamedTuple, Optional
 
 from ..faults import Fault, Left, Reason
@@ -17,6 +18,8 @@ from ..readings.unnamed import unnamed
 from .dialect import Dialect
 
 NO_LONGER = "it can no longer be read as it was read when it was migrated (%s)"
+# takes a text, and its messages
+Look = Callable[[Mailbox, Inventory], object]
 # begins what stands for the reading of a mailbox that would be left
 ASKED = "?"
 
@@ -64,19 +67,23 @@ def takes_mail(mailbox: Mailbox, words: str) -> Optional[Dialect]:
     return Dialect.of_words(words)
 
 
-def messages_by(words: str, mailbox: Mailbox, disk: bytes, program: Optional[Program] = None) -> Inventory:
+def messages_by(
+    words: str, mailbox: Mailbox, disk: bytes, program: Optional[Program] = None, look: Optional[Look] = None
+) -> Inventory:
     """The messages of a mailbox that is read by these words. A copy is on the disk of a folder. If a program is
-    given, it must list the same messages."""
+    given, it must list the same messages. `look` gets the text that was read, and its messages."""
     if not mailbox.size:
         return Inventory()
     plan = plan_then(mailbox, Reading.of_words(words))
     if not plan:
         raise Left(NO_LONGER % words, Reason.ANOTHER_READING)
     with Choice(mailbox, plan.bared(False)).text(disk) as text:
-        if not program:
-            return text.messages()
-        with program.listing(text.mailbox.number, text.start) as listing:
-            return text.messages(listing)
+        with contextlib.ExitStack() as stack:
+            listing = stack.enter_context(program.listing(text.mailbox.number, text.start)) if program else None
+            inventory = text.messages(listing)
+        if look:
+            look(text.mailbox, inventory)
+        return inventory
 
 
 def are_at(forms: Sequence[Forms], inventory: Inventory, first: int = 0) -> bool:

@@ -7,15 +7,12 @@ from dataclasses import replace
 from typing import NamedTuple, Optional
 
 from ..faults import Left, Reason
-from ..ledger.history import Step
+from ..ledger.history import Key, Note, Step
 from ..ledger.ledger import Ledger
 from ..ledger.lines import RETURNED, Brought, Head, note_end
 from ..ledger.match import cores_of
 from ..ledger.record import Record, Verified, unspelled
-from ..maildir.files import names_of
 from ..maildir.space import Need, want_room
-from ..mbox.bases import before_info
-from ..mbox.files import open_file
 from ..mbox.inventory import Inventory
 from ..mbox.lock_file import lock_file_of
 from ..mbox.locks import READING, WRITING, open_mailbox
@@ -30,8 +27,10 @@ from ..terminal import named
 from ..units import Line, Say, Size, counted, silent
 from .appending import append, before_of, recover, take_back
 from .beside import Beside, Draft
-from .dialect import Dialect, Letter
+from .dialect import Dialect
 from .mails import Mail
+from .notes import Notes
+from .numbers import Numbering, numbering_of
 from .reading import Forms, Held, are_at, messages_by, reading_now, takes_mail
 from .steps import How, NotAsItIs, Outcome, TakesNothing, Target
 
@@ -63,7 +62,13 @@ class Returning:
         # root follows no symbolic link, which may lead anywhere
         path = target.path if os.geteuid() == 0 else os.path.realpath(target.path)
         with self.opened(path) as mailbox:
-            return self.bring_into(target, Opened.into(self.root, target.folder, mailbox))
+            opened = Opened.into(self.root, target.folder, mailbox)
+            return self.bring_into(target, opened, numbering_of(opened, self.record, target.mails, self.how))
+
+    def number(self, target: Target) -> Numbering:
+        """Has a mailbox that takes no mail say which UIDs were given. Returns what is to be said of that."""
+        with self.opened(target.path) as mailbox:
+            return numbering_of(Opened.into(self.root, target.folder, mailbox), self.record, (), self.how)
 
     @contextlib.contextmanager
     def opened(self, path: bytes) -> Iterator[Mailbox]:
@@ -84,7 +89,7 @@ class Returning:
                 raise Left(REPLACED, Reason.CHANGED)
             yield mailbox
 
-    def bring_into(self, target: Target, opened: Opened) -> Outcome:
+    def bring_into(self, target: Target, opened: Opened, numbering: Numbering) -> Outcome:
         """Does it for an open mailbox."""
         known = Known(self.record, Ledger(opened.folder), opened)
         path, now = self.path_in(known), reading_now(opened.mailbox)
@@ -92,10 +97,11 @@ class Returning:
         for words in dict.fromkeys([known.ledger.words_of(path) if path else now, now]):
             dialect = takes_mail(opened.mailbox, words)
             if dialect:
-                inventory = messages_by(words, opened.mailbox, self.disk, self.program)
+                notes = Notes(numbering)
+                inventory = messages_by(words, opened.mailbox, self.disk, self.program, notes.look)
                 known.take_place(inventory, self.how.dry)
                 try:
-                    return Appending(self, target, known, Read(words, dialect, inventory)).run()
+                    return Appending(self, target, known, Read(words, dialect, inventory, notes)).run()
                 except NotAsItIs:
                     continue
         raise TakesNothing("nothing can be appended to it", Reason.OTHER_KIND)
@@ -119,11 +125,12 @@ class Returning:
 
 
 class Read(NamedTuple):
-    """A mailbox as it is read: by which words, in which dialect, and its messages."""
+    """A mailbox as it is read: by which words, in which dialect, its messages, and what programs note of them."""
 
     words: str
     dialect: Dialect
     inventory: Inventory
+    notes: Notes
 
 
 class Appending:
@@ -137,7 +144,7 @@ class Appending:
         read: Read,
     ) -> None:
         self.returning, self.target, self.opened, self.known = returning, target, known.opened, known
-        self.words, self.dialect, self.inventory = read
+        self.words, self.dialect, self.inventory, self.notes = read
         inventory = read.inventory
         source = known.ledger.sources.get(known.path)
         # how often the mailbox has each core, and no ledger says why
@@ -192,17 +199,14 @@ class Appending:
     def spelled(self, draft: Draft, mails: Sequence[Mail]) -> list[Entry]:
         """Writes messages as the mailbox has them."""
         draft.add(self.dialect.gap_after(self.mailbox.at(self.mailbox.size - ENDS, ENDS)))
-        entries = []
-        for number, mail in enumerate(mails, 1):
-            self.returning.say("reading file %d of %d" % (number, len(mails)))
-            letter = letter_of(self.opened.folder, mail)
-            if letter:
-                forms = Forms.of(letter.text)
-                if forms.core != mail.core:
-                    raise Left(FILE_CHANGED % named(mail.path), Reason.CHANGED)
-                start = draft.size
-                draft.begin(self.dialect.spelled(letter))
-                entries.append(Entry(mail, forms, start, draft.size - start))
+        entries: list[Entry] = []
+        for mail, letter in self.notes.letters(self.opened.folder, mails, self.returning.say):
+            forms = Forms.of(letter.text)
+            if forms.core != mail.core:
+                raise Left(FILE_CHANGED % named(mail.path), Reason.CHANGED)
+            start = draft.size
+            draft.begin(self.dialect.spelled(letter))
+            entries.append(Entry(mail, forms, start, draft.size - start))
         return entries
 
     def bring(self, draft: Draft, entries: Sequence[Entry]) -> None:
@@ -217,7 +221,11 @@ class Appending:
         reads = reading_now(self.mailbox)
         beside = draft.finish(before_of(self.mailbox))
         try:
-            number = self.begin(entries, self.key_after(beside))
+            key = self.key_after(beside)
+            number = self.begin(entries, key)
+            if self.notes.numbering.first:
+                # a further run knows the numbers of the Maildir as those of the mailbox
+                self.returning.record.add(Note.NUMBERED, Key(self.opened.name, *key), len(entries), self.mailbox.path)
             append(self.mailbox, beside)
             found = self.verified(beside, entries, reads)
             # once the ledger says that it went back, no run may take it for a part, and cut it off
@@ -226,13 +234,13 @@ class Appending:
         finally:
             beside.close()
 
-    def key_after(self, beside: Beside) -> tuple[int, str]:
+    def key_after(self, beside: Beside) -> tuple[Size, str]:
         """The size and the SHA-256 of the mailbox once all is appended."""
         assert self.mailbox.digest, "it is digested while it is read"
         hashed, reader = self.mailbox.digest.hash.copy(), beside.reader()
         for block in iter(lambda: reader.read(1 << 20), b""):
             hashed.update(block)
-        return self.mailbox.size + beside.size, hashed.hexdigest()
+        return Size(self.mailbox.size + beside.size), hashed.hexdigest()
 
     def begin(self, entries: Sequence[Entry], key: tuple[int, str]) -> int:
         """Notes in the ledger what goes back, and what is there already. Returns the number of the batch."""
@@ -280,15 +288,5 @@ class Appending:
         count, there = len(entries) + len(self.there), len(self.there)
         row = Row(self.target.path, self.target.folder, self.dialect.word, count, fate, size=size, is_back=True)
         says = [Remark("there-already", "%s there already" % counted(there, "message"), there)] if there else []
-        return replace(row, remarks=(*self.mailbox.remarks, *says, *self.target.remarks))
-
-
-def letter_of(folder: bytes, mail: Mail) -> Optional[Letter]:
-    """The message of a file, which programs may have renamed; None if it was removed meanwhile."""
-    for name, path in [(mail.name, mail.path), *names_of(folder)]:
-        if before_info(name) != mail.before:
-            continue
-        with contextlib.suppress(FileNotFoundError), open_file(path, os.O_NOFOLLOW) as file:
-            flags = name.partition(b":2,")[2].decode("ascii", "replace")
-            return Letter(file.readall(), flags, os.path.basename(os.path.dirname(path)) == b"cur", mail.time)
-    return None
+        remarks = (*self.mailbox.remarks, *says, *self.notes.numbering.remarks, *self.target.remarks)
+        return replace(row, remarks=remarks, next=self.notes.numbering.next)

@@ -25,6 +25,7 @@ from .beside import Beside
 from .mails import Mail, Sorted, copied, sorted_mail
 from .places import Place, Places, make_mailbox
 from .returning import Returning
+from .subscriptions import rows_of
 from .steps import How, Outcome, TakesNothing, Target, left_unheld
 
 NO_RECORD = "%s: it has no record, so nothing was migrated into it"
@@ -73,9 +74,16 @@ class Several:
         for folder in folders:
             self.observer.begin()
             for row in self.rows(folder, mails[folder], remarks_on(found, folder), places):
-                self.is_right = self.is_right and not row.left_for
-                self.observer.row(row)
+                self.tell(row)
+        tree = next(iter(places.trees), None) if self.how.dovecot else None
+        for row in rows_of(self.root, tree, places, self.how.dry):
+            self.tell(row)
         return self.aside()
+
+    def tell(self, row: Row) -> None:
+        """Tells a row."""
+        self.is_right = self.is_right and not row.left_for
+        self.observer.row(row)
 
     def drop_locks(self, places: Places) -> None:
         """Removes the locks that a killed run left. If it had noted the end of a mailbox, nothing may go back into that
@@ -99,7 +107,7 @@ class Several:
         try:
             yield from self.recovered(folder, places)
             if not mails:
-                yield nothing_new(places.first(folder) or path, folder, remarks)
+                yield self.numbered(nothing_new(places.first(folder) or path, folder, remarks))
                 return
             several = places.of(folder)
         except (Fault, OSError) as fault:
@@ -112,6 +120,16 @@ class Several:
                 yield from self.rows_beside(Target(place.path, folder, found.refused), places, CANNOT_HOLD)
                 return
         yield from self.rows_beside(Target(several[0].path, folder, mails, remarks), places, TAKES_NOTHING)
+
+    def numbered(self, row: Row) -> Row:
+        """The row of a mailbox that takes no mail, once it says which UIDs the folder has given."""
+        if not self.how.dovecot or not os.path.isfile(row.path):
+            return row
+        say = Beat(functools.partial(self.observer.progress, named(row.path)))
+        numbering = Returning(self.program, self.root, self.record, self.how, say).number(
+            Target(row.path, row.folder, ())
+        )
+        return replace(row, remarks=(*numbering.remarks, *row.remarks), next=numbering.next)
 
     def recovered(self, folder: bytes, places: Places) -> Iterator[Row]:
         """Takes back what a killed run appended in part. The row of a mailbox in which a message stays cut."""

@@ -23,10 +23,12 @@ class NotAsItIs(Left):
 
 @dataclass(frozen=True)
 class How:
-    """How mail goes back: whether nothing is written, and whether no quiet minute is waited for."""
+    """How mail goes back: whether nothing is written, whether no quiet minute is waited for, and whether Dovecot keeps
+    UIDs and keywords in the mailboxes."""
 
     dry: bool = False
     now: bool = False
+    dovecot: bool = False
 
 
 class Target(NamedTuple):

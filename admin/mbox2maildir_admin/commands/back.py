@@ -46,6 +46,12 @@ def add_back(command_line: CommandLine) -> None:
         help="messages that people moved to another folder: they stay in the mailbox that has them (stay), or go into "
         "that of the other folder too (copy)",
     )
+    add(
+        "--dovecot",
+        action="store_true",
+        help="carry over what Dovecot keeps of the Maildir: UIDs, so that none is given twice, keywords and "
+        "subscriptions",
+    )
     add("--now", action="store_true", help="do not wait until a mailbox was left alone for a minute")
     add("--json", action="store_true", help="print one JSON object per line")
     add("--report", metavar="FILE", help="write these objects to a new file, too")
@@ -54,7 +60,7 @@ def add_back(command_line: CommandLine) -> None:
 def do_back(given: argparse.Namespace) -> Status:
     """Brings mail back, and says whether all of it is in the mailboxes."""
     root, *names = given.operands
-    how = How(given.dry_run, given.now)
+    how = How(given.dry_run, given.now, given.dovecot)
 
     def back(reporter: Reporter, tally: Tally) -> None:
         del tally

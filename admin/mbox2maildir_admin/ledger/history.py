@@ -236,6 +236,11 @@ class History:
         notes = self._notes[Note.NUMBERED, folder]
         return notes[-1] if notes else None
 
+    def has_numbered(self, paths: Container[str]) -> bool:
+        """Whether any folder got the numbers of a mailbox at one of these paths."""
+        notes = (notes for (note, _), notes in self._notes.items() if note is Note.NUMBERED)
+        return any(one.path in paths for several in notes for one in several)
+
     def has_written(self, folder: bytes, name: bytes, digest: str) -> bool:
         """Whether a file of this name and SHA-256 was to be written into a folder."""
         notes = self._notes[Note.WROTE, folder]
@@ -260,6 +265,10 @@ class History:
     def labelled(self) -> dict[str, Entry]:
         """The last lines that name the folders of mailboxes by their labels, by the paths of these mailboxes."""
         return {entry.path: entry for entry in self._notes.get((Note.LABELS, INBOX), [])}
+
+    def has_subscriptions(self) -> bool:
+        """Whether any subscriptions were written."""
+        return bool(self._notes.get((Note.SUBSCRIBED, INBOX)))
 
     def has_subscribed(self, key: Key) -> bool:
         """Whether subscriptions of this digest were written."""

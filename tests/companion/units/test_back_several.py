@@ -31,7 +31,9 @@ NEW = b"Subject: new\n\nFrom me\n"
 LENGTHS = A + b"Content-Length: 4\n\nyes\n\n"
 
 
-class BackTest(HomeTest):
+class BackHome(HomeTest):
+    """A home with mailboxes that are migrated, and that mail goes back into."""
+
     def setUp(self) -> None:
         super().setUp()
         self.tree = self.home / "mail"
@@ -71,6 +73,8 @@ class BackTest(HomeTest):
         """The fate of each mailbox, and how many messages went back."""
         return {os.path.relpath(os.fsdecode(row.path), str(self.home)): (row.fate, row.messages) for row in rows}
 
+
+class BackTest(BackHome):
     def test_new_mail_and_new_folders(self) -> None:
         box = self.write_box("mail/sent", ONE)
         self.migrate_all("mail")

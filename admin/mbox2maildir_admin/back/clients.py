@@ -1,0 +1,68 @@
+"""The fields in which a mail program keeps the flags of a message that goes back into its mailbox. `migrate` reads them
+only if each message has them."""
+import re
+from collections.abc import Callable
+from typing import NamedTuple
+
+from ..flags.clients import CLIENTS, EVOLUTION, THUNDERBIRD, kept_in
+from ..flags.dovecot_headers import header_at
+from ..mbox.core import Core
+from ..mbox.inventory import Inventory
+from ..mbox.mailbox import Mailbox
+from ..units import Place
+from .dialect import Letter
+
+# the number that Evolution gave a message, which no other one of the mailbox has
+EVOLUTION_NUMBER = re.compile(rb"^X-Evolution:[ \t]*([0-9a-f]{8})-", re.I | re.M)
+# what Gmail's numbers have fewer bits than
+THREAD_BITS = 63
+
+
+class Client(NamedTuple):
+    """The program that keeps flags in a mailbox, if one does, and the highest number that it has given."""
+
+    program: str = ""
+    last: int = 0
+
+    @classmethod
+    def of(cls, mailbox: Mailbox, inventory: Inventory) -> "Client":
+        """That of a text with these messages."""
+        kept = kept_in(mailbox, inventory) if len(inventory) else None
+        if not kept:
+            return cls()
+        headers = (header_at(mailbox, inventory.offset(Place(place))) for place in range(len(inventory)))
+        found = filter(None, map(EVOLUTION_NUMBER.search, headers))
+        return cls(kept.program, max((int(one[1], 16) for one in found), default=0))
+
+    def fields(self, letter: Letter, number: int) -> list[bytes]:
+        """The fields for a message, which is the one of this number that goes back."""
+        return WRITERS[self.program](letter, self.last + number) if self.program else []
+
+
+def bits_of(flags: str, table: dict[int, str]) -> int:
+    """The number whose bits give these flags."""
+    return sum(bit for bit, flag in table.items() if flag in flags)
+
+
+def for_thunderbird(letter: Letter, _: int) -> list[bytes]:
+    """The fields of Thunderbird."""
+    return [b"X-Mozilla-Status: %04x" % bits_of(letter.flags, THUNDERBIRD), b"X-Mozilla-Status2: 00000000"]
+
+
+def for_evolution(letter: Letter, number: int) -> list[bytes]:
+    """The field of Evolution."""
+    return [b"X-Evolution: %08x-%04x" % (number, bits_of(letter.flags, EVOLUTION))]
+
+
+def for_takeout(letter: Letter, _: int) -> list[bytes]:
+    """The fields of Gmail. The thread is of this message alone."""
+    core = Core()
+    core.update(letter.text)
+    thread = int.from_bytes(core.end()[0], "big") >> 1 & (1 << THREAD_BITS) - 1
+    labels = [b"Opened" if "S" in letter.flags else b"Unread", *[b"Starred"] * ("F" in letter.flags)]
+    return [b"X-GM-THRID: %d" % thread, b"X-Gmail-Labels: " + b",".join(labels)]
+
+
+WRITERS: dict[str, Callable[[Letter, int], list[bytes]]] = dict(
+    zip(CLIENTS, (for_thunderbird, for_evolution, for_takeout))
+)

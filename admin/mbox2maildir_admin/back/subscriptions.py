@@ -1,0 +1,122 @@
+"""Subscriptions on their way back: from the list that Dovecot keeps in a Maildir into that of the old tree."""
+import contextlib
+import os
+import stat
+from collections.abc import Iterator
+from dataclasses import replace
+from typing import Optional
+
+from ..faults import Fault, Left, Reason
+from ..maildir.folders import folder_of_place, folder_path, on_disk
+from ..maildir.making import sync_folder
+from ..migration.dovecot import FORM, OLD_SUBSCRIPTIONS, SUBSCRIPTIONS, lines_of
+from ..migration.outcomes import Fate, Row, row_left
+from ..nexts import Remark
+from ..terminal import is_text
+from ..units import counted
+from .beside import FLAGS, write_all
+from .places import Places
+
+KIND = "subscriptions"
+# the ending of its name while it is written
+PART = b".mbox2maildir-back"
+# the parts of the name of a folder
+Name = tuple[bytes, ...]
+
+
+class Lists:
+    """The two lists of names, and the mailboxes by their folders."""
+
+    def __init__(self, root: bytes, tree: bytes, places: Places) -> None:
+        self.root, self.tree, self.places = root, tree, places
+        self.path = os.path.join(tree, OLD_SUBSCRIPTIONS)
+        self.old, self.has_tabs = names_in(self.path, b"/")
+        self.new, _ = names_in(os.path.join(root, SUBSCRIPTIONS), b".")
+
+    def names(self) -> list[Name]:
+        """What the tree is to be subscribed to: the folders of the list of the Maildir, by the names of their
+        mailboxes. If `migrate` wrote that list, what is missing there was unsubscribed, unless it is no folder."""
+        old = {folder_of_old(name): name for name in reversed(self.old)}
+        wanted = {folder_of(name): old.get(folder_of(name)) or self.name_of(name) for name in self.new}
+        is_ours = self.places.record.has_subscriptions()
+        kept = [name for name in self.old if folder_of_old(name) in wanted or not (is_ours and self.is_there(name))]
+        return list(dict.fromkeys([*kept, *wanted.values()]))
+
+    def is_there(self, name: Name) -> bool:
+        """Whether the Maildir has the folder of a mailbox."""
+        return os.path.isdir(folder_path(self.root, folder_of_old(name)))
+
+    def name_of(self, name: Name) -> Name:
+        """The name of the mailbox for a folder; that of the folder if it has no mailbox in the tree."""
+        with contextlib.suppress(Left):
+            path = self.places.of(folder_of(name))[0].path
+            parts = os.path.relpath(path, self.tree).split(b"/")
+            if os.path.lexists(path) and parts[0] != b"..":
+                return tuple(parts)
+        return name
+
+    def text(self, names: list[Name]) -> bytes:
+        """The list of the tree, in the form that it has, or in that of Dovecot."""
+        has_tabs = self.has_tabs or not self.old
+        lines = [(b"\t" if has_tabs else b"/").join(name) + b"\n" for name in names]
+        return FORM * has_tabs + b"".join(lines)
+
+
+def names_in(path: bytes, between: bytes) -> tuple[list[Name], bool]:
+    """The names in a list, and whether tabs separate their parts there, and not this byte."""
+    lines, has_tabs = lines_of(path)
+    return [tuple(line.split(b"\t" if has_tabs else between)) for line in lines if is_text(line)], has_tabs
+
+
+def folder_of(name: Name) -> bytes:
+    """The folder on the disk for a name in the list of a Maildir."""
+    return on_disk(b".".join(name).decode())
+
+
+def folder_of_old(name: Name) -> bytes:
+    """The folder on the disk that a mailbox of the tree becomes."""
+    return on_disk(folder_of_place(b"/".join(name).decode()))
+
+
+def rows_of(root: bytes, tree: Optional[bytes], places: Places, is_dry: bool) -> Iterator[Row]:
+    """Writes the list of a tree, and gives its row, if anything is to change in it."""
+    if tree is None or not os.path.lexists(os.path.join(root, SUBSCRIPTIONS)):
+        return
+    path = os.path.join(tree, OLD_SUBSCRIPTIONS)
+    try:
+        lists = Lists(root, tree, places)
+        names = lists.names()
+        if set(names) == set(lists.old):
+            return
+        if not is_dry:
+            write(path, lists.text(names))
+    except (Fault, OSError) as fault:
+        yield replace(row_left(path, b"", fault), reason=Reason.SUBSCRIPTIONS, is_back=True)
+        return
+    says = Remark("subscriptions", "subscribed to %s" % counted(len(names), "folder"))
+    yield Row(path, b"", KIND, None, Fate.WOULD_BACK if is_dry else Fate.BACK, remarks=(says,), is_back=True)
+
+
+def write(path: bytes, text: bytes) -> None:
+    """Puts a text in the place of a plain file, or of nothing, whatever ends a run. Its mode stays."""
+    mode = 0o600
+    if os.path.lexists(path):
+        state = os.lstat(path)
+        if not stat.S_ISREG(state.st_mode):
+            raise Left("it is no plain file", Reason.SUBSCRIPTIONS)
+        mode = stat.S_IMODE(state.st_mode)
+    part = path + PART
+    with contextlib.suppress(FileNotFoundError):
+        os.unlink(part)
+    number = os.open(part, os.O_WRONLY | os.O_CREAT | os.O_EXCL | FLAGS, 0o600)
+    try:
+        write_all(number, text)
+        os.fchmod(number, mode)
+        os.fsync(number)
+        os.rename(part, path)
+    except BaseException:
+        os.unlink(part)
+        raise
+    finally:
+        os.close(number)
+    sync_folder(os.path.dirname(path))

@@ -1,0 +1,371 @@
+"""UIDs, keywords, flags of mail programs and subscriptions on the way back: the texts were worked out by hand, by what
+Dovecot 2.3 was seen to do with them."""
+import os
+from collections.abc import Sequence
+from pathlib import Path
+from typing import Any, Optional
+from unittest import mock
+
+from mbox2maildir_admin.back import clients, listed, notes, subscriptions
+from mbox2maildir_admin.back.base import Base, without_blanks
+from mbox2maildir_admin.back.clients import Client
+from mbox2maildir_admin.back.dialect import Letter
+from mbox2maildir_admin.back.listed import Listed
+from mbox2maildir_admin.back.mails import Mail
+from mbox2maildir_admin.back.numbers import NO_BASE, NO_ROOM, Numbering
+from mbox2maildir_admin.faults import Left
+from mbox2maildir_admin.flags.clients import CLIENTS
+from mbox2maildir_admin.ledger.history import Key, Note
+from mbox2maildir_admin.ledger.record import Record
+from mbox2maildir_admin.mbox.inventory import Inventory
+from mbox2maildir_admin.mbox.locks import WRITING, open_mailbox
+from mbox2maildir_admin.migration.outcomes import Fate, Row
+from mbox2maildir_admin.units import Size
+
+from tests.companion.units.test_back_several import BackHome
+from tests.support.units import FolderTest, source_of
+
+FROM = b"From a@b Mon Mar  3 09:12:44 2025\n"
+KEPT = (
+    FROM + b"Subject: a\nX-IMAPbase: 1700000000 0000000003 Garden\nX-UID: 1          \nX-Keywords: Garden\n\na\n\n"
+    + FROM + b"Subject: b\nX-UID: 3   \n\nb\n\n"
+)  # fmt: skip
+LIST = b"3 V1700000000 N9 Gabc\n4 W9 :1.a:2,\n7 :1.c\n"
+
+
+class BaseTest(FolderTest):
+    """The line of the first message."""
+
+    def test_what_it_is_then(self) -> None:
+        for before, keywords, after in (
+            (b"X-IMAPbase: 1700000000 0000000003\n", (), b"X-IMAPbase: 1700000000 0000000012\n"),
+            (b"X-IMAP: 1700000000 0000000003\n", (), b"X-IMAP: 1700000000 0000000012\n"),
+            (b"X-IMAPbase: 1700000000 12 a\n", (), b"X-IMAPbase: 1700000000 12 a\n"),
+            (b"X-IMAPbase: 1700000000 3   \nA: b\n", (), b"X-IMAPbase: 1700000000 12  \nA: b\n"),
+            (b"X-IMAPbase: 1700000000 3\nA: b  \n", (), None),
+            (b"X-IMAPbase: 1700000000 3\nX-UID: 1 \n", (), b"X-IMAPbase: 1700000000 12\nX-UID: 1\n"),
+            (
+                b"X-IMAPbase: 1700000000 0000000003 a\r\nA: b\r\nX-UID: 1    \r\n",
+                (b"b",),
+                b"X-IMAPbase: 1700000000 0000000012 a b\r\nA: b\r\nX-UID: 1  \r\n",
+            ),
+            (b"X-IMAPbase: 1700000000 0000000003 a\nX-UID: 1 \n", (b"b",), None),
+        ):
+            with self.subTest(before=before), source_of(FROM + before + b"\nx\n") as mailbox:
+                base = Base.of(mailbox)
+                assert base
+                self.assertEqual(base.header_with(1700000000, 12, keywords), after)
+
+    def test_there_is_none(self) -> None:
+        for text in (b"", FROM + b"A: b\n\nX-IMAPbase: 1 2\n", FROM + b"A: b\n\nx\n\n" + KEPT, b"hello\n"):
+            with self.subTest(text=text), source_of(text) as mailbox:
+                self.assertIsNone(Base.of(mailbox))
+
+    def test_only_these_bytes_are_written(self) -> None:
+        path = Path(os.fsdecode(self.write("box", KEPT)))
+        with open_mailbox(os.fsencode(str(path)), quiet=False, kind=WRITING) as mailbox:
+            base = Base.of(mailbox)
+            assert base
+            header = base.header_with(1700000000, 12, [b"Other"])
+            assert header
+            base.write(mailbox, header)
+            # what follows is appended again
+            os.write(mailbox.number, b"end")
+        wanted = KEPT.replace(b"0000000003 Garden\nX-UID: 1          \n", b"0000000012 Garden Other\nX-UID: 1    \n")
+        self.assertEqual(path.read_bytes(), wanted + b"end")
+
+    def test_blanks(self) -> None:
+        self.assertEqual(without_blanks(b"X-UID: 1  \nStatus: O  \n", 3), b"X-UID: 1 \nStatus: O\n")
+        self.assertIsNone(without_blanks(b"X-UID: 1  \nA: O    \n", 3))
+
+    def test_another_program_writes_too(self) -> None:
+        path = self.write("box", KEPT)
+        with open_mailbox(path, quiet=False, kind=WRITING) as mailbox:
+            base = Base.of(mailbox)
+            assert base
+            with mock.patch.object(mailbox, "at", return_value=b""), self.assertRaises(Left):
+                base.write(mailbox, base.header)
+
+
+class ListedTest(FolderTest):
+    """The list of a folder."""
+
+    def listed(self, text: bytes, keywords: bytes = b"") -> Optional[Listed]:
+        """What Dovecot keeps in a folder."""
+        self.write("dovecot-uidlist", text)
+        self.write("dovecot-keywords", keywords)
+        return Listed.of(self.here)
+
+    def test_lists(self) -> None:
+        found = self.listed(LIST, b"0 Garden\n1 $Forwarded\n26 late\n3 a(b\n")
+        assert found
+        self.assertEqual(found, Listed(1700000000, 9, {b"1.a": 4, b"1.c": 7}, {"a": b"Garden", "b": b"$Forwarded"}))
+        self.assertEqual(found.keywords_in(b"1.a:2,RSabd"), [b"Garden", b"$Forwarded"])
+        # lines that came later raise the next UID
+        self.assertEqual(self.listed(LIST + b"9 :1.d\n"), Listed(1700000000, 10, {b"1.a": 4, b"1.c": 7, b"1.d": 9}, {}))
+
+    def test_no_list(self) -> None:
+        for text in (b"", b"1 1700000000 9\n4 1.a\n", b"3 V0 N1\n", b"3 V1 N4294967296\n", b"3 N1\n", b"\n"):
+            with self.subTest(text=text):
+                self.assertIsNone(self.listed(text))
+        os.unlink(os.path.join(self.here, b"dovecot-uidlist"))
+        self.assertIsNone(Listed.of(self.here))
+        os.symlink(self.write("list", LIST), os.path.join(self.here, b"dovecot-uidlist"))
+        self.assertIsNone(Listed.of(self.here))
+        self.assertEqual(list(listed.lines_of(self.here, b"none")), [])
+
+
+class NumberingTest(FolderTest):
+    """The numbers of a mailbox."""
+
+    def prepared(self, text: bytes, its: Optional[Listed], is_numbered: bool, *names: bytes) -> tuple[Numbering, bytes]:
+        """The numbers of a mailbox into which the mail of files goes back, and the mailbox then."""
+        path, mails = self.write("box", text), [Mail(b".", name, b"", b"", 0) for name in names]
+        numbering = Numbering(its, is_numbered, 1800000000)
+        with open_mailbox(path, quiet=False, kind=WRITING) as mailbox:
+            numbering.prepare(mailbox, mails, "a", False)
+            numbering.take(mailbox, Inventory.read(mailbox, 0) if text else Inventory())  # type: ignore[arg-type]
+        return numbering, Path(os.fsdecode(path)).read_bytes()
+
+    def fields(self, numbering: Numbering, *names: bytes) -> list[tuple[bytes, list[bytes]]]:
+        """The fields of files."""
+        mails = [Mail(b".", name, b"", b"", 0) for name in names]
+        return [(mail.name, fields) for mail, fields in numbering.fields(mails)]
+
+    def words(self, numbering: Numbering) -> list[str]:
+        """The words of what is said."""
+        return [one.word for one in numbering.remarks]
+
+    def test_a_folder_with_the_uids_of_its_mailbox(self) -> None:
+        its = Listed(1700000000, 9, {b"1.a": 7, b"1.b": 4, b"1.old": 2}, {"a": b"garden", "b": b"Other"})
+        names = b"1.new", b"1.a:2,Sb", b"1.b:2,ac", b"1.old:2,"
+        numbering, text = self.prepared(KEPT, its, True, *names)
+        wanted = KEPT.replace(b"0000000003 Garden\nX-UID: 1          \n", b"0000000008 Garden Other\nX-UID: 1    \n")
+        self.assertEqual((text, self.words(numbering)), (wanted, ["uids-raised"]))
+        self.assertEqual(
+            self.fields(numbering, *names),
+            [
+                (b"1.old:2,", []),
+                (b"1.b:2,ac", [b"X-UID: 4", b"X-Keywords: garden"]),
+                (b"1.a:2,Sb", [b"X-UID: 7", b"X-Keywords: Other"]),
+                (b"1.new", []),
+            ],
+        )
+        # a second time, nothing is new
+        self.assertEqual(self.fields(numbering, b"1.b:2,"), [(b"1.b:2,", [b"X-UID: 4"])])
+        numbering, again = self.prepared(wanted, its, True)
+        self.assertEqual((again, self.words(numbering)), (wanted, []))
+
+    def test_an_empty_mailbox_takes_the_numbers_of_the_folder(self) -> None:
+        its = Listed(1700000001, 9, {b"1.a": 7}, {"a": b"Garden"})
+        numbering, text = self.prepared(b"", its, False, b"1.b", b"1.a:2,a")
+        self.assertEqual((text, self.words(numbering)), (b"", []))
+        first = [b"X-IMAPbase: 1700000001 0000000008 Garden", b"X-UID: 7", b"X-Keywords: Garden"]
+        self.assertEqual(self.fields(numbering, b"1.b", b"1.a:2,a"), [(b"1.a:2,a", first), (b"1.b", [])])
+        numbering, _ = self.prepared(b"", None, False, b"1.b")
+        self.assertEqual(self.fields(numbering, b"1.b:2,a"), [(b"1.b:2,a", [])])
+
+    def test_uidvalidity_is_new(self) -> None:
+        """The UIDs that a folder gave after those of its mailbox are not known, or are those of other mail."""
+        for its, is_numbered, validity in (
+            (Listed(1700000000, 9, {b"1.a": 7}, {}), False, 1800000000),
+            (Listed(1900000000, 9, {b"1.a": 7}, {}), True, 1900000001),
+            (Listed(4294967295, 9, {b"1.a": 7}, {}), True, 1800000000),
+            (None, True, 1800000000),
+        ):
+            with self.subTest(its=its, is_numbered=is_numbered):
+                numbering, text = self.prepared(KEPT, its, is_numbered, b"1.a")
+                self.assertEqual(text, KEPT.replace(b"1700000000", b"%d" % validity))
+                self.assertEqual(self.words(numbering), ["uids-anew"])
+                self.assertEqual(self.fields(numbering, b"1.a"), [(b"1.a", [])])
+
+    def test_uids_that_the_maildir_never_gave(self) -> None:
+        numbering, text = self.prepared(KEPT, Listed(1700000009, 9, {b"1.a": 7}, {"a": b"Garden"}), False, b"1.a:2,a")
+        self.assertEqual((text, self.words(numbering)), (KEPT, []))
+        self.assertEqual(self.fields(numbering, b"1.a:2,a"), [(b"1.a:2,a", [b"X-Keywords: Garden"])])
+
+    def test_keywords_that_are_lost(self) -> None:
+        its = Listed(1700000000, 4, {}, {"a": b"Garden", "b": b"a-long-name"})
+        numbering, text = self.prepared(KEPT, its, True, b"1.a:2,ab")
+        self.assertEqual((text, [one.says for one in numbering.remarks]), (KEPT, [
+            "keywords are lost, because %s: a-long-name" % NO_ROOM
+        ]))  # fmt: skip
+        self.assertEqual(self.fields(numbering, b"1.a:2,ab"), [(b"1.a:2,ab", [b"X-Keywords: Garden"])])
+        numbering, _ = self.prepared(FROM + b"A: b\n\nx\n", its, True, b"1.a:2,a")
+        self.assertEqual([one.says for one in numbering.remarks], ["keywords are lost, because %s: Garden" % NO_BASE])
+        self.assertEqual(self.fields(numbering, b"1.a:2,a"), [(b"1.a:2,a", [])])
+
+    def test_no_room_for_the_next_uid(self) -> None:
+        text = FROM + b"X-IMAPbase: 1700000000 9\nX-UID: 9\n\nx\n"
+        numbering, now = self.prepared(text, Listed(1700000000, 12, {b"1.a": 10}, {}), True, b"1.a")
+        self.assertEqual((now, self.words(numbering)), (text, ["uids-not-raised"]))
+        command = numbering.next[0].command  # type: ignore[union-attr]
+        self.assertEqual(command.words, ("doveadm", "mailbox", "update", "--min-next-uid", "12", "a"))
+        self.assertEqual(self.fields(numbering, b"1.a"), [(b"1.a", [b"X-UID: 10"])])
+
+
+class ClientTest(FolderTest):
+    """Flags that mail programs keep in headers of their own are read back as they were written."""
+
+    HEADS = {
+        "Thunderbird": b"X-Mozilla-Status: 0001\n",
+        "Evolution": b"X-Evolution: 0000002a-0010\n",
+        "Gmail": b"X-GM-THRID: 1785134556187161\nX-Gmail-Labels: Inbox\n",
+    }
+
+    def client(self, *heads: bytes) -> Client:
+        """The program of a mailbox whose messages have these fields."""
+        text = b"".join(FROM + head + b"Subject: a\n\nx\n\n" for head in heads)
+        with source_of(text) as mailbox:
+            return Client.of(mailbox, Inventory.read(mailbox, 0))  # type: ignore[arg-type]
+
+    def test_each_program(self) -> None:
+        kept = {"Thunderbird": "FPRS", "Evolution": "DFPRST", "Gmail": "FS"}
+        for program, head in self.HEADS.items():
+            client = self.client(head, head)
+            self.assertEqual(client.program, program)
+            self.assertEqual(self.client(head, b"").program, "")
+            for flags in ("", "S", "F", "FS", "DFPRST"):
+                fields = client.fields(Letter(b"A: b\n\nx\n", flags), 1)
+                found = CLIENTS[program](b"".join(one + b"\n" for one in fields))
+                self.assertEqual(sorted(found or ""), [one for one in flags if one in kept[program]], (program, flags))
+
+    def test_numbers_of_evolution_rise(self) -> None:
+        client = self.client(self.HEADS["Evolution"], b"X-Evolution: 00000007-0010\n")
+        self.assertEqual(client.fields(Letter(b""), 2), [b"X-Evolution: 0000002c-0000"])
+
+    def test_an_empty_mailbox_has_none(self) -> None:
+        with source_of(b"") as mailbox:
+            self.assertEqual(Client.of(mailbox, Inventory()), Client())
+        self.assertEqual(set(clients.WRITERS), set(CLIENTS))
+
+
+class WayTest(BackHome):
+    """The whole way."""
+
+    def test_flags_of_a_program(self) -> None:
+        head = b"X-Mozilla-Status: 0001\nX-Mozilla-Status2: 00000000\n"
+        box = self.write_box("mail/sent", FROM + head + b"Subject: a\n\na\n\n")
+        self.migrate_all("mail")
+        self.deliver(".sent").rename(self.maildir / ".sent/cur/1.M1.host:2,FS")
+        self.back()
+        self.assertEqual(box.read_bytes().count(b"\nX-Mozilla-Status: 0005\n"), 1)
+
+    def numbered(self, name: str = "mail/sent", text: bytes = KEPT) -> Path:
+        """A mailbox that Dovecot kept, and that was migrated so."""
+        box = self.write_box(name, text)
+        self.migrate_all("mail", dovecot=True)
+        return box
+
+    def listed(self, folder: str, text: bytes) -> None:
+        """Dovecot writes the list of a folder."""
+        (self.maildir / folder / "dovecot-uidlist").write_bytes(text)
+
+    def test_uids(self) -> None:
+        box = self.numbered()
+        self.deliver(".sent", name="1.a")
+        self.listed(".sent", b"3 V1700000000 N9\n5 :1.a\n")
+        dry = self.back(dry=True, dovecot=True)[0]
+        self.assertEqual((box.read_bytes(), dry.remarks[0].word), (KEPT, "uids-raised"))
+        row = self.back(dovecot=True)[0]
+        self.assertEqual((row.fate, row.remarks), (Fate.BACK, dry.remarks))
+        self.assertIn(b"\nX-IMAPbase: 1700000000 0000000008 Garden\n", box.read_bytes())
+        self.assertIn(b"\nX-UID: 5\n\n>From me\n", box.read_bytes())
+
+    def test_uids_that_were_given_and_no_mail(self) -> None:
+        box = self.numbered()
+        self.listed(".sent", b"3 V1700000000 N9\n")
+        row = self.back(dovecot=True)[0]
+        self.assertEqual((row.fate, [one.word for one in row.remarks]), (Fate.NOTHING_NEW, ["uids-raised"]))
+        self.assertEqual(box.read_bytes(), KEPT.replace(b"0000000003", b"0000000008"))
+
+    def test_a_new_mailbox_is_known_the_next_time(self) -> None:
+        self.numbered()
+        self.deliver(".new", name="1.a")
+        self.listed(".new", b"3 V1700000007 N4\n3 :1.a\n")
+        self.back(dovecot=True)
+        box = self.tree / "new"
+        text = box.read_bytes()
+        self.assertIn(b"\nX-IMAPbase: 1700000007 0000000003\nX-UID: 3\n", text)
+        self.assertEqual([row.says for row in self.back(dovecot=True)], ["", ""])
+        self.assertEqual(box.read_bytes(), text)
+
+    def test_the_record_knows_which_were_numbered(self) -> None:
+        record = Record(self.here)
+        self.assertEqual((record.has_numbered({"/a"}), record.has_subscriptions()), (False, False))
+        os.makedirs(self.root)
+        with Record.open(self.root) as record:
+            record.add(Note.NUMBERED, Key(b".a", Size(1), "0" * 64), 0, b"/a")
+            record.add(Note.SUBSCRIBED, Key(b".", Size(1), "0" * 64), 0, b"/a")
+            self.assertEqual([record.has_numbered({path}) for path in ("/a", "/b")], [True, False])
+            self.assertTrue(record.has_subscriptions())
+
+
+class SubscriptionsTest(BackHome):
+    """The list of the tree."""
+
+    rows: Sequence[Row] = ()
+
+    def lists(self, old: bytes, new: bytes, **how: Any) -> bytes:
+        """The list of the tree, after Dovecot has written that of the Maildir."""
+        self.write_box("mail/.subscriptions", old)
+        self.write_box("mail/sent", KEPT)
+        self.write_box("mail/lists/b", KEPT)
+        self.migrate_all("mail", dovecot=True)
+        (self.maildir / ".lists.b").rename(self.maildir / ".renamed")
+        self.deliver(".lists.sheds")
+        (self.maildir / "subscriptions").write_bytes(new)
+        self.rows = self.back(dovecot=True, **how)
+        return (self.tree / ".subscriptions").read_bytes()
+
+    def test_names_of_mailboxes(self) -> None:
+        new = b"V\t2\n\nINBOX\nrenamed\nlists\tsheds\nnone\n"
+        self.assertEqual(
+            self.lists(b"V\t2\n\nsent\nelsewhere\n", new),
+            b"V\t2\n\nelsewhere\nINBOX\nlists\tb\nlists\tsheds\nnone\n",
+        )
+        last = self.rows[-1]
+        self.assertEqual((last.fate, last.says), (Fate.BACK, "subscribed to 5 folders"))
+
+    def test_the_old_form(self) -> None:
+        self.assertEqual(
+            self.lists(b"sent\nlists/b\n", b"sent\nlists.sheds\nrenamed\n"), b"sent\nlists/b\nlists/sheds\n"
+        )
+
+    def test_a_dry_run(self) -> None:
+        self.assertEqual(self.lists(b"sent\n", b"sent\nlists.sheds\n", dry=True), b"sent\n")
+        self.assertEqual(self.rows[-1].fate, Fate.WOULD_BACK)
+
+    def test_nothing_is_new(self) -> None:
+        self.assertEqual(self.lists(b"sent\n", b"sent\n"), b"sent\n")
+        self.assertEqual([row.fate for row in self.rows if row.kind == subscriptions.KIND], [])
+
+    def test_it_cannot_be_written(self) -> None:
+        self.write_box("mail/sent", KEPT)
+        self.migrate_all("mail", dovecot=True)
+        (self.maildir / "subscriptions").write_bytes(b"sent\n")
+        (self.tree / ".subscriptions").mkdir()
+        row = self.back(dovecot=True)[-1]
+        self.assertEqual((row.fate, row.word), (Fate.LEFT, "subscriptions"))
+
+    def test_a_killed_run_leaves_a_part(self) -> None:
+        path = os.fsencode(str(self.write_box("mail/list", b"a\n")))
+        Path(os.fsdecode(path + subscriptions.PART)).write_bytes(b"x")
+        os.chmod(path, 0o640)
+        subscriptions.write(path, b"b\n")
+        self.assertEqual((Path(os.fsdecode(path)).read_bytes(), os.stat(path).st_mode & 0o777), (b"b\n", 0o640))
+        self.assertFalse(os.path.lexists(path + subscriptions.PART))
+
+
+class NotesTest(FolderTest):
+    """Files whose messages go back."""
+
+    def test_a_file_that_was_removed_meanwhile(self) -> None:
+        for sub in ("new", "cur", "tmp"):
+            os.mkdir(os.path.join(self.here, sub.encode()))
+        path, said = self.write("cur/1.a:2,S", b"A: b\n\nx\n"), []  # type: ignore[var-annotated]
+        gone = Mail(b".", b"1.b", path + b"b", b"", 0)
+        moved = Mail(b".", b"1.a", path[:-4], b"", 7)
+        found = list(notes.Notes(Numbering(None, False)).letters(self.here, [gone, moved], said.append))
+        self.assertEqual(found, [(moved, Letter(b"A: b\n\nx\n", "S", True, 7))])
+        self.assertEqual(len(said), 2)
