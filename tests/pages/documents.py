@@ -3,8 +3,9 @@ and where the pages are installed; what a page names by its path is there, also 
 shows is in the sources, each file of which begins with a line that says what is in it; docs/PROMISES.md names what is
 in the files that it has a reader read, and each file that reaches the machine; the texts that the program tells are
 those of the page of the manual and of docs/LEFT.md, and so are the reasons of the companion, with the words of its
-schema; the pages of the manual please mandoc; docs/PROMISES.md names the kit of `rt version`; and README.md has counts
-of docs/COMPARISON.md. What wants a tool that is missing is left out."""
+schema, and what it calls files that are not mbox text; the pages of the manual please mandoc; docs/PROMISES.md names
+the kit of `rt version`; and README.md has counts of docs/COMPARISON.md. What wants a tool that is missing is left
+out."""
 import importlib
 import json
 import os
@@ -52,6 +53,7 @@ ERRORS = re.compile(r"^## Errors of mbox2maildir$.*?(?=^## )", re.DOTALL | re.MU
 REASONS = re.compile(r"^## Reasons why .*?(?=^#)", re.DOTALL | re.MULTILINE)
 REASON = re.compile(r'^\| <a id="([a-z-]+)"></a>`\1` \| ([^|]+) \| [^|]+ \|$', re.MULTILINE)
 LATER = re.compile(r"^If nothing is left but what is (.*), the status is 75\.", re.MULTILINE)
+KINDS = re.compile(r"^\.Sh KINDS$(.*?)^\.Sh ", re.DOTALL | re.MULTILINE)
 REASON_ITEM = re.compile(r"^\.It Li (\S+)\n((?:[^.].*\n)+)", re.MULTILINE)
 ERROR = re.compile(r"^\| `([^`]*)`", re.MULTILINE)
 KILLED = re.compile(r"^## Killed, .*?(?=^## )", re.DOTALL | re.MULTILINE)
@@ -213,6 +215,16 @@ def wrong_reasons() -> Iterator[str]:
         yield f"docs/LEFT.md: another run settles {later}"
 
 
+def wrong_kinds() -> Iterator[str]:
+    """The page of the manual has the kinds of files that are not mbox text, and of dates, in the companion's words."""
+    sys.path.append(str(TOP / "admin"))
+    others = importlib.import_module("mbox2maildir_admin.kinds.others").OTHERS
+    endings = importlib.import_module("mbox2maildir_admin.kinds.undated").Ending
+    section = " ".join(match_in(KINDS, text_of(MANUAL_OF_ADMIN))[1].split())
+    kinds = {*(other.kind.removeprefix("no mail: ") for other in others), *(ending.value for ending in endings)}
+    yield from (f"the page of the manual has no kind: {kind}" for kind in sorted(kinds) if kind not in section)
+
+
 def printed_by(*words: str) -> str:
     """What a command prints, on both of its streams."""
     if not shutil.which(words[0]):
@@ -263,6 +275,7 @@ if __name__ == "__main__":
         wrong_code,
         wrong_texts,
         wrong_reasons,
+        wrong_kinds,
         wrong_kit,
         wrong_comparison,
         wrong_manuals,
