@@ -16,6 +16,7 @@ from tests.companion.back import BACK, Trial
 from tests.support.archives import fresh
 from tests.support.cases import Failed, run_cases
 from tests.support.kills import Killer, Moment, start_anew
+from tests.support.rewriting.runs import BY_OTHERS
 from tests.support.wayback.dialects import DIALECTS
 from tests.support.wayback.histories import History, text_at
 
@@ -32,7 +33,7 @@ class Killed:
         self.kept = self.home.path.parent / "kept"
         shutil.copytree(self.home.path, self.kept, copy_function=shutil.copy2)
         self.trial = Trial(history)
-        ran, self.calls = killer.run(self.home.place, BACK)
+        ran, self.calls = killer.run(partial(self.home.place.run, BACK, BY_OTHERS))
         self.trial.check(ran)
 
     def bring(self) -> None:
@@ -45,7 +46,7 @@ class Killed:
         """Kills it at a moment, and gives the command again."""
         self.bring()
         when = f"killed before call {moment.number}, {self.calls[moment.number - 1]}, {moment}: "
-        killed, _ = self.killer.run(self.home.place, BACK, moment)
+        killed, _ = self.killer.run(partial(self.home.place.run, BACK, BY_OTHERS), moment)
         self.trial.wants(killed.status is None, f"{when}it is not killed", killed)
         try:
             self.trial.check(self.home.place.run(BACK))
@@ -57,7 +58,7 @@ class Killed:
     def meet(self, moment: Moment, draw: Random) -> None:
         """Kills it at a moment. A program delivers mail then, before the command is given again."""
         self.bring()
-        killed, _ = self.killer.run(self.home.place, BACK, moment)
+        killed, _ = self.killer.run(partial(self.home.place.run, BACK, BY_OTHERS), moment)
         self.trial.wants(killed.status is None, "it is not killed", killed)
         when = f"killed before call {moment.number}, {self.calls[moment.number - 1]}, {moment}, and mail came: "
         path = draw.choice([path for path in self.history.boxes.values() if (self.home.path / path).exists()])

@@ -20,7 +20,7 @@ from typing import NamedTuple
 from tests.support.archives import RO, Home, fresh, letter, letters, number_of
 from tests.support.cases import Failed, run_cases
 from tests.support.kills import Killer, Moment, start_anew
-from tests.support.rewriting.runs import Ran
+from tests.support.rewriting.runs import BY_OTHERS, Ran
 
 STEP = int(os.environ.get("EVERY_CALL") or 17)
 SAID_BACK = re.compile(r"(\d+) messages? that had been deleted or moved came back|(\d+) [^;]*came back")
@@ -158,7 +158,7 @@ class Trial:
         shutil.rmtree(self.kept, ignore_errors=True)
         shutil.copytree(home.path, self.kept, copy_function=shutil.copy2)
         self.kept_before = envelopes_of(home)
-        ran, self.calls = killer.run(home.place, self.words)
+        ran, self.calls = killer.run(partial(home.place.run, self.words, BY_OTHERS))
         self.wants(ran.status == 0, "the command fails", ran)
         self.wanted = files_of(home)
         self.wanted_when_undone = self.undone()
@@ -183,7 +183,7 @@ class Trial:
         shutil.rmtree(home.path)
         shutil.copytree(self.kept, home.path, copy_function=shutil.copy2)
         home.place.own(home.path, *home.path.rglob("*"))
-        killed, _ = self.killer.run(home.place, self.words, moment)
+        killed, _ = self.killer.run(partial(home.place.run, self.words, BY_OTHERS), moment)
         self.wants(killed.status is None, f"{when}it is not killed", killed)
         self.killed += 1
         self.wants(not self.kept_before - envelopes_of(home), f"{when}envelopes are lost", killed)

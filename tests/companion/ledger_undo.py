@@ -480,7 +480,8 @@ class Boxes:
     def kill(self) -> None:
         """A run is killed at a random moment. What it has placed by then may be there."""
         names = self.draw.sample(list(self.boxes), self.draw.randint(1, len(self.boxes)))
-        kill = Kill(event=self.draw.randint(1, 300)) if self.draw.random() < 0.5 else Kill(self.draw.uniform(0.0, 0.2))
+        by_event = self.draw.random() < 0.5
+        kill = Kill(event=self.draw.randint(1, 300)) if by_event else Kill(call=self.draw.randint(1, 80))
         ran = self.home.run(*names, kill=kill)
         self.story.append(f"killed {kill}: {({name: sorted(self.boxes[name]) for name in names})} {ran.text}")
 

@@ -6,14 +6,12 @@ import os
 import struct
 import sys
 import tempfile
-from collections.abc import Iterator, Mapping, Sequence
+from collections.abc import Callable, Iterator, Mapping
 from contextlib import contextmanager
 from pathlib import Path
-from typing import NamedTuple
+from typing import NamedTuple, TypeVar
 
-from tests.support.checks import PATIENCE
 from tests.support.preload import library
-from tests.support.rewriting.runs import Kill, Place, Ran
 
 NUMBERS, SIZE = struct.Struct("4q"), 1 << 16
 # the number at which nothing is counted
@@ -24,6 +22,10 @@ NAMES = {
     "o": "open", "w": "write", "r": "rename", "l": "link", "u": "unlink", "m": "mkdir", "t": "ftruncate", "d": "utimes",
     "c": "chmod", "s": "sync",
 }  # fmt: skip
+
+
+# how something ended
+End = TypeVar("End")
 
 
 class Moment(NamedTuple):
@@ -70,14 +72,14 @@ class Killer:
             NUMBERS.pack_into(self.memory, 0, OFF, 0, 0, 0)
             calls += [NAMES[letter] for letter in self.memory[NUMBERS.size : NUMBERS.size + count].decode()]
 
-    def run(self, place: Place, words: Sequence[str], moment: Moment = Moment(0)) -> tuple[Ran, list[str]]:
-        """Runs the companion, until the moment if it has a number. Returns the calls too. This process must have been
-        started with the library."""
+    def run(self, run: Callable[[], End], moment: Moment = Moment(0)) -> tuple[End, list[str]]:
+        """Runs something, until the moment if it has a number. Returns how it ended, and the calls. This process must
+        have been started with the library."""
         ctypes.CDLL(None).prctl(PR_SET_CHILD_SUBREAPER, 1)
         with self.at(moment) as calls:
-            ran = place.run(words, Kill(seconds=PATIENCE))
+            ended = run()
             self.wait_for_orphans()
-        return ran, calls
+        return ended, calls
 
     @staticmethod
     def wait_for_orphans() -> None:

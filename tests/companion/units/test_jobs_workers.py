@@ -6,6 +6,7 @@ import time
 import unittest
 from collections.abc import Callable, Sequence
 from multiprocessing.connection import Pipe
+from pathlib import Path
 from typing import Any
 from unittest import mock
 
@@ -244,28 +245,36 @@ class RoomTest(FolderTest):
 
     def test_it_waits_until_the_others_are_done(self) -> None:
         """Two that need more together than there is are done one after the other."""
-        log = os.path.join(os.fsdecode(self.here), "log")
+        log, groups, gone = Path(os.fsdecode(self.here), "log"), [[0], [1], [2]], 0
+        log.touch()
+        waits, goes = os.pipe()
+        for number in (waits, goes):
+            self.addCleanup(os.close, number)
 
         def note(word: str) -> None:
-            with open(log, "a", encoding="ascii") as file:
+            with log.open("a", encoding="ascii") as file:
                 file.write(word)
 
         def work(parent: Parent) -> None:
             for (place,) in parent.groups():
                 parent.want_room(Need(self.here, os.stat(self.here).st_dev, 60, 1))
                 note("(")
-                time.sleep(0.1)
+                os.read(waits, 1)
                 note(")")
                 parent.end(place, "done")
 
         orders = Orders(work, mock.Mock(), mock.Mock(), mock.Mock(), mock.Mock(), mock.Mock())
         with mock.patch.object(space, "room_of", return_value=100):
-            with Workers(3, [[0], [1], [2]], orders) as workers:
+            with Workers(3, groups, orders) as workers:
                 for _ in workers.turns():
-                    pass
+                    has = sum(one.has is not None for one in workers.workers)
+                    asked = has + sum(one.wants is not None for one in workers.workers)
+                    # one goes on once all others have asked, and each that has space has said so
+                    if has and asked == len(groups) - gone and log.read_bytes().count(b"(") == gone + has:
+                        gone += 1
+                        os.write(goes, b".")
         self.assertEqual(workers.rows, dict.fromkeys(range(3), "done"))
-        with open(log, encoding="ascii") as file:
-            self.assertEqual(file.read(), "()" * 3)
+        self.assertEqual(log.read_bytes(), b"()" * 3)
 
     def test_none_for_one_alone(self) -> None:
         def work(parent: Parent) -> None:

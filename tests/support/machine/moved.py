@@ -3,7 +3,7 @@ happens where Dovecot cannot read the list."""
 import imaplib
 import time
 
-from tests.support.checks import equal
+from tests.support.checks import PATIENCE, equal
 from tests.support.machine.page import REFERENCE
 from tests.support.machine.servers import SYSTEM, Machine, change, root
 
@@ -83,8 +83,9 @@ class MovedList:
 
 
 def is_refused(machine: Machine, user: str) -> bool:
-    """Whether logins of a user are refused, a moment after a reload."""
-    for _ in range(20):
+    """Whether logins of a user are refused, once a reload has its effect."""
+    end = time.monotonic() + PATIENCE
+    while time.monotonic() < end:
         try:
             machine.server.client(user).logout()
         except imaplib.IMAP4.error:

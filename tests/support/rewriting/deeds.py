@@ -197,7 +197,7 @@ def lost_ledger(tree: Tree) -> None:
 def killed(tree: Tree) -> None:
     """A run is killed at a random moment."""
     by_event = tree.draw.random() < 0.5
-    kill = Kill(event=tree.draw.randint(1, 250)) if by_event else Kill(seconds=tree.draw.uniform(0.0, 0.15))
+    kill = Kill(event=tree.draw.randint(1, 250)) if by_event else Kill(call=tree.draw.randint(1, 80))
     tree.carry_out([*tree.words, *tree.draw.choice(tree.commands())], kill)
 
 

@@ -1,11 +1,15 @@
 """Runs of the companion in a home, in a copy of this process that may be killed at any moment, with what it runs."""
+import atexit
+import functools
 import os
+import shutil
 import signal
 import subprocess
 import sys
 import tempfile
 import time
-from collections.abc import Callable, Sequence
+from collections.abc import Callable, Mapping, Sequence
+from contextlib import ExitStack
 from pathlib import Path
 from typing import Any, NamedTuple, Optional
 
@@ -16,14 +20,21 @@ from mbox2maildir_admin.mbox.dates import reader_of_other_forms
 
 from tests.support.checks import PATIENCE
 from tests.support.fates.running import COMPANION, NOBODY, as_user, is_root
+from tests.support.kills import Killer, Moment, settings_in
 from tests.support.printed import commands_in
 
 
 class Kill(NamedTuple):
-    """When a run is killed: after this many seconds, or at the thing with this number that Python reports."""
+    """When a run is killed: at the thing with this number that Python reports; before the call with this number that
+    changes files or syncs them, of those of the programs that it runs; or after this many seconds."""
 
-    seconds: Optional[float] = None
     event: Optional[int] = None
+    call: Optional[int] = None
+    seconds: Optional[float] = None
+
+
+# for a run that something else may kill
+BY_OTHERS = Kill(seconds=PATIENCE)
 
 
 class Ran(NamedTuple):
@@ -51,9 +62,13 @@ class Place:
 
     def run(self, words: Sequence[str], kill: Kill = Kill(), meanwhile: Callable[[], object] = bool) -> Ran:
         """Runs the companion with these words. Meanwhile a function is called again and again."""
-        with tempfile.TemporaryFile() as out:
+        with ExitStack() as stack:
+            out, counting = stack.enter_context(tempfile.TemporaryFile()), counting_settings() if kill.call else {}
+            if kill.call:
+                stack.enter_context(Killer(counting).at(Moment(kill.call)))
             child = os.fork()
             if not child:
+                os.environ.update(counting)
                 self.become(words, out.fileno(), kill.event)
             status = wait_for(child, kill.seconds, meanwhile)
             out.seek(0)
@@ -109,6 +124,15 @@ class Place:
             os.killpg(child.pid, signal.SIGKILL)
             output = child.communicate()[0]
         return Ran(child.returncode if child.returncode >= 0 else None, output.decode(errors="surrogateescape"))
+
+
+@functools.lru_cache(maxsize=None)
+def counting_settings() -> Mapping[str, str]:
+    """The settings with which the programs that a run starts count their calls."""
+    folder = Path(tempfile.mkdtemp())
+    folder.chmod(0o755)
+    atexit.register(shutil.rmtree, folder, ignore_errors=True)
+    return settings_in(folder)
 
 
 def die_at(event: int) -> None:

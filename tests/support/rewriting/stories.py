@@ -4,10 +4,9 @@ import re
 import time
 from collections.abc import Callable, Iterator, Sequence
 
-from tests.support.checks import PATIENCE
 from tests.support.rewriting.letters import KINDS, Letter
 from tests.support.rewriting.rewriters import by_dovecot, deleted_by_dovecot, numbered, saved_by_dovecot
-from tests.support.rewriting.runs import Kill, Place, Ran, commands_of
+from tests.support.rewriting.runs import BY_OTHERS, Place, Ran, commands_of
 from tests.support.rewriting.trial import QUIET, Trial
 
 
@@ -67,7 +66,7 @@ class Story:
             (programs / PROGRAM).unlink()
             (programs / PROGRAM).write_text(STOPS % (str(self.trial.place.programs / PROGRAM), count), encoding="utf-8")
             (programs / PROGRAM).chmod(0o755)
-        ran = Place(self.trial.home, programs).run(["migrate", *options, "Maildir", "inbox"], Kill(seconds=PATIENCE))
+        ran = Place(self.trial.home, programs).run(["migrate", *options, "Maildir", "inbox"], BY_OTHERS)
         assert ran.status is None and self.count() == count, f"{self.count()} files, status {ran.status}: {ran.output}"
         self.ledger.look()
 

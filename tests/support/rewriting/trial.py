@@ -139,8 +139,8 @@ class Trial:
     def killed(self, options: Sequence[str]) -> None:
         """A run that is killed at a random moment."""
         event = self.draw.randint(1, 50 + 10 * len(self.box.letters))
-        seconds = self.draw.uniform(0.0, 0.2)
-        self.migrate(options, Kill(event=event) if self.draw.random() < 0.5 else Kill(seconds=seconds))
+        call = self.draw.randint(1, 6 + 6 * len(self.box.letters))
+        self.migrate(options, Kill(event=event) if self.draw.random() < 0.5 else Kill(call=call))
 
     def cut_record(self) -> None:
         """The run was interrupted before it wrote `done`."""

@@ -149,7 +149,7 @@ class Undone(Trial):
         """A random moment."""
         if self.draw.random() < 0.6:
             return Kill(event=self.draw.randint(1, 40 + 8 * len(self.box.letters)))
-        return Kill(seconds=self.draw.uniform(0.0, 0.15))
+        return Kill(call=self.draw.randint(1, 6 + 6 * len(self.box.letters)))
 
     def change_files(self) -> None:
         """Its owner reads, deletes and changes mail."""
