@@ -1,5 +1,6 @@
 """mbox2maildir-admin verify --users: a spool of users, the mail of each compared with the Maildir in the home, with
-only that user's rights. It needs root, and is left out without it."""
+only that user's rights. The environment's VERIFY_USERS says how many users that spool has. It needs root, and is left
+out without it."""
 import json
 import os
 import shutil
