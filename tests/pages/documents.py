@@ -3,9 +3,9 @@ and where the pages are installed; what a page names by its path is there, also 
 shows is in the sources, each file of which begins with a line that says what is in it; docs/PROMISES.md names what is
 in the files that it has a reader read, and each file that reaches the machine; the texts that the program tells are
 those of the page of the manual and of docs/LEFT.md, and so are the reasons of the companion, with the words of its
-schema, and what it calls files that are not mbox text; the pages of the manual please mandoc; docs/PROMISES.md names
-the kit of `rt version`; and README.md has counts of docs/COMPARISON.md. What wants a tool that is missing is left
-out."""
+schema, its options, and what it calls files that are not mbox text; the pages of the manual please mandoc;
+docs/PROMISES.md names the kit of `rt version`; and README.md has counts of docs/COMPARISON.md. What wants a tool that
+is missing is left out."""
 import importlib
 import json
 import os
@@ -53,6 +53,11 @@ ERRORS = re.compile(r"^## Errors of mbox2maildir$.*?(?=^## )", re.DOTALL | re.MU
 REASONS = re.compile(r"^## Reasons why .*?(?=^#)", re.DOTALL | re.MULTILINE)
 REASON = re.compile(r'^\| <a id="([a-z-]+)"></a>`\1` \| ([^|]+) \| [^|]+ \|$', re.MULTILINE)
 LATER = re.compile(r"^If nothing is left but what is (.*), the status is 75\.", re.MULTILINE)
+SYNOPSIS = re.compile(r"^\.Sh SYNOPSIS$(.*?)^\.Sh ", re.DOTALL | re.MULTILINE)
+OF_COMMAND = re.compile(r"^\.Cm (\w+)\n((?:(?!\.Nm\n).*\n)*)", re.MULTILINE)
+OPTION = re.compile(r"(?<= -)[a-z][\w-]+")
+ITEM_OF_OPTIONS = re.compile(r"^\.It Fl .*", re.MULTILINE)
+OPTION_OF_HELP = re.compile(r"^  --([\w-]+)", re.MULTILINE)
 KINDS = re.compile(r"^\.Sh KINDS$(.*?)^\.Sh ", re.DOTALL | re.MULTILINE)
 REASON_ITEM = re.compile(r"^\.It Li (\S+)\n((?:[^.].*\n)+)", re.MULTILINE)
 ERROR = re.compile(r"^\| `([^`]*)`", re.MULTILINE)
@@ -233,6 +238,19 @@ def printed_by(*words: str) -> str:
     return ran.stdout
 
 
+def wrong_options() -> Iterator[str]:
+    """The synopsis of the companion has the options of each command's help, and each of them has an item."""
+    manual, named = text_of(MANUAL_OF_ADMIN), {}  # type: str, dict[str, set[str]]
+    for command, options in OF_COMMAND.findall(match_in(SYNOPSIS, manual)[1]):
+        named.setdefault(command, set()).update(OPTION.findall(options))
+    described = set(OPTION.findall("\n".join(ITEM_OF_OPTIONS.findall(manual))))
+    for command, options in sorted(named.items()):
+        told = set(OPTION_OF_HELP.findall(printed_by(str(TOP / "admin/mbox2maildir-admin"), command, "--help")))
+        yield from (f"the synopsis of {command} lacks --{option}" for option in sorted(told - options))
+        yield from (f"{command} has no --{option}" for option in sorted(options - told))
+        yield from (f"--{option} of {command} is not described" for option in sorted(options - described))
+
+
 def wrong_kit() -> Iterator[str]:
     """docs/PROMISES.md names the kit that is here."""
     named = KIT.findall(text_of(PROMISES))
@@ -276,6 +294,7 @@ if __name__ == "__main__":
         wrong_texts,
         wrong_reasons,
         wrong_kinds,
+        wrong_options,
         wrong_kit,
         wrong_comparison,
         wrong_manuals,
