@@ -210,17 +210,21 @@ def task(todo: Todo, *names: str) -> Next:
     return (Task(todo, names),)
 
 
-def lines_below(quotes: Sequence[Quote], then: Next) -> Iterator[str]:
+def lines_below(quotes: Sequence[Quote], then: Next, is_once: bool = False) -> Iterator[str]:
     """What stands below a row or a fault: lines of mail behind their numbers, of which those are marked that others
-    stand around; and what is to be done, each command by itself."""
+    stand around; and what is to be done, each command by itself. A sentence that several commands have, one after the
+    other, is there for each of them, or once."""
     marks = ("> ", "  ") if any(quote.is_around for quote in quotes) else ("", "")
     for quote in quotes:
         yield ("%s%s%d | %s" % (BELOW, marks[quote.is_around], quote.line, quote.text)).rstrip()
+    before = ""
     for step in then:
         if isinstance(step, Task):
             yield BELOW + step.sentence()
             continue
-        yield "%s%s:" % (BELOW, step.sentence())
+        if not is_once or step.sentence() != before:
+            yield "%s%s:" % (BELOW, step.sentence())
+        before = step.sentence()
         yield COMMAND + step.command.line()
 
 

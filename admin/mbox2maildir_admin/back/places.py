@@ -11,7 +11,6 @@ from ..ledger.ledger import Ledger
 from ..ledger.record import Record, unspelled
 from ..ledger.strangers import folders_in
 from ..maildir.folders import INBOX, folder_named, folder_on_disk, folder_path, name_given
-from ..maildir.making import sync_folder
 from ..migration.places import Planned, recorded
 from ..migration.trees import Tree
 from ..readings.copies import COMPRESSED
@@ -33,15 +32,28 @@ class Place(NamedTuple):
     is_new: bool = False
 
 
+class Names(NamedTuple):
+    """The paths of mailboxes and of folders of mailboxes; that of a folder which is made for new ones if there is none
+    among these; and what is said if none is the inbox."""
+
+    paths: Sequence[bytes]
+    tree: Optional[bytes] = None
+    no_inbox: str = NO_INBOX
+
+    def trees(self) -> list[bytes]:
+        """The folders of mailboxes."""
+        made = [self.tree] if self.tree and not os.path.lexists(self.tree) else []
+        return [path for path in self.paths if os.path.isdir(path)] or made
+
+
 class Places:
     """The mailboxes of the folders of a Maildir, among those at some paths."""
 
-    def __init__(self, root: bytes, record: Record, names: Sequence[bytes]) -> None:
-        self.root, self.record, self.names = root, record, names
-        self.trees = [name for name in names if os.path.isdir(name)]
+    def __init__(self, root: bytes, record: Record, names: Names) -> None:
+        self.root, self.record, self.trees, self.no_inbox = root, record, names.trees(), names.no_inbox
         # by folders, as they are named on the disk: the mailboxes, in the order of the names
         self.found: collections.defaultdict[bytes, list[bytes]] = collections.defaultdict(list)
-        for name in names:
+        for name in names.paths:
             for one in self.planned(name):
                 if one.folder:
                     self.found[one.folder].append(one.target or one.path)
@@ -88,7 +100,7 @@ class Places:
             raise Left(GONE % named(unspelled(gone[0])), Reason.MISSING)
         if folder == INBOX:
             if not found:
-                raise Left(NO_INBOX, Reason.NO_MAILBOX)
+                raise Left(self.no_inbox, Reason.NO_MAILBOX)
             return [Place(found[0], True)]
         return [self.new(folder, paths)]
 
@@ -126,25 +138,3 @@ class Places:
         while not os.path.lexists(above):
             above = os.path.dirname(above)
         return os.path.isdir(above)
-
-
-def make_mailbox(path: bytes) -> None:
-    """Makes a mailbox that is not there, which only its owner may read, and the folders above it. They are on the disk
-    then."""
-    above = os.path.dirname(os.path.abspath(path))
-    if not os.path.isdir(above):
-        make_folders(above)
-    try:
-        os.close(os.open(path, os.O_WRONLY | os.O_CREAT | os.O_EXCL | os.O_NOFOLLOW | os.O_CLOEXEC, 0o600))
-    except FileExistsError:
-        return
-    sync_folder(above)
-
-
-def make_folders(path: bytes) -> None:
-    """Makes a folder, and those above it."""
-    above = os.path.dirname(path)
-    if not os.path.isdir(above):
-        make_folders(above)
-    os.mkdir(path, 0o700)
-    sync_folder(above)

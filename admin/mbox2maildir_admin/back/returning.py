@@ -14,7 +14,6 @@ from ..ledger.match import cores_of
 from ..ledger.record import Record, Verified, unspelled
 from ..maildir.space import Need, want_room
 from ..mbox.inventory import Inventory
-from ..mbox.lock_file import lock_file_of
 from ..mbox.locks import READING, WRITING, open_mailbox
 from ..mbox.mailbox import Mailbox
 from ..migration.known import Known
@@ -83,7 +82,7 @@ class Returning:
             if mailbox.state.st_uid != os.geteuid():
                 raise Left("it belongs to another user", Reason.OTHER_OWNER, task(Todo.AS_OWNER))
             if not self.how.dry:
-                stack.enter_context(lock_file_of(mailbox, os.path.realpath(self.root)))
+                stack.enter_context(self.how.keeper.locked(mailbox, os.path.realpath(self.root)))
                 mailbox.take_state()
             if not os.path.samestat(os.stat(path), mailbox.state):
                 raise Left(REPLACED, Reason.CHANGED)

@@ -14,7 +14,6 @@ from ..ledger.strangers import folders_in
 from ..maildir.folders import INBOX, folder_named, folder_path
 from ..maildir.making import GOES_BACK, RECORD
 from ..maildir.roots import real_place, want_roots_alone
-from ..mbox.lock_file import drop_left
 from ..migration.outcomes import Fate, Observer, Row, row_left
 from ..nexts import NOTHING, Next, Remark, run_next
 from ..program import Program, find_program
@@ -23,12 +22,12 @@ from ..terminal import named, operand
 from ..units import counted
 from .beside import Beside
 from .mails import Mail, Sorted, copied, sorted_mail
-from .places import Place, Places, make_mailbox
+from .places import Names, Place, Places
 from .returning import Returning
 from .subscriptions import rows_of
 from .steps import How, Outcome, TakesNothing, Target, left_unheld
 
-NO_RECORD = "%s: it has no record, so nothing was migrated into it"
+NO_RECORD = "%s: it has no record, so nothing shows which mail came from the old mailboxes"
 TORN = "the message that begins in line %d is cut: a run was killed there, and another program has written after it"
 NOT_READ_BACK = "what would be appended to it would not be read back as it is"
 CANNOT_HOLD, TAKES_NOTHING = "%s cannot hold this", "%s takes nothing"
@@ -44,12 +43,21 @@ def bring_back(root: bytes, names: Sequence[bytes], how: How, copies: bool, obse
         # a symbolic link above it may lead elsewhere by then
         root = real_place(root)
         want_roots_alone(root)
+    want_migrated(root)
+    return bring_all(Program(find_program()), root, Names(names), how, copies, observer)
+
+
+def want_migrated(root: bytes) -> None:
+    """Raises Fault if nothing was migrated into a Maildir."""
     if not os.path.lexists(os.path.join(root, RECORD)):
         raise PlaceFault(NO_RECORD % named(root), Reason.NO_MAILDIR)
+
+
+def bring_all(program: Program, root: bytes, names: Names, how: How, copies: bool, observer: Observer) -> Next:
+    """Does it by a program, whoever runs this, and whatever was migrated."""
     os.umask(0o077)
     with Record.open(root, not how.dry) as record:
-        several = Several(Program(find_program()), root, record, how, observer)
-        return several.run(Places(root, record, names), copies)
+        return Several(program, root, record, how, observer).run(Places(root, record, names), copies)
 
 
 class Several:
@@ -86,10 +94,11 @@ class Several:
         self.observer.row(row)
 
     def drop_locks(self, places: Places) -> None:
-        """Removes the locks that a killed run left. If it had noted the end of a mailbox, nothing may go back into that
-        any more, and nobody else would remove them."""
-        for path in itertools.chain.from_iterable(places.found.values()):
-            drop_left(path, os.path.realpath(self.root))
+        """Removes the locks that a killed run left, also beside mailboxes that are not named now. If it had noted the
+        end of a mailbox, nothing may go back into that any more, and nobody else would remove them."""
+        noted = (unspelled(line.path) for line in self.record.lines())
+        paths = {*noted, *itertools.chain.from_iterable(places.found.values())}
+        self.how.keeper.drop_locks(sorted(paths), os.path.realpath(self.root))
 
     def folders(self, found: Sorted, wanted: set[bytes]) -> Iterator[bytes]:
         """The folders with mail that goes back, or with a mailbox, and those about which something is to be said."""
@@ -169,7 +178,7 @@ class Several:
         nothing."""
         try:
             if place.is_new and not self.how.dry:
-                make_mailbox(place.path)
+                self.how.keeper.make(place.path)
             say = Beat(functools.partial(self.observer.progress, named(target.path)))
             return Returning(self.program, self.root, self.record, self.how, say).run(target)
         except TakesNothing:

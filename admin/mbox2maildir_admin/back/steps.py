@@ -8,6 +8,7 @@ from ..migration.outcomes import Fate, Row
 from ..nexts import Remark
 from ..terminal import NAMED, named
 from ..units import counted
+from .keeping import Keeper
 from .mails import Mail
 
 NOT_HELD = "it cannot hold %s, which %s in the Maildir alone: %s"
@@ -23,12 +24,13 @@ class NotAsItIs(Left):
 
 @dataclass(frozen=True)
 class How:
-    """How mail goes back: whether nothing is written, whether no quiet minute is waited for, and whether Dovecot keeps
-    UIDs and keywords in the mailboxes."""
+    """How mail goes back: whether nothing is written; whether no quiet minute is waited for; whether Dovecot keeps UIDs
+    and keywords in the mailboxes; and who makes what is missing beside them."""
 
     dry: bool = False
     now: bool = False
     dovecot: bool = False
+    keeper: Keeper = Keeper()
 
 
 class Target(NamedTuple):

@@ -59,3 +59,11 @@ def wrong_for_homes(of_users: UsersOptions) -> Iterator[str]:
     for name in (of_users.maildir, of_users.tree or "."):
         if os.path.isabs(name) or ".." in name.split("/"):
             yield "%s: --maildir and --tree take a name below each home" % named(name)
+
+
+def wrong_for_one(given: argparse.Namespace, *others: str) -> Iterator[str]:
+    """What is wrong with these options, and with others for users, of which a command has these, if it is about one
+    Maildir."""
+    if UsersOptions.of(given) != UsersOptions() or any(getattr(given, name) is not None for name in others):
+        *names, last = ("--%s" % name for name in ("maildir", "tree", "names", *others))
+        yield "%s and %s need --users" % (", ".join(names), last)

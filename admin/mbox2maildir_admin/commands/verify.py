@@ -2,7 +2,6 @@
 import argparse
 import functools
 import importlib
-from collections.abc import Iterator
 
 from .. import ADMIN
 from ..faults import Status
@@ -19,7 +18,7 @@ from ..units import Say
 from .command_line import CommandLine, WrongOptions, want_operands
 from .files import each, for_mailboxes
 from .findings import LINES, Checked, Findings, findings_of
-from .of_users import UsersOptions, add_homes, wrong_for_homes
+from .of_users import UsersOptions, add_homes, wrong_for_homes, wrong_for_one
 from .recorded import Recorded, record_of
 
 EPILOG = """\
@@ -58,7 +57,7 @@ def do_verify(given: argparse.Namespace) -> Status:
     """Says whether each message is in the Maildir."""
     want_operands(given.operands, ["OLD..."] if given.users else ["MAILDIR", "FILE..."])
     of_users = UsersOptions.of(given)
-    for wrong in wrong_for_homes(of_users) if given.users else wrong_for_one(given, of_users):
+    for wrong in wrong_for_homes(of_users) if given.users else wrong_for_one(given, "jobs", "report"):
         raise WrongOptions(wrong)
     if given.users:
         # only this one needs what migrates
@@ -73,12 +72,6 @@ def do_verify(given: argparse.Namespace) -> Status:
         return verify_file(folder, file, find_program(), tell, folder[len(maildir) :].lstrip(b"/"))
 
     return Status.of(each(files, lambda path: for_mailboxes(maildir, path, verify, tell), tell))
-
-
-def wrong_for_one(given: argparse.Namespace, of_users: UsersOptions) -> Iterator[str]:
-    """What is wrong with the options for one Maildir."""
-    if of_users != UsersOptions() or given.jobs is not None or given.report is not None:
-        yield "--maildir, --tree, --names, --jobs and --report need --users"
 
 
 def verify_file(maildir: bytes, file: bytes, program: bytes, tell: Findings = LINES, folder: bytes = INBOX) -> bool:

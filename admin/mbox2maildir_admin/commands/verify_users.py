@@ -21,7 +21,7 @@ from ..program import Program
 from ..terminal import LINE, NAMED, flush, named, operand, put
 from ..units import Say
 from ..users.asked import Tally
-from ..users.homes import Migrant, Relay
+from ..users.homes import Kind, Migrant, Relay
 from ..users.spool import migrate_users
 from .files import NOTED, for_planned
 from .findings import Checked, Findings
@@ -50,7 +50,7 @@ def verify_users(given: argparse.Namespace) -> Status:
     reporter = ObjectReporter(steps={}) if given.json else UserLines(given.all)
 
     def verify(reporter: Reporter, tally: Tally) -> None:
-        migrate_users(spool, asked, options, reporter, tally, Verifier)
+        migrate_users(spool, asked, options, reporter, tally, Kind(Verifier, "verify"))
 
     return run_reported(verify, reporter, given.report, "run the same command again")
 

@@ -1,84 +1,219 @@
-"""FILE.lock, the lock of a mailbox for programs that know no other one."""
+"""FILE.lock, the lock of a mailbox for programs that know no other one. The companion's own is known by its content,
+and held by `flock` too for as long as whoever made it is at work. So each run can tell one that a killed run left,
+whichever mailboxes that run was given."""
 import contextlib
 import errno
+import fcntl
 import hashlib
 import os
+import re
+import stat
+import time
 from collections.abc import Iterator
+from typing import NamedTuple, Optional
 
 from .. import ADMIN
 from ..faults import Left, Reason
+from ..nexts import Remark
 from ..terminal import named
-from .files import open_file, read_up_to
-from .locks import LOCK, look_for_lock_file
+from .files import REGULAR, is_there
 from .mailbox import Mailbox
 
+# the ending of its name, and from which age on it does not count, in seconds
+LOCK, STALE = b".lock", 1200
+# what is said of one that counts for nothing, and of one that counts
+OLD = "%s is older than 20 minutes and was ignored"
+LEFT_BEHIND = "%s was left by a `back` that was killed, and was ignored"
+LOCKED_WITH = "another program has locked it with %s: wait, or stop that program"
 # the errors of a folder in which this user may make no file, and of a name that is too long for a lock
 NO_LOCKS = errno.EACCES, errno.EPERM, errno.EROFS, errno.ENAMETOOLONG
-# how many bytes of a lock are looked at
+# the number of a process, and 16 bytes that stand for the owner
+CONTENT = re.compile(rb"\d{1,20} %s ([0-9a-f]{32})\n\Z" % ADMIN.encode())
+# more bytes than such a lock has
 MOST = 256
+# the errors of a disk without `flock`, and of one that wants a file open for writing for it
+UNLOCKABLE = errno.ENOLCK, errno.ENOSYS, errno.EOPNOTSUPP, errno.EBADF
+
+
+class Spot(NamedTuple):
+    """Where a file is: its path, or its name in a folder that is open."""
+
+    name: bytes
+    folder: Optional[int] = None
+
+    def open(self, flags: int, mode: int = 0) -> int:
+        """Opens it, over no symbolic link."""
+        return os.open(self.name, flags | os.O_NOFOLLOW | os.O_CLOEXEC, mode, dir_fd=self.folder)
+
+    def link(self, other: "Spot") -> None:
+        """Gives it another name, which is free, in the same folder."""
+        os.link(self.name, other.name, src_dir_fd=self.folder, dst_dir_fd=other.folder, follow_symlinks=False)
+
+    def unlink(self) -> None:
+        """Removes it."""
+        os.unlink(self.name, dir_fd=self.folder)
+
+    def is_open_as(self, number: int) -> bool:
+        """Whether a descriptor is of it."""
+        try:
+            state = os.stat(self.name, dir_fd=self.folder, follow_symlinks=False)
+        except FileNotFoundError:
+            return False
+        return os.path.samestat(state, os.fstat(number))
+
+    def beside(self) -> "Spot":
+        """The name that it has until it is whole."""
+        folder, name = os.path.split(self.name)
+        return Spot(os.path.join(folder, b".mbox2maildir.%s" % name), self.folder)
+
+
+def stands_for(owner: bytes) -> bytes:
+    """The part of a lock that stands for its owner."""
+    return hashlib.sha256(owner).hexdigest()[:32].encode()
+
+
+def content_for(owner: bytes) -> bytes:
+    """What a lock has that this process makes."""
+    return b"%d %s %s\n" % (os.getpid(), ADMIN.encode(), stands_for(owner))
+
+
+def opened_if_left(spot: Spot, owner: Optional[bytes] = None) -> Optional[int]:
+    """The descriptor of a lock, which it holds, if a run of the companion made it that is no longer at work; otherwise
+    None. On a disk without `flock` only one of this owner is known: only one run at a time is at work for it."""
+    try:
+        number = spot.open(REGULAR)
+    except OSError:
+        return None
+    is_its = False
+    try:
+        found = CONTENT.match(os.pread(number, MOST, 0)) if stat.S_ISREG(os.fstat(number).st_mode) else None
+        if found:
+            of_owner = owner is not None and found[1] == stands_for(owner)
+            is_its = is_free(number, of_owner) and spot.is_open_as(number)
+    finally:
+        if not is_its:
+            os.close(number)
+    return number if is_its else None
+
+
+def is_free(number: int, otherwise: bool) -> bool:
+    """Whether nobody holds an open lock; on a disk without `flock`, what else is known."""
+    try:
+        fcntl.flock(number, fcntl.LOCK_EX | fcntl.LOCK_NB)
+    except OSError as fault:
+        return otherwise and fault.errno in UNLOCKABLE
+    return True
+
+
+def is_left(spot: Spot) -> bool:
+    """Whether a run of the companion left a lock that was killed."""
+    number = opened_if_left(spot)
+    if number is not None:
+        os.close(number)
+    return number is not None
+
+
+def hold(spot: Spot) -> Optional[int]:
+    """Holds a lock that another process has made for this one, so that it is held even if that one is killed. Returns
+    the descriptor that holds it; None if it can't be held."""
+    try:
+        number = spot.open(REGULAR)
+    except OSError:
+        return None
+    with contextlib.suppress(OSError):
+        fcntl.flock(number, fcntl.LOCK_SH | fcntl.LOCK_NB)
+    return number
+
+
+def drop_lock(spot: Spot, owner: Optional[bytes] = None) -> None:
+    """Removes a lock that a killed run left, if this user may."""
+    number = opened_if_left(spot, owner)
+    if number is None:
+        return
+    try:
+        # whoever looks at it meanwhile finds it held, and does not remove the next one
+        with contextlib.suppress(OSError):
+            spot.unlink()
+    finally:
+        os.close(number)
+
+
+def make_lock(spot: Spot, owner: bytes) -> int:
+    """Makes a lock, which has its content, and is held, from the first moment. Returns its descriptor, which holds it
+    until it is closed. Raises FileExistsError if it is there already."""
+    beside = spot.beside()
+    with contextlib.suppress(FileNotFoundError):
+        beside.unlink()
+    number = beside.open(os.O_RDWR | os.O_CREAT | os.O_EXCL, 0o444)
+    try:
+        os.write(number, content_for(owner))
+        with contextlib.suppress(OSError):
+            # whoever wants to know whether it is left asks for the other kind
+            fcntl.flock(number, fcntl.LOCK_SH | fcntl.LOCK_NB)
+        beside.link(spot)
+    except BaseException:
+        os.close(number)
+        raise
+    finally:
+        beside.unlink()
+    return number
+
+
+def look_for_lock_file(mailbox: Mailbox) -> None:
+    """Looks for the lock file of another program. Raises Left if there is one; an old one, and one that a killed run
+    left, is only mentioned."""
+    if not is_there(mailbox.path, LOCK):
+        return
+    path = mailbox.path + LOCK
+    try:
+        age = time.time() - os.lstat(path).st_mtime
+    except FileNotFoundError:
+        # it is gone meanwhile
+        return
+    if is_left(Spot(path)):
+        mailbox.remarks.append(Remark("old-lock", LEFT_BEHIND % named(path)))
+        return
+    if age < STALE:
+        raise Left(LOCKED_WITH % named(path), Reason.LOCKED)
+    mailbox.remarks.append(Remark("old-lock", OLD % named(path)))
 
 
 @contextlib.contextmanager
 def lock_file_of(mailbox: Mailbox, owner: bytes) -> Iterator[None]:
-    """Holds FILE.lock for an open mailbox. It is known by its content if a killed run of the same owner left it: only
-    one of them is at work at a time. In a folder where this user may make no file the other locks must do. Raises Left
-    if another program has it."""
+    """Holds FILE.lock for an open mailbox. One that a killed run left goes first. In a folder where this user may make
+    no file the other locks must do. Raises Left if another program has it."""
     drop_left(mailbox.path, owner)
-    path, words = os.path.realpath(mailbox.path), words_of(owner)
+    spot = spot_of(mailbox.path)
     said = len(mailbox.remarks)
     look_for_lock_file(mailbox)
     # an old one stays, and counts for nothing
-    is_made = len(mailbox.remarks) == said and make(path, words)
+    number = taken(spot, owner) if len(mailbox.remarks) == said else None
     try:
         yield
     finally:
-        if is_made:
-            os.unlink(path + LOCK)
+        if number is not None:
+            spot.unlink()
+            os.close(number)
+
+
+def spot_of(mailbox: bytes) -> Spot:
+    """Where the lock of the mailbox at a path is."""
+    return Spot(os.path.realpath(mailbox) + LOCK)
 
 
 def drop_left(mailbox: bytes, owner: bytes) -> None:
-    """Removes FILE.lock of the mailbox at a path if a killed run of this owner left it, also if the mailbox is not
-    opened any more."""
-    path = os.path.realpath(mailbox) + LOCK
-    if is_left(path, words_of(owner)):
-        os.unlink(path)
+    """Removes FILE.lock of the mailbox at a path if a killed run left it, also if the mailbox is opened no more."""
+    drop_lock(spot_of(mailbox), owner)
 
 
-def words_of(owner: bytes) -> bytes:
-    """What a lock of an owner has after the number of a process."""
-    return b" %s %s\n" % (ADMIN.encode(), hashlib.sha256(owner).hexdigest()[:32].encode())
-
-
-def is_left(path: bytes, words: bytes) -> bool:
-    """Whether a lock has these words after the number of a process."""
+def taken(spot: Spot, owner: bytes) -> Optional[int]:
+    """Makes a lock, and returns its descriptor; None where this user may make none. Raises Left if another program
+    was faster."""
     try:
-        with open_file(path, os.O_NOFOLLOW) as file:
-            text = read_up_to(file, MOST)
-    except (OSError, Left):
-        return False
-    return text.lstrip(b"0123456789") == words
-
-
-def make(path: bytes, words: bytes) -> bool:
-    """Makes a lock that has its content from the first moment, and returns whether this user may make one. Raises Left
-    if another program was faster."""
-    folder, name = os.path.split(path)
-    beside = os.path.join(folder, b".%s-back%s" % (name, LOCK))
-    try:
-        with contextlib.suppress(FileNotFoundError):
-            os.unlink(beside)
-        number = os.open(beside, os.O_WRONLY | os.O_CREAT | os.O_EXCL | os.O_NOFOLLOW | os.O_CLOEXEC, 0o444)
+        return make_lock(spot, owner)
+    except FileExistsError as fault:
+        raise Left(LOCKED_WITH % named(spot.name), Reason.LOCKED) from fault
     except OSError as fault:
         if fault.errno in NO_LOCKS:
-            return False
+            return None
         raise
-    try:
-        os.write(number, b"%d%s" % (os.getpid(), words))
-        os.link(beside, path + LOCK)
-    except FileExistsError as fault:
-        says = "another program has locked it with %s: wait, or stop that program"
-        raise Left(says % named(path + LOCK), Reason.LOCKED) from fault
-    finally:
-        os.close(number)
-        os.unlink(beside)
-    return True

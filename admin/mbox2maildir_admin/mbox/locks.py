@@ -9,21 +9,17 @@ import time
 from typing import NamedTuple
 
 from ..faults import Left, Reason, next_of, reason_of_fault
-from ..nexts import Remark
-from ..terminal import named
 from ..units import WAITING, Say, silent
 from .digest import Digest
-from .files import has_holes, is_there, open_plain
+from .files import has_holes, open_plain
+from .lock_file import look_for_lock_file
 from .mailbox import Mailbox
 
 # the lock of an open file: closing another descriptor does not drop it, and a child inherits it; Python has this name
 # since 3.9
 F_OFD_SETLK = getattr(fcntl, "F_OFD_SETLK", 37)
-# in seconds: how long a mailbox must have been left alone, how long to wait for that, and from which age on a lock does
-# not count
-QUIET, PATIENCE, STALE = 60, 300, 1200
-# the ending of a lock's name
-LOCK = b".lock"
+# in seconds: how long a mailbox must have been left alone, and how long to wait for that
+QUIET, PATIENCE = 60, 300
 # the errors that say that another program has the lock, and that a disk has no locks
 LOCKED, WITHOUT_LOCKS = (errno.EAGAIN, errno.EACCES), (errno.ENOLCK, errno.ENOSYS, errno.EOPNOTSUPP)
 
@@ -111,22 +107,6 @@ def unlock(number: int) -> None:
     for give, kind in ((lock_record, fcntl.F_UNLCK), (lock_file, fcntl.LOCK_UN)):
         with contextlib.suppress(OSError):
             give(number, kind)
-
-
-def look_for_lock_file(mailbox: Mailbox) -> None:
-    """Looks for the lock file of another program. Raises Left if there is one; an old one is only mentioned."""
-    if not is_there(mailbox.path, LOCK):
-        return
-    path = mailbox.path + LOCK
-    try:
-        age = time.time() - os.lstat(path).st_mtime
-    except FileNotFoundError:
-        # it is gone meanwhile
-        return
-    if age < STALE:
-        raise Left("another program has locked it with %s: wait, or stop that program" % named(path), Reason.LOCKED)
-    says = "%s is older than 20 minutes and was ignored" % named(path)
-    mailbox.remarks.append(Remark("old-lock", says))
 
 
 def wait_for_quiet(mailbox: Mailbox, end: float) -> None:

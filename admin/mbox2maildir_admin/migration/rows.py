@@ -8,7 +8,7 @@ from typing import Optional
 
 from ..faults import Reason, Status
 from ..maildir.folders import folder_named
-from ..nexts import NOTHING, Next, lines_below
+from ..nexts import lines_below
 from ..progress import AtWork, Estimate, Progress, Task, duration, length
 from ..terminal import LINE, complain, flush, named, put
 from ..units import WAITING, counted
@@ -25,9 +25,6 @@ STEPS = MappingProxyType({"reading": 1, "copying": 1, "looking": 2, "converting"
 
 class Reporter(Observer):
     """Prints rows, and how far the mailboxes are. A migration has steps."""
-
-    # what is to be done once all is done
-    then: Next = NOTHING
 
     def __init__(self, clock: Callable[[], float] = time.monotonic, steps: Mapping[str, int] = STEPS) -> None:
         self.clock, self.start = clock, clock()
@@ -156,7 +153,7 @@ class Reporter(Observer):
         for group in groups_of(self.reasons):
             put(group)
         put(line)
-        for below in lines_below((), self.then):
+        for below in lines_below((), self.then, True):
             put(below)
         flush()
 

@@ -69,19 +69,19 @@ def account_of(name: bytes) -> pwd.struct_passwd:
         raise Left("no such user", Reason.NO_USER) from None
 
 
-def want_user(account: pwd.struct_passwd, first: int, is_named: bool, spool: bytes, options: Sequence[str]) -> None:
-    """Checks that an account is a user's, or was asked for by its name. Raises Left if not, with what would migrate
-    it, with these options."""
+def want_user(account: pwd.struct_passwd, first: int, is_named: bool, spool: bytes, given: Sequence[str]) -> None:
+    """Checks that an account is a user's, or was asked for by its name. Raises Left if not, with what would do it, by
+    these words of a command."""
     if is_users(account, first) or is_named and account.pw_uid not in (0, *NOBODY):
         return
     name = own_name(account)
     mailbox, home = os.path.join(spool, name), home_of(account)
-    words = [ADMIN, "migrate", *options]
+    words = [ADMIN, *given]
     if account.pw_uid == 0:
         then = run_next(*words, operand(os.path.join(home, b"Maildir")), operand(mailbox))
         raise Left("a system account", Reason.SYSTEM_ACCOUNT, then)
     if account.pw_uid not in NOBODY and is_own(home, account):
-        then = run_next(ADMIN, "migrate", "--users", *options, operand(spool), operand(name))
+        then = run_next(ADMIN, given[0], "--users", *given[1:], operand(spool), operand(name))
         raise Left("a system account, which must be named", Reason.SYSTEM_ACCOUNT, then)
     # whatever is at that place, it is no place for mail
     command = Command.of(*words, "MAILDIR", operand(mailbox), user=text_of(name))

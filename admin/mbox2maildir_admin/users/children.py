@@ -1,4 +1,5 @@
 """Processes that have only the rights of one user, and tell root what they do."""
+import contextlib
 import json
 import os
 import pwd
@@ -16,9 +17,10 @@ from ..migration.outcomes import Observer, row_left
 from ..nexts import Todo, task
 from ..signals import ENDING, INTERRUPTS, blocked
 from ..terminal import named, shown
+from .clerks import Clerk, Refusal, Work
 from .keyring import Join, joining
 from .limits import take_users_limits
-from .telling import LONGEST, Teller, Whose, number_of, row_of
+from .telling import LONGEST, Teller, Whose, next_of, number_of, row_of, spelled
 
 # how long a child may say nothing, in seconds, and how long all of them are listened to at a time, in milliseconds
 SILENCE, TURN, SOON = 900, 200, 5
@@ -35,16 +37,15 @@ DESCRIPTORS, LAST_DESCRIPTOR = "/proc/self/fd", (1 << 31) - 1
 
 # the signals that are blocked
 Mask = set[Union[int, signal.Signals]]
-# what a child does: it returns its status, and ends if nobody holds the other end of the pipe that it is given
-Work = Callable[[Teller, int], int]
 
 
 def start(account: pwd.struct_passwd, work: Work, mask: Mask, join: Join) -> tuple[int, int, int]:
     """Starts a task with the rights of an account and this mask of signals; until the child has set the mask, all of
     them are blocked. Returns the process and two pipes: the child tells by the first, and lives as long as the second
-    is open."""
+    is open, by which it is answered. A child that does not read answers keeps nobody."""
     tells, told = os.pipe()
     alive, life = os.pipe()
+    os.set_blocking(life, False)
     pid = os.fork()
     if not pid:
         status, INTERRUPTS.is_held = 1, True
@@ -104,11 +105,11 @@ def end_of_descriptors() -> int:
 class Child:
     """A child as root sees it: what it tells is only printed, and never trusted."""
 
-    def __init__(self, whose: Whose, pid: int, tells: int, life: int) -> None:
-        self.whose, self.pid, self.tells, self.life = whose, pid, tells, life
+    def __init__(self, whose: Whose, pid: int, tells: int, life: int, clerk: Optional[Clerk] = None) -> None:
+        self.whose, self.pid, self.tells, self.life, self.clerk = whose, pid, tells, life, clerk or Clerk()
         self.rest, self.heard, self.is_open = b"", time.monotonic(), True
-        # how many rows came, and how many it says it told, once it has ended
-        self.rows = 0
+        # how many rows came, how often it told what is next, and how many rows it says it told, once it has ended
+        self.rows = self.then = 0
         self.rows_told: Optional[int] = None
         # why it was killed
         self.why: Optional[str] = None
@@ -143,10 +144,20 @@ class Child:
         elif what == "at":
             doing, *numbers = words
             reporter.progress(named(self.whose.name), shown(doing[:80]), *map(number_of, numbers[:2]))
+        elif what == "ask":
+            self.answer(self.clerk.answer(words))
+        elif what == "then":
+            (then,), self.then = words, self.then + 1
+            reporter.then += next_of(then, b"", self.whose) if self.then == 1 else ()
         elif what == "end":
             (self.rows_told,) = map(number_of, words)
         else:
             raise ValueError("no word of a child")
+
+    def answer(self, refusal: Refusal) -> None:
+        """Answers the child, if it reads that."""
+        with contextlib.suppress(OSError):
+            os.write(self.life, spelled(refusal) + b"\n")
 
     def end(self, why: str) -> None:
         """Kills the child and what it started, and keeps the reason."""
@@ -190,9 +201,10 @@ class Child:
         )
 
     def close(self) -> None:
-        """Closes the pipes of the child."""
-        os.close(self.tells)
-        os.close(self.life)
+        """Closes the pipes of the child, and ends what was done for it."""
+        self.clerk.end()
+        for number in (self.tells, self.life):
+            os.close(number)
 
 
 class Crew:
@@ -237,14 +249,14 @@ class Crew:
         for child in self.children.values():
             os.kill(child.pid, number)
 
-    def add(self, whose: Whose, account: pwd.struct_passwd, work: Work) -> None:
-        """Starts a child. If as many as allowed are at work, it waits until one has ended."""
+    def add(self, whose: Whose, account: pwd.struct_passwd, work: Work, clerk: Optional[Clerk] = None) -> None:
+        """Starts a child, with its clerk. If as many as allowed are at work, it waits until one has ended."""
         while len(self.children) >= self.jobs and not self.is_asked:
             self.turn()
         if self.is_asked:
             return
         with blocked() as mask:
-            child = Child(whose, *start(account, work, mask, self.join))
+            child = Child(whose, *start(account, work, mask, self.join), clerk)
             self.children[child.tells] = child
             self.poll.register(child.tells, select.POLLIN)
 

@@ -2,7 +2,7 @@
 import os
 import pwd
 import stat
-from collections.abc import Iterator, Sequence
+from collections.abc import Callable, Iterator, Sequence
 from dataclasses import dataclass, replace
 from typing import NamedTuple, Optional, Union
 
@@ -19,6 +19,7 @@ from ..migration.steps import Options
 from ..program import Program
 from ..terminal import named
 from .accounts import home_of, want_home
+from .clerks import Clerk, Work
 from .telling import Teller
 
 
@@ -45,6 +46,9 @@ class Migrant:
     is_left: bool = False
     why_not: Optional[Left] = None
     beside: tuple[bytes, ...] = ()
+    # where the spool has the mailbox, or would have it, and further mailboxes of the same account
+    place: bytes = b""
+    others: tuple[bytes, ...] = ()
 
     def path_of(self, name: bytes) -> bytes:
         """The path of this name in the home."""
@@ -54,6 +58,19 @@ class Migrant:
     def tree(self) -> Optional[bytes]:
         """The path of the folder of mailboxes, if one is asked for."""
         return self.path_of(self.home.tree) if self.home.tree else None
+
+    def clerk(self) -> Clerk:
+        """What root does for the child."""
+        return Clerk()
+
+    def of_child(self) -> tuple[Work, Clerk]:
+        """What the child does, and what root does for it."""
+        return self.work, self.clerk()
+
+    @property
+    def unnamed(self) -> tuple[Optional[bytes], ...]:
+        """The paths that are not named beside the user: the mailbox of the spool, and the home."""
+        return self.mailbox, home_of(self.account)
 
     def work(self, teller: Teller, alive: int) -> int:
         """Does the work of a child: the same as a `migrate` that its user runs. Returns the child's status."""
@@ -75,6 +92,10 @@ class Migrant:
         if self.mailbox:
             yield self.mailbox
             yield from self.beside
+        yield from self.names_of_home(relay)
+
+    def names_of_home(self, relay: "Relay") -> Iterator[bytes]:
+        """The same for what is in the home."""
         tree = self.tree
         if not tree:
             return
@@ -130,6 +151,15 @@ class Migrant:
         run_all(self.options, root, names, relay, program, home)
 
 
+class Kind(NamedTuple):
+    """What is done for each user, by which command, and whether that is the way back: then each home is looked at, even
+    if the spool has nothing of its user."""
+
+    migrant: Callable[..., Migrant] = Migrant
+    command: str = "migrate"
+    is_back: bool = False
+
+
 def is_recorded(maildir: bytes, mailbox: bytes) -> bool:
     """Whether the record of a Maildir has a mailbox by its path."""
     with Record.open(maildir, False) as record:
@@ -151,8 +181,7 @@ class Relay(Observer):
 
     def row(self, row: Row, user: Optional[str] = None) -> None:
         """Tells a row. The mailbox of a row may be gone from the spool."""
-        is_unnamed = row.path in (self.migrant.mailbox, self.home)
-        path = b"" if is_unnamed else os.path.relpath(row.path, self.home)
+        path = b"" if row.path in self.migrant.unnamed else os.path.relpath(row.path, self.home)
         path = row.path if row.path in self.migrant.beside or path.startswith(b"../") else path
         self.told.add(row.path)
         self.teller.row(replace(row, path=path), user)

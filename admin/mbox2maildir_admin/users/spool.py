@@ -22,7 +22,7 @@ from ..terminal import named, operand, shown, text_of
 from .accounts import account_of, first_uid, has_mailbox, home_of, is_users, own_name, want_entered, want_user
 from .asked import ACCOUNTS, SPOOL, Sources, Tally
 from .children import Crew
-from .homes import Home, Migrant
+from .homes import Home, Kind, Migrant
 from .telling import Whose
 
 # an account, however many names it has: its number and its home
@@ -32,11 +32,18 @@ Leave = Callable[[bytes, Left], None]
 
 
 class Spool(NamedTuple):
-    """A folder with one mailbox per user, the names of what each home has, and the options of the next command."""
+    """A folder with one mailbox per user, the names of what each home has, the options of the next command, and what is
+    done."""
 
     path: bytes
     home: Home
     options: Options = Options()
+    kind: Kind = Kind()
+
+    @property
+    def is_of_homes(self) -> bool:
+        """Whether each home is looked at, even if there is no mailbox of its user."""
+        return self.kind.is_back or bool(self.home.tree)
 
 
 def migrate_users(
@@ -45,11 +52,11 @@ def migrate_users(
     options: Options,
     reporter: Observer,
     tally: Tally,
-    kind: type[Migrant] = Migrant,
+    kind: Kind = Kind(),
 ) -> None:
-    """Migrates the mailboxes of a spool, and a folder of mailboxes of each home, user by user; or does with them what
-    another kind of user does."""
-    spool = spool._replace(path=os.path.abspath(spool.path), options=options.of_next())
+    """Migrates the mailboxes of a spool, and a folder of mailboxes of each home, user by user; or does something else
+    with them."""
+    spool = spool._replace(path=os.path.abspath(spool.path), options=options.of_next(), kind=kind)
     if options.prepare:
         spool = spool._replace(home=spool.home._replace(locations=locations()))
     names = frozenset(os.listdir(spool.path))
@@ -70,7 +77,7 @@ def migrate_users(
         with Crew(at_once, reporter, functools.partial(report_ended, reporter)) as crew:
             for one in found:
                 reporter.begin()
-                crew.add(one.whose(), one.account, one.migrant(kind, spool.home, options, program).work)
+                crew.add(one.whose(kind), one.account, *one.migrant(kind, spool.home, options, program).of_child())
                 if crew.is_asked:
                     break
         if crew.is_asked:
@@ -112,13 +119,15 @@ def users_of(
         else:
             users.add(name, account)
             tally.count(source)
+    if spool.kind.is_back:
+        users.join()
     return users
 
 
 def user_of(name: bytes, first: int, is_named: bool, spool: Spool) -> pwd.struct_passwd:
     """The account of a name. Raises Left if it is not a user's, and was not asked for by its name."""
     account = account_of(name)
-    want_user(account, first, is_named, spool.path, spool.options.words())
+    want_user(account, first, is_named, spool.path, [spool.kind.command, *spool.options.words()])
     return account
 
 
@@ -132,22 +141,25 @@ class Found(NamedTuple):
     is_left: bool
     why_not: Optional[Left] = None
     beside: tuple[bytes, ...] = ()
+    # where the spool would have the mailbox, and further ones of the account
+    place: bytes = b""
+    others: tuple[bytes, ...] = ()
 
     def size(self) -> int:
         """How many bytes the mailbox has; 0 if there is none."""
         return size_of(self.mailbox) if self.mailbox else 0
 
-    def whose(self) -> Whose:
+    def whose(self, kind: Kind) -> Whose:
         """The user as root knows it."""
         mailboxes = {b"": self.mailbox} if self.mailbox else {}
-        return Whose(
-            shown(self.name), text_of(own_name(self.account)), {**mailboxes, **{one: one for one in self.beside}}
-        )
+        mailboxes.update({one: one for one in self.beside})
+        return Whose(shown(self.name), text_of(own_name(self.account)), mailboxes, kind.is_back)
 
-    def migrant(self, kind: type[Migrant], home: Home, options: Options, program: bytes) -> Migrant:
+    def migrant(self, kind: Kind, home: Home, options: Options, program: bytes) -> Migrant:
         """The user whose child migrates this; if there is a reason why not, only the mailbox."""
         home = home._replace(tree=None) if self.why_not else home
-        return kind(self.account, self.mailbox, home, options, program, self.is_left, self.why_not, self.beside)
+        known = self.account, self.mailbox, home, options, program, self.is_left, self.why_not, self.beside
+        return kind.migrant(*known, self.place, self.others)
 
 
 class Users:
@@ -174,8 +186,17 @@ class Users:
         if mailbox and other is not None:
             self.others.append(Found(name, account, mailbox, False, self.why_not(key, other, mailbox), beside))
             mailbox, is_left, beside = None, True, ()
-        if mailbox or self.spool.home.tree and key not in self.found:
-            self.found[key] = Found(name, account, mailbox, is_left, beside=beside)
+        if mailbox or self.spool.is_of_homes and key not in self.found:
+            place = os.path.join(self.spool.path, name)
+            self.found[key] = Found(name, account, mailbox, is_left, beside=beside, place=place)
+
+    def join(self) -> None:
+        """Gives each account all of its mailboxes."""
+        for one in self.others:
+            key = one.account.pw_uid, home_of(one.account)
+            if key in self.found and one.mailbox:
+                self.found[key] = self.found[key]._replace(others=(*self.found[key].others, one.mailbox))
+        self.others.clear()
 
     def beside_of(self, name: bytes, account: pwd.struct_passwd) -> tuple[bytes, ...]:
         """The files beside the mailbox of this name that may be copies of it. Files of another owner are left."""
@@ -205,14 +226,14 @@ class Users:
         mailbox = os.path.join(self.spool.path, name)
         if has_mailbox(mailbox, account):
             return mailbox
-        if not self.spool.home.tree:
+        if not self.spool.is_of_homes:
             raise Left("no mailbox of that name in %s" % named(self.spool.path), Reason.NO_MAILBOX)
         return None
 
     def why_not(self, key: Key, other: bytes, mailbox: bytes) -> Left:
         """Why the mailbox of a further name of an account is left, and the command that migrates it."""
         paths = operand(os.path.join(key[1], self.spool.home.maildir)), operand(mailbox)
-        then = run_next(ADMIN, "migrate", *self.spool.options.words(), "--folder", "NAME", *paths)
+        then = run_next(ADMIN, self.spool.kind.command, *self.spool.options.words(), "--folder", "NAME", *paths)
         says = "%s is the same user, and its mailbox goes into INBOX" % named(other)
         return Left(says, Reason.SAME_USER, then)
 
@@ -242,7 +263,7 @@ def names_of(spool: Spool, names: Collection[bytes], first: int, pass_over: Call
             found[name] = SPOOL
     # a file that may be a copy goes with its mailbox
     found = {name: source for name, source in found.items() if stem_of(name, found) == name}
-    if spool.home.tree:
+    if spool.is_of_homes:
         for account in pwd.getpwall():
             if is_users(account, first):
                 found.setdefault(own_name(account), ACCOUNTS)

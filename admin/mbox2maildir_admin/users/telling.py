@@ -10,7 +10,7 @@ from typing import Any, NamedTuple, Optional, Union
 from ..faults import Reason
 from ..kinds.making import with_aside
 from ..migration.outcomes import Fate, Observer, Row
-from ..nexts import WITH_FILES, Answer, Command, Does, Quote, Remark, Task, Todo, task
+from ..nexts import WITH_FILES, Answer, Command, Does, Next, Quote, Remark, Task, Todo, task
 from ..progress import Spent
 from ..terminal import shown, text_of
 
@@ -61,6 +61,23 @@ class Teller(Observer):
             words = ["row", *words_of_row(replace(row, remarks=(), quotes=(), next=task(Todo.ASK_USER)))]
         self.tell(*words)
 
+    def next(self, then: Next) -> None:
+        """Tells what is to be done once all is done."""
+        self.tell("then", list(map(words_of_step, then)))
+
+    def ask(self, answers: int, *words: object) -> tuple[str, str]:
+        """Asks for what only root can do. Root answers by this pipe. Returns why it was not done, as a sentence and as
+        the word of a reason; nothing if it was. The child ends if root is gone."""
+        self.tell("ask", *words)
+        answer = b""
+        while not answer.endswith(b"\n"):
+            piece = os.read(answers, LONGEST)
+            if not piece:
+                raise KeyboardInterrupt
+            answer += piece
+        why, word = json.loads(answer.decode())
+        return why, word
+
     def end(self) -> None:
         """Tells that nothing follows, and how many rows there were."""
         self.tell("end", self.rows)
@@ -72,12 +89,13 @@ def spelled(words: Sequence[object]) -> bytes:
 
 
 class Whose(NamedTuple):
-    """A user as root knows it: the name that is printed, the name of the account, and the paths of those mailboxes of
-    the spool that a child may be asked for, by the names that it tells."""
+    """A user as root knows it: the name that is printed, the name of the account, the paths of those mailboxes of the
+    spool that a child may be asked for, by the names that it tells, and whether mail is on the way back into these."""
 
     name: str
     user: str
     mailboxes: Mapping[bytes, bytes] = {}
+    is_back: bool = False
 
 
 def words_of_row(row: Row) -> list[Any]:
@@ -105,7 +123,8 @@ def row_of(words: list[Any], whose: Whose) -> Row:
         row,
         remarks=tuple(remark_of(*one) for one in few(remarks)),
         quotes=tuple(quote_of(*one) for one in few(quotes)),
-        next=tuple(step_of(one, row.path, whose) for one in few(steps)),
+        next=next_of(steps, row.path, whose),
+        is_back=whose.is_back,
     )
 
 
@@ -125,6 +144,11 @@ def few(told: list[Any]) -> list[Any]:
     if len(told) > MOST:
         raise ValueError("too many")
     return told
+
+
+def next_of(steps: list[Any], path: bytes, whose: Whose) -> Next:
+    """Reads what a child told of what is to be done with a path."""
+    return tuple(step_of(one, path, whose) for one in few(steps))
 
 
 def quote_of(line: object, text: str, is_around: object) -> Quote:

@@ -10,7 +10,8 @@ from mbox2maildir_admin.back import reading, returning, several
 from mbox2maildir_admin.back.beside import Beside
 from mbox2maildir_admin.back.dialect import Dialect, Letter
 from mbox2maildir_admin.back.mails import sorted_mail
-from mbox2maildir_admin.back.places import Places, make_mailbox
+from mbox2maildir_admin.back.keeping import make_mailbox
+from mbox2maildir_admin.back.places import Names, Places
 from mbox2maildir_admin.back.reading import Forms, Held, messages_by, reading_now, takes_mail
 from mbox2maildir_admin.back.steps import How
 from mbox2maildir_admin.back.several import Several
@@ -66,7 +67,7 @@ class BackHome(HomeTest):
         listener = Listener()
         with Record.open(self.root, not how.get("dry")) as record:
             one = Several(Function(), self.root, record, How(now=True, **how), listener)
-            one.run(Places(self.root, record, paths), copies)
+            one.run(Places(self.root, record, Names(paths)), copies)
         return listener.rows
 
     def fates(self, rows: list[Row]) -> dict[str, tuple[Fate, object]]:
@@ -112,10 +113,10 @@ class BackTest(BackHome):
         self.deliver(".sent")
         lock, texts, unlink = self.tree / "sent.lock", [], os.unlink
 
-        def keep(path: bytes) -> None:
+        def keep(path: bytes, **where: Any) -> None:
             if path == os.fsencode(str(lock)):
                 texts.append(lock.read_bytes())
-            unlink(path)
+            unlink(path, **where)
 
         with mock.patch("os.unlink", keep):
             self.back()
@@ -123,6 +124,10 @@ class BackTest(BackHome):
         self.back(dry=True)
         self.assertTrue(lock.exists())
         self.assertEqual(self.fates(self.back()), {"mail/sent": (Fate.NOTHING_NEW, 0)})
+        self.assertFalse(lock.exists())
+        # the next run may name another mailbox alone
+        lock.write_bytes(texts[0])
+        self.back("spool/mia")
         self.assertFalse(lock.exists())
 
     def test_what_was_deleted_since_stays_so(self) -> None:
@@ -293,7 +298,7 @@ class PartsTest(HomeTest):
             (self.home / name).parent.mkdir(exist_ok=True)
             (self.home / name).write_bytes(ONE)
         with Record.open(self.root, False) as record:
-            places = Places(self.root, record, [os.fsencode(str(self.home / "mail"))])
+            places = Places(self.root, record, Names([os.fsencode(str(self.home / "mail"))]))
             self.assertTrue(places.beside(os.fsencode(str(self.home / "mail/x.gz")), b".x").path.endswith(b"/x-back-3"))
             with mock.patch.object(mailboxes, "NAMES", 2), self.assertRaises(Left):
                 places.beside(os.fsencode(str(self.home / "mail/x")), b".x")

@@ -2,13 +2,24 @@
 another program."""
 import contextlib
 import errno
+import fcntl
 import os
 import time
 from pathlib import Path
 from unittest import mock
 
 from mbox2maildir_admin.faults import Left, Reason
-from mbox2maildir_admin.mbox.lock_file import drop_left, lock_file_of
+from mbox2maildir_admin.mbox.lock_file import (
+    CONTENT,
+    Spot,
+    content_for,
+    drop_left,
+    drop_lock,
+    is_left,
+    lock_file_of,
+    make_lock,
+    opened_if_left,
+)
 from mbox2maildir_admin.mbox.locks import READING, WRITING, open_mailbox
 from mbox2maildir_admin.mbox.mailbox import Mailbox
 
@@ -48,11 +59,13 @@ class LockFileTest(FolderTest):
         link = self.path + b"-link"
         os.symlink(self.path, link)
         for path in (self.path, link):
-            self.left()
-            drop_left(path, b"N")
-            self.assertTrue(self.lock.exists())
-            drop_left(path, b"M")
-            self.assertFalse(self.lock.exists())
+            for owner in (b"M", b"N"):
+                self.left()
+                drop_left(path, owner)
+                self.assertFalse(self.lock.exists())
+            with lock_file_of(self.mailbox, b"M"):
+                drop_left(path, b"M")
+                self.assertTrue(self.lock.exists())
         self.lock.write_bytes(b"17\n")
         drop_left(self.path, b"M")
         self.assertEqual(self.lock.read_bytes(), b"17\n")
@@ -64,9 +77,22 @@ class LockFileTest(FolderTest):
                 self.fail("it is locked")
             self.assertEqual((raised.exception.reason, self.lock.read_bytes()), (Reason.LOCKED, text))
         self.lock.unlink()
+        for owner in (b"M", b"N"):
+            with lock_file_of(self.mailbox, owner):
+                with self.assertRaises(Left), lock_file_of(self.mailbox, b"M"):
+                    self.fail("it is locked")
+                self.assertTrue(self.lock.exists())
         self.left(b"N")
-        with self.assertRaises(Left), lock_file_of(self.mailbox, b"M"):
-            self.fail("it is locked")
+        with lock_file_of(self.mailbox, b"M"):
+            self.assertEqual(self.mailbox.remarks, [])
+        self.assertFalse(self.lock.exists())
+
+    def test_whoever_reads_says_that_a_killed_run_left_it(self) -> None:
+        self.left()
+        os.utime(self.path, (1e9, 1e9))
+        with open_mailbox(self.path) as mailbox:
+            self.assertIn("left by a `back` that was killed", mailbox.remarks[0].says)
+        self.assertTrue(self.lock.exists())
 
     def test_an_old_one_stays(self) -> None:
         self.lock.write_bytes(b"17\n")
@@ -97,3 +123,84 @@ class LockFileTest(FolderTest):
                 with self.assertRaises(Left) as raised:
                     open_mailbox(self.path, quiet=False, kind=kind)
                 self.assertEqual(raised.exception.reason, Reason.LOCKED)
+
+
+class OwnLockTest(FolderTest):
+    def setUp(self) -> None:
+        super().setUp()
+        self.spot = Spot(os.path.join(self.here, b"box.lock"))
+
+    def names(self) -> list[bytes]:
+        """What is there."""
+        return sorted(os.listdir(self.here))
+
+    def test_content(self) -> None:
+        self.assertTrue(CONTENT.match(content_for(b"M")))
+        self.assertNotEqual(content_for(b"M"), content_for(b"N"))
+        self.assertIsNone(CONTENT.match(content_for(b"M") + b"more"))
+
+    def test_it_is_held_until_it_is_closed(self) -> None:
+        number = make_lock(self.spot, b"M")
+        self.assertEqual((self.names(), is_left(self.spot)), ([b"box.lock"], False))
+        drop_lock(self.spot, b"M")
+        self.assertEqual(self.names(), [b"box.lock"])
+        os.close(number)
+        self.assertTrue(is_left(self.spot))
+        drop_lock(self.spot, b"another owner")
+        self.assertEqual(self.names(), [])
+
+    def test_in_an_open_folder(self) -> None:
+        folder = os.open(self.here, os.O_RDONLY)
+        self.addCleanup(os.close, folder)
+        spot = Spot(b"box.lock", folder)
+        number = make_lock(spot, b"M")
+        self.assertEqual(self.names(), [b"box.lock"])
+        with self.assertRaises(FileExistsError):
+            make_lock(spot, b"M")
+        os.close(number)
+        drop_lock(spot, b"M")
+        self.assertEqual(self.names(), [])
+
+    def test_what_a_killed_run_had_begun_is_in_nobodys_way(self) -> None:
+        self.write(".mbox2maildir.box.lock", b"1")
+        os.close(make_lock(self.spot, b"M"))
+        self.assertEqual(self.names(), [b"box.lock"])
+
+    def test_one_that_is_replaced_meanwhile(self) -> None:
+        os.close(make_lock(self.spot, b"M"))
+        flock = fcntl.flock
+
+        def replace(number: int, how: int) -> None:
+            os.unlink(self.spot.name)
+            flock(number, how)
+
+        with mock.patch("fcntl.flock", replace):
+            self.assertIsNone(opened_if_left(self.spot, b"M"))
+        self.assertIsNone(opened_if_left(self.spot, b"M"))
+
+    def test_what_is_none(self) -> None:
+        os.symlink("/dev/null", self.spot.name)
+        self.assertFalse(is_left(self.spot))
+        os.unlink(self.spot.name)
+        os.mkfifo(self.spot.name)
+        self.assertFalse(is_left(self.spot))
+
+    def test_a_disk_without_flock(self) -> None:
+        with mock.patch("fcntl.flock", side_effect=OSError(errno.ENOLCK, "no locks")):
+            os.close(make_lock(self.spot, b"M"))
+            self.assertFalse(is_left(self.spot))
+            drop_lock(self.spot, b"N")
+            self.assertEqual(self.names(), [b"box.lock"])
+            drop_lock(self.spot, b"M")
+        self.assertEqual(self.names(), [])
+
+    def test_a_user_who_may_not_remove_it(self) -> None:
+        os.close(make_lock(self.spot, b"M"))
+        with mock.patch("os.unlink", side_effect=PermissionError(errno.EACCES, "no")):
+            drop_lock(self.spot, b"M")
+        self.assertEqual(self.names(), [b"box.lock"])
+
+    def test_a_name_that_is_taken_meanwhile(self) -> None:
+        with mock.patch("os.link", side_effect=FileExistsError), self.assertRaises(FileExistsError):
+            make_lock(self.spot, b"M")
+        self.assertEqual(self.names(), [])

@@ -10,7 +10,7 @@ from pathlib import Path
 from unittest import mock
 
 from mbox2maildir_admin.faults import Left
-from mbox2maildir_admin.mbox import locks
+from mbox2maildir_admin.mbox import lock_file, locks
 from mbox2maildir_admin.mbox.locks import open_mailbox
 
 from tests.support.mail import A, B
@@ -54,7 +54,8 @@ class LocksTest(unittest.TestCase):
     def said(self, path: bytes = b"", busy: bool = False) -> list[str]:
         """What is said while a mailbox is opened, and what is to be said of it."""
         said: list[str] = []
-        with mock.patch.object(locks, "time", Clock(self.path if busy else b"")):
+        clock = Clock(self.path if busy else b"")
+        with mock.patch.object(locks, "time", clock), mock.patch.object(lock_file, "time", clock):
             with open_mailbox(path or self.path, say=lambda doing, *_: said.append(doing)) as mailbox:
                 return said + [remark.says for remark in mailbox.remarks]
 

@@ -77,7 +77,7 @@ class WantUserTest(unittest.TestCase):
     def why(self, one: pwd.struct_passwd, is_named: bool = False) -> str:
         """Why an account is left, if the first user has the number 1000."""
         with self.assertRaises(Left) as raised:
-            want_user(one, 1000, is_named, b"/var/mail", ["--dry-run"])
+            want_user(one, 1000, is_named, b"/var/mail", ["migrate", "--dry-run"])
         return told(raised.exception)
 
     def test_users(self) -> None:

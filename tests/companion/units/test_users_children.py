@@ -13,7 +13,8 @@ from mbox2maildir_admin.migration.rows import Reporter
 from mbox2maildir_admin.signals import ENDING
 from mbox2maildir_admin.terminal import LINE
 from mbox2maildir_admin.users import children
-from mbox2maildir_admin.users.children import UNREADABLE, Child, Crew, Work
+from mbox2maildir_admin.users.children import UNREADABLE, Child, Crew
+from mbox2maildir_admin.users.clerks import Work
 from mbox2maildir_admin.users.telling import LONGEST, Teller, Whose
 
 from tests.support.units import printed

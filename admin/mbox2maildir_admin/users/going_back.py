@@ -1,0 +1,158 @@
+"""The way back of one user: the mail that is new in the Maildir in the home goes into the inbox of the spool and into
+the mailboxes of the home, with the user's rights."""
+import contextlib
+import functools
+import os
+from collections.abc import Iterable, Iterator, Sequence
+from dataclasses import dataclass, replace
+from typing import NamedTuple, Optional
+
+from ..back.keeping import Keeper
+from ..back.places import Names
+from ..back.several import bring_all, want_migrated
+from ..back.steps import How
+from ..faults import Left, Reason, fault_of
+from ..ledger.strangers import folders_in
+from ..maildir.files import names_of
+from ..mbox.bases import BASE
+from ..mbox.lock_file import hold, look_for_lock_file, spot_of
+from ..mbox.mailbox import Mailbox
+from ..migration.outcomes import Observer
+from ..migration.steps import Options
+from ..program import Program
+from .accounts import home_of
+from .asked import Sources, Tally
+from .clerks import Clerk
+from .homes import Kind, Migrant, Relay, is_recorded
+from .inboxes import MAKE, RELEASE, TAKE, Inboxes
+from .spool import Spool, migrate_users
+from .telling import Teller
+
+
+# what is said of the mail of an inbox whose mailbox root has left
+NO_INBOX = "the mailbox of the spool is left"
+
+
+class Way(NamedTuple):
+    """How the mail of users goes back, whether what they moved is copied, and the folder of their inboxes, unless
+    nothing is written."""
+
+    how: How = How()
+    copies: bool = False
+    inboxes: Optional[Inboxes] = None
+
+
+@dataclass(frozen=True)
+class Returner(Migrant):
+    """A user whose mail goes back."""
+
+    way: Way = Way()
+
+    @property
+    def unnamed(self) -> tuple[Optional[bytes], ...]:
+        """The paths that are not named beside the user: the mailbox of the spool, even if it is not there, and the
+        home."""
+        return self.place, home_of(self.account)
+
+    @property
+    def boxes(self) -> tuple[bytes, ...]:
+        """The mailboxes that the spool has of the user, or would have."""
+        return (*([] if self.is_left else [self.place]), *self.others)
+
+    def clerk(self) -> Clerk:
+        """What root does for the child: it makes the inbox, and FILE.lock, which the child may not."""
+        if not self.way.inboxes:
+            return Clerk()
+        owner = b"%d %s" % (self.account.pw_uid, self.home.maildir)
+        return self.way.inboxes.clerk(self.account, tuple(map(os.path.basename, self.boxes)), owner)
+
+    def has_more(self, root: bytes) -> bool:
+        """Whether there is a Maildir, even if no mailbox is there: its mail is left then."""
+        return os.path.lexists(root)
+
+    def names(self, relay: Relay) -> Iterator[bytes]:
+        """The paths that mail may go back to."""
+        yield from self.boxes
+        yield from self.names_of_home(relay)
+
+    def run(self, root: bytes, names: list[bytes], relay: Relay, program: Program) -> None:
+        """Brings the mail of a Maildir back into the mailboxes at these paths."""
+        has_none = not self.mailbox and names == [self.place]
+        if has_none and not os.path.lexists(root):
+            return
+        # what is there came from no old mailbox if its user has none
+        if not has_none or has_own_names(root):
+            want_migrated(root)
+        paths = [one for one in names if one not in self.others or is_recorded(root, one)]
+        keeper = Asking(relay.teller, program.alive, self.boxes)
+        how = replace(self.way.how, keeper=keeper)
+        names_back = Names(paths, self.tree, NO_INBOX)
+        relay.teller.next(bring_all(program, root, names_back, how, self.way.copies, relay))
+
+
+def has_own_names(root: bytes) -> bool:
+    """Whether a file of a Maildir has a name that only this program gives."""
+    return any(BASE.match(name) for folder in folders_in(root) for name, _ in names_of(folder))
+
+
+class Asking(Keeper):
+    """Has root make the inbox of the spool, and FILE.lock beside it. What is in the home is the user's own."""
+
+    def __init__(self, teller: Teller, answers: Optional[int], boxes: Sequence[bytes]) -> None:
+        self.teller, self.answers = teller, answers
+        self.places = {os.path.realpath(path): place for place, path in enumerate(boxes)}
+
+    def ask(self, what: str, path: bytes) -> Optional[Left]:
+        """Asks root for something that it does beside an inbox. Returns why it did not."""
+        assert self.answers is not None, "a child has it"
+        why, word = self.teller.ask(self.answers, what, self.places[os.path.realpath(path)])
+        return Left(why, Reason.by(word)) if why else None
+
+    @contextlib.contextmanager
+    def locked(self, mailbox: Mailbox, owner: bytes) -> Iterator[None]:
+        """Holds FILE.lock for an open mailbox. Raises Left if another program has it."""
+        if os.path.realpath(mailbox.path) not in self.places:
+            with super().locked(mailbox, owner):
+                yield
+            return
+        said, refusal = len(mailbox.remarks), self.ask(TAKE, mailbox.path)
+        if refusal and refusal.reason is Reason.LOCKED:
+            look_for_lock_file(mailbox)
+        # an old one counts for nothing
+        if refusal and len(mailbox.remarks) == said:
+            raise refusal
+        number = None if refusal else hold(spot_of(mailbox.path))
+        try:
+            yield
+        finally:
+            if number is not None:
+                os.close(number)
+            if not refusal:
+                self.ask(RELEASE, mailbox.path)
+
+    def make(self, path: bytes) -> None:
+        """Makes a mailbox, if it is not there. Raises Left if root can't make it."""
+        if os.path.realpath(path) not in self.places:
+            super().make(path)
+            return
+        refusal = self.ask(MAKE, path)
+        if refusal:
+            raise refusal
+
+    def drop_locks(self, paths: Iterable[bytes], owner: bytes) -> None:
+        """Removes the locks that a killed run left in the home. Root has removed those of the spool."""
+        super().drop_locks([path for path in paths if os.path.realpath(path) not in self.places], owner)
+
+
+def back_users(
+    spool: Spool, asked: Optional[Sources], options: Options, way: Way, observer: Observer, tally: Tally
+) -> None:
+    """Brings the mail of the users of a spool back."""
+    with contextlib.ExitStack() as stack:
+        if not way.how.dry:
+            with fault_of(spool.path):
+                way = way._replace(inboxes=stack.enter_context(Inboxes.open(spool.path)))
+        kind = Kind(functools.partial(Returner, way=way), "back", True)
+        migrate_users(spool, asked, options, observer, tally, kind)
+        # users end in any order
+        observer.then = tuple(sorted(observer.then, key=str))

@@ -1,0 +1,147 @@
+"""What root does for a child in the folder of the inboxes, in which users may make no files: it makes an inbox that is
+not there, and FILE.lock. A child never gets the rights for that, and names nothing: it says which of its own inboxes it
+means."""
+import contextlib
+import os
+import pwd
+import stat
+from collections.abc import Iterator, Sequence
+from typing import Any, Optional
+
+from ..faults import Left, Reason
+from ..mbox.lock_file import LOCK, Spot, drop_lock, taken
+from ..terminal import named
+from .clerks import Clerk, Refusal
+from .telling import number_of
+
+# what a child asks for
+MAKE, TAKE, RELEASE = "make", "lock", "unlock"
+# how a mailbox is made, and the mode that one gets if all others have it, for deliveries with the rights of its group
+OWN, SHARED = 0o600, 0o660
+MADE = os.O_WRONLY | os.O_CREAT | os.O_EXCL
+
+
+class Inboxes:
+    """A folder of inboxes, which stays open."""
+
+    def __init__(self, path: bytes) -> None:
+        """Opens the folder."""
+        self.path = path
+        self.number = os.open(path, os.O_RDONLY | os.O_DIRECTORY | os.O_CLOEXEC)
+        # the mode of a new inbox, once it is known
+        self.mode: Optional[int] = None
+
+    @classmethod
+    @contextlib.contextmanager
+    def open(cls, path: bytes) -> Iterator["Inboxes"]:
+        """Opens a folder of inboxes, in which no lock of a run is left that was killed."""
+        self = cls(os.path.abspath(path))
+        try:
+            self.drop_locks()
+            yield self
+        finally:
+            os.close(self.number)
+
+    def drop_locks(self) -> None:
+        """Removes the locks that a killed run left, whoever's they are."""
+        for name in os.listdir(self.number):
+            if os.fsencode(name).endswith(LOCK):
+                drop_lock(self.spot(os.fsencode(name)))
+
+    def spot(self, name: bytes) -> Spot:
+        """Where a name of the folder is."""
+        return Spot(name, self.number)
+
+    def mode_of_new(self) -> int:
+        """The mode of a new inbox: its user's alone, unless all inboxes belong to the group of the folder, which may
+        write to each."""
+        if self.mode is None:
+            group, names = os.fstat(self.number).st_gid, map(os.fsencode, os.listdir(self.number))
+            states = [os.lstat(self.spot_path(name)) for name in names if not name.endswith(LOCK)]
+            boxes = [one for one in states if stat.S_ISREG(one.st_mode) and one.st_uid != 0]
+            are_shared = all(stat.S_IMODE(one.st_mode) == SHARED and one.st_gid == group for one in boxes)
+            self.mode = SHARED if boxes and are_shared else OWN
+        return self.mode
+
+    def spot_path(self, name: bytes) -> bytes:
+        """The path of a name of the folder."""
+        return os.path.join(self.path, name)
+
+    def make(self, name: bytes, account: pwd.struct_passwd) -> None:
+        """Makes the inbox of an account, unless something has its name. It gets the name once it belongs to its user
+        and to the group of the folder. It is on the disk then."""
+        mode, spot = self.mode_of_new(), self.spot(name)
+        beside = spot.beside()
+        with contextlib.suppress(FileNotFoundError):
+            beside.unlink()
+        number = beside.open(MADE, OWN)
+        try:
+            os.fchown(number, account.pw_uid, os.fstat(self.number).st_gid)
+            os.fchmod(number, mode)
+            os.fsync(number)
+            with contextlib.suppress(FileExistsError):
+                beside.link(spot)
+        finally:
+            os.close(number)
+            beside.unlink()
+        os.fsync(self.number)
+
+    def clerk(self, account: pwd.struct_passwd, names: Sequence[bytes], owner: bytes) -> "InboxClerk":
+        """What root does for the child of an account whose inboxes have these names. No other run is at work for the
+        owner of the locks at the same time."""
+        return InboxClerk(self, account, names, owner)
+
+
+class InboxClerk(Clerk):
+    """Makes the inboxes of one user, and their locks."""
+
+    def __init__(self, inboxes: Inboxes, account: pwd.struct_passwd, names: Sequence[bytes], owner: bytes) -> None:
+        self.inboxes, self.account, self.names, self.owner = inboxes, account, names, owner
+        # the descriptors of the locks that are held, by the places of their names
+        self.held: dict[int, int] = {}
+
+    def answer(self, words: list[Any]) -> Refusal:
+        """Does what the child asks for. Raises an error of Python's if it may not ask for that."""
+        what, number = words
+        place = number_of(number)
+        name = self.names[place]
+        does = {MAKE: self.make, TAKE: self.take, RELEASE: self.release}[what]
+        try:
+            does(place, name)
+        except Left as left:
+            return Refusal(str(left), left.reason.word)
+        except OSError as error:
+            return Refusal("%s: %s" % (named(self.inboxes.spot_path(name)), error.strerror), Reason.ERROR.word)
+        return Refusal()
+
+    def make(self, place: int, name: bytes) -> None:
+        """Makes an inbox that is not there."""
+        del place
+        self.inboxes.make(name, self.account)
+
+    def take(self, place: int, name: bytes) -> None:
+        """Takes the lock of an inbox. Where root may make none either, the other locks must do. Raises Left if it is
+        there."""
+        self.release(place, name)
+        spot = self.inboxes.spot(name + LOCK)
+        drop_lock(spot, self.owner)
+        number = taken(spot, self.owner)
+        if number is not None:
+            self.held[place] = number
+
+    def release(self, place: int, name: bytes) -> None:
+        """Releases the lock of an inbox, if it is held."""
+        number = self.held.pop(place, None)
+        if number is not None:
+            try:
+                spot = self.inboxes.spot(name + LOCK)
+                if spot.is_open_as(number):
+                    spot.unlink()
+            finally:
+                os.close(number)
+
+    def end(self) -> None:
+        """Releases all locks, since the child has ended."""
+        for place in list(self.held):
+            with contextlib.suppress(OSError):
+                self.release(place, self.names[place])
