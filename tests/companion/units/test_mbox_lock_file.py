@@ -15,6 +15,7 @@ from mbox2maildir_admin.mbox.lock_file import (
     content_for,
     drop_left,
     drop_lock,
+    hold,
     is_left,
     lock_file_of,
     make_lock,
@@ -148,6 +149,16 @@ class OwnLockTest(FolderTest):
         self.assertTrue(is_left(self.spot))
         drop_lock(self.spot, b"another owner")
         self.assertEqual(self.names(), [])
+
+    def test_it_is_held_for_whoever_it_was_made_for(self) -> None:
+        self.assertIsNone(hold(self.spot))
+        number = make_lock(self.spot, b"M")
+        held = hold(self.spot)
+        assert held is not None
+        os.close(number)
+        self.assertFalse(is_left(self.spot))
+        os.close(held)
+        self.assertTrue(is_left(self.spot))
 
     def test_in_an_open_folder(self) -> None:
         folder = os.open(self.here, os.O_RDONLY)
