@@ -69,7 +69,10 @@ _mbox2maildir_admin() {
         back)
             _arguments '--help[print help]' '--dry-run[print what would go back]' '--moved[what people moved]:word:(stay copy)' \
                 '--dovecot[carry over UIDs, keywords and subscriptions]' '--now[wait for no quiet minute]' '--json[print objects of JSON]' \
-                '--report[write these objects to a new file]:file:_files' ':Maildir:_path_files -/' '*:mailbox:_files'
+                '--report[write these objects to a new file]:file:_files' '--users[go back to a spool, each mailbox as its user]' \
+                '--maildir[Maildir of each home]:name' '--tree[folder of mailboxes of each home]:name' \
+                '--jobs[how many users at a time]:number' '--names[file with the names of users]:file:_files' \
+                ':Maildir, or old spool:_path_files -/' '*:mailbox:_files'
             ;;
         verify)
             _arguments '--help[print help]' '--json[print objects of JSON]' '--all[name files without mail too]' \

@@ -45,7 +45,7 @@ LINES = [
     ("mbox2maildir-admin dates --h", ["--header", "--help"]),
     ("mbox2maildir-admin dates --header M", ["Maildir/"]),
     ("mbox2maildir-admin dates --header Maildir a", ["archive.mbox"]),
-    ("mbox2maildir-admin back --m", ["--moved"]),
+    ("mbox2maildir-admin back --m", ["--maildir", "--moved"]),
     ("mbox2maildir-admin back --moved c", ["copy"]),
     ("mbox2maildir-admin back --moved copy M", ["Maildir/"]),
     ("mbox2maildir-admin back Maildir archive.mbox a", ["archive.mbox"]),

@@ -23,8 +23,9 @@ examples:
   # %s back --users --tree mail /var/mail.old
 
 Exit status: 0 if all mail is in the mailboxes and verified; 1 if something is
-left, for which its line says why, and what to do; 2 if the words are wrong; 130
-after a signal."""
+left, for which its line says why, and what to do; 75 if nothing is left but
+what the same command settles when it is run again; 2 if the words are wrong;
+130 after a signal."""
 
 
 def add_back(command_line: CommandLine) -> None:
@@ -63,7 +64,7 @@ def add_back(command_line: CommandLine) -> None:
     add = command.add_argument_group("for many users, as root").add_argument
     add("--users", action="store_true", help="bring back the mail of each user, from the Maildir in the home")
     add_homes(add, "bring back to")
-    add("--jobs", metavar="N", help="N users at a time (otherwise up to 8)")
+    add("--jobs", metavar="N", help="go back with N users at a time (otherwise up to 8)")
 
 
 def do_back(given: argparse.Namespace) -> Status:
