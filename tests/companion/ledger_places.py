@@ -5,6 +5,7 @@ records of versions before 1.0. Nothing is doubled or lost unsaid. The environme
 worlds are tried.
 """
 import gzip
+import itertools
 import os
 import shutil
 from collections import Counter
@@ -22,6 +23,7 @@ from tests.support.archives import (
     mail_of,
     run_rules,
     says,
+    texts_of,
     want_offered,
     want_said,
 )
@@ -367,6 +369,31 @@ def rule_8_the_mail_of_a_folder_was_deleted(home: Home) -> None:
     home.write("OLD", letters(*FIVE, 6, fields=RO))
     home.done("OLD")
     home.has(6)
+
+
+def rule_4_a_renamed_file(home: Home) -> None:
+    """Another program gave the file of a message another name, and the mailbox that brought it may have lost it since.
+    A mailbox that has the message twice gets one more, and nothing of it is gone: its undo takes that one away again.
+    If the file was deleted, the row says so, and the undo leaves a mailbox that still has the message the new file."""
+    for is_lost, is_deleted in itertools.product((False, True), (False, True)):
+        home.begin()
+        home.write("OLD", letters(5, 6))
+        home.done("OLD")
+        path = home.those(5)[0]
+        if is_deleted:
+            path.unlink()
+        else:
+            path.rename(path.parent.parent / "cur/17000.1.host:2,S")
+        if is_lost:
+            home.write("OLD", letters(6))
+            home.done("OLD")
+        home.write("TWICE", letters(5, 5))
+        row = home.done("TWICE")["TWICE"]
+        home.has(*[5] * (2 - is_deleted), 6, why=(is_lost, is_deleted, row))
+        if ("gone" in texts_of(row)) != is_deleted or "by no mailbox" in texts_of(row):
+            raise Failed(f"deleted: {is_deleted}: {row}")
+        home.undo("TWICE")
+        home.has(*[5] * (not (is_lost and is_deleted)), 6, why=(is_lost, is_deleted))
 
 
 def without_ledger(home: Home) -> None:
@@ -810,6 +837,7 @@ RULES = [
     rule_1_nobody_deleted,
     rule_1_killed_and_moved,
     rule_3_filed_into_another_folder,
+    rule_4_a_renamed_file,
     rule_8_a_folder_was_renamed,
     rule_8_moved_and_more,
     rule_8_moved_and_killed,

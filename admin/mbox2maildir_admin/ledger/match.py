@@ -17,6 +17,7 @@ from ..mbox.inventory import Inventory
 from ..units import Place, Say, silent
 from .batches import Line, State
 from .files import Files
+from .lacking import missing, unfiled
 from .ledger import Ledger
 from .lines import FOREIGN, NAMELESS, PLACED, SHARED, Brought, counted_in, word_for_others
 
@@ -222,14 +223,16 @@ class Serving:
     """Looks for the files of some new messages, which have the same core."""
 
     def __init__(self, match: Match, places: Sequence[int]) -> None:
-        self.match, self.waiting, self.places = match, list(places), len(places)
-        # the names of files that are marked as deleted, and stand for none of them
+        self.match, self.waiting, self.places = match, list(places), places
+        # the names of files that are marked as deleted, and stand for none of them; and the lines of other mailboxes
+        # that do, though their names are not there
         self.refused: set[bytes] = set()
+        self.unfiled: list[Line] = []
         self.lines = match.lines.get(match.inventory.core(places[0]), [])
 
     def count(self) -> int:
         """For how many messages a file was taken."""
-        return self.places - len(self.waiting)
+        return len(self.places) - len(self.waiting)
 
     def take(self, word: bytes, name: bytes, places: Sequence[int] = (), most: int = 1) -> bool:
         """Takes a file for one of the messages that wait, or for one of these, if it may stand for it, and stands for
@@ -267,16 +270,18 @@ class Serving:
 
     def share(self, bare: bytes, count: int) -> None:
         """Takes so many messages that other mailboxes brought in this form. Files that are there come first."""
-        path, claims = self.match.path, self.claims(bare)
-        lines = [one for one in self.lines if one.path != path and one.state in (State.HELD, State.FORMER)]
-        for line in sorted(lines, key=lambda line: not self.is_there(line.message.name)):
+        path, claims, taken = self.match.path, self.claims(bare), self.match.taken
+        several = (one for one in self.lines if one.path != path and one.state in (State.HELD, State.FORMER))
+        lines = [one for one in several if one.message.bare == bare]
+        gone = set(unfiled(lines, lambda name: self.is_there(name) and not taken[name]))
+        for line in sorted(lines, key=gone.__contains__):
             one, word = line.message, word_for_others(line.message.word)
             if count <= 0 or not self.waiting:
                 return
-            if one.bare == bare and self.take(word, one.name, most=max(1, claims[one.name])):
-                count, seen = count - 1, self.match.seen
-                seen.shared[line.path] += 1
-                seen.gone[line.path] += not self.is_there(one.name)
+            if self.take(word, one.name, most=max(1, claims[one.name])):
+                count -= 1
+                self.match.seen.shared[line.path] += 1
+                self.unfiled += [line] if line in gone else []
 
     def take_own(self) -> None:
         """Takes what a killed run placed of the mailbox, or found there."""
@@ -298,23 +303,35 @@ class Serving:
             if self.waiting and one.name in self.match.present and self.take(word, one.name):
                 self.match.seen.regained += line.state is State.FORMER
 
+    def unnamed(self, bare: bytes) -> list[bytes]:
+        """The files of this form that no line names. Those come last that may stand for a message that waits."""
+        names, digest_at = {line.message.name for line in self.lines}, self.match.inventory.table.digest
+        digests = dict.fromkeys(map(digest_at, sorted(self.places, key=set(self.waiting).__contains__)))
+        own = (name for digest in digests for name in self.match.files.own_names(digest))
+        several = dict.fromkeys(itertools.chain(own, self.match.strangers.get(bare, ())))
+        return [name for name in several if name not in names and name not in self.match.taken]
+
     def take_strangers(self, bare: bytes) -> None:
         """Takes files that no line names. They stand first for messages of this form whose files are gone: somebody
         renamed them."""
-        names, claims = {line.message.name for line in self.lines}, self.claims(bare)
+        if not (self.waiting or self.unfiled):
+            return
+        match, files = self.match, self.unnamed(bare)
+        held = (line for line in self.lines if line.state is State.HELD and line.message.bare == bare)
+        own = unfiled((line for line in held if line.path == match.path), self.is_there)
+        for line in missing([*own, *self.unfiled], collections.Counter({bare: len(files)})):
+            if line.path != match.path:
+                match.seen.gone[line.path] += 1
+        claims = self.claims(bare) | collections.Counter(line.message.name for line in self.unfiled)
         spare = sum(claims.values()) - sum(map(self.is_there, claims))
+        match.taken.update(files[:spare])
         for place in list(self.waiting):
-            digest = self.match.inventory.table.digest(place)
-            for name in [*self.match.files.own_names(digest), *self.match.strangers.get(bare, ())]:
-                if name in names or name in self.match.taken or place not in self.waiting:
-                    continue
-                if spare:
-                    spare -= 1
-                    self.match.taken[name] += 1
-                elif self.take(FOREIGN, name, [place]):
-                    self.match.seen.foreign.append(name)
-                    # what `convert` has placed gets dates and flags too
-                    self.match.fresh.update([place] if is_own(name) else ())
+            its = {*match.files.own_names(match.inventory.table.digest(place)), *match.strangers.get(bare, ())}
+            name = next((one for one in files[spare:] if one in its and self.take(FOREIGN, one, [place])), None)
+            if name:
+                match.seen.foreign.append(name)
+                # what `convert` has placed gets dates and flags too
+                match.fresh.update([place] if is_own(name) else ())
 
     def take_any(self, unnamed: Sequence[bytes]) -> None:
         """Takes any files with the core of the messages: those of the mailbox's own lines first, then those of others,

@@ -8,6 +8,7 @@ from typing import Optional
 
 from ..ledger.batches import Line, State
 from ..ledger.files import forms_in
+from ..ledger.lacking import missing
 from ..ledger.ledger import Ledger
 from ..ledger.lines import BATCH, NAMELESS, NOBODYS, PLACED, Brought, pieces_in
 from ..maildir.files import names_of
@@ -40,7 +41,8 @@ class Shares:
         # files that others have, and that others had once: if these went, nothing would bring them again
         held = (line for line in others if line.state in (State.HELD, State.OPEN) and self.is_last(line))
         holders = {line.message.name: line.path for line in held}
-        self.brought = {line.message.name for line in others if line.state is State.FORMER}
+        former = (line for line in others if line.state is State.FORMER and self.is_last(line))
+        self.brought = {line.message.name for line in former}
         lacking = self.lacking(own, others, has)
         own.sort(key=lambda line: (self.has_it(line), line.number))
         named_once = {line.message.name: line for line in own if line.message.name != NAMELESS}
@@ -72,12 +74,9 @@ class Shares:
         held = [line for line in others if line.state is State.HELD and has[line.message.core]]
         gone = [line for line in held if line.message.name not in self.there or not self.is_last(line)]
         self.strangers = self.renamed_of([*own, *others]) if gone else collections.Counter()
-        spare: collections.defaultdict[str, collections.Counter[bytes]] = collections.defaultdict(self.strangers.copy)
         found: collections.defaultdict[bytes, list[Line]] = collections.defaultdict(list)
-        for line in gone:
-            if spare[line.path][line.message.bare]:
-                spare[line.path][line.message.bare] -= 1
-            else:
+        for path in dict.fromkeys(line.path for line in gone):
+            for line in missing((one for one in gone if one.path == path), self.strangers.copy()):
                 found[line.message.core].append(line)
         return found
 
@@ -90,11 +89,9 @@ class Shares:
 
     def miss(self, line: Line) -> None:
         """Counts a message whose file has no longer its name."""
-        if self.strangers[line.message.bare]:
-            self.strangers[line.message.bare] -= 1
-            self.renamed += 1
-        else:
-            self.gone += 1
+        is_gone = any(missing([line], self.strangers))
+        self.gone += is_gone
+        self.renamed += not is_gone
 
     def take(self, line: Line, has: collections.Counter[bytes], holder: Optional[str], lacking: list[Line]) -> None:
         """Takes a line of the mailbox."""

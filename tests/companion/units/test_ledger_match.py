@@ -212,6 +212,12 @@ OTHERS = (
         "a name that it took twice",
         both(has(ONE, path=OTHER, there=False), has(ONE, path=OTHER)),
         ONE * 2,
+        Found((0, 1), (), ((0, SHARED), (1, SHARED)), 2, 1),
+    ),
+    Case(
+        "a name that it took twice, and another one",
+        both(has(ONE, path=OTHER, there=False), has(ONE, ONE, path=OTHER)),
+        ONE * 2,
         Found((0, 1), (), ((0, SHARED), (1, SHARED)), 2),
     ),
     # of names that no line can have nothing is known
@@ -287,12 +293,41 @@ FILES = (
         TWICE,
         Found((0,), (), ((0, FOREIGN),), foreign=1),
     ),
-    # nor does one stand for what another mailbox no longer has
+    # nor is what another mailbox brought gone then, whether it has that still or not
     Case(
-        "of what another no longer has",
+        "renamed, of another",
+        both(has(ONE, path=OTHER, there=False), lies(ONE, "17.host")),
+        ONE,
+        Found((0,), (), ((0, SHARED),), 1),
+    ),
+    Case(
+        "renamed, of another, and one more",
+        both(has(ONE, path=OTHER, there=False), lies(ONE, "17.host")),
+        ONE * 2,
+        Found((0, 1), (1,), ((0, SHARED),), 1),
+    ),
+    Case(
+        "renamed, of another that no longer has it",
         both(has(ONE, path=OTHER, there=False), lambda case: case.loses(ONE, OTHER), lies(ONE, "17.host")),
         ONE * 2,
-        Found((0, 1), (), ((0, SHARED), (1, FOREIGN)), 1, 1, 1),
+        Found((0, 1), (1,), ((0, SHARED),), 1),
+    ),
+    Case(
+        "one of two renamed",
+        both(has(ONE, there=False), has(ONE, ONE, path=OTHER, there=False), lies(ONE, "17.host")),
+        ONE * 2,
+        Found((1,), (), ((1, SHARED),), 1, 1),
+    ),
+    # one that equals the missing file stands for it before one that may be another message's
+    Case(
+        "renamed, and read",
+        both(
+            has(ONE, path=OTHER, there=False),
+            lambda case: case.place(ONE, named_of(ONE, 2).decode()),
+            lies(ONE, "17.host"),
+        ),
+        ONE + READ,
+        Found((0, 1), (), ((0, SHARED), (1, FOREIGN)), 1, 0, 1),
     ),
     # one that is marked as deleted serves no message that is not
     Case("marked", both(lies(ONE), lambda case: case.trash(ONE)), ONE, Found((0,), (0,))),

@@ -3,7 +3,7 @@ import unittest
 from collections import Counter
 
 from mbox2maildir_admin.ledger.ledger import Ledger
-from mbox2maildir_admin.ledger.lines import SHARED, Brought, note_end
+from mbox2maildir_admin.ledger.lines import LOST, SHARED, Brought, note_end
 from mbox2maildir_admin.undoing.shares import Shares, placings
 
 from tests.support.brought import BOX, OTHER, THIRD, LedgerTest, line_of, named_of
@@ -64,6 +64,12 @@ class SharesTest(LedgerTest):
         found = self.shares(OTHER)
         self.assertEqual((found.bases, found.renamed), (set(), 1))
         self.assertEqual(sum(found.kept.values()), 2)
+
+    def test_what_another_had_once(self) -> None:
+        """A file that it placed stays. One that has its name since goes."""
+        self.placed(BOX, *(one._replace(word=LOST) for one in (FIRST, SECOND)), need=0)
+        found = self.shares(OTHER)
+        self.assertEqual((found.bases, found.former), ({self.base(2)}, 1))
 
     def test_a_mailbox_without_the_message(self) -> None:
         """What it no longer has stays, and what is gone is counted as that."""
