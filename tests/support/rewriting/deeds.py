@@ -7,7 +7,7 @@ from pathlib import Path
 from typing import Optional
 
 from tests.support.archives import LEDGER, RECORD
-from tests.support.rewriting.letters import drawn
+from tests.support.rewriting.letters import content, drawn
 from tests.support.rewriting.rewriters import BY_HAND, BY_PROGRAM, appended_unquoted
 from tests.support.rewriting.runs import Kill
 from tests.support.rewriting.trees import INBOX, Box, Tree
@@ -36,6 +36,8 @@ def moved_message(tree: Tree) -> None:
     if not pieces or old.kind != new.kind:
         return
     piece = pieces.pop(tree.draw.randrange(len(pieces)))
+    # it may take a line of an unquoted letter for the end of that
+    tree.parts.add(content(piece.split(b"\n", 1)[1]))
     is_copy = tree.draw.random() < 0.4
     tree.story.append(f"{'copies' if is_copy else 'moves'} a message of {old.path} to {new.path}")
     if not is_copy:

@@ -61,11 +61,12 @@ class Several(Tree):
         return True
 
     def is_right(self, path: str, words: Sequence[str]) -> bool:
-        """Whether a command makes no mail that nobody sent: a human answers by the lines that are shown."""
+        """Whether a command makes no mail that nobody sent, and no program put there: a human answers by the lines that
+        are shown."""
         if "--as" not in words:
             return True
         word = words[words.index("--as") + 1]
         lines = map(int, words[words.index("--text") + 1].split(",")) if "--text" in words else ()
         text = next(self.text_of(box) for box in self.boxes if box.path == path)
-        sent = {letter.mail() for letter in self.box.letters}
-        return all(content(one) in sent for one in split(text, word, frozenset(lines)) if INTERNAL not in one)
+        there = {letter.mail() for letter in self.box.letters} | self.parts
+        return all(content(one) in there for one in split(text, word, frozenset(lines)) if INTERNAL not in one)

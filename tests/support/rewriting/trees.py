@@ -50,6 +50,8 @@ class Tree(Trial):
         # the Maildir, and a mailbox, as they were kept
         self.kept = None  # type: Optional[Folders]
         self.names = 0
+        # what a mail program took for a message of a mailbox, and put into another one as such: it may be a part of one
+        self.parts = set()  # type: set[bytes]
 
     def mailbox(self, box: Box) -> Mailbox:
         """A mailbox as those see it who rewrite it."""
