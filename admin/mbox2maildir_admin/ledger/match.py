@@ -16,8 +16,8 @@ from ..mbox.bases import is_own
 from ..mbox.inventory import Inventory
 from ..units import Place, Say, silent
 from .batches import Line, State
+from .filed import claims, missing, unfiled
 from .files import Files
-from .lacking import missing, unfiled
 from .ledger import Ledger
 from .lines import FOREIGN, NAMELESS, PLACED, SHARED, Brought, counted_in, word_for_others
 
@@ -224,8 +224,7 @@ class Serving:
 
     def __init__(self, match: Match, places: Sequence[int]) -> None:
         self.match, self.waiting, self.places = match, list(places), places
-        # the names of files that are marked as deleted, and stand for none of them; and the lines of other mailboxes
-        # that do, though their names are not there
+        # files that are marked as deleted, and stand for none; and lines of others that do, though their names are gone
         self.refused: set[bytes] = set()
         self.unfiled: list[Line] = []
         self.lines = match.lines.get(match.inventory.core(places[0]), [])
@@ -255,30 +254,15 @@ class Serving:
         """Whether a file of a line is there, as far as it has a name."""
         return name in self.match.present or name == NAMELESS
 
-    def claims(self, bare: bytes) -> collections.Counter[bytes]:
-        """How often the lines of a mailbox name a file at most for messages of this form. A name that is taken anew
-        stands for several."""
-        by_path: collections.defaultdict[str, collections.Counter[bytes]] = collections.defaultdict(collections.Counter)
-        for line in self.lines:
-            one = line.message
-            if line.state is State.HELD and one.bare == bare and one.name != NAMELESS:
-                by_path[line.path][one.name] += 1
-        most: collections.Counter[bytes] = collections.Counter()
-        for names in by_path.values():
-            most |= names
-        return most
-
     def share(self, bare: bytes, count: int) -> None:
         """Takes so many messages that other mailboxes brought in this form. Files that are there come first."""
-        path, claims, taken = self.match.path, self.claims(bare), self.match.taken
-        several = (one for one in self.lines if one.path != path and one.state in (State.HELD, State.FORMER))
-        lines = [one for one in several if one.message.bare == bare]
+        claimed, taken = claims(self.lines, bare), self.match.taken
+        others = (one for one in self.lines if one.path != self.match.path)
+        lines = [one for one in others if one.state in (State.HELD, State.FORMER) and one.message.bare == bare]
         gone = set(unfiled(lines, lambda name: self.is_there(name) and not taken[name]))
         for line in sorted(lines, key=gone.__contains__):
             one, word = line.message, word_for_others(line.message.word)
-            if count <= 0 or not self.waiting:
-                return
-            if self.take(word, one.name, most=max(1, claims[one.name])):
+            if count > 0 and self.waiting and self.take(word, one.name, most=max(1, claimed[one.name])):
                 count -= 1
                 self.match.seen.shared[line.path] += 1
                 self.unfiled += [line] if line in gone else []
@@ -317,13 +301,11 @@ class Serving:
         if not (self.waiting or self.unfiled):
             return
         match, files = self.match, self.unnamed(bare)
-        held = (line for line in self.lines if line.state is State.HELD and line.message.bare == bare)
-        own = unfiled((line for line in held if line.path == match.path), self.is_there)
-        for line in missing([*own, *self.unfiled], collections.Counter({bare: len(files)})):
-            if line.path != match.path:
-                match.seen.gone[line.path] += 1
-        claims = self.claims(bare) | collections.Counter(line.message.name for line in self.unfiled)
-        spare = sum(claims.values()) - sum(map(self.is_there, claims))
+        held = (one for one in self.lines if one[:2] == (match.path, State.HELD) and one.message.bare == bare)
+        gone = missing([*unfiled(held, self.is_there), *self.unfiled], collections.Counter({bare: len(files)}))
+        match.seen.gone.update(line.path for line in gone if line.path != match.path)
+        claimed = claims(self.lines, bare) | collections.Counter(line.message.name for line in self.unfiled)
+        spare = sum(claimed.values()) - sum(map(self.is_there, claimed))
         match.taken.update(files[:spare])
         for place in list(self.waiting):
             its = {*match.files.own_names(match.inventory.table.digest(place)), *match.strangers.get(bare, ())}

@@ -7,8 +7,8 @@ import collections
 from typing import Optional
 
 from ..ledger.batches import Line, State
+from ..ledger.filed import missing
 from ..ledger.files import forms_in
-from ..ledger.lacking import missing
 from ..ledger.ledger import Ledger
 from ..ledger.lines import BATCH, NAMELESS, NOBODYS, PLACED, Brought, pieces_in
 from ..maildir.files import names_of
