@@ -4,7 +4,7 @@ shows is in the sources, each file of which begins with a line that says what is
 in the files that it has a reader read, and each file that reaches the machine; the texts that the program tells are
 those of the page of the manual and of docs/LEFT.md, and so are the reasons of the companion, with the words of its
 schema, its options, and what it calls files that are not mbox text; the pages of the manual please mandoc;
-docs/PROMISES.md names the kit of `rt version`; and README.md has counts of docs/COMPARISON.md. What wants a tool that
+docs/PROMISES.md names the kit of `rt version`; and README.md has the best and the worst of docs/COMPARISON.md. What wants a tool that
 is missing is left out."""
 import importlib
 import json
@@ -64,6 +64,7 @@ ERROR = re.compile(r"^\| `([^`]*)`", re.MULTILINE)
 KILLED = re.compile(r"^## Killed, .*?(?=^## )", re.DOTALL | re.MULTILINE)
 WHY = re.compile(r"^## Why not another tool$.*?(?=^## )", re.DOTALL | re.MULTILINE)
 ROWS = re.compile(r"^\| .*", re.MULTILINE)
+OTHER = re.compile(r"^(\| [^*|]+ \| (\d+) of \d+ \| (\d+) \| (\d+) \|.*)$", re.MULTILINE)
 KIT = re.compile(r"^ {6}(rattle-kit-\S+ logic \S+)$", re.MULTILINE)
 
 
@@ -260,12 +261,18 @@ def wrong_kit() -> Iterator[str]:
 
 
 def wrong_comparison() -> Iterator[str]:
-    """The rows of killed runs in README.md are some of docs/COMPARISON.md, the project's own among them."""
-    section = match_in(KILLED, text_of(TOP / "docs/COMPARISON.md"))[0]
-    rows = ROWS.findall(section)
-    shown = ROWS.findall(match_in(WHY, text_of(README))[0])
-    yield from (f"README.md has a row that docs/COMPARISON.md has not: {row}" for row in shown if row not in rows)
-    yield from (f"README.md lacks this row: {row}" for row in rows if "**" in row and row not in shown)
+    """The rows of killed runs in README.md are those of docs/COMPARISON.md of the project's own and of the best of the
+    others. README.md also says how many others there are, and how much the worst lost."""
+    killed = match_in(KILLED, text_of(TOP / "docs/COMPARISON.md"))[0]
+    shown = match_in(WHY, text_of(README))[0]
+    others = [(int(whole), -int(lost), -int(doubled), row) for row, whole, lost, doubled in OTHER.findall(killed)]
+    rows = ROWS.findall(killed)
+    wanted = [*rows[:2], *(row for row in rows if "**" in row), max(others)[3]]
+    for row in sorted({*wanted} ^ {*ROWS.findall(shown)}):
+        yield f"README.md has this row, or should have it: {row}"
+    for text in (f"[{len(others)} others]", f"lost {max(-lost for _, lost, _, _ in others):,} messages"):
+        if text not in shown:
+            yield f"README.md does not say: {text}"
 
 
 def wrong_manuals() -> Iterator[str]:
