@@ -4,8 +4,8 @@ shows is in the sources, each file of which begins with a line that says what is
 in the files that it has a reader read, and each file that reaches the machine; the texts that the program tells are
 those of the page of the manual and of docs/LEFT.md, and so are the reasons of the companion, with the words of its
 schema, its options, and what it calls files that are not mbox text; the pages of the manual please mandoc;
-docs/PROMISES.md names the kit of `rt version`; and README.md has the best and the worst of docs/COMPARISON.md. What wants a tool that
-is missing is left out."""
+docs/PROMISES.md names the kit of `rt version`; and README.md has the best and the worst of docs/COMPARISON.md. What
+wants a tool that is missing is left out."""
 import importlib
 import json
 import os
