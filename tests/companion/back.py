@@ -10,8 +10,9 @@ from functools import partial
 from tests.support.archives import fresh
 from tests.support.cases import Failed, run_cases
 from tests.support.rewriting.runs import Ran
-from tests.support.wayback.dialects import DIALECTS, Dialect, bare
-from tests.support.wayback.histories import BESIDE, Appended, History, shown_of, tail_of, text_at
+from tests.support.wayback.dialects import DIALECTS, Dialect, bare, parted
+from tests.support.wayback.histories import BESIDE, Appended, History, flags_of, shown_of, tail_of, text_at
+from tests.support.wayback.programs import listed_in, numbers_of
 
 SEEDS, FIRST = int(os.environ.get("BACK_SEEDS") or 3), int(os.environ.get("BACK_FIRST") or 0)
 BACK = ["back", "--json", "--now", "M", "mail", "spool"]
@@ -22,6 +23,7 @@ class Trial:
 
     def __init__(self, history: History) -> None:
         self.history, self.home = history, history.home
+        self.words = [*BACK, *["--dovecot"] * history.has_uids]
         self.before = self.texts()
         self.sure, self.any_of, _ = history.wanted()
 
@@ -39,7 +41,8 @@ class Trial:
         found = {}
         for folder, text in self.texts().items():
             tail = tail_of(self.before[folder], text)
-            found[folder] = [shown_of(*one) for one in self.dialect_of(folder).read(tail)]
+            keeper = self.history.keeper_of(folder)
+            found[folder] = [shown_of(*one, keeper) for one in self.dialect_of(folder).read(tail)]
         return found
 
     def check(self, ran: Ran) -> None:
@@ -62,29 +65,63 @@ class Trial:
             count += sum(more.values())
         self.wants(count == len(self.any_of) - spare, f"{count} of {len(self.any_of)}", ran)
 
+    def check_numbers(self, ran: Ran) -> None:
+        """No UID means one message in the Maildir, and another one in the mailbox; each that was given is known."""
+        history = self.history
+        for folder, text in self.texts().items():
+            its = numbers_of([one for _, one in self.dialect_of(folder).read(text)], history.number_of)
+            listed = listed_in(history.path(folder), history.number_of)
+            if not its or not listed or its.validity != listed.validity or not history.has_uids:
+                continue
+            self.wants(its.following >= listed.following, f"{folder}: {its} and {listed}", ran)
+            both = {uid for uid in {*its.uids} & {*listed.uids} if listed.uids[uid] not in (0, its.uids[uid])}
+            self.wants(not both, f"{folder}: {both} of {its} and {listed}", ran)
+
+    def as_migrated(self, message: bytes) -> bytes:
+        """A message of a mailbox as `migrate` places it, without what programs note: Dovecot writes the empty line that
+        ends a header without its CR."""
+        head, gap, body = parted(bare(message))
+        return head + (b"\n" if gap and self.history.has_uids else gap) + body
+
     def dialect_of(self, folder: str) -> Dialect:
         """The dialect of the mailbox of a folder."""
         return self.history.dialect if self.before[folder] else DIALECTS["mboxrd"]
 
     def run(self) -> None:
         """Goes back, twice, and migrates again, into the same Maildir and into a new one."""
-        history, home = self.history, self.home
-        names = sorted(str(path) for path in home.maildir.glob("**/*") if "/new/" in str(path) or "/cur/" in str(path))
-        ran = home.place.run(BACK)
+        names, words = self.names(), self.words
+        ran = self.home.place.run(words)
         self.check(ran)
+        self.check_numbers(ran)
         texts = self.texts()
-        again = home.place.run(BACK)
+        again = self.home.place.run(words)
         self.wants(self.texts() == texts, "a second run changes something", ran, again)
         self.wants(again.status == ran.status, "a second run ends otherwise", ran, again)
-        several = history.migrate("M")
-        now = sorted(str(path) for path in home.maildir.glob("**/*") if "/new/" in str(path) or "/cur/" in str(path))
-        self.wants(now == names, f"migrate places {set(now) ^ set(names)}", ran, *several)
-        history.migrate("N")
+        several = self.history.migrate("M")
+        self.wants(self.names() == names, f"migrate places {set(self.names()) ^ set(names)}", ran, *several)
+        self.history.migrate("N")
         for folder, text in texts.items():
-            wanted = Counter(bare(message) for _, message in self.dialect_of(folder).read(text))
-            place = history.place_of(folder)
-            found = Counter(bare(one.text) for one in history.files("N") if one.folder == place)
-            self.wants(found == wanted, f"{folder}: missing {wanted - found}, too much {found - wanted}", ran)
+            self.check_migrated(folder, text, ran)
+
+    def names(self) -> list[str]:
+        """The names of all mail in the Maildir."""
+        return sorted(str(path) for path in self.home.maildir.glob("**/*") if path.parent.name in ("new", "cur"))
+
+    def check_migrated(self, folder: str, text: bytes, ran: Ran) -> None:
+        """A new Maildir has the mail of a mailbox, with its flags."""
+        history = self.history
+        keeper, place = history.keeper_of(folder), history.place_of(folder)
+        messages = [message for _, message in self.dialect_of(folder).read(text)]
+        wanted = Counter((self.as_migrated(one), flags_of(one, keeper, history.has_uids)) for one in messages)
+        files = [one for one in history.files("N") if one.folder == place]
+        found = Counter((bare(one.text), one.name.partition(":2,")[2]) for one in files)
+        differ = f"{folder}: missing {brief(wanted - found)}, too much {brief(found - wanted)}"
+        self.wants(found == wanted, differ, ran)
+
+
+def brief(several: "Counter[tuple[bytes, str]]") -> list[str]:
+    """Messages with their flags, as they are shown: long ones by their beginning and their end."""
+    return [f"{text[:200]!r}..{text[-80:]!r} {flags} ({count})" for (text, flags), count in several.items()]
 
 
 def folder_refuses(trial: Trial, folder: str, one: Appended) -> bool:

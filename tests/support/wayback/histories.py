@@ -13,7 +13,8 @@ from typing import NamedTuple, Optional
 from tests.support.archives import Home, objects
 from tests.support.cases import Failed
 from tests.support.rewriting.runs import Ran
-from tests.support.wayback.dialects import DIALECTS, bare, field_of
+from tests.support.wayback.dialects import DIALECTS, bare, field_of, parted
+from tests.support.wayback.programs import KEEPERS, Deliveries, Keeper, with_fields, with_numbers
 
 MAIL = "mail"
 # stands for the mailbox beside that of a folder, which gets what that cannot hold
@@ -27,12 +28,16 @@ LINES = [
     b"\n", b"\n", b"ends in CR LF\r\n", b"From me\r\n", b"a\0b\n", b"se\xf1or \xe4\n", b"From: x\n", b"> From\n",
     b"x" * 2000 + b"\n", b"Content-Length: 4\n", b"Status: RO\n", b"a\rb\n", b".\n",
 ]  # fmt: skip
+# a hundred times that many bytes are 10 MB
+LONG_LINES = (b"y" * 76 + b"\n") * 1300
 FIELDS = [
     b"Return-Path: <alva@example.org>\n", b"Content-Length: 3\n", b"Status: RO\n", b"X-UID: 7\n", b"X-Status: F\n",
     b"content-length:  999999\n", b"X-IMAPbase: 1 2\n", b"Subject: a\n", b"Received: by x\n\tfor y\n", b"Lines: 3\n",
 ]  # fmt: skip
 DATED = re.compile(rb"(?m)^From .* [A-Z][a-z][a-z] [A-Z][a-z][a-z] +\d+ \d\d:\d\d:\d\d \d{4}\r?$")
 ID = re.compile(rb"(?m)^Message-ID: <(\d+)@")
+# by the letters of Status and X-Status
+LETTERS = {b"A": "R", b"D": "T", b"F": "F", b"R": "S", b"T": "D"}
 INFO = ["", ":2,", ":2,S", ":2,FS", ":2,RS", ":2,ST", ":2,DF", ":2,PS"]
 
 
@@ -53,6 +58,8 @@ class Appended(NamedTuple):
     sender: bytes
     status: bytes
     x_status: bytes
+    # the flags that a program keeps, if one does
+    kept: Optional[str] = None
 
 
 class History:
@@ -66,8 +73,11 @@ class History:
         self.known: dict[int, str] = {}
         self.boxes = dict(BOXES)
         self.edited: set[int] = set()
-        # the mailboxes that were not empty
+        # the mailboxes that were not empty, those of programs that keep flags, and whether Dovecot keeps UIDs in some
         self.filled: set[str] = set()
+        self.keepers: dict[str, str] = {}
+        self.has_uids = self.draw.random() < 0.3
+        self.deliveries = Deliveries(home.place, home.maildir)
 
     def message(self, is_plain: bool = False) -> bytes:
         """A new message."""
@@ -77,6 +87,7 @@ class History:
             fields = [one for one in fields if not one.lower().startswith(b"content-length")]
         fields.insert(draw.randrange(len(fields) + 1), b"Message-ID: <%d@example.org>\n" % self.last)
         body = b"".join(draw.choices(LINES, k=draw.randrange(8)))
+        body += (b"".join(LINES) + LONG_LINES) * 100 if draw.random() < 0.003 else b""
         if draw.random() < 0.2 and not is_plain:
             body = body[:-1]
         head = b"".join(fields)
@@ -97,7 +108,7 @@ class History:
             for one in messages:
                 self.known[self.number_of(one)] = next(folder for folder, its in self.boxes.items() if its == path)
             line = b"From a@b Mon Mar  3 09:12:44 2025"
-            text = b"".join(self.dialect.write(bare(one), line) for one in messages)
+            text = b"".join(self.dialect.write(one, line) for one in self.kept(path, list(map(bare, messages))))
             if text and self.draw.random() < 0.3 and not self.dialect.has_lengths:
                 text = text[: -1 - self.dialect.crlf]
             file = self.home.path / path
@@ -109,11 +120,23 @@ class History:
         for folder in self.boxes:
             self.home.place.own(self.path(folder))
 
+    def kept(self, path: str, messages: list[bytes]) -> list[bytes]:
+        """Messages with what a program keeps in them, if one does. What the mailbox cannot hold has no such fields."""
+        what = self.draw.random()
+        if self.has_uids and what < 0.6:
+            return with_numbers(messages)
+        if what < 0.7 or self.has_uids or self.dialect.name in ("mboxo", "mboxcl2") or not messages:
+            return messages
+        program = self.keepers[path] = self.draw.choice(list(KEEPERS))
+        flags = ["".join(self.draw.sample("DFPRST", self.draw.randrange(4))) for _ in messages]
+        fields = [KEEPERS[program].fields(number, its) for number, its in enumerate(flags, 1)]
+        return [with_fields(*pair) for pair in zip(messages, fields)]
+
     def migrate(self, maildir: str) -> list[Ran]:
         """Migrates each mailbox, and must be done."""
         several = []
         for words in self.commands(maildir):
-            ran = self.home.place.run(["migrate", "--json", "--now", *words])
+            ran = self.home.place.run(["migrate", "--json", "--now", *["--dovecot"] * self.has_uids, *words])
             if ran.status != 0 and '"no mail": 1' not in ran.output:
                 raise Failed(f"{words}: {ran.status}: {ran.output}")
             several.append(ran)
@@ -193,7 +216,10 @@ class History:
             there = list(self.files())
             one = self.draw.choice(there) if there else None
             what = self.draw.choice(["deliver"] * 5 + ["flag", "move", "move", "copy", "delete", "edit", "rename"])
-            if what == "deliver" or not one:
+            if what == "deliver" and self.deliveries.programs and self.draw.random() < 0.4:
+                program = self.draw.choice(self.deliveries.programs)
+                self.deliveries.run(program, self.draw.choice(FOLDERS), self.message())
+            elif what == "deliver" or not one:
                 self.put(self.draw.choice(FOLDERS + [".sent.below"] * (self.draw.random() < 0.1)), self.message())
             elif what == "flag":
                 before = one.name.partition(":")[0]
@@ -211,7 +237,8 @@ class History:
                 if keeps and re.match(r"[0-9a-f]{64}\.\d+(:|\Z)", one.name):
                     self.file(one).write_bytes(b"X-Scan: yes\n" + one.text)
                     self.edited.add(one.number)
-            elif what == "rename" and ".lists.b" in self.boxes and self.draw.random() < 0.3:
+            elif what == "rename" and self.boxes.get(".lists.b") in self.filled and self.draw.random() < 0.3:
+                # nothing shows from which mailbox a folder came that had no mail
                 self.path(".lists.b").rename(self.path(".renamed"))
                 self.boxes[".renamed"] = self.boxes.pop(".lists.b")
                 self.known = {number: ".renamed" if its == ".lists.b" else its for number, its in self.known.items()}
@@ -227,7 +254,13 @@ class History:
         status = b"R" * ("S" in flags) + b"O" * (one.sub == "cur")
         letters = {"R": b"A", "F": b"F", "D": b"T", "T": b"D"}
         x_status = b"".join(sorted(letters[flag] for flag in flags if flag in letters))
-        return Appended(bare(one.text), sender[1] if sender else b"MAILER-DAEMON", status, x_status)
+        keeper = self.keeper_of(one.folder)
+        kept = keeper.flags(keeper.fields(1, flags) + b"\n") if keeper else None
+        return Appended(bare(one.text), sender[1] if sender else b"MAILER-DAEMON", status, x_status, kept)
+
+    def keeper_of(self, folder: str) -> Optional[Keeper]:
+        """The program that keeps flags in the mailbox of a folder, if one does."""
+        return KEEPERS.get(self.keepers.get(self.paths()[folder], "")) if folder in self.paths() else None
 
     def wanted(self) -> "tuple[dict[str, typing.Counter[Appended]], list[File], dict[int, int]]":
         """By folders, what is to be appended for certain; the files of which all but one are; and what cannot be held,
@@ -258,8 +291,10 @@ def text_at(path: Path) -> bytes:
 
 
 def tail_of(before: bytes, after: bytes) -> bytes:
-    """What was appended to a mailbox, which must have stayed as it was. A line that had not ended may have ended."""
-    if not after.startswith(before):
+    """What was appended to a mailbox, which must have stayed as it was, but for numbers in the first header. A line
+    that had not ended may have ended."""
+    start = sum(map(len, parted(before)[:1]))
+    if not after[start:].startswith(before[start:]) or bare(after[:start]) != bare(before[:start]):
         raise Failed("what was there before has changed")
     tail = after[len(before) :]
     while before and tail.startswith((b"\n", b"\r\n")):
@@ -267,13 +302,21 @@ def tail_of(before: bytes, after: bytes) -> bytes:
     return tail
 
 
-def shown_of(from_line: bytes, message: bytes) -> Appended:
-    """A message that was appended."""
+def shown_of(from_line: bytes, message: bytes, keeper: Optional[Keeper]) -> Appended:
+    """A message that was appended, to a mailbox in which a program may keep flags."""
     words = from_line.split(b" ")
     stamp = time.strptime(b" ".join(words[2:]).strip().decode(), "%a %b %d %H:%M:%S %Y")
     assert stamp.tm_year >= 1970, from_line
     x_status = bytes(sorted(field_of(message, b"X-Status")))
-    return Appended(bare(message), words[1], field_of(message, b"Status"), x_status)
+    kept = keeper.flags(message) if keeper else None
+    return Appended(bare(message), words[1], field_of(message, b"Status"), x_status, kept)
+
+
+def flags_of(message: bytes, keeper: Optional[Keeper], by_dovecot: bool) -> str:
+    """The flags that `migrate` gives a message of a mailbox; with --dovecot, drafts too."""
+    value = field_of(message, b"Status") + field_of(message, b"X-Status")
+    flags = {flag for letter, flag in LETTERS.items() if letter in value and (flag != "D" or by_dovecot)}
+    return "".join(sorted({*flags, *((keeper.flags(message) or "") if keeper else "")}))
 
 
 def rows_of(ran: Ran) -> list[dict[str, typing.Any]]:
