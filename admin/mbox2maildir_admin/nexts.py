@@ -169,11 +169,13 @@ class Task(NamedTuple):
 
 
 class Remark(NamedTuple):
-    """What is to be said of a mailbox, a word for that, and how many of its messages were there already by it."""
+    """What is to be said of a mailbox, a word for that, how many of its messages were there already by it, and how many
+    stand in it although they were deleted or changed in the Maildir."""
 
     word: str
     says: str
     there: int = 0
+    stands: int = 0
 
 
 class Quote(NamedTuple):

@@ -9,8 +9,7 @@ defer_transports, Exim's dc_localdelivery with maildir_home, Dovecot's separator
 users with result_success. `tests/companion/dovecot.py` tries Dovecot's mail_control_path, mail_index_path and
 mailbox_list_layout. The rest was tried by hand: Postfix's mailbox_command, virtual_transport and transport_maps, Exim's
 queue_only, OpenSMTPD's local_mail, maildrop's settings, Dovecot's quotas, a public namespace, mailbox_list_utf8, users
-who wait, the way back with `--min-next-uid`, and another glibc on Debian 11.11. Exim's maildir_format by itself was not
-tried.
+who wait, and another glibc on Debian 11.11. Exim's maildir_format by itself was not tried.
 """
 import gzip
 import io
@@ -25,7 +24,7 @@ from itertools import takewhile
 from pathlib import Path
 
 from tests.support.cases import run_cases
-from tests.support.checks import PATIENCE, TOP, WORK, differ, equal, match_in, matches, text_of
+from tests.support.checks import PATIENCE, TOP, WORK, differ, match_in, matches, text_of
 from tests.support.homes import (
     OWNER,
     as_owner,
@@ -41,9 +40,8 @@ from tests.support.homes import (
 from tests.support.mail import A, B, MAY, with_length
 from tests.support.printed import rows_in
 
-PAGES = ["README.md", *(f"docs/{name}.md" for name in ("OWN-MAIL", "SERVER", "FORMATS", "LEFT", "LEDGER"))]
-# a page whose commands go on where those of another one have ended
-FOLLOWING = {"docs/SERVER.md": "docs/BACK.md"}
+BACK = "docs/BACK.md"
+PAGES = ["README.md", *(f"docs/{name}.md" for name in ("OWN-MAIL", "SERVER", "FORMATS", "LEFT", "LEDGER")), BACK]
 BLOCK = re.compile(r"^ {4}[$#] .*\n(?: {4}.*\n)*", re.MULTILINE)
 TOOLS = ["doveadm", "runuser", "strace"]
 # the folder of the mailboxes that the page names, which is below the home here
@@ -55,7 +53,7 @@ LONG_AGO = (1_700_000_000, 1_700_000_000)
 
 ALVA, BORIS, FIRST_OF_MAY = A.decode(), B.decode(), MAY.decode()
 MBOXO = f"{ALVA}\nhello\n>From the shed.\n>>From whom is it?\n\n{BORIS}\n\nyes\n\n"
-WENT_BACK = f"{BORIS}\nyes\n\nFrom MAILER-DAEMON ...\nSubject: since\nContent-Length: 11\n\n>From here\n\n"
+WENT_BACK = "From MAILER-DAEMON ...\nSubject: since\n\n>From here\n\n"
 CL2 = (with_length(A, MAY) + b"\n" + with_length(B, b"yes\n") + b"\n").decode()
 CL = CL2.replace("\nFrom the", "\n>From the").replace(f": {len(FIRST_OF_MAY)}", f": {len(FIRST_OF_MAY) + 1}")
 MAC = f"{ALVA}\nhello\n\n{BORIS}\nyes\n\n".replace("\n", "\r")
@@ -210,8 +208,6 @@ def make_files(home: Path) -> None:
         f"{THUNDERBIRDS}/prefs.js": b'user_pref("app.update.enabled", true);\n',
         "lists/2004-January.txt.gz": gzipped(OF_A_LIST.encode(), 9),
         f"{PUBLIC}/2004": BORIS.encode() + b"\nyes\n\n",
-        f"{PUBLIC}.new/.2004/cur/{'0' * 64}.1:2,S": b"Subject: two\n\nyes\n",
-        f"{PUBLIC}.new/.2004/new/1700000000.M1.host": SINCE,
         "2004.mbox.gz": packed,
         "cut.mbox.gz": gzipped(big_mailbox(), 0)[:74_500],
         "kmail/Inbox": inbox,
@@ -375,48 +371,39 @@ def follow(page: str) -> None:
         guide = Guide(home)
         text = text_of(TOP / page)
         guide.kinds(text)
-        for block in BLOCK.finditer(text + text_of(TOP / FOLLOWING[page]) if page in FOLLOWING else text):
+        if page == BACK:
+            deliver_since(guide)
+        for block in BLOCK.finditer(text):
             guide.block(block[0])
-        if guide.home.joinpath(f"{PUBLIC}.since").is_dir():
-            public = (home / PUBLIC / "2004").read_bytes()
-            matches("the mail of a public folder after the way back", public.decode(), WENT_BACK)
+        if page == BACK and not guide.left_out:
+            went_back(guide)
     print(f"guide: {page}: {guide.done} commands print what it shows, {guide.left_out} blocks are left out")
     assert guide.done and not guide.wrong, f"{page}: {guide.wrong} commands print something else"
 
 
-def append_again(guide: Guide, end: str, meanwhile: str) -> None:
-    """Appends mail by the page's script while no file may be long, and once more. The last line of the old mailbox ends
-    like this, and this is added to it meanwhile."""
-    page, letters = text_of(TOP / "docs/BACK.md"), [ALVA + str(number) * 5000 + "\n\n" for number in range(8)]
-    block = next(block[0] for block in BLOCK.finditer(page) if "cat >append.sh" in block[0])
-    make, append = (command for _, command, _ in steps_of([line[4:] for line in block.splitlines()]))
-    old, since = guide.home / "mail/sent", guide.home / "since/sent"
-    for path, some in ((old, "".join(letters[:4])[:-2] + end), (since, "".join(letters[4:]))):
-        path.parent.mkdir()
-        path.write_text(some)
-    hand_over(guide.home)
-    guide.run(make)
-    # in blocks of 1,024 bytes, so that the last message is cut
-    said = guide.run(f"ulimit -f 36; {append}").splitlines()
-    equal("a full disk", said[-1], f"{old}: not complete: make room, then run this again")
-    if meanwhile:
-        old.write_text(old.read_text() + meanwhile)
-        says = f"{old}: changed meanwhile: restore its copy first: {since.parent}/.before/sent\n"
-        equal("another program", guide.run(append), says)
-        guide.run(match_in(r"`(cp ~/since/\S+ \S+)`", page)[1])
-    equal("with room", guide.run(append), f"{old}: appended\n")
-    equal("once more", guide.run(append), "")
-    equal("the messages", old.read_text(), "".join(letters))
-    equal("what is left", os.listdir(since.parent), [".before"])
+def deliver_since(guide: Guide) -> None:
+    """Moves the mailboxes aside that the page of the way back names, migrates them, and delivers mail since."""
+    home, inbox = guide.home, guide.home / SPOOL.lstrip("/") / OWNER
+    (home / "mail").rename(home / "mail.old")
+    inbox = inbox.rename(f"{inbox}.old")
+    for words in (f"~/Maildir {inbox} ~/mail.old", f"{PUBLIC}.new {PUBLIC}"):
+        matches(words, guide.run(f"mbox2maildir-admin migrate {words}").splitlines()[-1], "...: ... done; ...")
+    for folder in ("Maildir", "Maildir/.garden", f"{PUBLIC}.new/.2004"):
+        for sub in ("cur", "new", "tmp"):
+            (home / folder / sub).mkdir(parents=True, exist_ok=True)
+        (home / folder / "new/1700000000.M1.host").write_bytes(SINCE)
+    next(path for path in (home / "Maildir/.sent/cur").iterdir() if b"no end" in path.read_bytes()).unlink()
+    old = home / f"{SPOOL.lstrip('/')}.old"
+    old.mkdir(0o711)
+    (old / "alva").touch()
+    hand_over(home / "Maildir", home / f"{PUBLIC}.new")
 
 
-def way_back() -> None:
-    """The script that appends mail on the way back may end on a full disk. Run again, it leaves each message there
-    once, also if the last line had no end, and after the copy was restored of a mailbox that a program has changed."""
-    for end, meanwhile in (("\n\n", ""), ("", BORIS)):
-        with fresh_home() as home:
-            append_again(Guide(home), end, meanwhile)
+def went_back(guide: Guide) -> None:
+    """What the mailboxes have after the way back."""
+    for name, before in ((f"{PUBLIC}/2004", f"{BORIS}\nyes\n\n"), (f"var/mail/{OWNER}", NEW_MAIL), ("mail/garden", "")):
+        matches(f"{name} after the way back", (guide.home / name).read_text(), before + WENT_BACK)
 
 
 if __name__ == "__main__":
-    run_cases({**{Path(page).stem: partial(follow, page) for page in PAGES}, "way_back": way_back})
+    run_cases({Path(page).stem: partial(follow, page) for page in PAGES})

@@ -9,6 +9,7 @@ from dataclasses import replace
 from typing import Optional, Union
 
 from ..faults import Fault, Left, PlaceFault, Reason
+from ..ledger.history import names_of
 from ..ledger.record import Record, unspelled
 from ..ledger.strangers import folders_in
 from ..maildir.folders import INBOX, folder_named, folder_path
@@ -32,6 +33,14 @@ TORN = "the message that begins in line %d is cut: a run was killed there, and a
 NOT_READ_BACK = "what would be appended to it would not be read back as it is"
 CANNOT_HOLD, TAKES_NOTHING = "%s cannot hold this", "%s takes nothing"
 Remarks = tuple[Remark, ...]
+# what became of a message in the Maildir, and what is said of those that a mailbox has
+DELETED, EDITED = "deleted", "changed"
+SAYS = (
+    (DELETED, "%s that %s deleted in the Maildir %s still there"),
+    (EDITED, "%s that %s changed in the Maildir %s there as before"),
+)
+# stands for the first mailbox of a folder
+FIRST = b""
 # what the name of a Maildir ends in that has been moved aside
 ASIDE = b".back"
 
@@ -73,6 +82,7 @@ class Several:
             self.drop_locks(places)
         say = Beat(functools.partial(self.observer.progress, named(self.root)))
         found = sorted_mail(self.root, self.record, say)
+        self.observer.rest(named(self.root))
         found = copied(found) if copies else found
         mails: collections.defaultdict[bytes, list[Mail]] = collections.defaultdict(list)
         for mail in found.new:
@@ -81,7 +91,10 @@ class Several:
         self.observer.total += len(folders)
         for folder in folders:
             self.observer.begin()
-            for row in self.rows(folder, mails[folder], remarks_on(found, folder), places):
+            standing = Standing(found, folder, places.all_of(folder))
+            for row in self.rows(folder, mails[folder], moved_to(found, folder), places):
+                self.tell(standing.row(row))
+            for row in standing.rest():
                 self.tell(row)
         tree = next(iter(places.trees), None) if self.how.dovecot else None
         for row in rows_of(self.root, tree, places, self.how.dry):
@@ -176,12 +189,16 @@ class Several:
     def brought(self, place: Place, target: Target) -> Optional[Outcome]:
         """What became of a mailbox to which mail goes back, and which is made if it is missing; None if it takes
         nothing."""
+        how = self.how
         try:
-            if place.is_new and not self.how.dry:
-                self.how.keeper.make(place.path)
+            if place.is_new and not how.dry and not os.path.lexists(place.path):
+                how.keeper.make(place.path)
+                # nobody else knows of it
+                how = replace(how, now=True)
             say = Beat(functools.partial(self.observer.progress, named(target.path)))
-            return Returning(self.program, self.root, self.record, self.how, say).run(target)
+            return Returning(self.program, self.root, self.record, how, say).run(target)
         except TakesNothing:
+            self.observer.rest(named(target.path))
             return None
         except (Fault, OSError) as fault:
             return Outcome(left(target.path, target.folder, fault, len(target.mails), target.remarks), ())
@@ -205,25 +222,47 @@ def nothing_new(path: bytes, folder: bytes, remarks: Remarks) -> Row:
     return Row(path, folder, "", 0, Fate.NOTHING_NEW, remarks=remarks, is_back=True)
 
 
-def remarks_on(found: Sorted, folder: bytes) -> Remarks:
-    """What is said of the mail that came from the mailbox of a folder, and of what was moved there."""
-    return tuple(remarks_in(found, folder))
-
-
-def remarks_in(found: Sorted, folder: bytes) -> Iterator[Remark]:
-    """The same."""
-    came: collections.Counter[bytes] = collections.Counter(
-        slot.folder for mail, slot in found.moved if mail.folder == folder
+def moved_to(found: Sorted, folder: bytes) -> Remarks:
+    """What is said of the messages that people moved to a folder."""
+    came = collections.Counter(slot.folder for mail, slot in found.moved if mail.folder == folder)
+    says = "%s that people moved here from %s %s in the mailbox of that"
+    words = (
+        says % (counted(count, "message"), folder_named(other), "stays" if count == 1 else "stay")
+        for other, count in came.items()
     )
-    for other, count in came.items():
-        says = "%s that people moved here from %s %s in the mailbox of that"
-        stay = "stays" if count == 1 else "stay"
-        yield Remark("moved", says % (counted(count, "message"), folder_named(other), stay))
-    for word, slots, says in (
-        ("deleted", found.deleted, "%s that %s deleted in the Maildir %s still there"),
-        ("changed", found.changed, "%s that %s changed in the Maildir %s there as before"),
-    ):
-        count = sum(slot.folder == folder for slot in slots)
+    return tuple(Remark("moved", one) for one in words)
+
+
+class Standing:
+    """The messages of a folder that were deleted or changed there, and stand in its mailboxes as before."""
+
+    def __init__(self, found: Sorted, folder: bytes, paths: Sequence[bytes]) -> None:
+        self.folder = folder
+        # how many, by the mailboxes; one that the record knows by another path has the place of the first one
+        self.counts: collections.defaultdict[bytes, collections.Counter[str]]
+        self.counts = collections.defaultdict(collections.Counter)
+        names = {path: set(names_of(path)) for path in paths}
+        for word, slots in ((DELETED, found.deleted), (EDITED, found.changed)):
+            for slot in slots:
+                if slot.folder == folder:
+                    for path in [one for one in paths if names[one] & slot.paths] or [FIRST]:
+                        self.counts[path][word] += 1
+
+    def row(self, row: Row) -> Row:
+        """The row of a mailbox, with what stands in it."""
+        counts = self.counts.pop(row.path, collections.Counter()) + self.counts.pop(FIRST, collections.Counter())
+        return replace(row, remarks=(*row.remarks, *standing_in(counts)))
+
+    def rest(self) -> Iterator[Row]:
+        """The rows of further mailboxes in which some stand."""
+        for path in sorted(self.counts):
+            yield self.row(nothing_new(path, self.folder, ()))
+
+
+def standing_in(counts: "collections.Counter[str]") -> Iterator[Remark]:
+    """What is said of so many messages that stand in a mailbox."""
+    for word, says in SAYS:
+        count = counts[word]
         if count:
             verbs = ("was", "is") if count == 1 else ("were", "are")
-            yield Remark(word, says % (counted(count, "message"), *verbs))
+            yield Remark(word, says % (counted(count, "message"), *verbs), stands=count)

@@ -83,5 +83,5 @@ def do_back(given: argparse.Namespace) -> Status:
             root, *names = given.operands
             reporter.then = bring_back(root, names, way.how, way.copies, reporter)
 
-    reporter = ObjectReporter(steps={}) if given.json else Reporter(steps={})
+    reporter = (ObjectReporter if given.json else Reporter)(steps={}, task="bringing mail back")
     return run_reported(back, reporter, given.report, "the ledgers have what went back: run the same command again")

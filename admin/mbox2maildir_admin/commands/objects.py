@@ -78,6 +78,7 @@ class ObjectReporter(Reporter):
                 "left": [{"reason": one.word, "count": self.reasons[one]} for one in Reason if self.reasons[one]],
                 "messages": self.messages,
                 "there_already": self.there,
+                "still_there": {word: self.stand[word] for word in ("deleted", "changed")},
                 "bytes": self.size,
                 "seconds": round(self.seconds(), 3),
                 "last_pass_seconds": rounded(self.last_pass()),

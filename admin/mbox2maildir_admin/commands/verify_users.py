@@ -30,6 +30,8 @@ from .of_users import jobs_in
 from .running import run_reported, spool_of
 from .verify import verify_file
 
+# what all together are at
+VERIFYING = "verifying"
 # what is said of a mailbox that is not whole, by the words of its counts
 SAYS = {
     "nowhere": "nowhere %d",
@@ -47,7 +49,7 @@ WRONG = Fate.LEFT, Fate.NOT_WHOLE
 def verify_users(given: argparse.Namespace) -> Status:
     """Says of which users not each message is in the Maildir, and returns the status."""
     (spool, asked), options = spool_of(given), Options(jobs=jobs_in(given.jobs))
-    reporter = ObjectReporter(steps={}) if given.json else UserLines(given.all)
+    reporter = ObjectReporter(steps={}, task=VERIFYING) if given.json else UserLines(given.all)
 
     def verify(reporter: Reporter, tally: Tally) -> None:
         migrate_users(spool, asked, options, reporter, tally, Kind(Verifier, "verify"))
@@ -141,7 +143,7 @@ class UserLines(Reporter):
     """Prints a line for each user whose mail is not whole. With `has_all` each name has a line, too."""
 
     def __init__(self, has_all: bool) -> None:
-        super().__init__(steps={})
+        super().__init__(steps={}, task=VERIFYING)
         self.has_all = has_all
         # what is wrong, by the users who have no line so far
         self.wrong: dict[str, list[Row]] = {}

@@ -26,7 +26,12 @@ STEPS = MappingProxyType({"reading": 1, "copying": 1, "looking": 2, "converting"
 class Reporter(Observer):
     """Prints rows, and how far the mailboxes are. A migration has steps."""
 
-    def __init__(self, clock: Callable[[], float] = time.monotonic, steps: Mapping[str, int] = STEPS) -> None:
+    def __init__(
+        self,
+        clock: Callable[[], float] = time.monotonic,
+        steps: Mapping[str, int] = STEPS,
+        task: str = "migrating",
+    ) -> None:
         self.clock, self.start = clock, clock()
         self.counts: collections.Counter[Fate] = collections.Counter()
         # of the mailboxes that are left
@@ -35,10 +40,12 @@ class Reporter(Observer):
         self.faults: collections.Counter[str] = collections.Counter()
         # of the mailboxes that are done, prepared or checked, or would be; and how many messages were there already
         self.messages = self.size = self.there = 0
+        # how many messages stand in mailboxes although they were deleted or changed in the Maildir, by these words
+        self.stand: collections.Counter[str] = collections.Counter()
         # how long a last pass would take, if this is a first one
         self.estimate = Estimate()
         self.steps, self.line = steps, Progress()
-        self.at_work = AtWork() if steps else AtWork("verifying")
+        self.at_work = AtWork(task)
         # how many mailboxes or users there are, and how many have begun; and which are at work
         self.total = self.begun = 0
         # those of which it was said that they wait
@@ -80,6 +87,8 @@ class Reporter(Observer):
             self.reasons[row.left_for] += 1
         if row.fate is Fate.NOT_WHOLE:
             self.faults.update(remark.word for remark in row.remarks)
+        for remark in row.remarks:
+            self.stand[remark.word] += remark.stands
         if row.fate in SUMMED:
             self.messages += row.messages or 0
             self.size += row.size or 0
@@ -116,7 +125,7 @@ class Reporter(Observer):
         if self.total and not sum(self.counts.values()):
             # it was interrupted before the first one was done
             sums = ["0 of %d done" % self.total]
-        self.print_sums("; ".join([*sums, *self.work(), *more]))
+        self.print_sums("; ".join([*sums, *self.work(), *self.standing(), *more]))
         has_mailbox = sum(self.counts.values()) > self.counts[Fate.NO_MAIL]
         if not (has_mailbox and is_reported) or self.counts[Fate.NOT_WHOLE]:
             return Status.LEFT
@@ -139,6 +148,11 @@ class Reporter(Observer):
         work = "%s, %s in %s" % (messages, length(self.size), duration(self.seconds()))
         last = self.last_pass()
         return [work, *(["a last pass would now take some %s" % duration(math.ceil(last))] if last is not None else [])]
+
+    def standing(self) -> list[str]:
+        """How many messages mailboxes still have that were deleted or changed in the Maildir; nothing if none."""
+        found = ["%s %s" % (counted(count, "message"), word) for word, count in self.stand.items() if count]
+        return ["the mailboxes still have %s in the Maildir" % " and ".join(sorted(found))] * bool(found)
 
     def last_pass(self) -> Optional[float]:
         """How many seconds a last pass would take now, if this is a first one."""

@@ -156,11 +156,11 @@ def quote_of(line: object, text: str, is_around: object) -> Quote:
     return Quote(number_of(line), shown(text), is_around is True)
 
 
-def remark_of(word: str, says: str, there: object = 0) -> Remark:
+def remark_of(word: str, says: str, there: object = 0, stands: object = 0) -> Remark:
     """Reads a remark that a child told."""
     if not WORD.match(word):
         raise ValueError("no word")
-    return Remark(word, shown(says), number_of(there))
+    return Remark(word, shown(says), number_of(there), number_of(stands))
 
 
 def step_of(words: list[Any], path: bytes, whose: Whose) -> Union[Answer, Task]:

@@ -21,12 +21,13 @@ from mbox2maildir_admin.faults import Fault, Left, Reason
 from mbox2maildir_admin.ledger.record import Record
 from mbox2maildir_admin.mbox.locks import open_mailbox
 from mbox2maildir_admin.migration.outcomes import Fate, Row
+from mbox2maildir_admin.migration.rows import Reporter
 from mbox2maildir_admin.migration.several import run_all
 from mbox2maildir_admin.migration.steps import Options
 
 from tests.support.mail import A, ONE, TWO
 from tests.support.migrating import Function, HomeTest, Listener
-from tests.support.units import source_of
+from tests.support.units import printed, source_of
 
 NEW = b"Subject: new\n\nFrom me\n"
 LENGTHS = A + b"Content-Length: 4\n\nyes\n\n"
@@ -66,7 +67,8 @@ class BackHome(HomeTest):
         paths = [os.fsencode(str(self.home / name)) for name in names or ("mail",)]
         listener = Listener()
         with Record.open(self.root, not how.get("dry")) as record:
-            one = Several(Function(), self.root, record, How(now=True, **how), listener)
+            given: dict[str, Any] = {"now": True, **how}
+            one = Several(Function(), self.root, record, How(**given), listener)
             one.run(Places(self.root, record, Names(paths)), copies)
         return listener.rows
 
@@ -171,7 +173,36 @@ class BackTest(BackHome):
         one.unlink()
         two.write_bytes(b"X-Scan: yes\n" + two.read_bytes())
         rows = self.back()
-        self.assertEqual([remark.word for remark in rows[0].remarks], ["deleted", "changed"])
+        self.assertEqual([(one.word, one.stands) for one in rows[0].remarks], [("deleted", 1), ("changed", 1)])
+
+    def test_what_stands_in_each_mailbox_of_a_folder(self) -> None:
+        self.write_box("a", ONE)
+        self.write_box("b", ONE + TWO)
+        for name in ("a", "b"):
+            self.migrate_all(name, folder="Both")
+        for file in (self.maildir / ".Both/new").iterdir():
+            file.unlink()
+        self.deliver(".Both")
+        rows = self.back("a", "b")
+        self.assertEqual(self.fates(rows), {"a": (Fate.BACK, 1), "b": (Fate.NOTHING_NEW, 0)})
+        self.assertEqual([[one.stands for one in row.remarks] for row in rows], [[1], [2]])
+
+    def test_a_new_mailbox_is_not_waited_for(self) -> None:
+        self.write_box("mail/sent", ONE)
+        self.migrate_all("mail")
+        self.deliver(".new")
+        with mock.patch("time.sleep", side_effect=AssertionError):
+            self.assertEqual(self.fates(self.back(now=False))["mail/new"], (Fate.BACK, 1))
+
+    def test_nobody_stays_at_work(self) -> None:
+        self.write_box("mail/sent.gz", gzip.compress(ONE))
+        self.migrate_all("mail")
+        self.deliver(".sent")
+        reporter = Reporter(steps={})
+        with printed(), Record.open(self.root) as record:
+            one = Several(Function(), self.root, record, How(now=True), reporter)
+            one.run(Places(self.root, record, Names([os.fsencode(str(self.tree))])), False)
+        self.assertEqual(len(reporter.at_work), 0)
 
     def test_a_packed_one_takes_nothing(self) -> None:
         self.write_box("mail/sent.gz", gzip.compress(ONE))
