@@ -25,6 +25,7 @@ from tests.support.kills import Killer, Moment, start_anew
 from tests.support.rewriting.runs import BY_OTHERS
 from tests.support.wayback.dialects import DIALECTS
 from tests.support.wayback.histories import History, text_at
+from tests.support.wayback.programs import with_fields
 
 STEP, FIRST = int(os.environ.get("EVERY_CALL") or 17), int(os.environ.get("BACK_FIRST") or 0)
 SEEDS = int(os.environ.get("BACK_SEEDS") or 1)
@@ -90,10 +91,14 @@ class Killed:
             raise Failed(f"{when}{failed}") from failed
 
     def delivery(self, draw: Random) -> tuple[Path, bytes]:
-        """A mailbox, and a mail as a program delivers it there."""
-        path = draw.choice([path for path in self.history.boxes.values() if (self.home.path / path).exists()])
+        """A mailbox, and a mail as a program delivers it there. If the program that keeps flags there had not met that,
+        no message would have flags by it."""
+        boxes = [pair for pair in self.history.boxes.items() if (self.home.path / pair[1]).exists()]
+        folder, path = draw.choice(boxes)
         dialect = self.history.dialect if path in self.history.filled else DIALECTS["mboxrd"]
-        return self.home.path / path, dialect.write(DELIVERED, LINE)
+        keeper = self.history.keeper_of(folder)
+        mail = with_fields(DELIVERED, keeper.fields(99, "")) if keeper else DELIVERED
+        return self.home.path / path, dialect.write(mail, LINE)
 
     @staticmethod
     def ended(path: Path) -> bytes:
