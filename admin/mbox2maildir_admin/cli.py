@@ -1,17 +1,15 @@
 """The command line."""
-import importlib
 import sys
 from collections.abc import Sequence
 
 from . import ADMIN
 from .commands.command_line import CommandLine
+from .commands.words import ADDS
 from .faults import Fault, Status, complain_of
 from .signals import INTERRUPTS, end_in_order
 from .terminal import LINE, OutputFault, complain, drop, flush, open_streams
 
 
-# the words, in the order of the help: a run imports the module of one
-WORDS = "kind", "quote", "dates", "migrate", "verify", "back"
 EXAMPLES = """\
 examples:
   %s kind ~/mail                         # what is there
@@ -32,9 +30,8 @@ def command_line(words: Sequence[str] = ()) -> CommandLine:
         "Migrates mailboxes into a Maildir, and checks both.",
         EXAMPLES % ((ADMIN,) * 5),
     )
-    named = words[:1] if words and words[0] in WORDS else WORDS
-    for word in named:
-        getattr(importlib.import_module("%s.commands.%s" % (__package__, word)), "add_" + word)(line)
+    for word in words[:1] if words and words[0] in ADDS else ADDS:
+        ADDS[word](line)
     return line
 
 

@@ -4,7 +4,6 @@ import contextlib
 import os
 import re
 import select
-import shutil
 import subprocess
 import sys
 from collections.abc import Callable, Iterator
@@ -36,13 +35,21 @@ class Failed(Left):
     """What `mbox2maildir convert` said when it failed."""
 
 
+def places_of_program(here: str, clone: str) -> Iterator[str]:
+    """The paths at which it may be, given the folder of what was started, and that of the clone, if it is in one."""
+    yield os.path.join(here, PROGRAM)
+    from shutil import which
+
+    yield which(PROGRAM) or ""
+    yield os.path.join(clone, "build", PROGRAM) if clone else ""
+
+
 def find_program() -> bytes:
     """Returns the path of mbox2maildir: beside the program that was started, or else the first in PATH, or else, in a
     clone, the one that `make` has built."""
     here = os.path.dirname(os.path.realpath(sys.argv[0]))
     clone = os.path.dirname(here) if os.path.isdir(os.path.join(here, str(__package__))) else ""
-    places = [os.path.join(here, PROGRAM), shutil.which(PROGRAM) or "", clone and os.path.join(clone, "build", PROGRAM)]
-    for program in places:
+    for program in places_of_program(here, clone):
         if os.path.isfile(program):
             return os.fsencode(program)
     then = run_next("make", "-C", clone) if clone else task(Todo.INSTALL)

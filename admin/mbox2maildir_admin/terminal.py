@@ -8,6 +8,8 @@ from typing import IO, Union
 
 from . import ADMIN
 
+# standard input
+INPUT = 0
 # how many lines, messages or files of one sort are named
 NAMED = 5
 # what a name may not have in a sentence without quotes: what ends it there, and blanks that nobody would see
@@ -150,6 +152,16 @@ def drop(stream: IO[str]) -> None:
     nowhere = os.open(os.devnull, os.O_WRONLY)
     os.dup2(nowhere, stream.fileno())
     os.close(nowhere)
+
+
+def has_terminal() -> bool:
+    """Whether standard input, output and error are one terminal, and this process may read from it."""
+    streams = range(3)
+    try:
+        is_one = all(map(os.isatty, streams)) and len({os.fstat(number).st_rdev for number in streams}) == 1
+        return is_one and os.tcgetpgrp(INPUT) == os.getpgrp()
+    except OSError:
+        return False
 
 
 def open_streams() -> None:

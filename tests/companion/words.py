@@ -586,6 +586,35 @@ def helps(home: Path) -> None:
     equal("groups of `migrate`", groups, wanted)
 
 
+def loaded(words: Sequence[str], home: Path) -> set[str]:
+    """The modules that a run loads: those of the library, and those of the package without its name."""
+    alone = ["python3", "-I", "-S", "-B", "-v", str(ADMIN)]
+    ran = subprocess.run([*alone, *words], cwd=home, check=True, stdout=subprocess.PIPE, stderr=subprocess.PIPE)
+    found = re.findall(r"(?m)^import '(\S+)' #", ran.stderr.decode())
+    return {name.partition("mbox2maildir_admin.")[2] or name for name in found}
+
+
+def modules(home: Path) -> None:
+    """A help loads no room, and a run of a command only what it needs: most of a short run is spent on that."""
+    light = {"commands.command_line", "commands.words", "commands.deciding", "commands.of_users"}
+    light |= {"labels.choosing", "readings.reading"}
+    rooms = {path.parent.name for path in (ADMIN.parent / "mbox2maildir_admin").glob("*/__init__.py")}
+    for word in ("", *COMMANDS, "back"):
+        found = loaded([*word.split(), "--help"], home)
+        equal(f"{word} --help: rooms", {name for name in found if name.split(".")[0] in rooms and "." in name}, light)
+    mailbox(home / "box", ONE)
+    slow = {"concurrent", "difflib", "email", "multiprocessing", "pathlib", "tempfile", "urllib", "zipfile"}
+    slow |= {"jobs.workers", "takeouts", "undoing", "users.spool"}
+    for words, others in (
+        (["kind", "box"], {"commands.migrate", "migration.mailbox"}),
+        (["migrate", "--now", "M", "box"], {"commands.kind", "commands.objects", "labels.gmail", "readings.streams"}),
+        (["verify", "M", "box"], {"commands.kind", "commands.migrate", "migration.mailbox"}),
+    ):
+        found = loaded(words, home)
+        equal(f"{words}: the command", f"commands.{words[0]}" in found, True)
+        equal(f"{words}: modules that only others need", found & (slow | others), set())
+
+
 if __name__ == "__main__":
     check_all(
         dates,
@@ -601,4 +630,5 @@ if __name__ == "__main__":
         output_fails,
         options_anywhere,
         helps,
+        modules,
     )

@@ -1,7 +1,6 @@
 """The words of the command line: a command, its options and its operands, and what is wrong with them."""
 import argparse
 import collections
-import difflib
 import functools
 import os
 import sys
@@ -144,6 +143,8 @@ class CommandLine:
 
 def like(name: str, known: Iterable[str]) -> str:
     """What is said after a name that is not known: the one that it resembles, if there is one."""
+    import difflib
+
     near = difflib.get_close_matches(name, known, 1)
     return ": did you mean %s?" % near[0] if near else ""
 

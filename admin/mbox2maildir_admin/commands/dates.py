@@ -12,7 +12,6 @@ from ..mbox.mailbox import is_still
 from ..progress import say_of
 from ..readings.texts import open_text
 from ..terminal import complain, named, put
-from .command_line import CommandLine
 from .files import each, for_mailboxes
 from .recorded import Recorded
 
@@ -20,25 +19,6 @@ from .recorded import Recorded
 UNDATED = 10
 CHANGED = "it changed in the meantime: stop the program that writes to it, and run this again"
 SYNC_FAILED = "its sync failed: read the system's log, mount the disk again, and run this again"
-
-
-def add_dates(command_line: CommandLine) -> None:
-    """Adds the command `dates`."""
-    command = command_line.add(
-        "dates",
-        do_dates,
-        "give converted files the dates of their From_ lines",
-        "Gives the files in MAILDIR that came from FILE the dates of its From_ lines. If a From_ line has no date, the "
-        "header Date counts. A date without a time zone is in the zone of TZ, or of this machine. A FILE may be a "
-        "folder of mailboxes. Exit status 1 if a message has no date or no file.",
-        "MAILDIR",
-        "FILE...",
-    )
-    command.add_argument(
-        "--header",
-        action="store_true",
-        help="take the dates of the headers Date even if all From_ lines have the same date",
-    )
 
 
 def do_dates(given: argparse.Namespace) -> Status:

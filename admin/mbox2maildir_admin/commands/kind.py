@@ -24,23 +24,8 @@ from ..readings.reading import UNDECIDED, Reading
 from ..readings.texts import choice_of, form_of
 from ..readings.verdict import Verdict, look_at
 from ..terminal import operand
-from .command_line import CommandLine
 from .files import each, read_tree, say_left_out, without_mail
 from .findings import LINES, Findings, Kind, findings_of
-
-
-def add_kind(command_line: CommandLine) -> None:
-    """Adds the command `kind`."""
-    command = command_line.add(
-        "kind",
-        do_kind,
-        "print what files are, and what to run next",
-        "Prints what each FILE is, how many messages it has, and what to run next. The lines that are the reason "
-        "follow, with their numbers. Changes nothing. A FILE may be a folder of mailboxes. Exit status 0 only if every "
-        "file can be converted as it is.",
-        "FILE...",
-    )
-    command.add_argument("--json", action="store_true", help="print one JSON object per line")
 
 
 def do_kind(given: argparse.Namespace) -> Status:

@@ -11,11 +11,11 @@ from ..faults import Fault, Reason, Status, complain_of
 from ..mbox.lines import AROUND, cut, texts_of
 from ..mbox.mailbox import Mailbox
 from ..migration.outcomes import Row
-from ..migration.rows import Reporter, head_of, label_of
+from ..migration.rows import Reporter, Run, head_of, label_of
 from ..nexts import BELOW, COMMAND, Answer, Command, Does, Quote, lines_below
 from ..progress import say_of
 from ..readings.texts import content_of, disk_of
-from ..terminal import complain, flush, put, write
+from ..terminal import INPUT, complain, flush, has_terminal, put, write
 from .command_line import WrongOptions
 
 # the letters of answers, and those of what is none
@@ -30,11 +30,8 @@ MIGRATE, WORD = (ADMIN, "migrate"), "--as"
 FOLDERS = Does.OWN_FOLDER, Does.JOINS_INBOX, Does.LABEL_NONE, Does.LABEL_FOLDER, Does.ALL, Does.ONE
 # how far the mailboxes of one question are indented
 WITHIN = "  "
-# standard input, and the most bytes that are read of it at once
-INPUT, MOST = 0, 4096
-
-# does what the words of a command say, which follow its name
-Run = Callable[[Sequence[str]], None]
+# the most bytes that are read of standard input at once
+MOST = 4096
 
 
 class Asker(Reporter):
@@ -97,16 +94,6 @@ class Asker(Reporter):
         for row in self.asked:
             super().row(row)
         return super().end(*more)
-
-
-def has_terminal() -> bool:
-    """Whether standard input, output and error are one terminal, and this process may read from it."""
-    streams = range(3)
-    try:
-        is_one = all(map(os.isatty, streams)) and len({os.fstat(number).st_rdev for number in streams}) == 1
-        return is_one and os.tcgetpgrp(INPUT) == os.getpgrp()
-    except OSError:
-        return False
 
 
 def answers_of(row: Row) -> dict[str, Answer]:

@@ -15,33 +15,11 @@ from ..readings.quoting import quoted_into, write_copy
 from ..readings.reading import PLAIN, Reading
 from ..terminal import named, operand, put, write
 from ..units import Say, silent
-from .command_line import CommandLine, WrongOptions
-from .deciding import add_words, decision_of
+from .command_line import WrongOptions
+from .deciding import decision_of
 from .files import each
 
 STANDARD_OUTPUT = b"-"
-
-
-def add_quote(command_line: CommandLine) -> None:
-    """Adds the command `quote`."""
-    command = command_line.add(
-        "quote",
-        do_quote,
-        "write an escaped copy of a mailbox, for `mbox2maildir convert`",
-        "Writes an escaped copy of FILE for mbox2maildir: each line `From ` begins a message, and all other such lines "
-        "are escaped. FILE is read as migrate reads it with the same options. If it is read by its lengths, the right "
-        "lengths are left out of the copy. COPY is complete, or not there at all. It begins with the first From_ "
-        "line.",
-        "FILE",
-        usage=["[OPTION]... -o COPY FILE"],
-    )
-    add_words(command.add_argument)
-    command.add_argument(
-        "--dovecot",
-        action="store_true",
-        help="write the copy that migrate --dovecot converts: without the header fields that Dovecot hides",
-    )
-    command.add_argument("-o", "--output", metavar="COPY", help="the name of the copy; - is standard output")
 
 
 def do_quote(given: argparse.Namespace) -> Status:

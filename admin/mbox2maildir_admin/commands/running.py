@@ -1,5 +1,4 @@
-"""How a command runs that tells what becomes of mailboxes: whose they are, its rows, its report and its last line."""
-import argparse
+"""How a command runs that tells what becomes of mailboxes: its rows, its report and its last line."""
 import os
 import sys
 from collections.abc import Callable
@@ -8,11 +7,7 @@ from typing import Optional
 from ..faults import Status
 from ..migration.rows import Reporter
 from ..terminal import OutputFault, complain, drop
-from ..users.asked import Sources, Tally, asked_for
-from ..users.homes import Home
-from ..users.spool import Spool
-from .objects import Report
-from .of_users import UsersOptions
+from ..users.asked import Tally
 
 # what the last line says if not all mailboxes were looked at
 INTERRUPTED = "interrupted: run the same command again"
@@ -21,19 +16,13 @@ INTERRUPTED = "interrupted: run the same command again"
 Telling = Callable[[Reporter, Tally], None]
 
 
-def spool_of(given: argparse.Namespace) -> tuple[Spool, Optional[Sources]]:
-    """The spool that the command line names, and the users who are asked for, if any are."""
-    path, *names = given.operands
-    of_users = UsersOptions.of(given)
-    home = Home(os.fsencode(of_users.maildir), os.fsencode(of_users.tree) if of_users.tree else None)
-    return Spool(path, home), asked_for(names, os.fsencode(of_users.names) if of_users.names is not None else None)
-
-
 def run_reported(task: Telling, reporter: Reporter, report: Optional[str], after: str) -> Status:
     """Does a task whose rows a reporter gets, and a new file if one is named. Returns the status. `after` says what to
     do if the output takes no more."""
     if report is None:
         return run_task(task, reporter, after)
+    from .objects import Report
+
     reporter.report = file = Report(os.fsencode(report))
     try:
         return run_task(task, reporter, after)

@@ -3,7 +3,6 @@ import argparse
 import functools
 import importlib
 
-from .. import ADMIN
 from ..faults import Status
 from ..labels.checks import checks_of
 from ..labels.noted import Noted, noted_of
@@ -15,42 +14,11 @@ from ..mbox.lines import Lines
 from ..program import Program, find_program
 from ..readings.texts import Text, open_text
 from ..units import Say
-from .command_line import CommandLine, WrongOptions, want_operands
+from .command_line import WrongOptions, want_operands
 from .files import each, for_mailboxes
 from .findings import LINES, Checked, Findings, findings_of
-from .of_users import UsersOptions, add_homes, wrong_for_homes, wrong_for_one
+from .of_users import UsersOptions, wrong_for_homes, wrong_for_one
 from .recorded import Recorded, record_of
-
-EPILOG = """\
-examples:
-  %s verify ~/Maildir ~/mail
-  # %s verify --users --tree mail /var/mail.old
-
-Exit status: 0 only if each message is there once."""
-
-
-def add_verify(command_line: CommandLine) -> None:
-    """Adds the command `verify`."""
-    command = command_line.add(
-        "verify",
-        do_verify,
-        "check whether each message is in the Maildir",
-        "Compares each FILE with MAILDIR. Prints how many of its messages are there with exactly their bytes, how many "
-        "under another name, how many with other bytes and how many nowhere, and how many files are second copies of "
-        "a message. Writes nothing. A FILE may be a folder of mailboxes. With --users it compares the mailboxes that "
-        "`migrate --users` migrates, with the rights of each user, and prints one line for each user whose mail is not "
-        "whole.",
-        usage=["[OPTION]... MAILDIR FILE...", "--users [OPTION]... OLD [NAME...]"],
-        epilog=EPILOG % ((ADMIN,) * 2),
-    )
-    add = command.add_argument
-    add("--json", action="store_true", help="print one JSON object per line")
-    add("--all", action="store_true", help="name files without mail, and with --users each mailbox, too")
-    add = command.add_argument_group("for many users, as root").add_argument
-    add("--users", action="store_true", help="check each mailbox in OLD, and the Maildir in the home of its user")
-    add_homes(add, "check")
-    add("--jobs", metavar="N", help="check N users at a time (otherwise up to 8)")
-    add("--report", metavar="FILE", help="write the objects of --json to a new file, too")
 
 
 def do_verify(given: argparse.Namespace) -> Status:

@@ -27,7 +27,8 @@ from .files import NOTED, for_planned
 from .findings import Checked, Findings
 from .objects import ObjectReporter
 from .of_users import jobs_in
-from .running import run_reported, spool_of
+from .running import run_reported
+from .spools import spool_of
 from .verify import verify_file
 
 # what all together are at

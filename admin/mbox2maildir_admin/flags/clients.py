@@ -3,8 +3,6 @@
 A sender may write such headers too. They count only if each message of a mailbox has its own. Of two with the same name
 the first one counts, since a program puts its own before what was sent.
 """
-import csv
-import email.header
 import re
 from collections.abc import Callable, Iterable, Iterator
 from typing import NamedTuple, Optional
@@ -79,6 +77,8 @@ def labels_of(text: str) -> list[str]:
 
 def labels_in(text: str) -> Optional[list[str]]:
     """The same for the bytes of a field, each of which is a letter; None if the field can't be read."""
+    import csv
+
     try:
         unfolded = BETWEEN_ENCODED.sub("", FOLD.sub(" ", text.encode("latin-1").decode("utf-8", "surrogateescape")))
         decoded = ENCODED.sub(decoded_words, unfolded)
@@ -90,7 +90,9 @@ def labels_in(text: str) -> Optional[list[str]]:
 
 def decoded_words(words: re.Match[str]) -> str:
     """What encoded words stand for."""
-    pieces = email.header.decode_header(words[0].replace("?==?", "?= =?"))
+    from email.header import decode_header
+
+    pieces = decode_header(words[0].replace("?==?", "?= =?"))
     return "".join(piece.decode(charset or "ascii") if isinstance(piece, bytes) else piece for piece, charset in pieces)
 
 

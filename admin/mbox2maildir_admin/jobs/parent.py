@@ -2,13 +2,12 @@
 concerns other workers too."""
 import time
 from collections.abc import Iterator
-from multiprocessing.connection import Connection
 from typing import Any, Optional
 
 from ..faults import PlaceFault
 from ..maildir.space import Need, want_room
 from ..signals import INTERRUPTS
-from .words import At, Became, Begins, Failed, Line, Next, Places, Refusal, Word
+from .words import At, Became, Begins, Failed, Line, Next, Pipe, Places, Refusal, Word
 
 # how often a worker tells how far it is, in seconds
 BEAT = 0.2
@@ -17,20 +16,20 @@ BEAT = 0.2
 class Parent:
     """A connection to the parent. The worker ends if nobody is at the other end."""
 
-    def __init__(self, connection: "Connection") -> None:
-        self.connection, self.next_time = connection, 0.0
+    def __init__(self, pipe: Pipe) -> None:
+        self.pipe, self.next_time = pipe, 0.0
 
     @property
     def number(self) -> int:
         """The descriptor that becomes readable once the parent is gone."""
-        return self.connection.fileno()
+        return self.pipe.fileno()
 
     def tell(self, word: Word) -> None:
         """Sends a word to the parent."""
         try:
             # a word that is sent in part would be lost
             with INTERRUPTS.held():
-                self.connection.send(word)
+                self.pipe.send(word)
         except OSError:
             raise KeyboardInterrupt from None
 
@@ -38,7 +37,7 @@ class Parent:
         """Asks for something, and waits for the answer."""
         self.tell(word)
         try:
-            return self.connection.recv()
+            return self.pipe.recv()
         except (EOFError, OSError):
             raise KeyboardInterrupt from None
 

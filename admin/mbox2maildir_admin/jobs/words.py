@@ -1,10 +1,24 @@
 """What a worker and its parent say to each other."""
 from collections.abc import Sequence
-from typing import Any, NamedTuple, Optional, Union
+from typing import Any, NamedTuple, Optional, Protocol, Union
 
 from ..faults import Reason
 from ..maildir.space import Need
 from ..progress import amount
+
+
+class Pipe(Protocol):
+    """What a worker and its parent talk through. The library has it in a module that takes as long to load as a tenth
+    of the companion, and that only those need who have workers."""
+
+    def fileno(self) -> int:
+        """The descriptor."""
+
+    def send(self, obj: Any) -> None:
+        """Sends a word."""
+
+    def recv(self) -> Any:
+        """Waits for a word."""
 
 
 class Next(NamedTuple):

@@ -2,7 +2,6 @@
 folders these are. It is noted before the first message is placed, and that it is undone after the last one is gone."""
 import os
 from typing import NamedTuple, Optional
-from urllib.parse import quote, unquote_to_bytes
 
 from ..faults import Fault
 from ..ledger.history import Entry, History, Key, Note, names_of
@@ -29,6 +28,8 @@ class Noted(NamedTuple):
     @classmethod
     def of(cls, line: Entry) -> "Noted":
         """Reads the words of a line."""
+        from urllib.parse import unquote_to_bytes
+
         pairs = [word.partition("=")[::2] for word in (line.plan or "").split(" ")]
         given = tuple((os.fsdecode(unquote_to_bytes(label)), gives) for gives, label in pairs if gives in GIVES)
         folders = tuple(unquote_to_bytes(name) for what, name in pairs if what == "in")
@@ -37,6 +38,8 @@ class Noted(NamedTuple):
 
 def quoted(name: bytes) -> str:
     """A name as a word without blanks."""
+    from urllib.parse import quote
+
     return quote(name, safe="")
 
 

@@ -4,7 +4,6 @@ import functools
 import itertools
 import os
 from collections.abc import Callable, Iterable, Iterator
-from concurrent.futures import Future, ThreadPoolExecutor
 from typing import NoReturn, Optional
 
 from .files import Named, digest_of
@@ -31,6 +30,8 @@ def readable(files: Iterable[Named], is_wanted: Callable[[bytes], bool], threads
     if threads == 1:
         yield from (later(name, path) for name, path in files)
         return
+    from concurrent.futures import Future, ThreadPoolExecutor
+
     ahead: "collections.deque[Future[list[Readable]]]" = collections.deque()
     left = iter(files)
     with ThreadPoolExecutor(threads) as pool:

@@ -1,7 +1,6 @@
 """Free space on the disk of a Maildir, and which calls fail there."""
 import errno
 import os
-import tempfile
 import time
 from collections.abc import Collection
 from typing import NamedTuple, Optional
@@ -95,6 +94,8 @@ def amount(size: int) -> str:
 
 def what_fails(folder: bytes, size: int) -> Optional[str]:
     """Tries in `tmp` what the program does there with a message of this size. Returns what fails, if anything does."""
+    import tempfile
+
     step, path = "make a file in tmp", None
     try:
         number, path = tempfile.mkstemp(prefix=PREFIX, dir=os.path.join(folder, b"tmp"))

@@ -3,7 +3,7 @@ import errno
 import io
 import os
 import stat
-from pathlib import Path
+import sys
 from typing import Optional
 
 from ..faults import ABSENT, Fault, Reason
@@ -45,9 +45,13 @@ def real_path(path: bytes) -> bytes:
     """A path without symbolic links, which need not lead to something. Raises OSError if a part of it can't be looked
     at."""
     try:
+        if sys.version_info >= (3, 10):
+            return os.path.realpath(path, strict=True)
+        from pathlib import Path
+
         return os.fsencode(Path(os.fsdecode(path)).resolve(strict=True))
     except RuntimeError:
-        # symbolic links lead to each other; before 3.13 Python says so by this error
+        # symbolic links lead to each other
         pass
     except OSError as fault:
         if fault.errno not in (*ABSENT, errno.ELOOP):

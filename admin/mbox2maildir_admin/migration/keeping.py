@@ -3,7 +3,6 @@ import os
 from typing import Optional
 
 from ..faults import Left
-from ..ledger.envelopes import envelopes_of, has_kept, keep
 from ..readings.earlier import plan_then
 from ..readings.reading import Reading
 from ..readings.texts import Choice, content_of, disk_of
@@ -16,6 +15,8 @@ UNREAD = "it cannot be read any more as it was when it was done, so its From_ li
 def keep_new(how: How, opened: Opened, contents: Contents) -> None:
     """Keeps the From_ lines of what is going to be brought, if that is wanted."""
     if how.keep_envelopes:
+        from ..ledger.envelopes import envelopes_of, keep
+
         lines = envelopes_of(contents.text, contents.inventory)
         keep(opened.folder, opened.mailbox.key(), contents.words, spelled(opened.mailbox.path), lines)
 
@@ -26,6 +27,8 @@ def keep_done(how: How, root: bytes, opened: Opened, words: Optional[str]) -> No
     mailbox = opened.mailbox
     if not how.keep_envelopes or how.dry or not mailbox.size or not os.path.isdir(opened.folder):
         return
+    from ..ledger.envelopes import envelopes_of, has_kept, keep
+
     if has_kept(opened.folder, mailbox.key()):
         return
     disk = disk_of(root)

@@ -2,7 +2,7 @@
 import collections
 import math
 import time
-from collections.abc import Callable, Iterator, Mapping
+from collections.abc import Callable, Iterator, Mapping, Sequence
 from types import MappingProxyType
 from typing import Optional
 
@@ -21,6 +21,9 @@ SUMMED = (
 )
 # the steps of a mailbox, by the first word of what is said of its progress
 STEPS = MappingProxyType({"reading": 1, "copying": 1, "looking": 2, "converting": 3, "dating": 4, "verifying": 5})
+
+# does what the words of a command say, which follow its name
+Run = Callable[[Sequence[str]], None]
 
 
 class Reporter(Observer):
@@ -99,6 +102,9 @@ class Reporter(Observer):
         self.at_work.end(label_of(row, user))
         LINE.clear()
         self.print_row(row, user)
+
+    def ask(self, run: Run) -> None:
+        """Asks nobody: what is left has its row."""
 
     def print_row(self, row: Row, user: Optional[str]) -> None:
         """Prints what became of a mailbox, unless it is only counted in the sum."""

@@ -2,7 +2,6 @@
 there."""
 import os
 import re
-import shutil
 import subprocess
 from collections.abc import Iterable, Iterator, Mapping, Sequence
 from typing import NamedTuple, Optional
@@ -43,7 +42,9 @@ class Place(NamedTuple):
 def locations() -> Optional[list[str]]:
     """Where Dovecot looks for mail, by its settings: the general location, and those of blocks such as namespaces; None
     without Dovecot. Each is as `mail_location` has it: a driver and a path."""
-    doveconf = shutil.which(DOVECONF)
+    from shutil import which
+
+    doveconf = which(DOVECONF)
     if doveconf is None:
         return None
     # of these names, each version knows its own

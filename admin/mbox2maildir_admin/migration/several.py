@@ -10,7 +10,6 @@ from ..faults import Fault, Left, PlaceFault, Reason
 from ..jobs.count import groups_of, jobs_of
 from ..jobs.parent import Parent
 from ..jobs.words import Places
-from ..jobs.workers import Orders, Workers
 from ..kinds.folders import is_maildir
 from ..kinds.making import is_below
 from ..ledger.record import Record
@@ -155,6 +154,7 @@ class Several:
 
     def migrate_at_once(self, plan: Sequence[Planned], groups: Sequence[Places], jobs: int) -> None:
         """Migrates the mailboxes of several folders at the same time. Rows come in the order of the plan."""
+        from ..jobs.workers import Orders, Workers
 
         def leave(place: int, why: str, reason: Reason) -> Ended:
             return Ended(row_left(plan[place].path, plan[place].folder, Left(why, reason)))

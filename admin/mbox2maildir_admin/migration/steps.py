@@ -10,7 +10,6 @@ from ..flags.dovecot_headers import fields_of, flags_of, header_at, marks_of
 from ..flags.renaming import add_flags
 from ..kinds.making import Where, is_below
 from ..labels.choosing import Choosing
-from ..labels.remark import remarks_on_labels
 from ..maildir.folders import INBOX, folder_path, words_of
 from ..maildir.making import make_maildir
 from ..mbox.inventory import Inventory
@@ -153,8 +152,12 @@ class Extra:
 
     def remarks_on(self, kept: Kept, one: Bringing) -> list[Remark]:
         """What is to be said of flags that a program kept, and of labels that were not asked for."""
-        headers = map(one.contents.header, map(Place, one.places)) if kept.program == GMAIL else ()
-        return [*kept.remarks(one.places), *remarks_on_labels(headers)]
+        remarks = list(kept.remarks(one.places))
+        if kept.program == GMAIL:
+            from ..labels.remark import remarks_on_labels
+
+            remarks += remarks_on_labels(map(one.contents.header, map(Place, one.places)))
+        return remarks
 
 
 @dataclass(frozen=True)

@@ -2,7 +2,6 @@
 import contextlib
 import os
 import stat
-import tempfile
 from collections.abc import Container, Iterator
 from typing import BinaryIO, Optional
 
@@ -103,6 +102,8 @@ class Copy:
 def unfinished(folder: bytes) -> tuple[BinaryIO, Optional[bytes]]:
     """Opens a file without a name. If such a file can get no name later, it opens one with an odd name, and returns
     that."""
+    import tempfile
+
     part = None
     try:
         os.stat("/proc/self/fd")

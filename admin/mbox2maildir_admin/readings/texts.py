@@ -26,7 +26,6 @@ from ..units import Line, Offset, Say, silent
 from .plans import NoMail, NotKnown, OtherKind, Plan, Question, plan_of, read_enough
 from .reading import UNDECIDED, Reading
 from .unnamed import bare_copy, quoted_copy
-from .unpacking import BY_HAND, unpacked
 
 
 # how a mailbox, which is or holds a text, was read when it was recorded, if it was
@@ -134,6 +133,8 @@ def content_of(mailbox: Mailbox, folder: bytes) -> Iterator[Mailbox]:
     if not form:
         yield mailbox
         return
+    from .unpacking import unpacked
+
     with unpacked(mailbox, form, folder) as text:
         yield text
 
@@ -148,12 +149,16 @@ def choice_of(
     if not form:
         yield Choice(mailbox, plan_of(mailbox, read, decision))
         return
+    from .unpacking import unpacked
+
     with unpacked(mailbox, form, folder) as text:
         yield Choice(text, plan_of_packed(text, form, read, decision), mailbox, form)
 
 
 def plan_of_packed(text: Mailbox, form: Form, read: Read, decision: Reading) -> Plan:
     """The plan of what a mailbox holds. It is looked at like a file."""
+    from .unpacking import BY_HAND
+
     by_hand = "%s <{}" % BY_HAND[form]
     try:
         plan = plan_of(text, read, decision)

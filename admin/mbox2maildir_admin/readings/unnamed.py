@@ -1,6 +1,5 @@
 """Texts without a name. They are on the Maildir's disk, and are gone once they are closed."""
 import os
-import tempfile
 from collections.abc import Sequence
 from typing import IO
 
@@ -17,6 +16,8 @@ from .quoting import Quoter
 
 def unnamed(folder: bytes) -> IO[bytes]:
     """Opens a file without a name on the disk of a folder."""
+    import tempfile
+
     return tempfile.TemporaryFile(buffering=BLOCK, prefix=PREFIX, dir=folder)
 
 

@@ -16,8 +16,8 @@ from mbox2maildir_admin.back.reading import Forms, Held, messages_by, reading_no
 from mbox2maildir_admin.back.steps import How
 from mbox2maildir_admin.back.several import Several
 from mbox2maildir_admin.commands import back as command
-from mbox2maildir_admin.commands.back import add_back
-from mbox2maildir_admin.faults import Fault, Left, Reason
+from mbox2maildir_admin.commands.words import add_back
+from mbox2maildir_admin.faults import Fault, Left, Reason, Status
 from mbox2maildir_admin.ledger.record import Record
 from mbox2maildir_admin.mbox.locks import open_mailbox
 from mbox2maildir_admin.migration.outcomes import Fate, Row
@@ -360,7 +360,9 @@ class PartsTest(HomeTest):
     def test_the_command(self) -> None:
         line = mock.Mock()
         add_back(line)
-        self.assertEqual(line.add.call_args.args[:2], ("back", command.do_back))
+        name, task, *_ = line.add.call_args.args
+        with mock.patch.object(command, "do_back", return_value=Status.LATER) as done:
+            self.assertEqual((name, task("given"), done.call_args), ("back", Status.LATER, mock.call("given")))
         with self.assertRaises(Fault) as raised:
             several.bring_back(self.root, [], How(), False, Listener())
         self.assertEqual(raised.exception.reason, Reason.NO_MAILDIR)

@@ -1,6 +1,4 @@
 """The program: its status, and what it says of a fault."""
-import os
-import subprocess
 import sys
 import unittest
 from unittest import mock
@@ -58,15 +56,3 @@ class StatusTest(unittest.TestCase):
         every = ["kind", "quote", "dates", "migrate", "verify", "back"]
         for words, wanted in (("", every), ("--help kind", every), ("of", every), ("kind verify", ["kind"])):
             self.assertEqual(list(cli.command_line(words.split()).commands), wanted, words)
-
-    def test_a_command_loads_what_it_needs(self) -> None:
-        env = {**os.environ, "PYTHONPATH": os.pathsep.join(sys.path)}
-        code = "import sys; from mbox2maildir_admin import cli; cli.command_line([%r]); print(*sys.modules)"
-        for command, others in (
-            ("kind", ["jobs", "undoing", "migration.mailbox", "commands.migrate"]),
-            ("verify", ["jobs", "undoing", "migration.mailbox", "commands.migrate", "commands.kind"]),
-        ):
-            ran = subprocess.run([sys.executable, "-c", code % command], check=True, stdout=subprocess.PIPE, env=env)
-            loaded = ran.stdout.decode().split()
-            self.assertIn("mbox2maildir_admin.commands." + command, loaded)
-            self.assertEqual([name for name in others if "mbox2maildir_admin." + name in loaded], [], command)

@@ -7,7 +7,7 @@ from unittest import mock
 from mbox2maildir_admin.commands import verify
 from mbox2maildir_admin.commands.command_line import CommandLine
 from mbox2maildir_admin.commands.findings import LINES, Kind, ObjectFindings, Sort, findings_of
-from mbox2maildir_admin.commands.kind import add_kind
+from mbox2maildir_admin.commands.words import add_kind
 from mbox2maildir_admin.faults import Fault, Reason, Status
 from mbox2maildir_admin.mbox.inventory import Inventory
 from mbox2maildir_admin.mbox.lines import Said

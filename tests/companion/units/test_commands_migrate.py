@@ -5,10 +5,9 @@ import unittest
 from unittest import mock
 
 from mbox2maildir_admin.commands import migrate as module
-from mbox2maildir_admin.commands import running
+from mbox2maildir_admin.commands import running, spools
 from mbox2maildir_admin.commands.command_line import CommandLine
 from mbox2maildir_admin.commands.migrate import (
-    add_migrate,
     reporter_of,
     wrong_for_own,
     wrong_for_undo,
@@ -16,12 +15,15 @@ from mbox2maildir_admin.commands.migrate import (
 )
 from mbox2maildir_admin.commands.objects import ObjectReporter
 from mbox2maildir_admin.commands.of_users import UsersOptions
-from mbox2maildir_admin.commands.questions import Asker, Run
+from mbox2maildir_admin.commands.questions import Asker
+from mbox2maildir_admin.commands.words import add_migrate
 from mbox2maildir_admin.faults import Status
-from mbox2maildir_admin.migration.rows import Reporter
+from mbox2maildir_admin.migration import several
+from mbox2maildir_admin.migration.rows import Reporter, Run
 from mbox2maildir_admin.migration.steps import Options
 from mbox2maildir_admin.readings.reading import Reading
 from mbox2maildir_admin.terminal import OutputFault
+from mbox2maildir_admin.undoing import undo
 from mbox2maildir_admin.undoing.undo import How
 from mbox2maildir_admin.users.asked import COMMAND_LINE, Tally
 from mbox2maildir_admin.users.homes import Home
@@ -97,7 +99,7 @@ class MigrateTest(unittest.TestCase):
             return self.line.run()
 
     def test_ones_own(self) -> None:
-        with mock.patch.object(module, "migrate_own") as own, printed() as caught:
+        with mock.patch.object(several, "migrate_own") as own, printed() as caught:
             self.assertEqual(
                 self.run_it("--dry-run", "--dovecot", "--folder", "a/b", "M", "box", "caf\udce9"), Status.LEFT
             )
@@ -108,22 +110,22 @@ class MigrateTest(unittest.TestCase):
         self.assertEqual(caught.out, ["no mailboxes"])
 
     def test_undo(self) -> None:
-        with mock.patch.object(module, "undo_own") as undo, printed() as caught:
+        with mock.patch.object(undo, "undo_own") as undone, printed() as caught:
             self.assertEqual(self.run_it("--undo", "--dry-run", "--folder", "a/b", "M", "box"), Status.LEFT)
             self.assertRaises(SystemExit, self.run_it, "--undo", "--again", "M", "box")
-        self.assertEqual(undo.call_args[0][:3], (b"M", b"box", How(True, False, b".a.b")))
-        self.assertEqual((undo.call_count, caught.err[0]), (1, "mbox2maildir-admin: " + UNDO_WITH))
+        self.assertEqual(undone.call_args[0][:3], (b"M", b"box", How(True, False, b".a.b")))
+        self.assertEqual((undone.call_count, caught.err[0]), (1, "mbox2maildir-admin: " + UNDO_WITH))
 
     def test_again(self) -> None:
         """For one mailbox, or for those of several that were rewritten since."""
         for names, again in ((["box"], True), (["box", "two"], False), (["/"], False)):
-            with mock.patch.object(module, "migrate_own") as own, printed():
+            with mock.patch.object(several, "migrate_own") as own, printed():
                 self.assertEqual(self.run_it("--again", "M", *names), Status.LEFT)
             options = own.call_args[0][2]
             self.assertEqual((options.again, options.again_rewritten), (again, not again))
 
     def test_users(self) -> None:
-        with mock.patch.object(module, "migrate_users") as users, printed():
+        with mock.patch.object(spools, "migrate_users") as users, printed():
             self.assertEqual(self.run_it("--users", "--tree", "mail", "--jobs", "4", "/var/mail", "mia"), Status.LEFT)
         spool, asked, options, *_ = users.call_args[0]
         self.assertEqual((spool, options), (Spool(b"/var/mail", Home(b"Maildir", b"mail")), Options(jobs=4)))
@@ -137,7 +139,7 @@ class MigrateTest(unittest.TestCase):
             tally.count(COMMAND_LINE)
 
         with folder() as here, mock.patch.object(
-            module, "migrate_users", side_effect=count
+            spools, "migrate_users", side_effect=count
         ) as users, printed() as caught:
             make(here, {"list": b"tom\nmia\n"})
             self.assertEqual(
@@ -148,7 +150,7 @@ class MigrateTest(unittest.TestCase):
 
     def test_list(self) -> None:
         """It needs --users, and prints nothing else."""
-        with mock.patch.object(module, "list_users", return_value=True) as listed:
+        with mock.patch.object(spools, "list_users", return_value=True) as listed:
             status = self.run_it("--users", "--list", "--by-size", "--dovecot", "--tree", "mail", "/var/mail", "mia")
         self.assertEqual(status, Status.WELL)
         spool = Spool(b"/var/mail", Home(b"Maildir", b"mail"))
@@ -195,23 +197,23 @@ class MigrateTest(unittest.TestCase):
         words = "--now", "--as", "mboxo", "--folder", "a/b", "M", "box"
 
         def ask(reporter: Asker, run: Run) -> None:
-            with mock.patch.object(module, "migrate_own") as own:
+            with mock.patch.object(several, "migrate_own") as own:
                 run(words)
             options = Options(folder="a/b", now=True, decision=Reading("mboxo"), jobs=None)
             own.assert_called_once_with(b"M", [b"box"], options, reporter)
 
         with mock.patch.object(module, "has_terminal", return_value=True), printed():
-            with mock.patch.object(module, "migrate_own"), mock.patch.object(Asker, "ask", ask):
+            with mock.patch.object(several, "migrate_own"), mock.patch.object(Asker, "ask", ask):
                 self.assertEqual(self.run_it("M", "box"), Status.LEFT)
 
     def test_a_sum_is_printed_where_it_is_broken_off(self) -> None:
-        with mock.patch.object(module, "migrate_own", side_effect=KeyboardInterrupt), printed() as caught:
+        with mock.patch.object(several, "migrate_own", side_effect=KeyboardInterrupt), printed() as caught:
             self.assertRaises(KeyboardInterrupt, self.run_it, "M", "box")
         self.assertEqual(caught.out, ["no mailboxes; interrupted: run the same command again"])
 
     def test_the_record_has_what_could_not_be_printed(self) -> None:
         fault = OutputFault(OSError(28, "No space left on device"))
-        with mock.patch.object(module, "migrate_own", side_effect=fault), mock.patch.object(
+        with mock.patch.object(several, "migrate_own", side_effect=fault), mock.patch.object(
             running, "drop"
         ), printed() as caught:
             self.assertEqual(self.run_it("M", "box"), Status.LEFT)

@@ -13,7 +13,6 @@ from mbox2maildir_admin.commands.questions import (
     MOST_ALIKE,
     Asker,
     answers_of,
-    has_terminal,
     letter_typed,
     line_typed,
     lines_of,
@@ -21,6 +20,7 @@ from mbox2maildir_admin.commands.questions import (
 from mbox2maildir_admin.faults import Fault, Reason
 from mbox2maildir_admin.migration.outcomes import Fate, Row
 from mbox2maildir_admin.nexts import Answer, Command, Does, Quote, in_shell, run_next
+from mbox2maildir_admin.terminal import has_terminal
 
 from tests.support.units import FolderTest, printed
 

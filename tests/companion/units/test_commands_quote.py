@@ -7,7 +7,8 @@ from unittest import mock
 
 from mbox2maildir_admin.commands import quote as module
 from mbox2maildir_admin.commands.command_line import CommandLine
-from mbox2maildir_admin.commands.quote import add_quote, quote_file
+from mbox2maildir_admin.commands.quote import quote_file
+from mbox2maildir_admin.commands.words import add_quote
 from mbox2maildir_admin.faults import Fault, Status
 from mbox2maildir_admin.nexts import lines_below
 from mbox2maildir_admin.readings.reading import UNDECIDED, Reading

@@ -24,8 +24,8 @@ from mbox2maildir_admin.users import children
 from mbox2maildir_admin.users.telling import Whose
 
 from tests.support.homes import ADMIN
-from tests.support.mail import A
-from tests.support.units import FolderTest
+from tests.support.mail import A, ONE
+from tests.support.units import FolderTest, folder, make
 
 # the signals that a session sends when it ends
 TWO = signal.SIGTERM, signal.SIGHUP
@@ -207,20 +207,23 @@ class Finder:
             else:
                 posix.write(2, b"%d " % posix.waitpid(copy, 0)[1])
 {}
-sys.argv[1:] = ["--help"]
+sys.argv[1:] = ["kind", {box!r}]
 with open({path!r}, "rb") as file:
     exec(compile(file.read(), {path!r}, "exec"), {{"__name__": "__main__", "__file__": {path!r}}})
 """
 
     def struck(self, when: str) -> tuple[int, bytes]:
         """How a run ends, and what it says."""
-        ran = subprocess.run(
-            [sys.executable, "-I", "-S", "-B", "-c", self.RUN.format(when, path=str(ADMIN))],
-            stdout=subprocess.DEVNULL,
-            stderr=subprocess.PIPE,
-            stdin=subprocess.DEVNULL,
-            check=False,
-        )
+        with folder() as here:
+            make(here, {"box": ONE})
+            code = self.RUN.format(when, path=str(ADMIN), box=here.decode() + "/box")
+            ran = subprocess.run(
+                [sys.executable, "-I", "-S", "-B", "-c", code],
+                stdout=subprocess.DEVNULL,
+                stderr=subprocess.PIPE,
+                stdin=subprocess.DEVNULL,
+                check=False,
+            )
         return ran.returncode, ran.stderr
 
     def test_start(self) -> None:
