@@ -21,6 +21,7 @@ from ..program import Program, find_program
 from ..progress import Beat
 from ..terminal import named, operand
 from ..units import counted
+from .appending import FULL
 from .beside import Beside
 from .mails import Mail, Sorted, copied, sorted_mail
 from .places import Names, Place, Places
@@ -31,6 +32,7 @@ from .steps import How, Outcome, TakesNothing, Target, left_unheld
 NO_RECORD = "%s: it has no record, so nothing shows which mail came from the old mailboxes"
 TORN = "the message that begins in line %d is cut: a run was killed there, and another program has written after it"
 NOT_READ_BACK = "what would be appended to it would not be read back as it is"
+DISK_FULL = "no room is left on its disk, or on that of the Maildir"
 CANNOT_HOLD, TAKES_NOTHING = "%s cannot hold this", "%s takes nothing"
 Remarks = tuple[Remark, ...]
 # what became of a message in the Maildir, and what is said of those that a mailbox has
@@ -214,6 +216,8 @@ class Several:
 
 def left(path: bytes, folder: bytes, fault: Union[Fault, OSError], count: int, remarks: Remarks = ()) -> Row:
     """The row of a mailbox to which nothing went back, of so many messages."""
+    if isinstance(fault, OSError) and fault.errno in FULL:
+        fault = Left(DISK_FULL, Reason.NO_ROOM)
     return replace(row_left(path, folder, fault), messages=count, remarks=remarks, is_back=True)
 
 
