@@ -9,8 +9,6 @@ from typing import AbstractSet, NamedTuple, Optional
 from .. import ADMIN
 from ..faults import Fault, Left, Reason
 from ..jobs.count import MOST, jobs_of
-from ..maildir.folders import folder_of
-from ..maildir.syncing import call_of_system
 from ..migration.outcomes import Fate, Observer, Row, row_left
 from ..migration.servers import locations
 from ..migration.steps import Options
@@ -23,6 +21,7 @@ from .accounts import account_of, first_uid, has_mailbox, home_of, is_users, own
 from .asked import ACCOUNTS, SPOOL, Sources, Tally
 from .children import Crew
 from .homes import Home, Kind, Migrant
+from .loading import load_for_children
 from .telling import Whose
 
 # an account, however many names it has: its number and its home
@@ -61,9 +60,7 @@ def migrate_users(
         spool = spool._replace(home=spool.home._replace(locations=locations()))
     names = frozenset(os.listdir(spool.path))
     want_entered(spool.path)
-    # Python may load these modules from where users can't read, so they are loaded now
-    folder_of("\u00e4")
-    call_of_system()
+    load_for_children()
     program = os.path.abspath(find_program())
     users = users_of(spool, names, asked, reporter, tally)
     reporter.total = len(users.found) + len(users.others)

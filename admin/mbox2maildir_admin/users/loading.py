@@ -1,0 +1,20 @@
+"""The modules that are loaded when they are needed, and that a child may need: Python may load them from where users
+can't read, so they are loaded before there is a child."""
+import importlib
+
+from ..maildir.folders import folder_of
+from ..maildir.syncing import call_of_system
+
+OF_PYTHON = ("concurrent.futures", "csv", "email.header", "pathlib", "shutil", "tempfile", "urllib.parse")
+OF_PACKAGE = ("jobs.workers", "labels.remark", "ledger.envelopes", "readings.unpacking")
+
+
+def load_for_children() -> None:
+    """Loads them."""
+    for name in OF_PYTHON:
+        importlib.import_module(name)
+    for name in OF_PACKAGE:
+        importlib.import_module("..%s" % name, __package__)
+    # what these load when they are called first
+    folder_of("\u00e4")
+    call_of_system()
