@@ -2,8 +2,8 @@
 not carried."""
 import functools
 import os
-from collections.abc import Iterator, Mapping
-from typing import NamedTuple
+from collections.abc import Callable, Iterator
+from typing import NamedTuple, Optional
 
 from ..faults import Fault
 from ..maildir.files import names_of
@@ -25,12 +25,16 @@ class Known(NamedTuple):
     now: frozenset[str]
 
 
-def known_in(folder: bytes, mailbox: Mailbox, offsets: Mapping[bytes, int], is_bare: bool) -> Iterator[Known]:
+# the offset of a message by the base of its file; None if there is none
+OffsetOf = Callable[[bytes], Optional[int]]
+
+
+def known_in(folder: bytes, mailbox: Mailbox, offset_of: OffsetOf, is_bare: bool) -> Iterator[Known]:
     """The files of messages whose offsets are given by the bases of their names. `is_bare` says whether bare text was
     converted, which decides the flags that they got."""
     for name, path in names_of(folder):
         base, info = OWN.match(name), name[len(before_info(name)) :]
-        offset = offsets.get(base[0]) if base else None
+        offset = offset_of(base[0]) if base else None
         if offset is not None and (not info or info.startswith(INFO)):
             now = flags_in(header_at(mailbox, Offset(offset)), is_bare)
             yield Known(path, frozenset(info[len(INFO) :].decode("latin-1")), now)
@@ -50,16 +54,16 @@ def flags_by(fields: tuple[Field, ...], is_bare: bool) -> frozenset[str]:
     return frozenset(flags_of(marks_of(fields, {}), is_bare))
 
 
-def lacking_flags(folder: bytes, mailbox: Mailbox, offsets: Mapping[bytes, int], is_bare: bool) -> int:
+def lacking_flags(folder: bytes, mailbox: Mailbox, offset_of: OffsetOf, is_bare: bool) -> int:
     """How many messages have a flag in their headers that their files lack."""
-    return sum(not one.now <= one.letters for one in known_in(folder, mailbox, offsets, is_bare))
+    return sum(not one.now <= one.letters for one in known_in(folder, mailbox, offset_of, is_bare))
 
 
-def changed_flags(folder: bytes, mailbox: Mailbox, offsets: Mapping[bytes, int], is_bare: bool) -> int:
+def changed_flags(folder: bytes, mailbox: Mailbox, offset_of: OffsetOf, is_bare: bool) -> int:
     """How many messages have a flag in their headers that their files lack, or no longer have one that is in the header
     of the file, as it was when that was made. Bare text does not show those."""
     count = 0
-    for path, letters, now in known_in(folder, mailbox, offsets, is_bare) if offsets else ():
+    for path, letters, now in known_in(folder, mailbox, offset_of, is_bare):
         had = frozenset() if is_bare or letters <= now else flags_of_file(path)
         count += not had <= now <= letters
     return count

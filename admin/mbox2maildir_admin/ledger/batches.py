@@ -28,9 +28,16 @@ class Batch:
         self.cores += cores
         self.bares += bares
 
+    def clear(self) -> None:
+        """Forgets its digests, which its mailbox has now."""
+        self.cores, self.bares = bytearray(), bytearray()
+
 
 class Source:
     """What a mailbox has brought, and how it was when it was read last: the words of its reading, size and SHA-256."""
+
+    # how many bytes of digests are compared at once
+    STEP = 1 << 14
 
     def __init__(self) -> None:
         self.words, self.key, self.inode = "", (0, ""), 0
@@ -49,6 +56,7 @@ class Source:
         if not self.lost and LOST not in batch.letters:
             self.cores += batch.cores
             self.bares += batch.bares
+            batch.clear()
             return
         for at, letter in enumerate(batch.letters):
             core, bare = digest_at(batch.cores, at), digest_at(batch.bares, at)
@@ -63,9 +71,19 @@ class Source:
                 self.cores += core
                 self.bares += bare
 
-    def has(self) -> collections.Counter[bytes]:
-        """How often it had each core when it was read last."""
-        return counted_in(self.cores) - self.lost
+    def has(self, first: int = 0) -> collections.Counter[bytes]:
+        """How often it had each core when it was read last, from a message on."""
+        return counted_in(self.cores[first * SHORT :]) - self.lost
+
+    def same_start(self, cores: bytearray, bares: bytearray) -> int:
+        """How many of its first messages are those of a text with these digests, in large steps. Most mailboxes only
+        grow, and it takes much memory to count each digest."""
+        at, end = 0, 0 if self.lost else min(len(self.cores), len(cores))
+        for at in range(0, end, self.STEP):
+            several = slice(at, at + self.STEP)
+            if at + self.STEP > end or self.cores[several] != cores[several] or self.bares[several] != bares[several]:
+                break
+        return at // SHORT
 
     def count(self) -> int:
         """How many messages it had when it was read last."""

@@ -6,6 +6,7 @@ that file. Each counts once.
 """
 import collections
 from collections.abc import Callable, Iterable, Iterator
+from typing import Optional
 
 from ..mbox.bases import OWN
 from ..mbox.inventory import Inventory
@@ -14,36 +15,55 @@ from .ledger import Ledger
 from .lines import LOST, NAMELESS
 
 
-def filed(ledger: Ledger, path: str, inventory: Inventory) -> dict[bytes, int]:
-    """The bases of the files of the mailbox at a path, as names have them, with the place of the message of each. Equal
-    messages have their files in their order."""
-    # the next file of each core, and those after it
-    waiting: dict[bytes, bytes] = {}
-    more: collections.defaultdict[bytes, collections.deque[bytes]] = collections.defaultdict(collections.deque)
-    for base, core in held_by(ledger, path).items():
-        if waiting.setdefault(core, base) is not base:
-            more[core].append(base)
-    places: dict[bytes, int] = {}
-    for place in range(len(inventory) if waiting else 0):
-        core = inventory.core(place)
-        if core in waiting:
-            places[waiting.pop(core)] = place
-            if more.get(core):
-                waiting[core] = more[core].popleft()
-    return places
+class Filed:
+    """The files of the mailbox at a path, with the places of their messages in its text. Equal messages have their
+    files in their order."""
 
+    def __init__(self, ledger: Ledger, path: str, inventory: Inventory) -> None:
+        self.inventory = inventory
+        # by place: 1 if its file has the base that the message has in the text, as most have; and the places of the
+        # messages of other bases, as names have them
+        self.own = bytearray(len(inventory))
+        self.places: dict[bytes, int] = {}
+        self.find(self.held_by(ledger, path))
 
-def held_by(ledger: Ledger, path: str) -> dict[bytes, bytes]:
-    """The bases that the files of a mailbox have or had, with the cores of their messages, as far as the mailbox had
-    these when it was read last."""
-    cores: dict[bytes, bytes] = {}
-    lost: set[bytes] = set()
-    for _, one in ledger.messages({number for number, its in ledger.ended.items() if its == path}):
-        base = OWN.match(one.name)
-        if base:
-            cores.setdefault(base[0], one.core)
-            (lost.add if one.word == LOST else lost.discard)(base[0])
-    return {base: core for base, core in cores.items() if base not in lost} if lost else cores
+    def __bool__(self) -> bool:
+        return any(self.own) or bool(self.places)
+
+    def get(self, base: bytes) -> Optional[int]:
+        """The place of the message of a file by its base; None if the mailbox has it not."""
+        place = self.inventory.table.own_place(base)
+        return place if place is not None and self.own[place] else self.places.get(base)
+
+    def held_by(self, ledger: Ledger, path: str) -> dict[bytes, bytes]:
+        """Notes the bases that files have or had, as far as the mailbox had their messages when it was read last.
+        Returns those that the text has not, with the cores of their messages."""
+        cores: dict[bytes, bytes] = {}
+        lost: set[bytes] = set()
+        for _, one in ledger.messages({number for number, its in ledger.ended.items() if its == path}):
+            place = self.inventory.table.own_place(one.name)
+            base = OWN.match(one.name) if place is None else None
+            if place is not None:
+                self.own[place] = one.word != LOST
+            elif base:
+                cores.setdefault(base[0], one.core)
+                (lost.add if one.word == LOST else lost.discard)(base[0])
+        return {base: core for base, core in cores.items() if base not in lost} if lost else cores
+
+    def find(self, others: dict[bytes, bytes]) -> None:
+        """Finds the places of messages by the cores that such bases have."""
+        # the next file of each core, and those after it
+        waiting: dict[bytes, bytes] = {}
+        more: collections.defaultdict[bytes, collections.deque[bytes]] = collections.defaultdict(collections.deque)
+        for base, core in others.items():
+            if waiting.setdefault(core, base) is not base:
+                more[core].append(base)
+        for place in (one for one, is_own in enumerate(self.own) if not is_own and waiting):
+            core = self.inventory.core(place)
+            if core in waiting:
+                self.places[waiting.pop(core)] = place
+                if more.get(core):
+                    waiting[core] = more[core].popleft()
 
 
 def claims(lines: Iterable[Line], bare: bytes) -> collections.Counter[bytes]:

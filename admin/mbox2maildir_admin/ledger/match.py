@@ -8,11 +8,12 @@ deleted counts for no message that is not.
 import array
 import collections
 import itertools
-from collections.abc import Callable, Iterable, Iterator, Sequence
+from collections.abc import Callable, Iterator, Sequence
 from dataclasses import dataclass, field
 
 from ..maildir.hashes import Hashes
 from ..mbox.bases import is_own
+from ..mbox.core import SHORT
 from ..mbox.inventory import Inventory
 from ..units import Place, Say, silent
 from .batches import Line, State
@@ -127,9 +128,10 @@ class Match:
         source = self.ledger.sources.get(self.path)
         if not source:
             return
-        cores, bares = source.has(), counted_in(source.bares)
+        first = source.same_start(self.inventory.cores, self.inventory.bares)
+        cores, bares = source.has(first), counted_in(source.bares[first * SHORT :])
         rest, new = array.array("Q"), array.array("Q")
-        for place in range(len(self.inventory)):
+        for place in range(first, len(self.inventory)):
             core, bare = self.inventory.core(place), self.inventory.bare(place)
             if cores[core] > 0 and bares[bare] > 0:
                 cores[core] -= 1
@@ -342,11 +344,9 @@ class Serving:
 
 def cores_of(inventory: Inventory) -> collections.Counter[bytes]:
     """How often each core is among some messages."""
-    several: Iterable[bytes] = map(inventory.core, range(len(inventory)))
-    return collections.Counter(several)
+    return collections.Counter(map(inventory.core, range(len(inventory))))
 
 
 def bares_of(inventory: Inventory) -> collections.Counter[bytes]:
     """How often each bare form is among some messages."""
-    several: Iterable[bytes] = map(inventory.bare, range(len(inventory)))
-    return collections.Counter(several)
+    return collections.Counter(map(inventory.bare, range(len(inventory))))

@@ -3,7 +3,7 @@ from collections.abc import Iterator, Sequence
 from typing import Optional
 
 from ..flags.changed import changed_flags, lacking_flags, remarks_on_changed
-from ..ledger.filed import filed
+from ..ledger.filed import Filed
 from ..ledger.ledger import Ledger
 from ..ledger.lines import PLACED
 from ..ledger.match import Match
@@ -86,7 +86,7 @@ def remarks_on_flags_that_differ(one: Bringing, match: Match) -> Iterator[Remark
     offsets = {base[0]: full.offsets[place] for place, base in found if base}
     if not offsets:
         return
-    count = lacking_flags(one.opened.folder, full.mailbox, offsets, one.contents.is_bare)
+    count = lacking_flags(one.opened.folder, full.mailbox, offsets.get, one.contents.is_bare)
     if count:
         yield Remark("flags-differ", "%s of these with flags in it that the file lacks" % counted(count, "message"))
 
@@ -108,6 +108,11 @@ def remarks_on_dropped(words: Optional[str]) -> list[Remark]:
 def remarks_on_flags(ledger: Ledger, path: str, contents: Contents) -> list[Remark]:
     """What is to be said of a mailbox that programs wrote into since it brought messages: how many of these got other
     flags in it."""
-    full = contents.full
-    offsets = {base: full.offsets[place] for base, place in filed(ledger, path, contents.inventory).items()}
-    return remarks_on_changed(changed_flags(ledger.folder, full.mailbox, offsets, contents.is_bare))
+    full, found = contents.full, Filed(ledger, path, contents.inventory)
+
+    def offset_of(base: bytes) -> Optional[int]:
+        place = found.get(base)
+        return None if place is None else full.offsets[place]
+
+    flags = changed_flags(ledger.folder, full.mailbox, offset_of, contents.is_bare) if found else 0
+    return remarks_on_changed(flags)

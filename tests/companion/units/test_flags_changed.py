@@ -25,7 +25,7 @@ class ChangedTest(HomeTest):
                 name = digest_of(body) + ".1" + (":2,S" if number == 0 else ":2,")
                 (self.maildir / "cur" / name).write_bytes(body)
             bases = [(digest_of(body) + ".1").encode() for body in bodies_of(bare.read_bytes())]
-            known = self.root, mailbox, dict(zip(bases, inventory.offsets)), is_bare
+            known = self.root, mailbox, dict(zip(bases, inventory.offsets)).get, is_bare
             count = changed_flags(*known)
             self.assertEqual(lacking_flags(*known), count)
             return count

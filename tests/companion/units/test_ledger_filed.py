@@ -3,7 +3,7 @@ import unittest
 from collections import Counter
 
 from mbox2maildir_admin.ledger.batches import Line, State
-from mbox2maildir_admin.ledger.filed import claims, filed, missing, unfiled
+from mbox2maildir_admin.ledger.filed import Filed, claims, missing, unfiled
 from mbox2maildir_admin.ledger.ledger import Ledger
 from mbox2maildir_admin.ledger.lines import NAMELESS
 
@@ -11,6 +11,7 @@ from tests.support.brought import BOX, OTHER, LedgerTest, inventory_of, line_of,
 from tests.support.mail import ONE, THREE, TWO
 
 FORM = line_of(ONE).bare
+READ = ONE.replace(b"\n\n", b"\nStatus: RO\n\n", 1)
 
 
 def named(message: bytes, count: int = 1) -> str:
@@ -21,15 +22,17 @@ def named(message: bytes, count: int = 1) -> str:
 class FiledTest(LedgerTest):
     def filed(self, text: bytes) -> list[tuple[str, int]]:
         """The names of the files of a mailbox with this text, and the places of their messages."""
-        places = filed(Ledger(self.folder), BOX, inventory_of(text))
-        return sorted(((name.decode(), place) for name, place in places.items()), key=lambda one: one[1])
+        found = Filed(Ledger(self.folder), BOX, inventory_of(text))
+        names = {named_of(message, count) for message in (ONE, TWO, THREE, READ) for count in range(1, 5)}
+        places = [(name.decode(), place) for name in names for place in [found.get(name)] if place is not None]
+        self.assertEqual(bool(found), bool(places))
+        return sorted(places, key=lambda one: one[1])
 
     def test_whoever_has_rewritten_it(self) -> None:
         self.assertEqual(self.filed(ONE), [])
         self.bring(BOX, line_of(ONE), line_of(TWO))
         self.bring(OTHER, line_of(THREE))
-        read = ONE.replace(b"\n\n", b"\nStatus: RO\n\n", 1)
-        self.assertEqual(self.filed(THREE + TWO + read), [(named(TWO), 1), (named(ONE), 2)])
+        self.assertEqual(self.filed(THREE + TWO + READ), [(named(TWO), 1), (named(ONE), 2)])
         self.assertEqual(self.filed(TWO), [(named(TWO), 0)])
 
     def test_what_it_no_longer_has(self) -> None:
@@ -37,6 +40,7 @@ class FiledTest(LedgerTest):
         self.bring(BOX, line_of(ONE), line_of(TWO))
         self.bring(BOX, line_of(ONE)._replace(word=b"l"), line_of(ONE, name=named(ONE, 4)))
         self.assertEqual(self.filed(ONE + TWO), [(named(ONE, 4), 0), (named(TWO), 1)])
+        self.assertEqual(self.filed(READ + TWO), [(named(ONE, 4), 0), (named(TWO), 1)])
 
     def test_equal_ones(self) -> None:
         """Each has its own file, in their order."""
@@ -44,6 +48,7 @@ class FiledTest(LedgerTest):
         wanted = [(named(ONE), 0), (named(ONE, 2), 1), (named(TWO), 2)]
         self.assertEqual(self.filed(ONE + ONE + TWO), wanted)
         self.assertEqual(self.filed(ONE + TWO), [(named(ONE), 0), (named(TWO), 1)])
+        self.assertEqual(self.filed(READ + ONE), [(named(ONE, 2), 0), (named(ONE), 1)])
 
     def test_names_of_other_programs(self) -> None:
         self.bring(BOX, line_of(ONE, name="17.host"), line_of(TWO, name=named(TWO) + ",U=7"))

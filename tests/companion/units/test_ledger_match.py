@@ -2,10 +2,13 @@
 import unittest
 from collections.abc import Callable
 from typing import Any, NamedTuple
+from unittest import mock
 
+from mbox2maildir_admin.ledger.batches import Source
 from mbox2maildir_admin.ledger.ledger import Ledger
 from mbox2maildir_admin.ledger.lines import FOREIGN, LOST, PLACED, SHARED
 from mbox2maildir_admin.ledger.match import cores_of
+from mbox2maildir_admin.mbox.core import SHORT
 
 from tests.support.brought import BOX, OTHER, THIRD, LedgerTest, body_of, inventory_of, line_of, named_of, short
 from tests.support.mail import ONE, THREE, TWO
@@ -503,6 +506,36 @@ class OfTest(MatchCase):
         self.place(TWO, named_of(TWO).decode() + ",U=7:2,S")
         (self.maildir / "new" / "link").symlink_to("17.host")
         self.assertEqual(self.match(THREE).files.others, 1)
+
+
+class GrownTest(MatchCase):
+    """The first messages of a mailbox, if they are those that it had, are compared in steps: here, one by one."""
+
+    def setUp(self) -> None:
+        super().setUp()
+        steps = mock.patch.object(Source, "STEP", SHORT)
+        steps.start()
+        self.addCleanup(steps.stop)
+
+    def test_what_it_has_brought_itself(self) -> None:
+        for case in OWN:
+            self.check(case)
+
+    def test_how_many_are_the_same(self) -> None:
+        for number, message in enumerate((QUOTED, ONE, TWO, ONE)):
+            self.has(message, name="17.%d" % number)
+        for text, new, first in (
+            (QUOTED + ONE + TWO + ONE + ONE, (4,), 3),
+            (QUOTED + TWO + ONE + THREE + ONE, (3,), 1),
+            # the form that it had is the one that it knows
+            (TWICE + ONE + TWO + ONE + QUOTED, (0,), 0),
+        ):
+            match = self.match(text)
+            self.assertEqual((tuple(match.new), match.lost), (new, {}))
+            source = match.ledger.sources[BOX]
+            self.assertEqual(source.same_start(match.inventory.cores, match.inventory.bares), first)
+        self.loses(TWO)
+        self.assertEqual(tuple(self.match(QUOTED + ONE + TWO + ONE).new), (2,))
 
 
 class AgainTest(MatchCase):
