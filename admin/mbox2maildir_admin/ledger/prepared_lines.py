@@ -88,13 +88,17 @@ def finish_list(folder: bytes) -> None:
     sync_folder(folder)
 
 
+def drop_list(folder: bytes) -> None:
+    """Removes the list of a folder that is done. A power cut may bring it back: then the ledger shows that it is
+    over."""
+    for name in (NEXT_LIST, PREPARED):
+        with contextlib.suppress(FileNotFoundError):
+            os.unlink(os.path.join(folder, name))
+
+
 def remove_list(folder: bytes) -> None:
     """Removes the list of a folder, in which nothing is only prepared any more."""
-    for name in (NEXT_LIST, PREPARED):
-        try:
-            os.unlink(os.path.join(folder, name))
-        except FileNotFoundError:
-            continue
+    drop_list(folder)
     sync_folder(folder)
 
 
@@ -117,9 +121,7 @@ def make_listed(folder: bytes) -> None:
 
 def remove_aside(path: bytes) -> None:
     """Removes a folder that was made or removed, and has nothing but a list."""
-    for name in (NEXT_LIST, PREPARED):
-        with contextlib.suppress(FileNotFoundError):
-            os.unlink(os.path.join(path, name))
+    drop_list(path)
     with contextlib.suppress(FileNotFoundError):
         os.rmdir(path)
 

@@ -10,9 +10,10 @@ from ..ledger.files import Files
 from ..ledger.history import Note, Step
 from ..ledger.lines import note_all_placed, note_end
 from ..ledger.placing import Placing
-from ..ledger.prepared_lines import finish_list, note_failed, remove_list
+from ..ledger.prepared_lines import drop_list, finish_list, note_failed
 from ..ledger.record import Record, Verified
 from ..maildir.space import what_fails, why_not_listed
+from ..mbox.bases import base_in
 from ..mbox.mailbox import Mailbox
 from ..program import Converted, Failed, Program
 from ..readings.unnamed import copy_of_some
@@ -50,7 +51,7 @@ class Conversion:
         """Converts what is nowhere. Returns how many messages were placed that were not to be: equal ones, which were
         deleted or moved after this run had looked."""
         try:
-            ran = self.run(opened, contents, placing)
+            ran = self.run(opened, contents, placing, verified.is_prepared)
         except Failed as failed:
             raise self.explained(failed, opened, contents, placing, verified) from failed
         is_whole, need = ran.end == contents.text.end, len(placing.match.need)
@@ -63,10 +64,11 @@ class Conversion:
             )
         return ran.placed - need if is_whole else 0
 
-    def run(self, opened: Opened, contents: Contents, placing: Placing) -> Converted:
+    def run(self, opened: Opened, contents: Contents, placing: Placing, is_prepared: bool) -> Converted:
         """Converts what is nowhere, and returns up to where the text was read and how many messages were placed. The
         program gets no message that is there, since that would come back if somebody deletes it now. A copy of what
-        stands before messages that are there comes first."""
+        stands before messages that are there comes first. In a folder that is prepared, it does not run for nothing:
+        what a killed pass has placed is synced with the disk."""
         text, inventory, placed = contents.text, contents.inventory, 0
         before = placing.copied()
         if before:
@@ -75,7 +77,7 @@ class Conversion:
         if placing.rest < len(inventory):
             ran = self.run_program(text, inventory.offset(placing.rest), opened.folder)
             return ran._replace(placed=placed + ran.placed)
-        if not before:
+        if not before and not (is_prepared and is_swept(opened.folder)):
             self.sweep(opened.folder)
         return Converted(text.end, placed)
 
@@ -132,7 +134,7 @@ class Conversion:
             raise Left(CHANGED_MEANWHILE, Reason.CHANGED)
         self.record.add_step(Step.DONE, verified, note_end(verified.folder, verified.batch, verified.names))
         if verified.is_prepared:
-            remove_list(verified.folder)
+            drop_list(verified.folder)
 
     def note_prepared(self, one: Verified) -> None:
         """Notes that a mailbox is prepared in its folder."""
@@ -152,6 +154,11 @@ class Conversion:
             noted = "%s; note this yourself, because the record could not be written: %s" % (SYNC_FAILED, fault)
             return Left(noted, Reason.SYNC_FAILED)
         return Left(SYNC_FAILED, Reason.SYNC_FAILED)
+
+
+def is_swept(folder: bytes) -> bool:
+    """Whether `tmp` has no name that begins as those of the program do, which it would remove."""
+    return not any(map(base_in, os.listdir(os.path.join(folder, b"tmp"))))
 
 
 def with_call(says: str) -> str:

@@ -209,7 +209,7 @@ def rows_without_mail(
         name, path = line.key.folder, unspelled(line.path)
         folder, is_gone = folder_path(root, name), bool(tree_above(path, names)) and not os.path.lexists(path)
         prepared, ledger = Prepared.read(folder), Ledger(folder)
-        is_there, is_used = os.path.lexists(folder), name == INBOX or prepared.is_there or bool(ledger.paths())
+        is_used, is_there = name == INBOX or prepared.is_there or bool(ledger.paths()), os.path.lexists(folder)
         if is_used or not (is_gone or name in went) or is_there and not holds_nothing(folder):
             continue
         if is_there and not dry:

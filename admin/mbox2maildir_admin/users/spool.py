@@ -289,6 +289,9 @@ def is_passed(spool: bytes, name: bytes) -> bool:
     """Whether a name of a spool is no mailbox, such as a lock or an empty hidden file."""
     try:
         return is_no_mail(os.path.join(spool, name))
+    except FileNotFoundError:
+        # a lock that was let go of meanwhile
+        return name.endswith(b".lock")
     except (Fault, OSError):
         # if it is there, it is left for that reason later
         return False

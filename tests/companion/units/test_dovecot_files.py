@@ -95,7 +95,7 @@ class DovecotTest(DovecotCase):
                 self.became(Fate.DONE)
                 lists.append((self.uids(), (self.maildir / "dovecot-keywords").read_bytes()))
             self.assertEqual([uid for uid, _ in lists[0][0][1]], ["5", "7", "9"])
-            self.assertEqual(*lists)
+            self.assertEqual(lists[0], lists[1])
 
     def test_it_grew(self) -> None:
         self.fill(NUMBERED)

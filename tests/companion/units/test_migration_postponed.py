@@ -203,6 +203,18 @@ class WithoutMailTest(PostponedTest):
                 self.assertEqual(self.migrate_tree(now=True), [Fate.DONE] * (2 - is_gone))
                 self.assertEqual(folder.exists(), not is_gone)
 
+    def test_its_folder_got_mail(self) -> None:
+        """A mailbox that got mail and was done once more is one like others: its row comes once."""
+        (self.home / "tree").mkdir()
+        box = self.home / "tree/a"
+        box.touch()
+        self.migrate_tree(now=True)
+        box.write_bytes(ONE)
+        self.migrate_tree(now=True)
+        box.unlink()
+        self.assertEqual(self.migrate_tree(prepare=True, postponed=True, dry=True), [Fate.WOULD_PREPARE])
+        self.assertEqual(self.migrate_tree(prepare=True, postponed=True), [Fate.PREPARED])
+
     def test_it_is_gone(self) -> None:
         """Its folder goes, unless something came there."""
         for name in ("", "cur/delivered", "dovecot.index.log"):

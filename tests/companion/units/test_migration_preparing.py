@@ -291,7 +291,7 @@ class KilledTest(PreparingTest):
 
     def test_it_was_done_but_for_its_list(self) -> None:
         self.prepare(ONE)
-        with mock.patch("mbox2maildir_admin.migration.converting.remove_list", side_effect=Killed):
+        with mock.patch("mbox2maildir_admin.migration.converting.drop_list", side_effect=Killed):
             with self.assertRaises(Killed):
                 self.finish()
         self.assertTrue(self.prepared_list().exists())
@@ -339,3 +339,20 @@ class PlainTest(PreparingTest):
         self.assertEqual(len(program.converted), 2)
         self.prepare(ONE + TWO + THREE, program)
         self.assertEqual(program.converted[2:], list(bodies_of(THREE)))
+
+    def test_the_program_does_not_run_for_nothing(self) -> None:
+        """Only where `tmp` has something that may be its own."""
+        leftover = digest_of(b"gone") + ".1"
+        for name, text, runs in (
+            ("", ONE + TWO, 1),
+            ("", TWO, 1),
+            ("1700000000.M1.host", TWO, 1),
+            (leftover, ONE + TWO, 2),
+            (leftover, TWO, 2),
+        ):
+            self.make_home(f"home-{name}-{len(text)}")
+            program = Function()
+            self.prepare(ONE + TWO, program)
+            (self.maildir / "tmp" / (name or "..")).touch()
+            self.assertIs(self.finish(text, program=program).fate, Fate.DONE)
+            self.assertEqual(program.runs, runs, (name, text))

@@ -67,6 +67,7 @@ class NamesTest(FolderTest):
 
     def test_a_name_that_goes_away_meanwhile(self) -> None:
         self.assertFalse(is_passed(self.here, b".gone"))
+        self.assertTrue(is_passed(self.here, b"gone.lock"))
 
     def test_users_with_a_folder_in_the_home(self) -> None:
         # a name of an account may not be UTF-8
