@@ -189,7 +189,8 @@ class Trip:
         for name, (validity, following, rows) in there.items():
             its = self.old_name(name)
             new = [row for row in rows if subject_of(row[4]) not in known]
-            if its not in back and not new:
+            if not new and (its not in first or not first[its][2]):
+                # an empty mailbox has no numbers
                 continue
             keeps = LOST not in says
             lacks = Counter(marks_of(row, keeps) for row in new) - Counter(marks_of(row, keeps) for row in back[its][2])

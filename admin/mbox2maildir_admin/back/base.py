@@ -7,7 +7,7 @@ from collections.abc import Iterator, Sequence
 from typing import NamedTuple, Optional
 
 from ..faults import Left, Reason
-from ..flags.dovecot_headers import FIELD, HEAD, Field, Head, head_of, header_at
+from ..flags.dovecot_headers import FIELD, HEAD, Field, Head, head_of, header_at, internal_head
 from ..kinds.starts import text_start
 from ..mbox.files import BLOCK
 from ..mbox.hidden import LONGEST
@@ -18,13 +18,15 @@ NOT_KEPT = "another program has changed its first message meanwhile: stop that p
 
 class Base(NamedTuple):
     """The line: what it says, the header that it is in, where that begins in the mailbox, and where the value of the
-    line begins and ends in the header."""
+    line begins and ends in the header. In a mailbox that Dovecot keeps empty by a message of its own, the rest of that,
+    which may move."""
 
     head: Head
     offset: int
     header: bytes
     begin: int
     end: int
+    rest: bytes = b""
 
     @classmethod
     def of(cls, mailbox: Mailbox) -> Optional["Base"]:
@@ -37,12 +39,14 @@ class Base(NamedTuple):
             head = head_of(Field(found[1].lower(), found[3]))
             if head and found.start(3) - found.start() <= LONGEST:
                 offset = start + mailbox.at(start, BLOCK).find(b"\n") + 1
-                return cls(head, offset, header, found.start(3), found.end(3))
+                own, end = internal_head(mailbox, start)
+                rest = mailbox.at(offset + len(header), BLOCK) if own and end == mailbox.end else b""
+                return cls(head, offset, header, found.start(3), found.end(3), rest)
         return None
 
     def header_with(self, validity: int, last: int, keywords: Sequence[bytes]) -> Optional[bytes]:
-        """The header with these numbers, and with these keywords after those that are named. It grows into the blanks
-        that Dovecot leaves in a header; None if there are too few."""
+        """The header with these numbers, and with these keywords after those that are named. Unless the rest may move,
+        it grows into the blanks that Dovecot leaves in a header; None if there are too few."""
         value = self.header[self.begin : self.end]
         found = HEAD.match(value)
         assert found, "it is a head"
@@ -55,15 +59,15 @@ class Base(NamedTuple):
             ]
         )
         header = self.header[: self.begin] + text + self.header[self.end :]
-        return without_blanks(header, len(header) - len(self.header))
+        return header if self.rest else without_blanks(header, len(header) - len(self.header))
 
     def write(self, mailbox: Mailbox, header: bytes) -> None:
-        """Writes the header anew, which is as long as before, and syncs it. Raises Left if that is not what is read
-        then."""
-        same = len(os.path.commonprefix([header, self.header]))
-        count = len(header) - same - len(os.path.commonprefix([header[::-1], self.header[::-1]]))
+        """Writes the header anew, by one call, and syncs it. Raises Left if that is not what is read then."""
+        same, text = len(os.path.commonprefix([header, self.header])), header + self.rest
+        if not self.rest:
+            text = text[: len(text) - len(os.path.commonprefix([text[::-1], self.header[::-1]]))]
         with in_place(mailbox.number):
-            os.pwrite(mailbox.number, header[same : same + count], self.offset + same)
+            os.pwrite(mailbox.number, text[same:], self.offset + same)
         os.fsync(mailbox.number)
         mailbox.take_state()
         if mailbox.at(self.offset, len(header)) != header:

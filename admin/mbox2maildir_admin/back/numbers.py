@@ -34,13 +34,13 @@ NONE = 1 << 32
 
 
 class Numbers(NamedTuple):
-    """What a mailbox is to say: UIDVALIDITY, the last UID that was given, further keywords, and whether the UIDs of the
-    Maildir are its own."""
+    """What a mailbox is to say: UIDVALIDITY, and the last UID that was given; whether the UIDs of the Maildir are its
+    own; and, if it is empty, its keywords."""
 
     validity: int
     last: int
-    keywords: Sequence[bytes]
     is_same: bool
+    keywords: Sequence[bytes] = ()
 
     def field(self) -> bytes:
         """The field of a first message that says so."""
@@ -68,7 +68,7 @@ class Numbering:
         words = self.words_of(mails)
         if not mailbox.size:
             if self.listed:
-                self.first = Numbers(self.listed.validity, self.listed.following - 1, words, True)
+                self.first = Numbers(self.listed.validity, self.listed.following - 1, True, words)
                 self.is_same, self.known = True, set(map(bytes.lower, words))
             return
         base = Base.of(mailbox)
@@ -76,12 +76,15 @@ class Numbering:
             self.lose(NO_BASE, words)
             return
         self.known = set(map(bytes.lower, base.head.keywords))
-        new = [one for one in words if one.lower() not in self.known]
-        wanted = self.wanted(base.head, new)
-        header = base.header_with(wanted.validity, wanted.last, new)
-        if not header and new:
-            self.lose(NO_ROOM, new)
-            new, header = [], base.header_with(wanted.validity, wanted.last, [])
+        wanted = self.wanted(base.head)
+        header = base.header_with(wanted.validity, wanted.last, [])
+        new: list[bytes] = []
+        lost: list[bytes] = []
+        for one in [one for one in words if one.lower() not in self.known]:
+            longer = base.header_with(wanted.validity, wanted.last, [*new, one])
+            header = longer or header
+            (new if longer else lost).append(one)
+        self.lose(NO_ROOM, lost)
         self.known.update(map(bytes.lower, new))
         self.is_same = wanted.is_same
         self.tell(base.head, wanted, bool(header), folder)
@@ -96,16 +99,16 @@ class Numbering:
                 names.setdefault(name.lower(), name)
         return [one for one in names.values() if len(one) <= LONGEST_KEYWORD]
 
-    def wanted(self, head: Head, keywords: Sequence[bytes]) -> Numbers:
+    def wanted(self, head: Head) -> Numbers:
         """What a mailbox with this head is to say."""
         is_same = self.listed is not None and self.listed.validity == head.validity
         if self.listed and is_same and self.is_numbered:
-            return Numbers(head.validity, max(head.last, self.listed.following - 1), keywords, True)
+            return Numbers(head.validity, max(head.last, self.listed.following - 1), True)
         if is_same or self.is_numbered:
             used = max(head.validity, self.listed.validity if self.listed else 0)
             validity = max(self.moment, used + 1)
-            return Numbers(validity if validity <= MOST_VALIDITY else self.moment, head.last, keywords, False)
-        return Numbers(head.validity, head.last, keywords, False)
+            return Numbers(validity if validity <= MOST_VALIDITY else self.moment, head.last, False)
+        return Numbers(head.validity, head.last, False)
 
     def tell(self, head: Head, wanted: Numbers, has_room: bool, folder: str) -> None:
         """Says what is new; of what has no room, what has Dovecot write it."""

@@ -30,6 +30,12 @@ KEPT = (
     FROM + b"Subject: a\nX-IMAPbase: 1700000000 0000000003 Garden\nX-UID: 1          \nX-Keywords: Garden\n\na\n\n"
     + FROM + b"Subject: b\nX-UID: 3   \n\nb\n\n"
 )  # fmt: skip
+INTERNAL = (
+    b"From MAILER_DAEMON  Sat Nov 28 11:29:42 2026\nSubject: DON'T DELETE THIS MESSAGE -- FOLDER INTERNAL DATA\n"
+    b"X-IMAP: 1700000000 0000000003\nStatus: RO\n\nThis text is part of the internal format of your mail folder, and "
+    b"is not\na real message.  It is created automatically by the mail system software.\nIf deleted, important folder "
+    b"data will be lost, and it will be re-created\nwith the data reset to initial values.\n\n"
+)
 LIST = b"3 V1700000000 N9 Gabc\n4 W9 :1.a:2,\n7 :1.c\n"
 
 
@@ -73,6 +79,23 @@ class BaseTest(FolderTest):
             os.write(mailbox.number, b"end")
         wanted = KEPT.replace(b"0000000003 Garden\nX-UID: 1          \n", b"0000000012 Garden Other\nX-UID: 1    \n")
         self.assertEqual(path.read_bytes(), wanted + b"end")
+
+    def test_a_mailbox_that_dovecot_keeps_empty(self) -> None:
+        """Its only message is Dovecot's own. Once mail follows, nothing may move."""
+        for more in (b"", FROM + b"Subject: a\n\na\n\n"):
+            path = self.write("box", INTERNAL + more)
+            with self.subTest(more=more), open_mailbox(path, quiet=False, kind=WRITING) as mailbox:
+                base = Base.of(mailbox)
+                assert base
+                header = base.header_with(1700000000, 12, [b"Garden"])
+                if more:
+                    self.assertIsNone(header)
+                    continue
+                assert header
+                base.write(mailbox, header)
+                wanted = INTERNAL.replace(b"0000000003", b"0000000012 Garden")
+                self.assertEqual(Path(os.fsdecode(path)).read_bytes(), wanted)
+                self.assertEqual(mailbox.size, len(wanted))
 
     def test_blanks(self) -> None:
         self.assertEqual(without_blanks(b"X-UID: 1  \nStatus: O  \n", 3), b"X-UID: 1 \nStatus: O\n")
@@ -194,6 +217,13 @@ class NumberingTest(FolderTest):
         numbering, _ = self.prepared(FROM + b"A: b\n\nx\n", its, True, b"1.a:2,a")
         self.assertEqual([one.says for one in numbering.remarks], ["keywords are lost, because %s: Garden" % NO_BASE])
         self.assertEqual(self.fields(numbering, b"1.a:2,a"), [(b"1.a:2,a", [])])
+
+    def test_keywords_of_which_some_have_room(self) -> None:
+        its = Listed(1700000000, 4, {}, {"a": b"a-long-name", "b": b"Other"})
+        numbering, text = self.prepared(KEPT, its, True, b"1.a:2,ab")
+        self.assertEqual(text, KEPT.replace(b"Garden\nX-UID: 1          \n", b"Garden Other\nX-UID: 1    \n"))
+        self.assertEqual([one.says.rpartition(": ")[2] for one in numbering.remarks], ["a-long-name"])
+        self.assertEqual(self.fields(numbering, b"1.a:2,ab"), [(b"1.a:2,ab", [b"X-Keywords: Other"])])
 
     def test_no_room_for_the_next_uid(self) -> None:
         text = FROM + b"X-IMAPbase: 1700000000 9\nX-UID: 9\n\nx\n"
