@@ -71,6 +71,12 @@ class Dialect(NamedTuple):
         """A text whose last line has ended."""
         return text if not text or text.endswith(b"\n") else text + b"\n"
 
+    def gaps_after(self, end: bytes) -> tuple[bytes, ...]:
+        """What may be missing before a From_ line after a text that ends so. By its length, the last message may lack
+        the end of its last line, and the text has that in place of an empty line."""
+        gap = self.gap_after(end)
+        return (gap, b"") if self.word in BY_LENGTHS and gap == self.line_end else (gap,)
+
     def gap_after(self, end: bytes) -> bytes:
         """What is missing before a From_ line after a text that ends so."""
         if not end or end.endswith((b"\n\n", b"\n\r\n")):

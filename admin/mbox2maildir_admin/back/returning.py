@@ -95,12 +95,14 @@ class Returning:
         # programs that deliver without lengths may have changed how it is read since it was migrated
         for words in dict.fromkeys([known.ledger.words_of(path) if path else now, now]):
             dialect = takes_mail(opened.mailbox, words)
-            if dialect:
+            if not dialect:
+                continue
+            for gap in dialect.gaps_after(opened.mailbox.at(opened.mailbox.size - ENDS, ENDS)):
                 notes = Notes(numbering)
                 inventory = messages_by(words, opened.mailbox, self.disk, self.program, notes.look)
                 known.take_place(inventory, self.how.dry)
                 try:
-                    return Appending(self, target, known, Read(words, dialect, inventory, notes)).run()
+                    return Appending(self, target, known, Read(words, dialect, inventory, notes, gap)).run()
                 except NotAsItIs:
                     continue
         raise TakesNothing("nothing can be appended to it", Reason.OTHER_KIND)
@@ -124,12 +126,14 @@ class Returning:
 
 
 class Read(NamedTuple):
-    """A mailbox as it is read: by which words, in which dialect, its messages, and what programs note of them."""
+    """A mailbox as it is read: by which words, in which dialect, its messages, what programs note of them, and what is
+    missing at its end."""
 
     words: str
     dialect: Dialect
     inventory: Inventory
     notes: Notes
+    gap: bytes = b""
 
 
 class Appending:
@@ -143,7 +147,7 @@ class Appending:
         read: Read,
     ) -> None:
         self.returning, self.target, self.opened, self.known = returning, target, known.opened, known
-        self.words, self.dialect, self.inventory, self.notes = read
+        self.words, self.dialect, self.inventory, self.notes, self.gap = read
         inventory = read.inventory
         source = known.ledger.sources.get(known.path)
         # how often the mailbox has each core, and no ledger says why
@@ -197,7 +201,7 @@ class Appending:
 
     def spelled(self, draft: Draft, mails: Sequence[Mail]) -> list[Entry]:
         """Writes messages as the mailbox has them."""
-        draft.add(self.dialect.gap_after(self.mailbox.at(self.mailbox.size - ENDS, ENDS)))
+        draft.add(self.gap)
         entries: list[Entry] = []
         for mail, letter in self.notes.letters(self.opened.folder, mails, self.returning.say):
             forms = Forms.of(letter.text)

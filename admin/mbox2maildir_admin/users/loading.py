@@ -5,7 +5,17 @@ import importlib
 from ..maildir.folders import folder_of
 from ..maildir.syncing import call_of_system
 
-OF_PYTHON = ("concurrent.futures", "csv", "email.header", "pathlib", "shutil", "tempfile", "urllib.parse")
+# the library loads the threads of the first one late, too
+OF_PYTHON = (
+    "concurrent.futures",
+    "concurrent.futures.thread",
+    "csv",
+    "email.header",
+    "pathlib",
+    "shutil",
+    "tempfile",
+    "urllib.parse",
+)
 OF_PACKAGE = ("jobs.workers", "labels.remark", "ledger.envelopes", "readings.unpacking")
 
 

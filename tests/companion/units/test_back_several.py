@@ -300,6 +300,16 @@ class BackTest(BackHome):
         self.assertEqual(self.fates(self.back()), {"mail/sent": (Fate.BACK, 1)})
         self.assertTrue(box.read_bytes().endswith(b"Subject: new\n\n>From me\n\n"))
 
+    def test_a_last_line_without_an_end_by_its_length(self) -> None:
+        """As mutt copies a message whose last line has no end: its length does not count the line end after it."""
+        text = LENGTHS + A + b"Content-Length: 6\n\nno end\n"
+        box = self.write_box("mail/sent", text)
+        self.migrate_all("mail")
+        self.deliver(".sent")
+        self.assertEqual(self.fates(self.back()), {"mail/sent": (Fate.BACK, 1)})
+        self.assertTrue(box.read_bytes().startswith(text + b"From MAILER-DAEMON "))
+        self.assertEqual(self.fates(self.back()), {"mail/sent": (Fate.NOTHING_NEW, 0)})
+
     def test_another_users_mailbox(self) -> None:
         self.write_box("mail/sent", ONE)
         self.migrate_all("mail")
