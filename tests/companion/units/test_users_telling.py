@@ -65,6 +65,20 @@ class TellerTest(unittest.TestCase):
                 self.teller.progress("box", "reading", place, 9)
         self.assertEqual(self.lines(), [["at", "reading", 0, 9], ["at", "reading", 2, 9]])
 
+    def test_what_is_next(self) -> None:
+        self.teller.next((Answer(Command.of("mv", "a", "b")),))
+        self.assertEqual(self.lines(), [["then", [["answer", "run", None, ["mv", "a", "b"], ""]]]])
+
+    def test_what_only_root_can_do(self) -> None:
+        """The child ends if root is gone."""
+        answers, answered = os.pipe()
+        self.addCleanup(os.close, answers)
+        os.write(answered, b'["it is full", "no-room"]\n')
+        self.assertEqual(self.teller.ask(answers, "make", 0), ("it is full", "no-room"))
+        self.assertEqual(self.lines(), [["ask", "make", 0]])
+        os.close(answered)
+        self.assertRaises(KeyboardInterrupt, self.teller.ask, answers, "make", 0)
+
     def test_nobody_listens_any_more(self) -> None:
         heard, told_by = os.pipe()
         os.close(heard)
