@@ -10,6 +10,7 @@ from typing import Optional, Union
 
 from ..faults import Fault, Left, PlaceFault, Reason
 from ..ledger.history import names_of
+from ..ledger.ledger import Ledger
 from ..ledger.record import Record, unspelled
 from ..ledger.strangers import folders_in
 from ..maildir.folders import INBOX, folder_named, folder_path
@@ -41,6 +42,7 @@ SAYS = (
     (DELETED, "%s that %s deleted in the Maildir %s still there"),
     (EDITED, "%s that %s changed in the Maildir %s there as before"),
 )
+UNLESS = ", unless somebody has removed %s from the mailbox"
 # stands for the first mailbox of a folder
 FIRST = b""
 # what the name of a Maildir ends in that has been moved aside
@@ -93,7 +95,7 @@ class Several:
         self.observer.total += len(folders)
         for folder in folders:
             self.observer.begin()
-            standing = Standing(found, folder, places.all_of(folder))
+            standing = Standing(found, self.root, folder, places.all_of(folder))
             for row in self.rows(folder, mails[folder], moved_to(found, folder), places):
                 self.tell(standing.row(row))
             for row in standing.rest():
@@ -240,8 +242,10 @@ def moved_to(found: Sorted, folder: bytes) -> Remarks:
 class Standing:
     """The messages of a folder that were deleted or changed there, and stand in its mailboxes as before."""
 
-    def __init__(self, found: Sorted, folder: bytes, paths: Sequence[bytes]) -> None:
-        self.folder = folder
+    def __init__(self, found: Sorted, root: bytes, folder: bytes, paths: Sequence[bytes]) -> None:
+        self.folder, noted = folder, Ledger(folder_path(root, folder)).sources.values()
+        # the mailboxes that had another size when they were read last, so that nobody knows what they have now
+        self.unsure = {path for path in paths if size_at(path) not in {source.key[0] for source in noted}}
         # how many, by the mailboxes; one that the record knows by another path has the place of the first one
         self.counts: collections.defaultdict[bytes, collections.Counter[str]]
         self.counts = collections.defaultdict(collections.Counter)
@@ -255,7 +259,7 @@ class Standing:
     def row(self, row: Row) -> Row:
         """The row of a mailbox, with what stands in it."""
         counts = self.counts.pop(row.path, collections.Counter()) + self.counts.pop(FIRST, collections.Counter())
-        return replace(row, remarks=(*row.remarks, *standing_in(counts)))
+        return replace(row, remarks=(*row.remarks, *standing_in(counts, row.path not in self.unsure)))
 
     def rest(self) -> Iterator[Row]:
         """The rows of further mailboxes in which some stand."""
@@ -263,10 +267,16 @@ class Standing:
             yield self.row(nothing_new(path, self.folder, ()))
 
 
-def standing_in(counts: "collections.Counter[str]") -> Iterator[Remark]:
-    """What is said of so many messages that stand in a mailbox."""
+def size_at(path: bytes) -> int:
+    """How many bytes the file at a path has; 0 if there is none."""
+    return os.path.getsize(path) if os.path.isfile(path) else 0
+
+
+def standing_in(counts: "collections.Counter[str]", is_sure: bool) -> Iterator[Remark]:
+    """What is said of so many messages that stand in a mailbox, if it has not changed since it was read."""
     for word, says in SAYS:
         count = counts[word]
         if count:
-            verbs = ("was", "is") if count == 1 else ("were", "are")
-            yield Remark(word, says % (counted(count, "message"), *verbs), stands=count)
+            *verbs, them = ("was", "is", "it") if count == 1 else ("were", "are", "them")
+            unless = "" if is_sure else UNLESS % them
+            yield Remark(word, says % (counted(count, "message"), *verbs) + unless, stands=count if is_sure else 0)

@@ -175,6 +175,17 @@ class BackTest(BackHome):
         rows = self.back()
         self.assertEqual([(one.word, one.stands) for one in rows[0].remarks], [("deleted", 1), ("changed", 1)])
 
+    def test_what_may_stand_in_a_mailbox_that_has_changed(self) -> None:
+        box = self.write_box("mail/sent", ONE + TWO)
+        self.migrate_all("mail")
+        sorted((self.maildir / ".sent/new").iterdir())[0].unlink()
+        box.write_bytes(ONE)
+        remark = self.back()[0].remarks[0]
+        self.assertEqual((remark.word, remark.stands), ("deleted", 0))
+        self.assertTrue(remark.says.endswith(", unless somebody has removed it from the mailbox"), remark.says)
+        self.deliver(".sent")
+        self.assertEqual(self.back()[0].remarks[-1].stands, 0)
+
     def test_what_stands_in_each_mailbox_of_a_folder(self) -> None:
         self.write_box("a", ONE)
         self.write_box("b", ONE + TWO)
