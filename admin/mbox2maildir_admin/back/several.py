@@ -243,9 +243,7 @@ class Standing:
     """The messages of a folder that were deleted or changed there, and stand in its mailboxes as before."""
 
     def __init__(self, found: Sorted, root: bytes, folder: bytes, paths: Sequence[bytes]) -> None:
-        self.folder, noted = folder, Ledger(folder_path(root, folder)).sources.values()
-        # the mailboxes that had another size when they were read last, so that nobody knows what they have now
-        self.unsure = {path for path in paths if size_at(path) not in {source.key[0] for source in noted}}
+        self.folder = folder
         # how many, by the mailboxes; one that the record knows by another path has the place of the first one
         self.counts: collections.defaultdict[bytes, collections.Counter[str]]
         self.counts = collections.defaultdict(collections.Counter)
@@ -255,6 +253,9 @@ class Standing:
                 if slot.folder == folder:
                     for path in [one for one in paths if names[one] & slot.paths] or [FIRST]:
                         self.counts[path][word] += 1
+        # the mailboxes that had another size when they were read last, so that nobody knows what they have now
+        noted = Ledger(folder_path(root, folder)).sources.values() if self.counts else ()
+        self.unsure = {path for path in paths if size_at(path) not in {source.key[0] for source in noted}}
 
     def row(self, row: Row) -> Row:
         """The row of a mailbox, with what stands in it."""
