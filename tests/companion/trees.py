@@ -322,6 +322,11 @@ def make_profile(path: Path) -> None:
     os.symlink("127.0.1.1:+4711", path / "lock")
 
 
+def marked(how: bytes, message: bytes) -> bytes:
+    """A message with Thunderbird's mark: 1 is read, 8 deleted."""
+    return message.replace(b"\n", b"\nX-Mozilla-Status: 000%s\n" % how, 1)
+
+
 def profile(home: Path) -> None:
     """Of a Thunderbird profile, what is below Mail and ImapMail is looked at. Only folders of two accounts have the
     account in their names, whichever folder is named; the Inbox of one goes into INBOX by a command that is printed."""
@@ -356,6 +361,15 @@ def profile(home: Path) -> None:
     mailbox(home / top / "ImapMail/imap.example.net/INBOX", b"")
     out = run(["migrate", "--dry-run", "P", top], home)[1]
     assert f"{top}/ImapMail/imap.example.org/INBOX -> INBOX: mboxrd" in out, out
+    # what was said about deleted mail is said again, dry or not
+    for account in ("imap.example.org", "imap.example.net"):
+        mailbox(home / top / "ImapMail" / account / "INBOX", marked(b"1", ONE) + b"\n" + marked(b"9", TWO))
+    for options in (["--dry-run"], []):
+        out = run(["migrate", "--drop-deleted", *options, "D", top], home)[1]
+        row = next(row for row in rows_in(out) if "example.org/INBOX ->" in row.line)
+        assert row.command.count("--drop-deleted --folder INBOX") == 1, (options, row.command)
+    subprocess.run(["sh", "-c", row.command], cwd=home, env=env, stdout=subprocess.DEVNULL, check=True)
+    equal("without deleted mail", subjects(home / "D"), ["one"])
 
 
 def two_names(home: Path) -> None:

@@ -14,14 +14,14 @@ from ..ledger.record import Record
 from ..maildir.folders import INBOX
 from ..mbox.mailbox import Mailbox
 from ..migration.outcomes import Fate, Row
-from ..migration.places import Planned
+from ..migration.places import Planned, recorded
 from ..migration.trees import Tree
 from ..nexts import Remark, Task, Todo, run_next
 from ..readings.texts import content_of, disk_of
 from ..readings.verdict import look_at
 from ..terminal import named, operand
 from .findings import LINES, Findings
-from .recorded import record_of
+from .recorded import record_of, root_of
 
 # what is said of files without mail: of those of a known kind, and of those that `migrate --no-mail` noted
 NO_MAIL = Remark("no-mail", "no mail")
@@ -64,18 +64,26 @@ def say_left_out(rows: Iterable[Row], tell: Findings = LINES) -> bool:
 
 
 def for_mailboxes(maildir: bytes, path: bytes, task: Callable[[bytes, bytes], bool], tell: Findings = LINES) -> bool:
-    """Does a task for a Maildir and a mailbox or, if the path is a folder, for each mailbox below it and its folder. A
-    file without mail by the record is left out."""
+    """Does a task for a mailbox and the folder that has its mail or, if the path is a folder, for each mailbox below it
+    and its folder. A file without mail by the record is left out."""
     if not os.path.isdir(path):
         record = record_of(maildir)
         left = left_out(path, maildir, record, tell) if record.noted(Note.NO_MAIL, INBOX, path) else None
         if left:
             return say_left_out([left], tell)
-        with of_folder(maildir, maildir, path):
-            return task(maildir, path)
+        folder = folder_of(maildir, path, record)
+        with of_folder(folder, maildir, path):
+            return task(folder, path)
     with Record.open(maildir, False) as record:
         tree, plan = read_tree(path, maildir, record)
     return for_planned(maildir, path, (plan, tree.rows), record, task, tell)
+
+
+def folder_of(maildir: bytes, path: bytes, record: History) -> bytes:
+    """The folder in which the record of a Maildir has a mailbox; the Maildir itself if it has it in none, or if it is
+    not the record's own, but a folder that was named."""
+    is_root = root_of(maildir) == maildir
+    return recorded(Planned(path, INBOX), record, maildir).folder_in(maildir) if is_root else maildir
 
 
 def for_planned(

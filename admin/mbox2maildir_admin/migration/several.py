@@ -21,6 +21,7 @@ from ..mbox.files import is_empty
 from ..nexts import NOTHING, Does, Remark, Todo, in_shell, line_of, run_next, task
 from ..program import Program, find_program
 from ..progress import Beat
+from ..readings.reading import UNDECIDED, Reading
 from ..terminal import named, operand, text_of, word
 from .dovecot import OLD_SUBSCRIPTIONS, SUBSCRIPTIONS, Dovecot, subscribe
 from .leftovers import Leftovers
@@ -258,15 +259,20 @@ class Several:
     def run_named(self, one: Planned) -> Ended:
         """Migrates a mailbox. Its row says which other name its folder had, and which other names the file has."""
         ended, others = self.run_one(one), self.others.get(one.path)
-        row = self.with_inbox(one, with_name(ended.row, one.before))
+        row = self.with_inbox(one, ended._replace(row=with_name(ended.row, one.before)))
         row = replace(row, remarks=(*row.remarks, also_named(others))) if others and row.is_said() else row
         return Ended(row, ended.verified)
 
-    def with_inbox(self, one: Planned, row: Row) -> Row:
-        """The row of a mailbox that is one of several Inboxes, with the command that puts it into INBOX instead."""
+    def with_inbox(self, one: Planned, ended: Ended) -> Row:
+        """The row of a mailbox that is one of several Inboxes, with the command that puts it into INBOX instead, and
+        reads it in the same way."""
+        row, how = ended.row, self.migration.how
         if not one.is_inbox or row.folder == INBOX or row.fate not in (Fate.DONE, Fate.WOULD):
             return row
-        options, paths = self.migration.how.options, [operand(self.pairs.root), operand(one.path)]
+        # a word decides nothing about one of several that contradicts it, but all about one that is named
+        decision, read = how.decision, Reading.of_words(ended.verified.plan) if ended.verified else how.decision
+        decision = decision if decision.word in ("", read.word) else UNDECIDED._replace(drop=decision.drop)
+        options, paths = replace(how.options, decision=decision), [operand(self.pairs.root), operand(one.path)]
         into = line_of([ADMIN, "migrate", *options.words(), "--folder", "INBOX", *paths])
         undo = [ADMIN, "migrate", "--undo", *Options(now=options.now).words(), *words_of(row.folder), *paths]
         shell = into if options.dry else "%s && %s" % (line_of(undo), into)

@@ -20,7 +20,7 @@ from ..units import Line, Offset
 from .asking import Choosable, with_meanings
 from .quoting import Counts, measured
 from .reading import BY_LENGTHS, CR, CRLF, MBOXCL2, MBOXRD, PLAIN, UNDECIDED, UNQUOTED, Reading, renumbered
-from .remarks import remark_on_deleted, remarks_on, remarks_on_text
+from .remarks import deleted_kept, left_out, remarks_on, remarks_on_text
 from .verdict import DROP_DELETED, Verdict, is_against_lengths, is_answer, look_at, reading_of
 
 # the names of empty files that are not mailboxes: hidden ones, locks, indexes, and Dovecot's files beside its counter
@@ -220,10 +220,11 @@ def plan_by(mailbox: Mailbox, verdict: Verdict, reading: Reading, decision: Read
     """The plan of a mailbox that is read in this way. All of it is read for that; a copy is made if it would differ."""
     counts = measured(reading, mailbox, verdict.start)
     says = remarks_on_text(verdict)
-    if decision.drop:
-        says.append(remark_on_deleted(counts))
-        if counts.deleted and counts.marked == counts.messages:
-            reading = reading._replace(drop=True, dropped=counts.deleted)
+    if decision.drop and counts.marked != counts.messages:
+        says.append(deleted_kept(counts))
+    elif decision.drop and counts.deleted:
+        says.append(left_out(counts.deleted))
+        reading = reading._replace(drop=True, dropped=counts.deleted)
     messages, is_copied = counts.messages - reading.dropped, wants_copy(reading, counts)
     return Plan(kind, messages, verdict.start, reading, is_copied, tuple(says))
 

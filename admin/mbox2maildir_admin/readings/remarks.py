@@ -35,15 +35,11 @@ def remarks_on_text(verdict: Verdict) -> list[Remark]:
     return [Remark("after-nulls", says)] * verdict.after_nulls + [NO_END] * has_no_end
 
 
-def remark_on_deleted(counts: Counts) -> Remark:
-    """What is said of messages that are marked as deleted."""
-    if counts.marked != counts.messages:
-        says = "no deleted mail was left out, because %d of %d messages have no X-Mozilla-Status" % (
-            counts.messages - counts.marked,
-            counts.messages,
-        )
-        return Remark("deleted-kept", says)
-    return left_out(counts.deleted)
+def deleted_kept(counts: Counts) -> Remark:
+    """What is said of a mailbox in which not each message has a mark, so that none is taken for deleted."""
+    without = counts.messages - counts.marked
+    says = "no deleted mail was left out, because %d of %d messages have no X-Mozilla-Status"
+    return Remark("deleted-kept", says % (without, counts.messages))
 
 
 def left_out(count: int) -> Remark:

@@ -92,6 +92,23 @@ class FilesTest(unittest.TestCase):
         wanted = [(b"/.A", b"/old/a"), (b"/.b", b"/old/b"), (b"/.C", b"/old/c"), (b"/.F", b"/far")]
         self.assertEqual(done, [(root + folder, self.here + file) for folder, file in wanted])
 
+    def test_one_of_the_record_is_in_its_folder(self) -> None:
+        """A folder of the Maildir that is named itself comes first."""
+        root = self.here + b"/M"
+        make(self.here, {"M/.A/": b"", "M/.B/": b"", "a": MAIL, "other": MAIL})
+        with Record.open(root) as record:
+            note_done(record, key_of(MAIL, b".A"), self.here + b"/a")
+        for maildir, file, folder in (
+            (b"", b"/a", b"/.A"),
+            (b"/", b"/a", b"/.A"),
+            (b"", b"/other", b""),
+            (b"/.B", b"/a", b"/.B"),
+        ):
+            done: list[bytes] = []
+            with self.subTest(maildir, file=file):
+                for_mailboxes(root + maildir, self.here + file, lambda where, _: not done.append(where))
+                self.assertEqual([os.path.normpath(one) for one in done], [root + folder])
+
     def test_what_is_left_out_though_it_may_be_mail(self) -> None:
         make(self.here, {"old/box": MAIL})
         os.symlink("box", self.here + b"/old/link")
