@@ -364,8 +364,8 @@ def profile(home: Path) -> None:
     # what was said about deleted mail is said again, dry or not
     for account in ("imap.example.org", "imap.example.net"):
         mailbox(home / top / "ImapMail" / account / "INBOX", marked(b"1", ONE) + b"\n" + marked(b"9", TWO))
-    for options in (["--dry-run"], []):
-        out = run(["migrate", "--drop-deleted", *options, "D", top], home)[1]
+    for options in ("--dry-run --drop-deleted", "--drop-deleted"):
+        out = run(["migrate", *options.split(), "D", top], home)[1]
         row = next(row for row in rows_in(out) if "example.org/INBOX ->" in row.line)
         assert row.command.count("--drop-deleted --folder INBOX") == 1, (options, row.command)
     subprocess.run(["sh", "-c", row.command], cwd=home, env=env, stdout=subprocess.DEVNULL, check=True)

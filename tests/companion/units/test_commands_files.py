@@ -105,9 +105,14 @@ class FilesTest(unittest.TestCase):
             (b"/.B", b"/a", b"/.B"),
         ):
             done: list[bytes] = []
+
+            def task(where: bytes, _: bytes, done: list[bytes] = done) -> bool:
+                done.append(os.path.normpath(where))
+                return True
+
             with self.subTest(maildir, file=file):
-                for_mailboxes(root + maildir, self.here + file, lambda where, _: not done.append(where))
-                self.assertEqual([os.path.normpath(one) for one in done], [root + folder])
+                for_mailboxes(root + maildir, self.here + file, task)
+                self.assertEqual(done, [root + folder])
 
     def test_what_is_left_out_though_it_may_be_mail(self) -> None:
         make(self.here, {"old/box": MAIL})
