@@ -8,6 +8,7 @@ from mbox2maildir_admin.commands import migrate as module
 from mbox2maildir_admin.commands import running, spools
 from mbox2maildir_admin.commands.command_line import CommandLine
 from mbox2maildir_admin.commands.migrate import (
+    is_one,
     reporter_of,
     wrong_for_own,
     wrong_for_undo,
@@ -52,6 +53,19 @@ class OptionsTest(unittest.TestCase):
             ]
             for options, of_users, names, wrong in rows:
                 self.assertEqual(list(wrong_for_own(options, of_users, names)), wrong)
+
+    def test_what_is_a_single_one(self) -> None:
+        with folder() as here:
+            make(here, {"box": b"", "old/": b""})
+            rows = [
+                (UsersOptions(), [b"/box"], True),
+                (UsersOptions(), [b"/box", b"/old"], False),
+                (UsersOptions(), [b"/old"], False),
+                (UsersOptions(tree="mail"), [b"/box"], False),
+                (UsersOptions(names="-"), [b"/box"], False),
+            ]
+            for of_users, names, is_it in rows:
+                self.assertIs(is_one([here + name for name in names], of_users), is_it, of_users)
 
     def test_of_undo(self) -> None:
         with folder() as here:

@@ -2,7 +2,9 @@
 import os
 import sys
 import unittest
+from dataclasses import replace
 from pathlib import Path
+from typing import Any
 from unittest import mock
 
 from mbox2maildir_admin.commands import quote as module
@@ -11,6 +13,7 @@ from mbox2maildir_admin.commands.quote import quote_file
 from mbox2maildir_admin.commands.words import add_quote
 from mbox2maildir_admin.faults import Fault, Status
 from mbox2maildir_admin.nexts import lines_below
+from mbox2maildir_admin.readings.plans import Plan
 from mbox2maildir_admin.readings.reading import UNDECIDED, Reading
 
 from tests.support.mail import INTERNAL, A, B
@@ -38,6 +41,18 @@ class CopyTest(FolderTest):
         with printed():
             self.assertTrue(quote_file(UNDECIDED, box, self.here + b"/copy"))
         self.assertEqual(Path(self.here.decode(), "copy").read_bytes(), A + b"\n>From \n\n" + B + b"\nhi\n")
+
+    def test_a_text_that_has_other_messages_than_were_counted(self) -> None:
+        box, count = self.write("box", A + b"\n>From x\n\n"), module.plan_to_quote
+
+        def one_more(*words: Any) -> Plan:
+            plan = count(*words)
+            return replace(plan, messages=plan.messages + 1)
+
+        with mock.patch.object(module, "plan_to_quote", one_more), printed():
+            for output in (b"-", self.here + b"/copy"):
+                with self.assertRaisesRegex(Fault, "1 were counted, and 2 expected"):
+                    quote_file(Reading("mboxo"), box, output)
 
     def test_the_copy_for_dovecot(self) -> None:
         """It has no field that Dovecot hides, and not the message by which Dovecot keeps an empty mailbox."""

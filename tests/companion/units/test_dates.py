@@ -47,6 +47,8 @@ class SecondsTest(unittest.TestCase):
             ("From a 2025-03-03T09:12:44Z", "2025-03-03T09:12:44+0000"),
             ("From a 2025-07-03 09:12:44.5 +05:30\r", "2025-07-03T09:12:44+0530"),
             ("From a 2025-07-03T09:12", "2025-07-03T09:12:00-0400"),
+            # the first of two
+            ("From a Mon Mar  3 09:12:44 2025 resent Tue Mar  4 10:00:00 2025", "2025-03-03T09:12:44-0500"),
         ):
             wanted = datetime.strptime(moment, "%Y-%m-%dT%H:%M:%S%z").timestamp()
             self.assertEqual(seconds_of(text.encode()), wanted, text)

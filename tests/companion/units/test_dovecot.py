@@ -6,6 +6,7 @@ import time
 import unittest
 from collections.abc import Sequence
 from pathlib import Path
+from unittest import mock
 
 from mbox2maildir_admin.faults import Left, PlaceFault
 from mbox2maildir_admin.flags.dovecot_headers import FLAGS, Reading, header_at, home_of_text, info_of, internal_head
@@ -168,6 +169,11 @@ class ReadingTest(unittest.TestCase):
             reading = reading_of(["X-Long: %s\nStatus: RO" % ("x" * size), "Status: O"])
             self.assertEqual([marks >> 32 + FLAGS.index("S") & 1 for marks in reading.marks], [1, 0], size)
 
+    def test_a_message_without_a_header(self) -> None:
+        """Nothing of its body counts."""
+        with source_of(b"From a@b Mon Mar  3 09:12:44 2025\n\nX-UID: 5\nStatus: R\n\nhi\n\n") as source:
+            self.assertEqual(header_at(source, Offset(0)), b"")
+
     def test_a_colon_that_is_far_away(self) -> None:
         for length, wanted in ((8191, "S"), (8192, "")):
             reading = Reading()
@@ -227,6 +233,9 @@ class ReadingTest(unittest.TestCase):
         """They go if Dovecot showed others, but not what a reader has given a file that was converted bare."""
         given = 1 << 40 + FLAGS.index("S")
         self.assertEqual((info_of(given, "S"), info_of(given, "S", True)), ("", "S"))
+        # it reads no field with blanks before the colon, so that somebody else gave the flag
+        for header, wanted in (("Status: F\n", ""), ("Status : F\n", "F")):
+            self.assertEqual(info_of(reading_of([header]).marks[0], "F"), wanted, header)
         many = reading_of(["X-IMAPbase: 222 9 %s\n" % " ".join("k%02d" % number for number in range(99))])
         self.assertEqual(
             [remark.says for remark in many.remarks()],
@@ -242,7 +251,8 @@ class ReadingTest(unittest.TestCase):
 
     def test_what_is_renumbered(self) -> None:
         self.assertFalse(reading_of([HEAD, "X-UID: 6\n", ""]).is_renumbered)
-        self.assertTrue(reading_of([HEAD, "", "X-UID: 6\n"]).is_renumbered)
+        for after in ([], [""]):
+            self.assertTrue(reading_of([HEAD, "", "X-UID: 6\n", *after]).is_renumbered)
 
     def test_the_internal_message(self) -> None:
         length = len(INTERNAL)
@@ -343,6 +353,24 @@ class FilesTest(unittest.TestCase):
                 self.assertEqual(
                     subscriptions_of(here), [b"Sent", b"lists.garden", b"2005-archive", b"Gr&APwA3w-e", b"INBOX"]
                 )
+
+    def test_what_a_link_leads_to_is_not_ones_own(self) -> None:
+        with folder() as here:
+            Path(here.decode(), "dovecot-uidlist").write_bytes(b"text")
+            os.symlink("dovecot-uidlist", here + b"/link")
+            found = [content_of(here + name, 10) for name in (b"/dovecot-uidlist", b"/link", b"/missing")]
+            self.assertEqual(found, [b"text", None, None])
+
+    def test_subscriptions_of_a_run_that_was_killed(self) -> None:
+        """They are written by the next one."""
+        with folder() as here, Record.open(here) as record:
+            for sub in ("tmp", "old"):
+                Path(here.decode(), sub).mkdir()
+            Path(here.decode(), "old/.subscriptions").write_bytes(b"Sent\n")
+            with mock.patch("mbox2maildir_admin.migration.dovecot.place_file", side_effect=KeyboardInterrupt):
+                self.assertRaises(KeyboardInterrupt, subscribe, here, here + b"/old", record)
+            self.assertEqual(subscribe(here, here + b"/old", record), [])
+            self.assertEqual(Path(here.decode(), "subscriptions").read_bytes(), b"V\t2\n\nSent\n")
 
     def test_long_files(self) -> None:
         """A file that is too long for a list of folders is not read, and of any file no more than is wanted."""

@@ -58,6 +58,21 @@ class DovecotTest(DovecotCase):
         self.assertEqual(self.words(), ["begun", "numbered", "wrote", "wrote", "done"])
         self.became(Fate.BEFORE)
 
+    def test_keywords_without_a_letter(self) -> None:
+        names = ["k%02d" % number for number in range(28)]
+        self.fill(NUMBERED.replace(b"9 Foo", b"9 " + " ".join(names).encode()).replace(b": Foo", b": k25"))
+        self.migrate(dovecot=True)
+        wanted = ["%d %s" % pair for pair in enumerate(names[:26])]
+        self.assertEqual((self.maildir / "dovecot-keywords").read_text().splitlines(), wanted)
+
+    def test_mail_that_came_after_a_run_was_killed(self) -> None:
+        self.fill(NUMBERED)
+        self.became(Fate.DONE)
+        self.kill(1)
+        self.fill(NUMBERED + TWO)
+        self.became(Fate.DONE)
+        self.assertEqual(self.uids(), ("3 V222 N11", [("5", ":2,a"), ("7", ":2,S"), ("10", "")]))
+
     def test_it_goes_on_and_writes_the_same(self) -> None:
         self.fill(NUMBERED)
         self.became(Fate.DONE)

@@ -47,6 +47,14 @@ class RenamingTest(FolderTest):
         self.add("new/" + BASES[0], letters=["", ""], placed=[0])
         self.assertEqual(self.names(), ["new/" + BASES[0]])
 
+    def test_what_was_listed_is_not_new(self) -> None:
+        make(self.here, {"cur/": b"", "new/" + BASES[0]: b"", "new/" + BASES[1]: b""})
+        with source_of(ONE + TWO) as mailbox:
+            found = list(flagged_in(self.here, Inventory.read(mailbox, Offset(0))))
+        for one in found:
+            one.give(self.here, "", one.place == 0)
+        self.assertEqual(self.names(), ["cur/%s:2," % BASES[0], "new/" + BASES[1]])
+
     def test_never_in_place_of_another_file(self) -> None:
         names = ["new/" + BASES[0], "cur/%s:2,S" % BASES[0]]
         self.add(*names)

@@ -293,6 +293,23 @@ class RoomTest(FolderTest):
 
 
 class WordsTest(unittest.TestCase):
+    def test_a_word_is_sent_as_a_whole(self) -> None:
+        """A signal waits until it is."""
+        held: list[bool] = []
+        with mock.patch.object(INTERRUPTS, "is_held", False):
+            Parent(mock.Mock(send=lambda _: held.append(INTERRUPTS.is_held))).tell(Line("entry"))
+            self.assertEqual((held, INTERRUPTS.is_held), ([True], False))
+
+    def test_the_last_words_of_one_that_has_ended_are_heard(self) -> None:
+        worker = mock.Mock(wants=None, connection=mock.Mock(poll=mock.Mock(side_effect=[True, False])))
+        workers = Workers(1, [], mock.Mock())
+        workers.workers.append(worker)
+        with mock.patch("mbox2maildir_admin.jobs.workers.wait", return_value=[]):
+            with mock.patch.object(workers, "end") as end:
+                for count in (0, 1):
+                    workers.turn()
+                    self.assertEqual(end.call_count, count)
+
     def test_how_far_one_is(self) -> None:
         self.assertEqual(str(At("box", "reading", 1500, 3000)), "reading 1.5 of 3.0 kB")
         self.assertEqual(str(At("box", "waiting for a lock")), "waiting for a lock")

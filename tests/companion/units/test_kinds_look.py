@@ -5,6 +5,7 @@ from mbox2maildir_admin.kinds.look import Look
 from mbox2maildir_admin.mbox.lines import Said
 from mbox2maildir_admin.units import Line, Offset
 
+from tests.support.checks import match_in
 from tests.support.mail import A, B, INTERNAL
 from tests.support.units import source_of
 
@@ -42,6 +43,16 @@ class LookTest(unittest.TestCase):
             found = self.seen(text)
             found.pop("text after a blank line", None)
             self.assertEqual(found, wanted, text)
+
+    def test_a_blank_line_of_cr_lf(self) -> None:
+        text = b"From a\nSubject: x\n\nhi\n\nFrom b\nSubject: y\n\n".replace(b"\n", b"\r\n")
+        self.assertEqual(self.seen(text)["undated"], 2)
+
+    def test_mail_about_the_internal_message(self) -> None:
+        subject = match_in("Subject: (.*)", INTERNAL.decode())[1].encode()
+        for before, is_it in ((b"", True), (b"Re: ", False)):
+            text = A.splitlines(True)[0] + b"Subject: " + before + subject + b"\n\nhi\n\n"
+            self.assertEqual("internal" in self.seen(text), is_it, text)
 
     def test_lengths(self) -> None:
         body = b"Content-Length: %d\n\n" % len(B) + B

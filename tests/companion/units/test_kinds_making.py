@@ -2,7 +2,7 @@
 import os
 import unittest
 
-from mbox2maildir_admin.kinds.making import Looks, Makes, Where, beside, filled, is_below
+from mbox2maildir_admin.kinds.making import Looks, Makes, Where, beside, filled, is_below, new_folder
 from mbox2maildir_admin.nexts import Answer, Does, Next, Task, Todo
 
 CUT = Makes("cut <{} >{copy}")
@@ -86,6 +86,11 @@ class MakingTest(unittest.TestCase):
         here = Where.of(b"/home/mia/c", b"/home/mia", b"/home/mia", lambda folder: folder != b"/home")
         begins = "d=$(mktemp -d /home/mia/.mbox2maildir-original-c.XXXXXX) && "
         self.assertEqual(self.typed(here.next((CUT,), b"/home/mia/c"))[: len(begins)], begins)
+
+    def test_names_as_long_as_file_systems_take_them(self) -> None:
+        for before in (b"", b".mbox2maildir-original-"):
+            made = new_folder(b"/o", b"/o/" + b"a" * 255, before)
+            self.assertLessEqual(len(os.path.basename(made).rstrip(")")), 255)
 
     def test_below(self) -> None:
         for path, top, is_it in (

@@ -1,4 +1,6 @@
 """Where the text of a file begins."""
+import io
+import tarfile
 import unittest
 
 from mbox2maildir_admin.kinds.starts import HEAD, nulls_of, text_start
@@ -44,6 +46,13 @@ class StartTest(unittest.TestCase):
         ):
             with source_of(text) as mailbox:
                 self.assertEqual(text_start(mailbox), start, text[-80:])
+
+    def test_an_archive_whose_first_name_is_like_a_line(self) -> None:
+        with io.BytesIO() as made:
+            with tarfile.open(fileobj=made, mode="w") as archive:
+                archive.addfile(tarfile.TarInfo(DATED.decode() + "\nnotes"))
+            with source_of(made.getvalue()) as mailbox:
+                self.assertIsNone(text_start(mailbox))
 
     def test_lines_that_end_in_cr(self) -> None:
         with source_of(b"\r\r" + A.replace(b"\n", b"\r")) as mailbox:

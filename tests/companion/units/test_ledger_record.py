@@ -64,6 +64,21 @@ class RecordTest(FolderTest):
         wanted = [(Step.UNDOING, path, LEDGER, 90) for path in ("/box\\x0a", "/other")]
         self.assertEqual(found, wanted)
 
+    def test_it_is_read_once_it_is_locked(self) -> None:
+        """Another `migrate` may have written to it until then."""
+        with Record.open(self.here) as record:
+            record.add_step(Step.DONE, self.verified(), 90)
+        path, lock = Path(os.fsdecode(self.here), RECORD.decode()), Record.lock
+        text = path.read_bytes()
+        self.fill(b"")
+
+        def late(record: Record, maildir: bytes) -> None:
+            lock(record, maildir)
+            path.write_bytes(text)
+
+        with patch.object(Record, "lock", late), Record.open(self.here) as record:
+            self.assertEqual(self.steps(record), [Step.DONE])
+
     def test_a_record_of_a_version_before(self) -> None:
         """It had no ledgers, so nobody knows which messages are there. What it notes of no mailbox says nothing."""
         line = "\t".join(["%s", ".", "10", "a" * 64, "3", "2025-03-03T10:00:00Z", "/box%s"]) + "\n"

@@ -84,6 +84,20 @@ class CheckTest(unittest.TestCase):
                     check = Check.of(here, Inventory.read(mailbox, Offset(0)))
             self.assertEqual((check.count(State.THERE), check.is_right(), check.doubles), (3, True, []))
 
+    def test_a_file_that_is_moved_while_doubles_are_looked_for(self) -> None:
+        """A listing has both of its names. It is no double of itself."""
+        base = base_of(ONE).encode()
+        with folder() as here, source_of(TEXT) as mailbox:
+            make(here, {"new/": b"", "cur/%s:2,S" % base.decode(): ONE})
+            check = Check(Inventory.read(mailbox, Offset(0)))
+            check.met_again.add(Place(0))
+            both = [
+                (base + end, os.path.join(here, sub, base + end)) for sub, end in ((b"new", b""), (b"cur", b":2,S"))
+            ]
+            with mock.patch(CHECKING + "paths_of", return_value=both):
+                check.find_doubles(here)
+        self.assertEqual(check.doubles, [])
+
     def test_names(self) -> None:
         self.assertEqual(first_of([b"a", b"\xff"]), "a, \\xff")
         self.assertEqual(first_of([b"a"] * 7), "a, a, a, a, a and 2 more")

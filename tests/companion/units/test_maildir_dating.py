@@ -54,7 +54,11 @@ class DatingTest(unittest.TestCase):
         home = "new/" + base_of(b"old\n")
         with mock.patch.object(module, "set_date", return_value=False):
             _, said, _ = self.give(b"From a Thu Jan  1 00:00:10 1970 +0000\nold\n\n", {home: b"old\n"})
+            with folder() as here, source_of(DATED) as mailbox:
+                make(here, {"cur/": b"", "new/" + base_of(BODY): BODY})
+                undated = date_from(here, mailbox, Inventory.read(mailbox, Offset(0)))
         self.assertEqual(said, ["message 1 (line 1): the file system cannot store its date"])
+        self.assertEqual(undated, Undated(0, 1))
 
     def test_where_a_link_leads_nothing_is_dated(self) -> None:
         with folder() as here:

@@ -75,6 +75,7 @@ class NamesTest(unittest.TestCase):
             ("inbox", "INBOX"),
             ("-inbox-directory/Haus", "-inbox-directory.Haus"),
             ("Inbox/mbox", "INBOX.mbox"),
+            ("inbox2", "inbox2"),
         ):
             self.assertEqual(folder_of(given), name)
 

@@ -35,6 +35,10 @@ class MakingTest(unittest.TestCase):
         self.assertEqual(sorted(os.listdir(self.maildir)), [b"cur", b"maildirfolder", b"new", b"tmp"])
         self.assertEqual(self.synced(False), [])
 
+    def test_the_mark_alone_is_missing(self) -> None:
+        make_maildir(self.maildir, True)
+        self.assertEqual(self.synced(False), [self.maildir, self.here])
+
     def test_what_may_become_one(self) -> None:
         want_maildir(self.here + b"/missing")
         make(self.here, {"empty/": b"", "begun/tmp/": b"", "begun/box": b"", "record/" + RECORD.decode(): b""})

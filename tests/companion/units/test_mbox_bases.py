@@ -59,6 +59,9 @@ class TableTest(unittest.TestCase):
         self.assertEqual([table.place_of(base) for base in [*bases, DIGEST + b".2"]], [0, 1, 2, None])
         self.assertEqual((list(table.bases()), table.name(0)), (bases, NAME + b".3"))
 
+    def test_very_many_equal_messages(self) -> None:
+        self.assertEqual(Table.of([DIGEST + b".70000"]).name(0), NAME + b".70000")
+
     def test_places(self) -> None:
         table = Table()
         for digest in (DIGEST, OTHER, DIGEST):

@@ -10,6 +10,7 @@ from mbox2maildir_admin.mbox.files import (
     LineEnds,
     Reader,
     has_holes,
+    is_empty,
     is_there,
     open_file,
     open_plain,
@@ -35,6 +36,13 @@ class FilesTest(unittest.TestCase):
             self.assertRaisesRegex(Fault, "it is not a regular file", open_plain, here + b"/pipe")
             self.assertRaisesRegex(Fault, "it is not a regular file", open_plain, here)
             self.assertRaises(OSError, open_plain, here + b"/link", os.O_NOFOLLOW)
+
+    def test_an_empty_file(self) -> None:
+        """What cannot be looked at may have mail."""
+        with folder() as here:
+            make(here, {"empty": b"", "box": b"text"})
+            found = [is_empty(here + name) for name in (b"/empty", b"/box", b"/missing")]
+        self.assertEqual(found, [True, False, False])
 
     def test_paths_without_links(self) -> None:
         """What a symbolic link leads to, which may be missing, but not what can't be looked at."""

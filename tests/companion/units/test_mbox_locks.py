@@ -108,6 +108,14 @@ class LocksTest(unittest.TestCase):
         self.assertRaisesRegex(Left, "it keeps changing", self.said, busy=True)
 
 
+class UnlockTest(unittest.TestCase):
+    def test_a_disk_that_refuses_to_unlock(self) -> None:
+        with mock.patch.object(locks, "lock_record", side_effect=OSError):
+            with mock.patch.object(locks, "lock_file", side_effect=OSError) as other:
+                locks.unlock(7)
+        other.assert_called_once_with(7, fcntl.LOCK_UN)
+
+
 class Delivering:
     """A clock that goes on only while somebody sleeps. What is to happen at a moment is done then."""
 

@@ -163,6 +163,13 @@ class PairsTest(HomeTest):
         wanted = "left", "tree/a stands " + MOVE + "--folder NAME M tree/a.gz"
         self.assertEqual(self.rows("tree"), {"tree/a": ("done before", ""), "tree/a.gz": wanted})
 
+    def test_the_copy_of_what_is_compressed(self) -> None:
+        """It is no compressed file itself, though it is named like one, and its mail is in the file beside it."""
+        self.make("tree/a.gz.mboxrd", ONE)
+        self.assertEqual(self.rows("tree")["tree/a.gz.mboxrd"][0], "done")
+        self.make("tree/a.gz", gzip.compress(ONE))
+        self.assertEqual(self.rows("tree")["tree/a.gz"][0], "left")
+
     def test_a_conversion_that_began_where_as_much_is_done(self) -> None:
         """What is done is another mailbox, which has the same size."""
         self.make("box", ONE)

@@ -111,6 +111,10 @@ class PlanTest(unittest.TestCase):
             self.plan(A + b"\n", word)
         self.assertEqual(raised.exception.answers, [(UNDECIDED, 1, Does.RUN)])
 
+    def test_line_ends_in_part_of_one_of_several(self) -> None:
+        text = A + b"\nhi\n\n" + (B + b"\nhi\n\n").replace(b"\n", b"\r\n")
+        self.assertRaises(Question, self.plan, text, Reading("mboxrd", alone=False))
+
     def test_only_doubtful_lines_are_named(self) -> None:
         for line, is_taken in ((6, True), (5, False), (1, False)):
             decision = tied_to(NOT_QUOTED, Reading("mboxrd", frozenset([Line(line)])))

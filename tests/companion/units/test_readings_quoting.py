@@ -54,6 +54,12 @@ class QuotingTest(unittest.TestCase):
             self.assertEqual(self.copied(PLAIN, text), text)
         self.assertEqual(self.copied(Reading("mboxrd", drop=True), deleted), b"")
 
+    def test_where_what_is_kept_begins(self) -> None:
+        deleted, kept = A + b"X-Mozilla-Status: 0009\n\nhi\n\n", B + b"X-Mozilla-Status: 0001\n\nhi\n\n"
+        with source_of(deleted + kept) as mailbox:
+            quoter = Quoter(Reading("mboxrd", drop=True), mailbox, Offset(0), lambda _: None).run()
+        self.assertEqual(list(quoter.beginnings.lines), [deleted.count(b"\n") + 1])
+
     def test_what_is_measured(self) -> None:
         text = A + b"X-Mozilla-Status: 0009\n\n>>From x\n\n" + B + b"\nFrom y\n\n"
         with source_of(text) as mailbox:

@@ -105,6 +105,11 @@ class VerdictTest(unittest.TestCase):
                 look = Look(mailbox).read()
             self.assertEqual({word for word in WORDS if is_answer(look, word)}, set(words), text)
 
+    def test_undated_lines_are_never_text_by_one_word(self) -> None:
+        undated = b"From a\nSubject: x\n\nhi\n\n"
+        answers = self.verdict(undated + b"From me\nSubject: y\n\n" + B + b"\n").answers
+        self.assertEqual({one.word for one in answers}, {"mboxrd"})
+
     def test_lines_outside_of_lengths(self) -> None:
         """One that looks like mail is against a decision on lengths that does not name it."""
         lines, over = frozenset([Line(9)]), A + b"Content-Length: %d\n\n" % len(B) + B

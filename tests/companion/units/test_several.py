@@ -4,12 +4,15 @@ from typing import Any, Optional
 from unittest import mock
 
 from mbox2maildir_admin.faults import PlaceFault
+from mbox2maildir_admin.ledger.record import Record
 from mbox2maildir_admin.maildir.making import RECORD
+from mbox2maildir_admin.migration.mailbox import Migration
 from mbox2maildir_admin.migration.outcomes import Fate
 from mbox2maildir_admin.migration.places import UserHome
 from mbox2maildir_admin.migration.several import migrate_own, refuse, run_all
-from mbox2maildir_admin.migration.steps import Options
+from mbox2maildir_admin.migration.steps import How, Options
 from mbox2maildir_admin.migration.trees import is_named
+from mbox2maildir_admin.program import Program
 
 from tests.support.mail import ONE, THREE, TWO, digest_of
 from tests.support.migrating import Function, HomeTest, Listener
@@ -189,6 +192,35 @@ class SeveralTest(HomeTest):
         self.file("box")
         os.symlink("box", str(self.home / "link"))
         self.assertEqual(self.rows(b"link"), [(b"link", b".", Fate.DONE, "")])
+
+    def test_a_link_in_the_place_of_a_mailbox(self) -> None:
+        """A user may put one there meanwhile. Whoever migrates into a Maildir of their own may have named it."""
+        self.file("other", TWO)
+        run = Migration.run
+
+        def late(migration: Migration, path: bytes, *words: Any) -> Any:
+            os.unlink(path)
+            os.symlink("other", path)
+            return run(migration, path, *words)
+
+        for own, fate in ((True, Fate.LEFT), (None, Fate.DONE)):
+            self.file("box")
+            with mock.patch.object(Migration, "run", late):
+                self.assertEqual([row[2] for row in self.rows(b"box", own=own)], [fate], own)
+            os.unlink(self.home / "box")
+
+    def test_whose_home_the_next_commands_are_for(self) -> None:
+        self.file("box")
+        homes = []
+
+        def made(program: Program, root: bytes, record: Record, how: How) -> Migration:
+            homes.append(how.home)
+            return Migration(program, root, record, how)
+
+        with mock.patch("mbox2maildir_admin.migration.several.Migration", made):
+            for own in (True, None):
+                self.rows(b"box", own=own)
+        self.assertEqual(homes, [bytes(self.home), os.path.expanduser(b"~")])
 
     def test_how_many_there_are(self) -> None:
         self.file("box")

@@ -153,6 +153,13 @@ class SignalsTest(FolderTest):
             strike()
         self.assertEqual((INTERRUPTS.has_come, crew.is_asked), (False, False))
 
+    def test_the_end_of_a_program_is_known(self) -> None:
+        """Also if whoever started this ignores SIGCHLD."""
+        self.addCleanup(signal.signal, signal.SIGCHLD, signal.getsignal(signal.SIGCHLD))
+        signal.signal(signal.SIGCHLD, signal.SIG_IGN)
+        end_in_order()
+        self.assertEqual(signal.getsignal(signal.SIGCHLD), signal.SIG_DFL)
+
     def test_each_moment(self) -> None:
         for task in (self.convert, self.list):
             self.assertGreater(self.at_each_moment(partial(task, ENDS), itertools.count(1)), 50)

@@ -204,6 +204,12 @@ class CrewTest(unittest.TestCase):
                 os.kill(os.getpid(), signal.SIGTERM)
         self.assertEqual((left, crew.is_asked), (["its process was killed by signal 15"], True))
 
+    def test_all_are_ended_if_their_rows_go_nowhere(self) -> None:
+        with mock.patch.object(Crew, "pass_on") as pass_on, self.assertRaises(BrokenPipeError):
+            with Crew(1, Observer(), mock.Mock()):
+                raise BrokenPipeError
+        pass_on.assert_called_once_with(signal.SIGTERM)
+
     def test_a_child_has_no_key_of_roots_and_no_core_dump(self) -> None:
         order: list[str] = []
 

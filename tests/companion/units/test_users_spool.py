@@ -82,6 +82,7 @@ class MigrateTest(FolderTest):
     def setUp(self) -> None:
         super().setUp()
         self.reporter, self.crew, self.tally = mock.Mock(spec=Reporter), mock.MagicMock(is_asked=False), Tally()
+        self.crews = mock.Mock(return_value=self.crew)
         self.crew.__enter__.return_value = self.crew
         self.crew.__exit__.return_value = False
 
@@ -90,7 +91,8 @@ class MigrateTest(FolderTest):
     ) -> list[tuple[str, Optional[bytes]]]:
         """Migrates users of a spool. Returns the names of the children, and the mailboxes that they got."""
         asked = None if names is None else dict.fromkeys(names, COMMAND_LINE)
-        with mock.patch.object(module, "Crew", return_value=self.crew), mock.patch.object(module, "want_entered"):
+        crews = mock.patch.object(module, "Crew", self.crews)
+        with crews, mock.patch.object(module, "want_entered"):
             with mock.patch.multiple(module, find_program=lambda: b"/bin/mbox2maildir", first_uid=lambda: 1000):
                 with mock.patch.multiple(
                     pwd, getpwnam=by_name, getpwuid=by_number, getpwall=lambda: list(ACCOUNTS_HERE.values())
@@ -175,6 +177,8 @@ class MigrateTest(FolderTest):
             [(None, WITH_TREE)] * 2 + [(why % (self.here.decode(), name), PLAIN) for name, _ in others],
         )
         self.assertEqual(self.reporter.total, 4)
+        # those of one account are at work one after the other
+        self.assertEqual([call[0][0] for call in self.crews.call_args_list], [2, 1])
         self.assertEqual(self.tally.words(), ["4 users: 3 from the spool, 1 from the accounts"])
 
     def test_the_first_of_an_account_where_its_own_name_has_no_mailbox(self) -> None:
@@ -188,6 +192,25 @@ class MigrateTest(FolderTest):
         self.crew.add.reset_mock()
         self.assertEqual(self.migrate([b"info"]), [("info", self.here + b"/info")])
         self.assertEqual(str(self.migrant_of(self.crew.add.call_args[0][2]).why_not)[:3], "mia")
+
+    def test_a_tree_beside_a_mailbox_of_a_further_name(self) -> None:
+        """What the spool has of the account is or will be its inbox, so that an old Inbox of the tree is not."""
+        make(self.here, {"info": b"", "mia": b""})
+        self.assertEqual(self.migrate([b"info"], WITH_TREE), [("info", None), ("info", self.here + b"/info")])
+        self.assertTrue(self.migrant_of(self.tasks()[0]).is_left)
+
+    def test_an_account_of_the_same_number_with_another_home(self) -> None:
+        make(self.here, {"bob": b"", "mia": b""})
+        with mock.patch.dict(ACCOUNTS_HERE, bob=account("bob", 1001, "/home/bob")):
+            self.migrate(None)
+        self.assertEqual([self.migrant_of(task).why_not for task in self.tasks()], [None, None])
+
+    def test_what_a_child_may_not_be_able_to_load_is_loaded_before(self) -> None:
+        make(self.here, {"mia": b""})
+        with mock.patch.object(module, "call_of_system") as load:
+            self.crew.add.side_effect = lambda *_: self.assertEqual(load.call_count, 1)
+            self.migrate(None)
+        self.crew.add.assert_called_once()
 
     def looks_at_names(self, count: int) -> int:
         """How often a name is compared with the others in a spool of this many users, and as many names of nobody."""
