@@ -251,8 +251,8 @@ class ReadingTest(unittest.TestCase):
 
     def test_what_is_renumbered(self) -> None:
         self.assertFalse(reading_of([HEAD, "X-UID: 6\n", ""]).is_renumbered)
-        for after in ([], [""]):
-            self.assertTrue(reading_of([HEAD, "", "X-UID: 6\n", *after]).is_renumbered)
+        for headers in ([HEAD, "", "X-UID: 6\n"], [HEAD, "", "X-UID: 6\n", ""]):
+            self.assertTrue(reading_of(headers).is_renumbered)
 
     def test_the_internal_message(self) -> None:
         length = len(INTERNAL)

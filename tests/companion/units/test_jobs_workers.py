@@ -142,6 +142,19 @@ class WorkersTest(FolderTest):
         rows = self.rows(deed, [[0], [1]])
         self.assertEqual(rows, {0: (0, "its process was interrupted: run this again", Reason.PROCESS), 1: "done"})
 
+    def test_one_that_cannot_be_heard_is_ended(self) -> None:
+        def deed(parent: Parent, place: int) -> str:
+            if place == 0:
+                signal.signal(signal.SIGTERM, signal.SIG_DFL)
+                # lest it goes on for ever
+                signal.alarm(60)
+                parent.connection.close()
+                signal.pause()
+            return "done"
+
+        why = "its process was killed by signal 15: run this again"
+        self.assertEqual(self.rows(deed, [[0], [1]]), {0: (0, why, Reason.PROCESS), 1: "done"})
+
     def test_a_fault_of_its_own(self) -> None:
         def deed(_: Parent, place: int) -> str:
             if place == 0:
@@ -165,7 +178,7 @@ class WorkersTest(FolderTest):
                     if sum(worker.at is not None for worker in workers.workers) == 2:
                         raise KeyboardInterrupt
         self.want_no_children()
-        self.assertEqual((workers.workers, self.begun), ([], 2))
+        self.assertEqual((workers.workers, list(workers.groups), self.begun), ([], [], 2))
         self.assertEqual(
             sorted(caught.err),
             [

@@ -184,6 +184,17 @@ class ListTest(FolderTest):
         prepared.note_facts()
         self.assertEqual(bytes(prepared.verified), b"\0\1")
 
+    def test_a_time_without_a_part_of_a_second_is_not_noted(self) -> None:
+        """A disk that has such times would hide a change within the second."""
+        self.place(NAME, BODY)
+        prepared = self.wanted(NAME)
+        prepared.look()
+        for changed, is_noted in ((5 * 10**9, False), (5 * 10**9 + 1, True)):
+            facts = mock.patch("mbox2maildir_admin.ledger.prepared.facts_of", lambda _, at=changed: (7, len(BODY), at))
+            with facts:
+                prepared.note_facts()
+            self.assertEqual(prepared.facts_at(0), (7, len(BODY), changed) if is_noted else (0, 0, 0))
+
     def test_a_file_that_changes_after_the_look_stays(self) -> None:
         path = self.place(NAME, BODY)
         self.wanted(NAME).append(b"p\t%s\n" % NAME)

@@ -8,15 +8,15 @@ from mbox2maildir_admin.ledger.ledger import Ledger
 from mbox2maildir_admin.ledger.lines import LOST
 from mbox2maildir_admin.mbox.core import Core
 from mbox2maildir_admin.mbox.mailbox import Mailbox
-from mbox2maildir_admin.migration.cut import beginning_in, body_of, names_that_may_be_cut
+from mbox2maildir_admin.migration.cut import beginning_in, body_of, names_of_no_line, names_that_may_be_cut
 from mbox2maildir_admin.migration.outcomes import Fate, Row
 from mbox2maildir_admin.readings.reading import Reading
 from mbox2maildir_admin.units import Offset
 
-from tests.support.brought import BOX, LedgerTest, line_of, named_of
+from tests.support.brought import BOX, OTHER, LedgerTest, line_of, named_of
 from tests.support.brought import body_of as its_body
 from tests.support.mail import ONE, THREE, TWO, bodies_of, digest_of
-from tests.support.migrating import DATED, HomeTest
+from tests.support.migrating import DATED, Cut, HomeTest, Killed
 from tests.support.nexts import told
 
 # a message of which this many bytes were there when it was read
@@ -67,6 +67,13 @@ class CutTest(HomeTest):
         row = self.becomes(ONE[:-1], ONE + FOUR)
         self.assertEqual((row.fate, told(row)), (Fate.DONE, "it grew by 1 message"))
 
+    def test_a_whole_one_that_a_killed_run_has_placed(self) -> None:
+        """So was the cut one, by the run before."""
+        for text, count in ((ONE + CUT, 2), (ONE + FOUR, 2)):
+            self.fill(text)
+            self.assertRaises(Killed, self.migrate, Cut(count))
+        self.is_cut(self.migrate(), list(bodies_of(CUT))[0])
+
     def test_what_is_no_cut_message(self) -> None:
         """A message that somebody deleted, though another begins as it did, if it was not read last; and one that is
         still in the mailbox."""
@@ -103,6 +110,19 @@ class NamesTest(LedgerTest):
     def test_what_a_killed_run_placed_last(self) -> None:
         self.begin(BOX, line_of(ONE), line_of(TWO), need=2)
         self.assertEqual((self.names(ONE + THREE), self.names(ONE + TWO)), ({named_of(TWO)}, set()))
+
+    def test_what_a_killed_run_may_have_placed_without_a_line(self) -> None:
+        """Nothing that a line has, whose mailbox has it or will, and nothing that was there before."""
+        found = [ONE.replace(b"one", b"%d" % number) for number in range(3)]
+        for text in (TWO, THREE, *found):
+            self.place(text)
+        for text in (FOUR, THREE):
+            self.assertEqual(names_of_no_line(Ledger(self.folder), BOX, self.match(text), 0), set())
+        self.bring(OTHER, line_of(TWO))
+        self.begin(BOX, line_of(THREE), need=1)
+        os.utime(self.place(found[0]), (1e9, 1e9))
+        names = names_of_no_line(Ledger(self.folder), BOX, self.match(found[1]), 1_100_000_000)
+        self.assertEqual(names, {named_of(found[2])})
 
     def test_what_was_said_to_be_gone(self) -> None:
         self.bring(BOX, line_of(ONE))

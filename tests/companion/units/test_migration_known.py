@@ -2,10 +2,13 @@
 import os
 from pathlib import Path
 
-from mbox2maildir_admin.ledger.history import Entry
+from mbox2maildir_admin.ledger.history import Entry, Note, Step
 from mbox2maildir_admin.ledger.ledger import Ledger
+from mbox2maildir_admin.ledger.record import Record
 from mbox2maildir_admin.maildir.making import LEDGER, RECORD
+from mbox2maildir_admin.mbox.locks import open_mailbox
 from mbox2maildir_admin.migration.known import Known
+from mbox2maildir_admin.migration.steps import Opened
 
 from tests.support.brought import inventory_of
 from tests.support.mail import ONE, THREE, TWO
@@ -102,6 +105,48 @@ class KnownTest(HomeTest):
                 known.ledger.leaving = {path} if is_leaving else set()
                 known.take_place(inventory_of(ONE), True)
                 self.assertEqual(known.ledger.paths(), [path if is_leaving else str(self.box)])
+
+    def test_another_path_of_a_mailbox_whose_ledger_is_lost(self) -> None:
+        (self.home / "old").mkdir()
+        (self.home / "link").symlink_to("old")
+        self.bring("old/box", ONE)
+        self.ledger.unlink()
+        self.move_box("link/box")
+        with self.opened() as (opened, record):
+            self.assertIsNotNone(Known(record, Ledger(self.root), opened).last)
+
+    def test_a_mailbox_whose_undo_was_killed_is_leaving(self) -> None:
+        self.bring("other", ONE)
+        other = self.path
+        self.bring("box", TWO)
+        with self.opened() as (opened, record):
+            (line,) = (one for one in record.last_steps(b".") if one.path == os.fsdecode(other))
+            for step, leaving in ((Step.UNDOING, {os.fsdecode(other)}), (Step.UNDONE, set())):
+                record.add_after(line, step, other)
+                self.assertEqual(Known(record, Ledger(self.root), opened).ledger.leaving, leaving)
+
+    def test_a_folder_that_was_renamed(self) -> None:
+        """The record has its mailboxes by its former name, which another folder has now."""
+        self.bring("other", ONE, "X")
+        other = str(self.box)
+        self.bring("box", TWO, "X")
+        (self.maildir / ".X").rename(self.maildir / ".Y")
+        for folder, paths in ((b".Y", [other]), (b".X", [other, str(self.box)])):
+            with Record.open(self.root) as record, open_mailbox(self.path) as mailbox:
+                opened = Opened.into(self.root, folder, mailbox)
+                known = Known(record, Ledger(opened.folder), opened)
+                self.assertEqual(([one.path for one in known.lines_of_others()], known.lacked()), (paths, []), folder)
+            self.bring("third", THREE, "X")
+
+    def test_the_uids_of_a_mailbox_that_was_moved(self) -> None:
+        self.bring("box", ONE)
+        path = self.path
+        self.move("moved")
+        with self.opened() as (opened, record):
+            record.add(Note.NUMBERED, key_of(ONE), 1, path)
+            Known(record, Ledger(self.root), opened).take_place(inventory_of(ONE), False)
+            numbered = record.numbered(b".")
+        self.assertEqual(numbered and numbered.path, str(self.box))
 
     def test_where_it_went_before(self) -> None:
         """Only a mailbox that is gone was moved."""

@@ -6,7 +6,7 @@ from pathlib import Path
 from typing import Any, Optional
 from unittest import mock
 
-from mbox2maildir_admin.faults import PlaceFault
+from mbox2maildir_admin.faults import PlaceFault, Reason
 from mbox2maildir_admin.ledger.ledger import Ledger
 from mbox2maildir_admin.ledger.record import Record
 from mbox2maildir_admin.maildir.files import sum_of_names
@@ -271,6 +271,21 @@ class UsedTest(PostponedTest):
             time.sleep(0.05)
             use(next((self.maildir / "new").iterdir()))
             self.refused(says)
+
+    def test_somebody_had_mail_there_and_read_it(self) -> None:
+        """Before anything was migrated."""
+        self.make_folders()
+        (self.maildir / "cur" / "1700000000.M1.host:2,S").write_bytes(b"mail\n")
+        self.done(ONE)
+        self.refused("1700000000.M1.host")
+
+    def test_a_ledger_that_is_damaged(self) -> None:
+        self.done(ONE)
+        with (self.maildir / "mbox2maildir-messages").open("ab") as file:
+            file.write(b"damaged\n")
+        row = self.postpone(ONE + TWO)
+        self.assertEqual((row.fate, row.reason), (Fate.LEFT, Reason.PREPARED))
+        self.has(ONE)
 
     def test_somebody_has_read_between_two_runs(self) -> None:
         """The second one does not hide that."""

@@ -13,6 +13,8 @@ from mbox2maildir_admin.migration.outcomes import Fate, Row
 from mbox2maildir_admin.migration.replica import signs_of
 from mbox2maildir_admin.migration.several import run_all
 from mbox2maildir_admin.migration.steps import Options
+from mbox2maildir_admin.program import Converted
+from mbox2maildir_admin.units import Offset
 
 from tests.support.mail import ONE, THREE, TWO, bodies_of, digest_of
 from tests.support.migrating import Cut, Function, Killed, Listener
@@ -135,6 +137,39 @@ class RefusedTest(PreparingTest):
         self.finish(ONE)
         self.assertIs(self.prepare().fate, Fate.BEFORE)
         self.left(self.prepare(ONE + TWO), "mail of a mailbox is in its folder already")
+        # the record shows it too
+        (self.maildir / "mbox2maildir-messages").unlink()
+        self.left(self.prepare(), "mail of a mailbox is in its folder already")
+
+    def test_what_is_placed_is_verified(self) -> None:
+        """Unlike what was prepared, and has not changed since."""
+
+        class Wrong(Function):
+            """Places other bytes."""
+
+            def convert(self, number: int, start: Offset, folder: bytes, *words: Any) -> Converted:
+                done = super().convert(number, start, folder, *words)
+                Path(os.fsdecode(folder), "new", digest_of(next(bodies_of(TWO))) + ".1").write_bytes(b"other\n")
+                return done
+
+        self.prepare(ONE)
+        self.fill(ONE + TWO)
+        self.left(self.migrate(Wrong()), "other bytes 1", Reason.NOT_VERIFIED)
+
+    def test_a_mailbox_that_was_moved(self) -> None:
+        self.prepare(ONE)
+        old, text = self.box, self.box.read_bytes()
+        self.move_box("moved")
+        self.fill(text)
+        self.left(self.prepare(), "box is prepared in its folder")
+        old.unlink()
+        self.assertIs(self.prepare().fate, Fate.PREPARED)
+
+    def test_again_of_an_emptied_mailbox(self) -> None:
+        """What is there stays, since somebody may read it."""
+        self.prepare(ONE)
+        self.finish(b"", again=True)
+        self.has(ONE)
 
     def test_an_empty_file_in_place_of_what_is_done(self) -> None:
         """A program that delivers makes one once the old mailbox was moved away. It has nothing to prepare."""

@@ -11,6 +11,7 @@ from mbox2maildir_admin.ledger.ledger import Ledger
 from mbox2maildir_admin.maildir.making import LEDGER
 from mbox2maildir_admin.migration.outcomes import Fate, Row
 from mbox2maildir_admin.migration.transfer import FEW, TENTH
+from mbox2maildir_admin.readings.reading import UNDECIDED, Reading
 
 from tests.support.mail import ONE, THREE, TWO, bodies_of
 from tests.support.migrating import Cut, HomeTest, Killed
@@ -84,6 +85,16 @@ class NeverTwiceTest(TransferTest):
         next((self.maildir / "new").iterdir()).unlink()
         self.became(Fate.DONE, "it grew by 1 message", self.bring("box", ONE))
         self.assertEqual(len(self.mail()), 1)
+
+    def test_a_dry_run_writes_nothing(self) -> None:
+        """Neither of a mailbox that has nothing new, nor of one about which somebody decides."""
+        self.bring("box", ONE + TWO)
+        read, asked = (ONE + TWO).replace(b"\n\n", b"\nStatus: RO\n\n", 1), ONE[:-1] + b"\nFrom me on\n\n"
+        for text, decision in ((read, UNDECIDED), (asked, Reading("unquoted"))):
+            before = [(path, path.read_bytes()) for path in sorted(self.maildir.rglob("mbox2maildir-*"))]
+            self.bring("box", text, dry=True, decision=decision)
+            after = [(path, path.read_bytes()) for path in sorted(self.maildir.rglob("mbox2maildir-*"))]
+            self.assertEqual(after, before, text)
 
     def test_edited_as_a_whole(self) -> None:
         """If more than a tenth, and more than three, are gone, while as many are new."""

@@ -1,5 +1,6 @@
 """Mailboxes that have not changed since they were prepared: their messages are not read again, and what comes of it is
 what one `migrate` makes."""
+import gzip
 import os
 import re
 import shutil
@@ -136,6 +137,42 @@ class UnchangedTest(PreparingTest):
             self.finish(keep_envelopes=True)
         self.assertTrue((self.maildir / "mbox2maildir-envelopes.gz").exists())
 
+    def test_the_same_messages_in_another_order(self) -> None:
+        """They are read again, since their dates and flags stand elsewhere."""
+        wanted = self.outcome(self.finish(TWO + ONE))
+        self.make_home("other")
+        for text in (ONE + TWO, TWO + ONE):
+            self.prepare(text)
+        self.assertEqual(self.outcome(self.finish()), wanted)
+
+    def test_a_first_pass_reads_a_mailbox_whose_folder_has_changed(self) -> None:
+        """Or about which somebody decides, or whose last pass was killed."""
+
+        def edit() -> None:
+            next((self.maildir / "new").iterdir()).write_bytes(b"edited\n")
+
+        def remove() -> None:
+            next((self.maildir / "new").iterdir()).unlink()
+
+        def kill() -> None:
+            with self.prepared_list().open("ab") as file:
+                file.write(b">\t1\n")
+
+        def fail() -> None:
+            with self.prepared_list().open("ab") as file:
+                file.write(b"!\n")
+
+        for number, change in enumerate((edit, remove, kill, fail)):
+            self.make_home("home-%d" % number)
+            self.prepare(ONE + TWO)
+            change()
+            with mock.patch("mbox2maildir_admin.migration.mailbox.snapshot", side_effect=AssertionError("read")):
+                self.assertRaises(AssertionError, self.prepare)
+        self.make_home("decided")
+        self.prepare(ONE + TWO)
+        with mock.patch("mbox2maildir_admin.migration.mailbox.snapshot", side_effect=AssertionError("read")):
+            self.assertRaises(AssertionError, self.prepare, decision=Reading("mboxo"))
+
     def test_a_first_pass_notes_the_new_state(self) -> None:
         """A mailbox whose times changed is read once more, and not parsed; the next pass does not open it."""
         self.prepare(ONE + TWO)
@@ -201,7 +238,11 @@ class ChangedTest(PreparingTest):
 
     def test_what_a_copy_is_made_of_is_read(self) -> None:
         """Lines that have to be quoted, and an answer of a human."""
-        for text, decision in ((with_length(A, MAY) + b"\n", UNDECIDED), (ONE + TWO, Reading("mboxrd"))):
+        for text, decision in (
+            (with_length(A, MAY) + b"\n", UNDECIDED),
+            (ONE + TWO, Reading("mboxrd")),
+            (gzip.compress(ONE + TWO), UNDECIDED),
+        ):
             self.make_home("home-%d" % len(os.listdir(self.here)))
             self.assertIs(self.prepare(text, decision=decision).fate, Fate.PREPARED)
             self.assertIsNone(Prepared.read(self.root).noted.as_read)

@@ -111,6 +111,13 @@ class PlanTest(unittest.TestCase):
             self.plan(A + b"\n", word)
         self.assertEqual(raised.exception.answers, [(UNDECIDED, 1, Does.RUN)])
 
+    def test_a_message_that_begins_within_a_line(self) -> None:
+        """The copy has a line end before it."""
+        text = A + b"\nhi" + B + b"\nhi\n\n"
+        begin = frozenset([Line(A.count(b"\n") + 2)])
+        plan = self.plan(text, tied_to(text, Reading("mboxrd", begin=begin)))
+        self.assertEqual((plan.messages, plan.is_copied), (2, True))
+
     def test_line_ends_in_part_of_one_of_several(self) -> None:
         text = A + b"\nhi\n\n" + (B + b"\nhi\n\n").replace(b"\n", b"\r\n")
         self.assertRaises(Question, self.plan, text, Reading("mboxrd", alone=False))

@@ -18,11 +18,11 @@ from mbox2maildir_admin.mbox.messages import messages_of
 from mbox2maildir_admin.mbox.parts import FROM_LINE, MARK, TEXT, Part, from_lines_of, parts_of
 from mbox2maildir_admin.readings.plans import Plan, plan_of, read_enough
 from mbox2maildir_admin.readings.reading import Reading
-from mbox2maildir_admin.readings.texts import Choice, disk_of, is_mbox, open_text
+from mbox2maildir_admin.readings.texts import Choice, Text, after_internal, disk_of, is_mbox, open_text
 from mbox2maildir_admin.units import Line, Offset
 
-from tests.support.mail import A, B
-from tests.support.units import FolderTest, source_of
+from tests.support.mail import INTERNAL, A, B, bodies_of, digest_of
+from tests.support.units import FolderTest, make, source_of
 
 
 class PartsTest(unittest.TestCase):
@@ -140,6 +140,17 @@ class OpenTextTest(FolderTest):
         with Mailbox.open(self.write("box", text)) as handle:
             plan_of(handle, read_enough)
             self.assertLessEqual(handle.file.offset, 1 << 20)
+
+
+class InternalTest(FolderTest):
+    def test_it_counts_if_the_maildir_has_it(self) -> None:
+        """By a `convert` of the file as it is."""
+        make(self.here, {"new/": b"", "cur/": b""})
+        with source_of(INTERNAL + A + b"\n") as mailbox:
+            text = Text(mailbox, Offset(0))
+            self.assertEqual(after_internal(text, self.here), len(INTERNAL))
+            self.write("new/%s.1:2,S" % digest_of(next(bodies_of(INTERNAL))), b"internal")
+            self.assertEqual(after_internal(text, self.here), 0)
 
 
 class ChoiceTest(FolderTest):

@@ -383,6 +383,23 @@ class RefusedTest(UndoTest):
         self.write_box(self.other, ONE + THREE)
         self.assertEqual(self.undo("other").why, NOT_RECORDED)
 
+    def test_the_copy_of_a_mailbox_that_is_still_there(self) -> None:
+        self.place_all(self.box, text=ONE)
+        self.write_box(self.other, ONE)
+        row = self.undo("other")
+        self.assertEqual((row.fate, told(row), len(self.mail())), (Fate.LEFT, NOT_RECORDED, 1))
+
+    def test_a_ledger_from_before_another_mailbox(self) -> None:
+        """It does not say that this one has a file too."""
+        self.place_all(self.box, text=ONE)
+        ledger = self.maildir / LEDGER.decode()
+        before = ledger.read_bytes()
+        self.place_all(self.other, text=ONE + TWO)
+        ledger.write_bytes(before)
+        row = self.undo()
+        self.assertEqual((row.fate, row.reason, len(self.mail())), (Fate.LEFT, Reason.UNDO, 2), told(row))
+        self.assertIn("those of %s: migrate that with --again first" % self.other, told(row))
+
     def test_a_ledger_that_is_damaged(self) -> None:
         self.place_all(self.box, text=ONE)
         ledger = self.maildir / LEDGER.decode()
