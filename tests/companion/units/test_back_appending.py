@@ -93,6 +93,42 @@ class AppendingTest(FolderTest):
                 self.assertEqual(getattr(raised.exception, "reason", None), reason)
                 self.assertEqual((self.text(), self.names()), (OLD, [b"box"]))
 
+    def test_a_disk_that_takes_a_few_bytes_at_a_time(self) -> None:
+        write = os.write
+        with self.opened() as mailbox, contextlib.closing(self.beside(mailbox)) as beside:
+            with mock.patch("os.write", lambda number, piece: write(number, piece[:3])):
+                append(mailbox, beside)
+        self.assertEqual(self.text(), OLD + TAIL)
+
+    def test_what_another_program_appends_meanwhile(self) -> None:
+        def deliver(_: int) -> None:
+            with open(self.path, "ab") as file:
+                file.write(b"From d\n\n")
+
+        with self.opened() as mailbox, contextlib.closing(self.beside(mailbox)) as beside:
+            with mock.patch("os.fsync", deliver), self.assertRaises(Left) as raised:
+                append(mailbox, beside)
+        self.assertEqual((raised.exception.reason, self.text()), (Reason.CHANGED, OLD + TAIL + b"From d\n\n"))
+
+    def test_the_order_of_syncs(self) -> None:
+        """The file beside has its name once it is on the disk, and is there until the mailbox is."""
+        order: list[str] = []
+        rename = mock.patch("os.rename", side_effect=lambda *_: order.append("named"))
+        names = mock.patch("mbox2maildir_admin.back.beside.sync_folder", lambda _: order.append("names"))
+        with mock.patch("os.fsync", lambda _: order.append("sync")), rename, names, self.opened() as mailbox:
+            self.beside(mailbox).close()
+        self.assertEqual(order, ["sync", "named", "names"])
+        for count in (9, len(TAIL)):
+            self.write("box", OLD)
+            with self.opened() as mailbox, contextlib.closing(self.beside(mailbox)) as beside:
+                os.write(mailbox.number, TAIL[:count])
+                mailbox.take_state()
+                order.clear()
+                syncs = mock.patch("os.fsync", lambda number: order.append("sync" if number > 2 else ""))
+                with syncs, mock.patch.object(beside, "remove", lambda: order.append("gone")):
+                    recover(mailbox, beside)
+            self.assertEqual(order[:2], ["sync", "gone"], count)
+
     def test_a_failed_sync_takes_it_back(self) -> None:
         with self.opened() as mailbox, contextlib.closing(self.beside(mailbox)) as beside:
             syncs = [OSError(errno.EIO, "lost"), None, None]
@@ -113,6 +149,7 @@ class AppendingTest(FolderTest):
         for what, text, line in (
             ("mail after a message", OLD + MAILS[0] + b"From d\n\n", None),
             ("mail after a torn message", OLD + torn + b"\nFrom d\n\n", 9),
+            ("mail after a torn From_ line", OLD + b"From \nFrom d\n\n", 5),
             ("mail alone", OLD + b"From d\n\n", None),
             ("a beginning that changed", OLD.replace(b"old", b"odd") + torn, None),
             ("a mailbox that is shorter", OLD[:-3], None),

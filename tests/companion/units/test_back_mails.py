@@ -6,6 +6,7 @@ from mbox2maildir_admin.back.mails import Mail, Slot, Sorted, Sorting, copied, m
 from mbox2maildir_admin.faults import Fault, Reason
 from mbox2maildir_admin.ledger.ledger import Ledger
 from mbox2maildir_admin.ledger.lines import FOREIGN, LOST, NAMELESS, RETURNED, note_end
+from mbox2maildir_admin.maildir.making import PREPARED
 from mbox2maildir_admin.units import silent
 
 from tests.support.brought import BOX, OTHER, LedgerTest, line_of
@@ -105,6 +106,12 @@ class SlotsTest(LedgerTest):
         self.begin(BOX, line_of(ONE))
         with self.assertRaises(Fault):
             want_whole(self.folder, HERE, Ledger(self.folder))
+
+    def test_what_is_only_prepared(self) -> None:
+        (self.maildir / PREPARED.decode()).touch()
+        with self.assertRaises(Fault) as raised:
+            want_whole(self.folder, HERE, Ledger(self.folder))
+        self.assertEqual(raised.exception.reason, Reason.PREPARED)
 
     def test_a_damaged_ledger(self) -> None:
         self.file.write_bytes(b"nonsense\n")

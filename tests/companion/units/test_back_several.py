@@ -12,20 +12,22 @@ from mbox2maildir_admin.back.dialect import Dialect, Letter
 from mbox2maildir_admin.back.mails import sorted_mail
 from mbox2maildir_admin.back.keeping import make_mailbox
 from mbox2maildir_admin.back.places import Names, Places
-from mbox2maildir_admin.back.reading import Forms, Held, messages_by, reading_now, takes_mail
+from mbox2maildir_admin.back.reading import Forms, Held, are_at, messages_by, reading_now, takes_mail
 from mbox2maildir_admin.back.steps import How
 from mbox2maildir_admin.back.several import Several
 from mbox2maildir_admin.commands import back as command
 from mbox2maildir_admin.commands.words import add_back
 from mbox2maildir_admin.faults import Fault, Left, Reason, Status
 from mbox2maildir_admin.ledger.record import Record
+from mbox2maildir_admin.mbox.inventory import Inventory
 from mbox2maildir_admin.mbox.locks import open_mailbox
 from mbox2maildir_admin.migration.outcomes import Fate, Row
 from mbox2maildir_admin.migration.rows import Reporter
 from mbox2maildir_admin.migration.several import run_all
 from mbox2maildir_admin.migration.steps import Options
 
-from tests.support.mail import A, ONE, TWO
+from tests.support.brought import inventory_of
+from tests.support.mail import A, ONE, TWO, bodies_of
 from tests.support.migrating import Function, HomeTest, Listener
 from tests.support.units import printed, source_of
 
@@ -302,6 +304,62 @@ class BackTest(BackHome):
         self.assertEqual((box.read_bytes(), list(self.maildir.glob("*/mbox2maildir-back*"))), (ONE, []))
         self.assertEqual(self.fates(self.back()), {"mail/sent": (Fate.BACK, 1)})
 
+    def test_a_mailbox_whose_own_mail_is_read_otherwise_then(self) -> None:
+        box = self.write_box("mail/sent", ONE)
+        self.migrate_all("mail")
+        self.deliver(".sent")
+        found = [inventory_of(ONE), inventory_of(TWO), Inventory(), Inventory()]
+        with mock.patch.object(returning, "messages_by", side_effect=found):
+            with mock.patch.object(returning, "are_at", lambda *_: True):
+                self.assertEqual(self.fates(self.back()), {"mail/sent-back": (Fate.BACK, 1)})
+        self.assertEqual(box.read_bytes(), ONE)
+
+    def test_another_file_in_the_place_of_a_mailbox(self) -> None:
+        box = self.write_box("mail/sent", ONE)
+        self.migrate_all("mail")
+        self.deliver(".sent")
+        opened = open_mailbox
+
+        def replaced(*words: Any) -> Any:
+            mailbox = opened(*words)
+            box.rename(self.home / "old")
+            self.write_box("mail/sent", TWO)
+            return mailbox
+
+        with mock.patch.object(returning, "open_mailbox", replaced):
+            self.assertEqual(self.back()[0].reason, Reason.CHANGED)
+        self.assertEqual((box.read_bytes(), (self.home / "old").read_bytes()), (TWO, ONE))
+
+    def test_mail_that_the_maildir_does_not_have(self) -> None:
+        """The mailbox is not done then, so that `migrate` brings it."""
+        box = self.write_box("mail/sent", ONE)
+        self.migrate_all("mail")
+        self.deliver(".sent")
+        box.write_bytes(ONE + TWO)
+        self.back()
+        self.migrate_all("mail")
+        texts = [path.read_bytes() for path in (self.maildir / ".sent/new").iterdir()]
+        self.assertEqual([sum(b"Subject: %s\n" % one in text for text in texts) for one in (b"two", b"new")], [1, 1])
+
+    def test_the_mailbox_that_brought_mail_comes_first(self) -> None:
+        self.write_box("other", ONE)
+        self.migrate_all("other", folder="sent")
+        self.write_box("mail/sent", TWO)
+        self.deliver(".sent")
+        fates = self.fates(self.back("mail", "other"))
+        self.assertEqual(fates["other"], (Fate.BACK, 1))
+
+    def test_what_moves_the_maildir_aside(self) -> None:
+        """It is printed once all of its mail is back."""
+        self.write_box("mail/sent", ONE)
+        self.migrate_all("mail")
+        self.deliver("")
+        for names, is_right in ((["mail"], False), (["mail", "spool/mia"], True)):
+            paths = Names([os.fsencode(str(self.home / name)) for name in names])
+            with Record.open(self.root) as record:
+                one = Several(Function(), self.root, record, How(now=True), Listener())
+                self.assertEqual(bool(one.run(Places(self.root, record, paths), False)), is_right)
+
     def test_mail_without_a_length_came(self) -> None:
         """Then the mailbox is read otherwise than when it was migrated, and is written so."""
         box = self.write_box("mail/sent", LENGTHS)
@@ -369,6 +427,17 @@ class PartsTest(HomeTest):
                 messages_by("nonsense", mailbox, self.here)
         with source_of(b"Maildir\n") as mailbox:
             self.assertIsNone(takes_mail(mailbox, "mboxrd"))
+
+    def test_which_messages_a_text_has(self) -> None:
+        first, second = map(Forms.of, bodies_of(ONE + TWO))
+        for forms, place, is_so in (
+            ([first, second], 0, True),
+            ([second], 1, True),
+            ([first], 0, False),
+            ([first, second, second], 0, False),
+            ([second, first], 0, False),
+        ):
+            self.assertIs(are_at(forms, inventory_of(ONE + TWO), place), is_so)
 
     def test_what_is_held(self) -> None:
         mail = b"Subject: a\n\n>From me\n"

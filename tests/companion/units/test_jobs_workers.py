@@ -148,7 +148,7 @@ class WorkersTest(FolderTest):
                 signal.signal(signal.SIGTERM, signal.SIG_DFL)
                 # lest it goes on for ever
                 signal.alarm(60)
-                parent.connection.close()
+                os.close(parent.number)
                 signal.pause()
             return "done"
 
