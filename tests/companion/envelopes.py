@@ -10,7 +10,7 @@ from collections.abc import Sequence
 from pathlib import Path
 
 from tests.support.checks import equal
-from tests.support.homes import check_all, expect, fresh_folder, is_root, mail_in, mailbox, run
+from tests.support.homes import check_all, expect, fresh_folder, mail_in, mailbox, run, want_root
 from tests.support.ledgers import LEDGER
 
 NAME = "mbox2maildir-envelopes.gz"
@@ -164,8 +164,7 @@ def not_kept(home: Path) -> None:
 def full_disk(home: Path) -> None:
     """On a disk that is full while the lines are written, what was kept stays whole, and the next run keeps the
     rest."""
-    if not is_root():
-        return
+    want_root()
     with fresh_folder() as disk:
         subprocess.run(["mount", "-t", "tmpfs", "-o", "size=512k", "none", str(disk)], check=True)
         try:

@@ -160,6 +160,7 @@ class Trial:
         self.kept_before = envelopes_of(home)
         ran, self.calls = killer.run(partial(home.place.run, self.words, BY_OTHERS))
         self.wants(ran.status == 0, "the command fails", ran)
+        self.wants(bool(self.calls), "it makes no call", ran)
         self.wanted = files_of(home)
         self.wanted_when_undone = self.undone()
         # how many were killed, and how many of these said that mail came back, though nobody deleted any

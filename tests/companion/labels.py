@@ -220,7 +220,7 @@ def with_labels_and_without(home: Path) -> None:
     (home / "t.mbox").rename(home / "old/t.mbox")
     mailbox(home / "old/other", ONE)
     expect(["migrate", "M", "old"], home, 1, None)
-    equal("the folders", folders_in(home / "M"), {**FOLDERS, ".other": folders_in(home / "M")[".other"]})
+    equal("the folders", folders_in(home / "M"), {**FOLDERS, ".other": ["one"]})
 
 
 def the_record_knows_the_folders(home: Path) -> None:

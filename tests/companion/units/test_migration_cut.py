@@ -10,13 +10,14 @@ from mbox2maildir_admin.mbox.core import Core
 from mbox2maildir_admin.mbox.mailbox import Mailbox
 from mbox2maildir_admin.migration.cut import beginning_in, body_of, names_of_no_line, names_that_may_be_cut
 from mbox2maildir_admin.migration.outcomes import Fate, Row
+from mbox2maildir_admin.program import Converted
 from mbox2maildir_admin.readings.reading import Reading
 from mbox2maildir_admin.units import Offset
 
 from tests.support.brought import BOX, OTHER, LedgerTest, line_of, named_of
 from tests.support.brought import body_of as its_body
 from tests.support.mail import ONE, THREE, TWO, bodies_of, digest_of
-from tests.support.migrating import DATED, Cut, HomeTest, Killed
+from tests.support.migrating import DATED, Cut, Function, HomeTest, Killed
 from tests.support.nexts import told
 
 # a message of which this many bytes were there when it was read
@@ -72,6 +73,21 @@ class CutTest(HomeTest):
         for text, count in ((ONE + CUT, 2), (ONE + FOUR, 2)):
             self.fill(text)
             self.assertRaises(Killed, self.migrate, Cut(count))
+        self.is_cut(self.migrate(), list(bodies_of(CUT))[0])
+
+    def test_one_that_came_while_a_killed_run_was_at_work(self) -> None:
+        """The program read it, though the lines that had been begun do not have it."""
+
+        class Late(Function):
+            """Is killed when it has placed everything."""
+
+            def convert(self, *words: Any) -> Converted:
+                super().convert(*words)
+                raise Killed
+
+        self.fill(ONE)
+        self.assertRaises(Killed, self.migrate, Late(lambda _: self.box.write_bytes(ONE + CUT) and None))
+        self.fill(ONE + FOUR)
         self.is_cut(self.migrate(), list(bodies_of(CUT))[0])
 
     def test_what_is_no_cut_message(self) -> None:

@@ -48,7 +48,7 @@ class UndoTest(HomeTest):
         with self.assertRaises(Killed):
             self.migrate(Cut(2))
         self.assertEqual(self.undo()[0], Fate.UNDONE)
-        self.assertEqual(self.mail(), [])
+        self.assertEqual((self.mail(), Ledger(self.root).paths()), ([], []))
         self.assertEqual(self.migrate().messages, 3)
 
     def test_a_list_that_counts_no_more(self) -> None:

@@ -71,6 +71,13 @@ class SharesTest(LedgerTest):
         found = self.shares(OTHER)
         self.assertEqual((found.bases, found.former), ({self.base(2)}, 1))
 
+    def test_what_a_killed_run_of_another_mailbox_has(self) -> None:
+        self.placed(THIRD, line_of(TWO), need=1)
+        self.place(TWO)
+        self.begin(OTHER, line_of(TWO, SHARED))
+        found = Shares(Ledger(self.folder), THIRD, Counter({line_of(TWO).core: 1}), False)
+        self.assertEqual((found.bases, found.kept), (set(), {OTHER: 1}))
+
     def test_a_mailbox_without_the_message(self) -> None:
         """What it no longer has stays, and what is gone is counted as that."""
         self.placed(THIRD, line_of(TWO), need=1)

@@ -205,13 +205,6 @@ class MigrateTest(FolderTest):
             self.migrate(None)
         self.assertEqual([self.migrant_of(task).why_not for task in self.tasks()], [None, None])
 
-    def test_what_a_child_may_not_be_able_to_load_is_loaded_before(self) -> None:
-        make(self.here, {"mia": b""})
-        with mock.patch.object(module, "call_of_system") as load:
-            self.crew.add.side_effect = lambda *_: self.assertEqual(load.call_count, 1)
-            self.migrate(None)
-        self.crew.add.assert_called_once()
-
     def looks_at_names(self, count: int) -> int:
         """How often a name is compared with the others in a spool of this many users, and as many names of nobody."""
         users = {"u%04d" % number: account("u%04d" % number, 2000 + number) for number in range(count)}
