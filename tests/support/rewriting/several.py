@@ -46,19 +46,23 @@ class Several(Tree):
             self.wrong.append("done, and a further run does more")
 
     def run_next(self, left: dict[str, Row]) -> bool:
-        """Runs a command that one of the rows prints. Returns whether there is one."""
-        commands = [
-            (row["path"], command["argv"])
-            for row in left.values()
-            for command in row["next"]
-            if "argv" in command and command["argv"][0].startswith("mbox2maildir-admin")
-            if "--undo" not in command["argv"] and "kind" not in command["argv"]
-        ]
-        if not commands:
-            return False
-        right = [words for path, words in commands if self.is_right(path, words)]
-        self.carry_out(self.draw.choice(right or [words for _, words in commands])[2:])
-        return True
+        """Runs a command that one of the rows prints, and one that its own row prints then. Returns whether there is
+        one."""
+        is_any = False
+        for _ in range(2):
+            commands = [
+                (row["path"], command["argv"])
+                for row in left.values()
+                for command in row["next"]
+                if "argv" in command and command["argv"][0].startswith("mbox2maildir-admin")
+                if "--undo" not in command["argv"] and "kind" not in command["argv"]
+            ]
+            if not commands:
+                break
+            right = [words for path, words in commands if self.is_right(path, words)]
+            rows = self.carry_out(self.draw.choice(right or [words for _, words in commands])[2:])[1]
+            left, is_any = {path: row for path, row in rows.items() if row["verdict"] == "left"}, True
+        return is_any
 
     def is_right(self, path: str, words: Sequence[str]) -> bool:
         """Whether a command makes no mail that nobody sent, and no program put there: a human answers by the lines that
