@@ -2,16 +2,29 @@
 
 Dovecot's list has the name of each file. Names would take much memory, so only what follows a base is kept of them.
 """
+import contextlib
 import io
+import os
+import re
+import time
 from collections.abc import Callable, Sequence
 from typing import Optional
 
+from ..faults import Left, Reason
+from ..maildir.making import sync_folder
 from ..mbox.bases import Table
+from ..mbox.files import open_file
 from ..mbox.inventory import Inventory
+from ..terminal import named
 from ..units import Place
 from .dovecot_headers import Numbers, info_of, is_listed
 from .renaming import flagged_in, sync_names
 
+# the first line of a list: its form, UIDVALIDITY and the next UID
+FIRST = re.compile(rb"3 (?:[^\n]* )?V([0-9]{1,10}) (?:[^\n]* )?N([0-9]{1,10})(?=[ \n])")
+# the ending of the lock of a list, and after how many seconds it counts for nothing, as for Dovecot
+LOCK, STALE = b".lock", 120
+CHANGED = "Dovecot is changing %s: stop Dovecot, and run this again"
 # by place: what follows the base in the name of a message's file; None without a file
 Infos = list[Optional[bytes]]
 
@@ -44,3 +57,38 @@ def list_of(numbers: Numbers, name_of: Callable[[Place], Optional[bytes]]) -> by
         if name is not None:
             text.write(b"%d :%s\n" % (uid, name))
     return text.getvalue()
+
+
+def raised(text: bytes, validity: int, last: int) -> bytes:
+    """The text of a list that gives no UID up to this one. It is the same if the list gives none anyhow, or has another
+    UIDVALIDITY."""
+    found = FIRST.match(text)
+    if not found or int(found[1]) != validity or int(found[2]) > last:
+        return text
+    return text[: found.start(2)] + b"%d" % (last + 1) + text[found.end(2) :]
+
+
+def replace(path: bytes, text: bytes, new: bytes) -> None:
+    """Puts another text in the place of a list, as Dovecot does it: its lock is written, and gets the name of the list.
+    Raises Left if Dovecot has the lock, or has changed the list."""
+    lock = path + LOCK
+    with contextlib.suppress(FileNotFoundError):
+        if os.lstat(lock).st_mtime < time.time() - STALE:
+            os.unlink(lock)
+    try:
+        number = os.open(lock, os.O_WRONLY | os.O_CREAT | os.O_EXCL | os.O_CLOEXEC, 0o600)
+    except FileExistsError as fault:
+        raise Left(CHANGED % named(path), Reason.LOCKED) from fault
+    try:
+        with open(number, "wb") as file:
+            file.write(new)
+            file.flush()
+            os.fsync(number)
+        with open_file(path) as old:
+            if old.readall() != text:
+                raise Left(CHANGED % named(path), Reason.CHANGED)
+        os.rename(lock, path)
+    except BaseException:
+        os.unlink(lock)
+        raise
+    sync_folder(os.path.dirname(path))

@@ -13,7 +13,7 @@ from typing import Optional
 
 from ..faults import Left, PlaceFault, Reason
 from ..flags.dovecot_headers import LETTERS, Reading, fields_of, header_at, info_of, internal_head, is_listed, marks_of
-from ..flags.dovecot_list import list_of, name_by, rename
+from ..flags.dovecot_list import list_of, name_by, raised, rename, replace
 from ..flags.renaming import add_flags
 from ..ledger.history import Entry, Key, Note, names_of
 from ..ledger.record import Record
@@ -28,6 +28,8 @@ from .steps import Bringing, Extra, Opened
 
 KEYWORDS, LIST, SUBSCRIPTIONS = b"dovecot-keywords", b"dovecot-uidlist", b"subscriptions"
 OLD_SUBSCRIPTIONS, FORM = b".subscriptions", b"V\t2\n\n"
+# how long a list may be that is looked at: this is some 5,000,000 lines
+LONGEST_LIST = 1 << 29
 NUMBERED_BY_DOVECOT = "Dovecot has looked at this folder and keeps the UIDs that it gave"
 OF_ANOTHER = "%s has the UIDs of another mailbox"
 AFTER_THOSE = "%s, and Dovecot gives these messages UIDs after those"
@@ -79,7 +81,22 @@ class Dovecot(Extra):
             self.write(one, reading)
         elif one.contents.is_bare:
             give_flags(one)
+        if WHAT_IS_NEW in says:
+            self.raise_next(one)
         return says
+
+    def raise_next(self, one: Bringing) -> None:
+        """Has the list of a folder give what is new no UID that the mailbox has given since."""
+        full, folder = one.contents.full, one.opened.folder
+        reading = Reading(internal_head(full.mailbox, full.start)[0])
+        for offset in full.offsets[:-1][:1]:
+            reading.add(header_at(full.mailbox, Offset(offset)))
+        text = content_of(os.path.join(folder, LIST), LONGEST_LIST)
+        new = raised(text, reading.head.validity, reading.head.last) if reading.head and text else text
+        if text is not None and new is not None and new != text:
+            if self.is_own(one.opened, LIST):
+                self.writer(one.opened.name)(LIST, len(new), hashlib.sha256(new).hexdigest())
+            replace(os.path.join(folder, LIST), text, new)
 
     def look(self, one: Bringing) -> tuple[list[Remark], Optional[Reading]]:
         """What is to be said, and what was read of the mailbox, if the folder gets numbers."""

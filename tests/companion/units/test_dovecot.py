@@ -10,7 +10,7 @@ from unittest import mock
 
 from mbox2maildir_admin.faults import Left, PlaceFault
 from mbox2maildir_admin.flags.dovecot_headers import FLAGS, Reading, header_at, home_of_text, info_of, internal_head
-from mbox2maildir_admin.flags.dovecot_list import list_of
+from mbox2maildir_admin.flags.dovecot_list import LOCK, list_of, raised, replace
 from mbox2maildir_admin.ledger.record import Record
 from mbox2maildir_admin.migration.dovecot import content_of, place_file, subscribe, subscriptions_of
 from mbox2maildir_admin.units import Offset, Place
@@ -409,3 +409,36 @@ class FilesTest(unittest.TestCase):
             # somebody who has left a folder since is left alone
             file.write_bytes(b"V\t2\n\nSent\n")
             self.assertEqual(subscribe(here, old, record), [])
+
+
+class ListTest(unittest.TestCase):
+    """A list that gives higher UIDs."""
+
+    def test_the_next_uid(self) -> None:
+        for text, wanted in (
+            (b"3 V222 N10 Gab\n5 :a\n", b"3 V222 N13 Gab\n5 :a\n"),
+            (b"3 Gab V222 N10\n", b"3 Gab V222 N13\n"),
+            (b"3 V222 N13\n", b"3 V222 N13\n"),
+            (b"3 V223 N10\n", b"3 V223 N10\n"),
+            (b"1 222 10\n", b"1 222 10\n"),
+            (b"", b""),
+        ):
+            self.assertEqual(raised(text, 222, 12), wanted)
+
+    def test_it_is_replaced(self) -> None:
+        with folder() as here:
+            path = os.path.join(here, b"list")
+            text = Path(os.fsdecode(path))
+            text.write_bytes(b"a")
+            replace(path, b"a", b"b")
+            self.assertEqual((text.read_bytes(), os.listdir(here)), (b"b", [b"list"]))
+            with self.assertRaises(Left):
+                replace(path, b"a", b"c")
+            lock = Path(os.fsdecode(path + LOCK))
+            lock.write_bytes(b"")
+            with self.assertRaises(Left):
+                replace(path, b"b", b"c")
+            self.assertEqual((text.read_bytes(), lock.exists()), (b"b", True))
+            os.utime(str(lock), (1, 1))
+            replace(path, b"b", b"c")
+            self.assertEqual((text.read_bytes(), os.listdir(here)), (b"c", [b"list"]))

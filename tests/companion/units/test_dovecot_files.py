@@ -73,6 +73,23 @@ class DovecotTest(DovecotCase):
         self.became(Fate.DONE)
         self.assertEqual(self.uids(), ("3 V222 N11", [("5", ":2,a"), ("7", ":2,S"), ("10", "")]))
 
+    def test_the_mailbox_has_given_more_uids(self) -> None:
+        """Dovecot served it meanwhile, so what is new gets higher ones."""
+        self.fill(NUMBERED)
+        self.became(Fate.DONE)
+        path = self.maildir / "dovecot-uidlist"
+        before, other = path.read_text(), DATED + b"X-UID: 12\nSubject: three\n\nhello\n\n"
+        self.fill(NUMBERED + other)
+        self.became(Fate.DONE, "it grew by 1 message; " + NEW)
+        self.assertEqual(path.read_text(), before)
+        self.fill(NUMBERED.replace(b"222 9", b"222 12") + other + other.replace(b"three", b"four"))
+        self.became(Fate.DONE, "it grew by 1 message; " + NEW)
+        self.assertEqual(path.read_text(), before.replace("N10", "N13"))
+        # another list is left alone
+        self.fill(NUMBERED.replace(b"222 9", b"223 99") + other + other.replace(b"three", b"five"))
+        self.migrate(dovecot=True)
+        self.assertEqual(path.read_text(), before.replace("N10", "N13"))
+
     def test_it_goes_on_and_writes_the_same(self) -> None:
         self.fill(NUMBERED)
         self.became(Fate.DONE)
