@@ -76,6 +76,8 @@ class Full:
                 self.want_nothing_cut(ran)
                 statuses.append(ran.status)
             (place / FILLER).unlink()
+            # a copy of a large mailbox needs as much as that
+            subprocess.run(["mount", "-o", "remount,size=256m", place], check=True)
             for _ in range(2):
                 self.trial.check(self.home.place.run(self.trial.words))
             left = [str(path) for path in self.home.path.rglob("*") if "lock" in path.name or "-back" in path.name]
