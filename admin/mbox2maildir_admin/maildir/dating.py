@@ -2,7 +2,7 @@
 import array
 import enum
 import os
-from collections.abc import Iterator, Sequence
+from collections.abc import Callable, Iterator, Sequence
 from typing import NamedTuple, Optional
 
 from ..mbox.bases import Table
@@ -15,6 +15,12 @@ from ..nexts import Remark
 from ..terminal import named
 from ..units import Line, Place, Say, counted, silent
 from .files import listings_of
+
+# the dates that each file system can hold
+HELD = range(1 << 31)
+
+# whether the file of the message at a place was placed just now
+IsNew = Callable[[Place], bool]
 
 
 class Dated(enum.IntEnum):
@@ -107,16 +113,20 @@ class Undated(NamedTuple):
             yield Remark("without-date", "%s without a date" % counted(self.without, "message"))
 
 
-def date_from(folder: bytes, mailbox: Mailbox, inventory: Inventory, say: Say = silent) -> Undated:
-    """Gives the files of messages of a text their dates."""
+def date_from(
+    folder: bytes, mailbox: Mailbox, inventory: Inventory, say: Say = silent, is_new: IsNew = lambda place: False
+) -> Undated:
+    """Gives the files of messages of a text their dates. `is_new` says which of them were placed just now."""
     dating = Dating(mailbox, inventory)
     dating.take_headers()
-    states = set_dates(folder, inventory.table, dating.dates, say)
+    states = set_dates(folder, inventory.table, dating.dates, say, is_new)
     without = sum(date == NO_DATE or state == Dated.NOT_HELD for date, state in zip(dating.dates, states))
     return Undated(dating.by_header, without)
 
 
-def set_dates(maildir: bytes, table: Table, dates: Sequence[int], say: Say = silent) -> bytearray:
+def set_dates(
+    maildir: bytes, table: Table, dates: Sequence[int], say: Say = silent, is_new: IsNew = lambda place: False
+) -> bytearray:
     """Gives the files of a Maildir the dates of their messages, and returns what became of each message."""
     states, known = bytearray(len(dates)), len(dates) - dates.count(NO_DATE)
     for paths in listings_of(maildir):
@@ -125,7 +135,8 @@ def set_dates(maildir: bytes, table: Table, dates: Sequence[int], say: Say = sil
             place = table.place(name)
             if place is not None and dates[place] != NO_DATE:
                 try:
-                    states[place] = Dated.DONE if set_date(path, dates[place]) else Dated.NOT_HELD
+                    is_held = set_date(path, dates[place], is_new(place))
+                    states[place] = Dated.DONE if is_held else Dated.NOT_HELD
                 except FileNotFoundError:
                     # the file was renamed meanwhile
                     continue
@@ -134,15 +145,14 @@ def set_dates(maildir: bytes, table: Table, dates: Sequence[int], say: Say = sil
     return states
 
 
-def set_date(path: bytes, date: int) -> bool:
-    """Sets the times of a file that has others, and returns whether it has them now. If it cannot, the old ones
-    stay."""
-    before = os.lstat(path)
-    if before.st_mtime_ns == date * 10**9:
+def set_date(path: bytes, date: int, is_new: bool = False) -> bool:
+    """Sets the times of a file that has others, as a new one has, and returns whether it has them now. If it cannot,
+    the old ones stay."""
+    before = None if is_new and date in HELD else os.lstat(path)
+    if before and before.st_mtime_ns == date * 10**9:
         return True
     os.utime(path, (date, date), follow_symlinks=False)
-    # some file systems can hold only dates in this range
-    if 0 <= date < 1 << 31 or os.lstat(path).st_mtime_ns == date * 10**9:
+    if before is None or date in HELD or os.lstat(path).st_mtime_ns == date * 10**9:
         return True
     os.utime(path, ns=(before.st_atime_ns, before.st_mtime_ns), follow_symlinks=False)
     return False

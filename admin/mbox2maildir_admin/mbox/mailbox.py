@@ -30,10 +30,14 @@ class Watched(Reader):
     def __init__(self, number: int, end: Size, digest: Optional[Digest] = None, say: Say = silent) -> None:
         super().__init__(number, end=end)
         self.size, self.digest, self.say = end, digest, say
+        # the last bytes that were read, and where they begin
+        self.block, self.begins = b"", 0
 
     def read(self, count: int) -> bytes:
         """Reads the next bytes; none at the end."""
-        block = super().read(count)
+        begins, block = self.offset, super().read(count)
+        if block:
+            self.block, self.begins = block, begins
         if self.digest:
             self.digest.add(self.offset - len(block), block)
         self.say("reading", self.offset, self.size)
@@ -72,7 +76,12 @@ class Mailbox:
 
     def at(self, offset: int, count: int) -> bytes:
         """The bytes at an offset; fewer at the end."""
-        return os.pread(self.number, max(0, min(count, self.size - offset)), max(0, offset))
+        count, offset = max(0, min(count, self.size - offset)), max(0, offset)
+        place = offset - self.file.begins
+        # most of what is looked at again, as headers are, was read just now
+        if place >= 0 and place + count <= len(self.file.block):
+            return self.file.block[place : place + count]
+        return os.pread(self.number, count, offset)
 
     def from_line_at(self, offset: int) -> bytes:
         """The From_ line that begins at an offset, as far as anything reads it, without its end."""

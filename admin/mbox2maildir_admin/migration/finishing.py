@@ -15,7 +15,7 @@ def finish(one: Bringing, extra: Extra) -> list[Remark]:
     """Takes the steps after the conversion, and returns what is to be said of them. Raises Left unless each message
     that was brought is there once."""
     folder, text, say = one.opened.folder, one.contents.text, one.opened.mailbox.say
-    remarks = [*date_from(folder, text, one.part, say).remarks(), *extra.run(one)]
+    remarks = [*date_from(folder, text, one.part, say, one.is_placed).remarks(), *extra.run(one)]
     check = Check(one.part, say=say)
     check.is_verified = one.is_verified
     check.look(folder)

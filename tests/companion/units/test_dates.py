@@ -153,6 +153,17 @@ class FilesTest(unittest.TestCase):
             self.assertTrue(set_date(path, 1_000_000_000))
             self.assertEqual(os.stat(path).st_ctime_ns, before)
 
+    def test_a_new_file_is_dated_by_one_call(self) -> None:
+        """It has the time at which it was placed. A date that not each file system can hold is looked at."""
+        with folder() as here:
+            path = here + b"/file"
+            with open(path, "wb"):
+                pass
+            for date, looks in ((1_000_000_000, 0), (1 << 31, 2), (-1, 2)):
+                with mock.patch("os.lstat", side_effect=os.lstat) as look:
+                    self.assertTrue(set_date(path, date, is_new=True))
+                self.assertEqual((os.stat(path).st_mtime, look.call_count), (date, looks))
+
     def test_one_pass_where_a_message_is_missing(self) -> None:
         with folder() as here, source_of(b"From a Mon Mar  3 09:12:44 2025\n\nhello\n") as source:
             for sub in (b"/new", b"/cur"):

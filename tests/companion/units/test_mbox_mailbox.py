@@ -29,6 +29,21 @@ class MailboxTest(unittest.TestCase):
                 with mock.patch.object(module, "BLOCK", block):
                     self.assertEqual(list(mailbox.lines_at([0, 0, 6, 7, 8, 12])), [1, 1, 1, 2, 3, 4], block)
 
+    def test_what_was_read_just_now_is_not_read_again(self) -> None:
+        with source_of(TEXT) as mailbox:
+            mailbox.file.seek(Offset(2))
+            for count in (0, 1, 4, 4, 99, 99):
+                mailbox.file.read(count)
+                begins, ends = mailbox.file.begins, mailbox.file.begins + len(mailbox.file.block)
+                for offset in range(-1, 14):
+                    for wanted in range(14):
+                        with mock.patch("os.pread", side_effect=os.pread) as read:
+                            found = mailbox.at(offset, wanted)
+                        first, last = max(offset, 0), max(offset, 0) + len(found)
+                        self.assertEqual(found, TEXT[first : first + max(0, min(wanted, 12 - offset))])
+                        self.assertEqual(read.call_count, not (begins <= first and last <= ends))
+            self.assertEqual(mailbox.file.offset, 12)
+
     def test_lines_of_what_is_cut_meanwhile(self) -> None:
         with source_of(TEXT) as mailbox:
             os.truncate(mailbox.path, 8)
