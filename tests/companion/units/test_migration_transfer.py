@@ -5,6 +5,7 @@ import random
 import shutil
 from pathlib import Path
 from typing import Any, Optional
+from unittest import mock
 
 from mbox2maildir_admin.faults import Reason
 from mbox2maildir_admin.ledger.ledger import Ledger
@@ -13,7 +14,7 @@ from mbox2maildir_admin.migration.outcomes import Fate, Row
 from mbox2maildir_admin.migration.transfer import FEW, TENTH
 from mbox2maildir_admin.readings.reading import UNDECIDED, Reading
 
-from tests.support.mail import ONE, THREE, TWO, bodies_of
+from tests.support.mail import MAY, ONE, THREE, TWO, A, bodies_of, with_length
 from tests.support.migrating import Cut, HomeTest, Killed
 from tests.support.nexts import told
 
@@ -95,6 +96,16 @@ class NeverTwiceTest(TransferTest):
             self.bring("box", text, dry=True, decision=decision)
             after = [(path, path.read_bytes()) for path in sorted(self.maildir.rglob("mbox2maildir-*"))]
             self.assertEqual(after, before, text)
+
+    def test_room_for_each_copy(self) -> None:
+        """A text whose lines are quoted has one, and one more without the header fields of programs."""
+        text, sizes = with_length(A, MAY) + b"\n", []
+        for dovecot in (False, True):
+            self.make_home(f"home-{dovecot}")
+            with mock.patch("mbox2maildir_admin.migration.mailbox.want_room") as room:
+                self.bring("box", text, dovecot=dovecot)
+            sizes.append(room.call_args_list[0].args[0].size)
+        self.assertEqual(sizes[1] - sizes[0], len(text))
 
     def test_edited_as_a_whole(self) -> None:
         """If more than a tenth, and more than three, are gone, while as many are new."""
