@@ -163,10 +163,15 @@ class Trip:
         if is_new:
             shutil.move(str(case.home / "Maildir"), str(case.home / "Maildir.back"))
         case.folders = list(before)
-        self.done(*case.migrate())
+        status, said = case.migrate()
+        # a folder that Dovecot has numbered, and no mailbox, may be left
+        self.done(status if is_new or said.count("left (") != said.count("left (numbered)") else 0, said)
         after = self.shown(f"{case.name}@after", "there again")
-        if is_new and brief(before) != brief(after):
-            raise Failed(f"there again: {brief(after)}, and it was {brief(before)}")
+        # an empty mailbox has no numbers
+        wanted = {name: one for name, one in brief(before).items() if one[2]}
+        found = {name: one for name, one in brief(after).items() if one[2]}
+        if is_new and found != wanted:
+            raise Failed(f"there again: {found}, and it was {wanted}")
 
     def done(self, status: int, says: str) -> str:
         """What a command says that ended well."""
