@@ -57,9 +57,10 @@ class Several(Tree):
                 if "argv" in command and command["argv"][0].startswith("mbox2maildir-admin")
                 if "--undo" not in command["argv"] and "kind" not in command["argv"]
             ]
-            if not commands:
-                break
             right = [words for path, words in commands if self.is_right(path, words)]
+            # nobody follows a second answer that is wrong
+            if not (right if is_any else commands):
+                break
             rows = self.carry_out(self.draw.choice(right or [words for _, words in commands])[2:])[1]
             left, is_any = {path: row for path, row in rows.items() if row["verdict"] == "left"}, True
         return is_any
