@@ -71,7 +71,7 @@ def for_mailboxes(maildir: bytes, path: bytes, task: Callable[[bytes, bytes], bo
         left = left_out(path, maildir, record, tell) if record.noted(Note.NO_MAIL, INBOX, path) else None
         if left:
             return say_left_out([left], tell)
-        folder = folder_of(maildir, path, record)
+        folder = folder_by_record(maildir, path, record)
         with of_folder(folder, maildir, path):
             return task(folder, path)
     with Record.open(maildir, False) as record:
@@ -79,7 +79,7 @@ def for_mailboxes(maildir: bytes, path: bytes, task: Callable[[bytes, bytes], bo
     return for_planned(maildir, path, (plan, tree.rows), record, task, tell)
 
 
-def folder_of(maildir: bytes, path: bytes, record: History) -> bytes:
+def folder_by_record(maildir: bytes, path: bytes, record: History) -> bytes:
     """The folder in which the record of a Maildir has a mailbox; the Maildir itself if it has it in none, or if it is
     not the record's own, but a folder that was named."""
     is_root = root_of(maildir) == maildir

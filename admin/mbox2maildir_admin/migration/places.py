@@ -4,6 +4,7 @@ but nothing shows that it is complete and of the same mail. So neither is taken 
 import collections
 import os
 from collections.abc import Callable, Container, Iterable, Sequence
+from dataclasses import replace
 from typing import NamedTuple, Optional
 
 from .. import ADMIN
@@ -19,12 +20,14 @@ from ..ledger.strangers import folders_in
 from ..maildir.files import names_of
 from ..maildir.folders import COPY, INBOX, folder_named, folder_path, words_of
 from ..mbox.mailbox import Mailbox
-from ..nexts import NOTHING, Answer, Command, Does, Next, Remark, Todo, run_next, task
+from ..nexts import NOTHING, Answer, Command, Does, Next, Remark, Todo, in_shell, line_of, run_next, task
 from ..readings.copies import COMPRESSED
 from ..readings.plans import is_no_mail
+from ..readings.reading import UNDECIDED, Reading
 from ..readings.texts import Text, after_internal, is_mbox, open_text
 from ..terminal import named, operand
-from .steps import Options
+from .outcomes import Ended
+from .steps import How, Options
 
 ENDINGS = (COPY, *COMPRESSED)
 NAMED_AS_FOLDER = "INBOX has or gets other mail, and mail programs keep a folder in a file named %s"
@@ -277,3 +280,14 @@ class Pairs(NamedTuple):
         says = ["%d of %d of its messages are there" % (mine.brought, mine.messages)]
         says += ["%d of %d of %s" % (seen.brought, seen.messages, named(copies[0]))] if seen else []
         return " (%s)" % ", ".join(says)
+
+
+def into_inbox(one: Planned, ended: Ended, how: How, root: bytes) -> Next:
+    """The command that puts a mailbox, one of several Inboxes, into INBOX instead, and reads it in the same way."""
+    # a word decides nothing about one of several that contradicts it, but all about one that is named
+    decision, read = how.decision, Reading.of_words(ended.verified.plan) if ended.verified else how.decision
+    decision = decision if decision.word in ("", read.word) else UNDECIDED._replace(drop=decision.drop)
+    options, paths = replace(how.options, decision=decision), [operand(root), operand(one.path)]
+    into = line_of([ADMIN, "migrate", *options.words(), "--folder", "INBOX", *paths])
+    undo = [ADMIN, "migrate", "--undo", *Options(now=options.now).words(), *words_of(ended.row.folder), *paths]
+    return in_shell(into if options.dry else "%s && %s" % (line_of(undo), into), Does.INTO_INBOX)

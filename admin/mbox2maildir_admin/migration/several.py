@@ -13,21 +13,20 @@ from ..jobs.words import Places
 from ..kinds.folders import is_maildir
 from ..kinds.making import is_below
 from ..ledger.record import Record
-from ..maildir.folders import INBOX, folder_of, on_disk, words_of
+from ..maildir.folders import INBOX, folder_of, on_disk
 from ..maildir.making import want_maildir, want_own
 from ..maildir.roots import real_place, want_roots, want_roots_alone
 from ..maildir.syncing import Syncs
 from ..mbox.files import is_empty
-from ..nexts import NOTHING, Does, Remark, Todo, in_shell, line_of, run_next, task
+from ..nexts import NOTHING, Remark, Todo, in_shell, line_of, run_next, task
 from ..program import Program, find_program
 from ..progress import Beat
-from ..readings.reading import UNDECIDED, Reading
 from ..terminal import named, operand, text_of, word
 from .dovecot import OLD_SUBSCRIPTIONS, SUBSCRIPTIONS, Dovecot, subscribe
 from .leftovers import Leftovers
 from .mailbox import Migration
 from .outcomes import Ended, Fate, Observer, Row, row_left, with_name
-from .places import Pairs, Planned, UserHome, has_record, recorded, where_it_went
+from .places import Pairs, Planned, UserHome, has_record, into_inbox, recorded, where_it_went
 from .postponed import postponed_rows
 from .servers import Place, locations, want_unread
 from .steps import Extra, How, Options
@@ -259,24 +258,11 @@ class Several:
     def run_named(self, one: Planned) -> Ended:
         """Migrates a mailbox. Its row says which other name its folder had, and which other names the file has."""
         ended, others = self.run_one(one), self.others.get(one.path)
-        row = self.with_inbox(one, ended._replace(row=with_name(ended.row, one.before)))
+        row = with_name(ended.row, one.before)
+        if one.is_inbox and row.folder != INBOX and row.fate in (Fate.DONE, Fate.WOULD):
+            row = replace(row, next=(*row.next, *into_inbox(one, ended, self.migration.how, self.pairs.root)))
         row = replace(row, remarks=(*row.remarks, also_named(others))) if others and row.is_said() else row
         return Ended(row, ended.verified)
-
-    def with_inbox(self, one: Planned, ended: Ended) -> Row:
-        """The row of a mailbox that is one of several Inboxes, with the command that puts it into INBOX instead, and
-        reads it in the same way."""
-        row, how = ended.row, self.migration.how
-        if not one.is_inbox or row.folder == INBOX or row.fate not in (Fate.DONE, Fate.WOULD):
-            return row
-        # a word decides nothing about one of several that contradicts it, but all about one that is named
-        decision, read = how.decision, Reading.of_words(ended.verified.plan) if ended.verified else how.decision
-        decision = decision if decision.word in ("", read.word) else UNDECIDED._replace(drop=decision.drop)
-        options, paths = replace(how.options, decision=decision), [operand(self.pairs.root), operand(one.path)]
-        into = line_of([ADMIN, "migrate", *options.words(), "--folder", "INBOX", *paths])
-        undo = [ADMIN, "migrate", "--undo", *Options(now=options.now).words(), *words_of(row.folder), *paths]
-        shell = into if options.dry else "%s && %s" % (line_of(undo), into)
-        return replace(row, next=(*row.next, *in_shell(shell, Does.INTO_INBOX)))
 
     def run_one(self, one: Planned) -> Ended:
         """Migrates a mailbox."""
