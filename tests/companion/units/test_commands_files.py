@@ -92,27 +92,26 @@ class FilesTest(unittest.TestCase):
         wanted = [(b"/.A", b"/old/a"), (b"/.b", b"/old/b"), (b"/.C", b"/old/c"), (b"/.F", b"/far")]
         self.assertEqual(done, [(root + folder, self.here + file) for folder, file in wanted])
 
+    def places_of(self, maildir: bytes, file: bytes) -> list[bytes]:
+        """The folders in which a mailbox is looked for."""
+        found: list[bytes] = []
+
+        def task(where: bytes, _: bytes) -> bool:
+            found.append(os.path.normpath(where))
+            return True
+
+        for_mailboxes(maildir, self.here + file, task)
+        return found
+
     def test_one_of_the_record_is_in_its_folder(self) -> None:
         """A folder of the Maildir that is named itself comes first."""
         root = self.here + b"/M"
         make(self.here, {"M/.A/": b"", "M/.B/": b"", "a": MAIL, "other": MAIL})
         with Record.open(root) as record:
             note_done(record, key_of(MAIL, b".A"), self.here + b"/a")
-        for maildir, file, folder in (
-            (b"", b"/a", b"/.A"),
-            (b"/", b"/a", b"/.A"),
-            (b"", b"/other", b""),
-            (b"/.B", b"/a", b"/.B"),
-        ):
-            done: list[bytes] = []
-
-            def task(where: bytes, _: bytes, done: list[bytes] = done) -> bool:
-                done.append(os.path.normpath(where))
-                return True
-
-            with self.subTest(maildir, file=file):
-                for_mailboxes(root + maildir, self.here + file, task)
-                self.assertEqual(done, [root + folder])
+        found = [self.places_of(root + more, b"/a") for more in (b"", b"/", b"/.B")]
+        self.assertEqual(found, [[root + b"/.A"], [root + b"/.A"], [root + b"/.B"]])
+        self.assertEqual(self.places_of(root, b"/other"), [root])
 
     def test_what_is_left_out_though_it_may_be_mail(self) -> None:
         make(self.here, {"old/box": MAIL})

@@ -3,7 +3,6 @@ import atexit
 import functools
 import importlib
 import os
-import pkgutil
 import shutil
 import signal
 import subprocess
@@ -54,8 +53,9 @@ class Place:
     def __init__(self, home: Path, programs: Path) -> None:
         self.home, self.programs = home, programs
         # the user may not read what Python has here
-        for module in pkgutil.walk_packages(mbox2maildir_admin.__path__, "mbox2maildir_admin."):
-            importlib.import_module(module.name)
+        package = Path(mbox2maildir_admin.__path__[0])
+        for module in package.glob("**/[!_]*.py"):
+            importlib.import_module(".".join(module.relative_to(package.parent).with_suffix("").parts))
         load_for_children()
         cli.command_line()
         reader_of_other_forms()
