@@ -121,7 +121,8 @@ def want_same_reading(how: How, known: Known, choice: Choice, contents: Contents
     else:
         says = READ_OTHERWISE % (before.reading.of_text.words(), counted(then - now, "message"))
     is_done = bool(before.source and before.source.key == tuple(opened.mailbox.key()))
-    decision = decision_by(choice.mailbox, plan)
+    # what a human says of single lines holds by the other reading too
+    decision = decision_by(choice.mailbox, plan, how.decision)
     if how.decision.word and is_done or not is_enough(choice.mailbox, decision, disk_of(root, how.dry)):
         command = how.undo(root, opened)
     else:

@@ -15,7 +15,7 @@ from ..ledger.history import History, Step
 from ..ledger.ledger import Ledger
 from ..ledger.lines import number_in
 from ..ledger.match import cores_of
-from ..ledger.record import Record
+from ..ledger.record import Record, unspelled
 from ..ledger.strangers import folders_in
 from ..maildir.files import names_of
 from ..maildir.folders import COPY, INBOX, folder_named, folder_path, words_of
@@ -195,9 +195,11 @@ class Pairs(NamedTuple):
     def without_folders_in_inbox(self, several: Sequence[Planned], given: Container[bytes]) -> list[Planned]:
         """Mailboxes, of which those are left that are named as a folder and would join other mail in INBOX, if these
         files were given without a folder."""
-        has_mail = bool(self.record.last_steps(INBOX)) or any(names_of(self.root))
-        for_inbox = sum(one.folder == INBOX and not one.why for one in several)
-        if not has_mail and for_inbox < 2:
+        has_mail, line = bool(self.record.last_steps(INBOX)) or any(names_of(self.root)), self.record.prepared(INBOX)
+        for_inbox = [os.path.basename(one.path) for one in several if one.folder == INBOX and not one.why]
+        # it may stand elsewhere than when it was prepared
+        is_its_own = line and for_inbox == [os.path.basename(unspelled(line.path))]
+        if len(for_inbox) < 2 and (not has_mail or is_its_own):
             return list(several)
         return [self.apart(one) if one.path in given else one for one in several]
 

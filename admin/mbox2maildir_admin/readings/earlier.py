@@ -8,7 +8,7 @@ from ..mbox.mailbox import Mailbox
 from ..units import Offset
 from .plans import Plan, wants_copy
 from .quoting import measured
-from .reading import Reading
+from .reading import UNDECIDED, Reading
 from .texts import Choice
 from .verdict import look_at
 
@@ -39,7 +39,10 @@ def messages_then(
         return text.begun_at(start_of(*text.whole())).messages()
 
 
-def decision_by(mailbox: Mailbox, plan: Plan) -> Reading:
-    """The decision by which a text is read by a plan. Lines that it names are tied to the text."""
+def decision_by(mailbox: Mailbox, plan: Plan, given: Reading = UNDECIDED) -> Reading:
+    """The decision by which a text is read by a plan, and by the lines of another decision. Lines that it names are
+    tied to the text."""
     found = plan.reading.decided
-    return look_at(mailbox).tied(mailbox, found) if found.text or found.begin else found
+    text, begin = (found.text - given.begin) | given.text, (found.begin - given.text) | given.begin
+    found = found._replace(text=text, begin=begin)
+    return look_at(mailbox).tied(mailbox, found) if text or begin else found

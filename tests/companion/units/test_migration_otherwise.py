@@ -8,9 +8,10 @@ from mbox2maildir_admin.ledger.record import Record
 from mbox2maildir_admin.migration.otherwise import CONTRADICTED, contradicts
 from mbox2maildir_admin.migration.outcomes import Fate
 from mbox2maildir_admin.migration.steps import Extra
-from mbox2maildir_admin.readings.reading import BARE, UNDECIDED, Reading
+from mbox2maildir_admin.readings.reading import BARE, UNDECIDED, Reading, numbers
 from mbox2maildir_admin.readings.texts import choice_of
 from mbox2maildir_admin.undoing.undo import Undo
+from mbox2maildir_admin.units import Line
 
 from tests.support.mail import A, ONE, TWO
 from tests.support.migrating import Cut, HomeTest, Killed
@@ -84,6 +85,16 @@ class OtherwiseTest(HomeTest):
         row = self.done(QUOTED, QUOTED + ONE, "mboxo")
         self.assertEqual((row.fate, row.reason, len(self.mail())), (Fate.LEFT, Reason.ANOTHER_READING, 2))
         self.assertIn("--as mboxo ", told(row))
+
+    def test_the_lines_that_a_human_names_hold_by_the_other_reading(self) -> None:
+        """A program wrote mail with other line ends, in which a line is in question."""
+        crlf = (ONE + TWO).replace(b"\n", b"\r\n")
+        lines = frozenset([Line(crlf.count(b"\n") + DOUBTFUL[: DOUBTFUL.index(b"From here")].count(b"\n") + 1)])
+        row = self.done(crlf, crlf + DOUBTFUL, "mboxrd", decision=Reading("mboxo", text=lines))
+        self.assertEqual((row.reason, len(self.mail())), (Reason.ANOTHER_READING, 2))
+        self.assertIn("--as mboxrd --text %s --of " % numbers(lines), told(row))
+        self.assertIs(self.migrate(decision=Reading("mboxrd", text=lines)).fate, Fate.DONE)
+        self.assertEqual([len(self.mail()), sum(b"\nFrom here on.\n" in one for one in self.mail())], [4, 1])
 
     def test_another_word_and_the_same_messages(self) -> None:
         row = self.done(ONE, ONE + TWO, "mboxo", decision=Reading("mboxrd"))

@@ -45,6 +45,18 @@ class FirstPassTest(PreparingTest):
         self.prepare()
         self.assertIs(self.finish().fate, Fate.DONE)
 
+    def test_one_that_is_named_as_a_folder(self) -> None:
+        """What is prepared in INBOX is its own mail, also where it is moved to. Other mail is another mailbox's."""
+        self.move_box("mbox")
+        for text in (ONE, ONE + TWO):
+            self.assertIs(self.prepare(text).fate, Fate.PREPARED)
+        self.move_box("sent")
+        self.assertIs(self.prepare(ONE).reason, Reason.NO_FOLDER)
+        (self.home / "old").mkdir()
+        self.move_box("old/mbox")
+        self.assertIs(self.finish(ONE + TWO).fate, Fate.DONE)
+        self.has(ONE, TWO)
+
     def test_what_was_removed_by_hand_is_placed_again(self) -> None:
         self.prepare(ONE + TWO)
         next((self.maildir / "new").iterdir()).unlink()

@@ -77,6 +77,20 @@ class EarlierTest(unittest.TestCase):
                 assert plan
                 self.assertEqual(decision_by(mailbox, plan), wanted, (text, words))
 
+    def test_the_lines_of_another_decision_hold(self) -> None:
+        """It decides about a line that both name."""
+        line = A + b"\nhello\n\nFrom here on.\n\n"
+        text, begin = Reading("mboxo", text=frozenset([Line(7)])), Reading("mboxo", begin=frozenset([Line(7)]))
+        with source_of(line) as mailbox:
+            for words, given, wanted in (
+                ("mboxrd", text, tied_to(line, text._replace(word="mboxrd"))),
+                ("mboxrd text=7", begin, tied_to(line, begin._replace(word="mboxrd"))),
+                ("mboxrd begin=7", text, tied_to(line, text._replace(word="mboxrd"))),
+            ):
+                plan = plan_then(mailbox, Reading.of_words(words))
+                assert plan
+                self.assertEqual(decision_by(mailbox, plan, given), wanted, words)
+
 
 if __name__ == "__main__":
     unittest.main()
