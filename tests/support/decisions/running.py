@@ -11,11 +11,11 @@ from pathlib import Path
 from typing import Any, NamedTuple
 
 from mbox2maildir_admin import cli
-from mbox2maildir_admin.mbox.dates import reader_of_other_forms
 
 from tests.support.checks import PATIENCE
 from tests.support.fates.running import COMPANION, NOBODY, as_user, install, is_root
 from tests.support.homes import want_no_people
+from tests.support.loaded import load_companion
 
 
 class Ran(NamedTuple):
@@ -41,9 +41,7 @@ class Desk:
 
     def __init__(self, home: Path, programs: Path) -> None:
         self.home, self.programs, self.is_root_at_work = home, programs, False
-        # the user may not read what Python has here
-        cli.command_line()
-        reader_of_other_forms()
+        load_companion()
 
     def clear(self, as_root: bool = False) -> None:
         """Empties the folder, in which root or the owner of the mail will run the companion, with the programs beside

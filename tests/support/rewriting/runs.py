@@ -1,7 +1,6 @@
 """Runs of the companion in a home, in a copy of this process that may be killed at any moment, with what it runs."""
 import atexit
 import functools
-import importlib
 import os
 import shutil
 import signal
@@ -14,16 +13,12 @@ from contextlib import ExitStack
 from pathlib import Path
 from typing import Any, NamedTuple, Optional
 
-import mbox2maildir_admin
 from mbox2maildir_admin import cli
-from mbox2maildir_admin.flags.clients import labels_of
-from mbox2maildir_admin.maildir.folders import folder_of
-from mbox2maildir_admin.mbox.dates import reader_of_other_forms
-from mbox2maildir_admin.users.loading import load_for_children
 
 from tests.support.checks import PATIENCE
 from tests.support.fates.running import COMPANION, NOBODY, as_user, is_root
 from tests.support.kills import Killer, Moment, settings_in
+from tests.support.loaded import load_companion
 from tests.support.printed import commands_in
 
 
@@ -52,14 +47,7 @@ class Place:
 
     def __init__(self, home: Path, programs: Path) -> None:
         self.home, self.programs = home, programs
-        # the user may not read what Python has here
-        package = Path(mbox2maildir_admin.__path__[0])
-        for module in package.glob("**/[!_]*.py"):
-            importlib.import_module(".".join(module.relative_to(package.parent).with_suffix("").parts))
-        load_for_children()
-        cli.command_line()
-        reader_of_other_forms()
-        folder_of(labels_of("=?UTF-8?Q?=C3=BC?=")[0])
+        load_companion()
 
     def own(self, *paths: Path) -> None:
         """Gives files to the user."""
