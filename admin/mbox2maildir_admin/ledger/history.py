@@ -100,7 +100,7 @@ class Entry(NamedTuple):
         return self._replace(ledger=ledger.decode(), size=int(length)) if ledger else self
 
     def is_of_0(self) -> bool:
-        """Whether a version 0.x wrote the line: since then the line of a step names a ledger."""
+        """Whether a version before 0.5.0 wrote the line: since then the line of a step names a ledger."""
         return isinstance(self.what, Step) and not self.ledger
 
     def line(self) -> bytes:
