@@ -85,7 +85,7 @@ class RecordTest(FolderTest):
         for step in ("begun", "done", "failed", "undoing"):
             for words in ("", "\tmboxrd"):
                 self.fill((line % (step, words)).encode())
-                self.refused("a version before 0.5.0 wrote it, which kept no ledgers of messages: finish with that version, or")
+                self.refused("a version before 0.5.0 wrote it, which kept no ledgers of messages: finish with that")
         self.fill("".join(line % (note, "") for note in ("no-mail", "converted", "placing")).encode())
         with Record.open(self.here) as record:
             self.assertEqual(list(record.lines()), [])
