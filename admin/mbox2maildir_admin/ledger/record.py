@@ -22,8 +22,8 @@ from .lines import CUT
 
 MADE_MEANWHILE = "another migrate has made %s meanwhile: run the same command again"
 OF_0 = (
-    "%s: a version before 0.5.0 wrote it, which kept no ledgers of messages: finish with that version, or move this file "
-    "away and run migrate with --again"
+    "%s: a version before 0.5.0 wrote it, which kept no ledgers of messages: finish with that version, or move this "
+    "file away and run migrate with --again"
 )
 # a larger file is no record; this is some 50,000 lines
 MOST = 1 << 23
