@@ -50,8 +50,9 @@ class Trial:
         self.wants(ran.status == 0, "status", ran)
         rest = Counter(self.history.appended(one) for one in self.any_of)
         spare = len({one.number for one in self.any_of})
-        count = 0
-        for folder, several in self.added().items():
+        count, added = 0, self.added()
+        self.wants({*self.sure} <= {*added}, f"nobody looks into {({*self.sure} - {*added})}", ran)
+        for folder, several in added.items():
             its, is_beside = folder.rstrip(BESIDE), folder.endswith(BESIDE)
             sure = Counter(self.sure.get(its, {}))
             for one in list(sure):

@@ -23,6 +23,8 @@ BESIDE = "!"
 BOXES = {"": "spool", ".sent": "mail/sent", ".lists.b": "mail/lists/b", ".empty": "mail/empty"}
 FOLDERS = [*BOXES, ".new", ".lists.sheds"]
 NEW = {".new": "mail/new", ".lists.sheds": "mail/lists/sheds", ".sent.below": "mail/sent-below"}
+# a folder whose name was changed keeps its mailbox, so that a new one of its old name gets another
+NEW[".lists.b"] = "mail/lists-b"
 LINES = [
     b"hello\n", b"From me to you\n", b"From a@b Mon Mar  3 09:12:44 2025\n", b">From the shed\n", b">>From afar\n",
     b"\n", b"\n", b"ends in CR LF\r\n", b"From me\r\n", b"a\0b\n", b"se\xf1or \xe4\n", b"From: x\n", b"> From\n",
