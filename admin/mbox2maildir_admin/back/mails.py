@@ -59,13 +59,14 @@ class Mail(NamedTuple):
 
 
 class Sorted(NamedTuple):
-    """What is new, in the order of its time; what was moved, with the message that it is; and the messages that were
-    changed, and those that were deleted."""
+    """What is new, in the order of its time; what was moved, with the message that it is; the messages that were
+    changed, and those that were deleted; and the paths of all mailboxes that the ledgers have."""
 
     new: Sequence[Mail]
     moved: Sequence[tuple[Mail, Slot]]
     changed: Sequence[Slot]
     deleted: Sequence[Slot]
+    paths: frozenset[str] = frozenset()
 
 
 class Sorting:
@@ -78,6 +79,7 @@ class Sorting:
 
     def run(self) -> Sorted:
         """Finds them: by the name and by the core in the folder, then in other folders."""
+        paths = frozenset(path for slot in self.slots for path in slot.paths)
         for is_same, is_home in (
             (lambda mail: (mail.folder, mail.before), True),
             (lambda mail: (mail.folder, mail.core), True),
@@ -86,7 +88,7 @@ class Sorting:
         ):
             self.take(is_same, is_home)
         new = sorted(self.mails, key=lambda mail: (mail.time, mail.name, mail.folder))
-        return Sorted(new, self.moved, self.changed, [one for one in self.slots if one.is_held])
+        return Sorted(new, self.moved, self.changed, [one for one in self.slots if one.is_held], paths)
 
     def take(self, key: Callable[[Mail], object], is_home: bool) -> None:
         """Takes the files that have the key of a message."""

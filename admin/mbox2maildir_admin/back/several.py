@@ -82,11 +82,11 @@ class Several:
 
     def run(self, places: Places, copies: bool) -> Next:
         """Brings back the mail of each folder, and tells its row."""
-        if not self.how.dry:
-            self.drop_locks(places)
         say = Beat(functools.partial(self.observer.progress, named(self.root)))
         found = sorted_mail(self.root, self.record, say)
         self.observer.rest(named(self.root))
+        if not self.how.dry:
+            self.drop_locks(places, found)
         found = copied(found) if copies else found
         mails: collections.defaultdict[bytes, list[Mail]] = collections.defaultdict(list)
         for mail in found.new:
@@ -110,10 +110,10 @@ class Several:
         self.is_right = self.is_right and not row.left_for
         self.observer.row(row)
 
-    def drop_locks(self, places: Places) -> None:
-        """Removes the locks that a killed run left, also beside mailboxes that are not named now. If it had noted the
-        end of a mailbox, nothing may go back into that any more, and nobody else would remove them."""
-        noted = (unspelled(line.path) for line in self.record.lines())
+    def drop_locks(self, places: Places, found: Sorted) -> None:
+        """Removes the locks that a killed run left, also beside mailboxes that are not named now. If a ledger had noted
+        that all is back, nothing may go back there any more, and nobody else would remove them."""
+        noted = map(unspelled, found.paths.union(line.path for line in self.record.lines()))
         paths = {*noted, *itertools.chain.from_iterable(places.found.values())}
         self.how.keeper.drop_locks(sorted(paths), os.path.realpath(self.root))
 

@@ -15,6 +15,7 @@ from tests.support.mail import ONE, TWO
 BASE, OTHER_BASE = b"a" * 64 + b".1", b"b" * 64 + b".1"
 HERE, THERE = b".", b".sent"
 C, D = b"c" * 16, b"d" * 16
+PATHS = frozenset([BOX])
 
 
 def slot(name: bytes = BASE, core: bytes = C, folder: bytes = HERE, is_held: bool = True) -> Slot:
@@ -35,18 +36,18 @@ def sorted_out(slots: Sequence[Slot], mails: Sequence[Mail]) -> Sorted:
 class SortingTest(LedgerTest):
     def test_a_file_at_home(self) -> None:
         for its in (mail(), mail(BASE + b":2,S"), mail(b"renamed")):
-            self.assertEqual(sorted_out([slot()], [its]), Sorted([], [], [], []))
+            self.assertEqual(sorted_out([slot()], [its]), Sorted([], [], [], [], PATHS))
 
     def test_edited(self) -> None:
-        self.assertEqual(sorted_out([slot()], [mail(core=D)]), Sorted([], [], [slot()], []))
+        self.assertEqual(sorted_out([slot()], [mail(core=D)]), Sorted([], [], [slot()], [], PATHS))
 
     def test_deleted(self) -> None:
-        self.assertEqual(sorted_out([slot()], []), Sorted([], [], [], [slot()]))
-        self.assertEqual(sorted_out([slot(is_held=False)], []), Sorted([], [], [], []))
+        self.assertEqual(sorted_out([slot()], []), Sorted([], [], [], [slot()], PATHS))
+        self.assertEqual(sorted_out([slot(is_held=False)], []), Sorted([], [], [], [], PATHS))
 
     def test_moved(self) -> None:
         for its in (mail(folder=THERE), mail(b"renamed", folder=THERE)):
-            self.assertEqual(sorted_out([slot()], [its]), Sorted([], [(its, slot())], [], []))
+            self.assertEqual(sorted_out([slot()], [its]), Sorted([], [(its, slot())], [], [], PATHS))
 
     def test_a_copy_is_new(self) -> None:
         copy = mail(b"copy", folder=THERE)
@@ -70,7 +71,7 @@ class SortingTest(LedgerTest):
 
     def test_what_was_moved_goes_back_too(self) -> None:
         its = mail(folder=THERE)
-        self.assertEqual(copied(sorted_out([slot()], [its])), Sorted([its], [], [], [slot()]))
+        self.assertEqual(copied(sorted_out([slot()], [its])), Sorted([its], [], [], [slot()], PATHS))
 
 
 class SlotsTest(LedgerTest):

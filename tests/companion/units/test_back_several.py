@@ -20,6 +20,7 @@ from mbox2maildir_admin.commands.words import add_back
 from mbox2maildir_admin.faults import Fault, Left, Reason, Status
 from mbox2maildir_admin.ledger.record import Record
 from mbox2maildir_admin.mbox.inventory import Inventory
+from mbox2maildir_admin.mbox.lock_file import content_for
 from mbox2maildir_admin.mbox.locks import open_mailbox
 from mbox2maildir_admin.migration.outcomes import Fate, Row
 from mbox2maildir_admin.migration.rows import Reporter
@@ -132,6 +133,19 @@ class BackTest(BackHome):
         # the next run may name another mailbox alone
         lock.write_bytes(texts[0])
         self.back("spool/mia")
+        self.assertFalse(lock.exists())
+
+    def test_a_lock_beside_a_mailbox_that_only_a_ledger_has(self) -> None:
+        """A run was killed before the record had that all is back, and the next one names another mailbox."""
+        self.write_box("mail/sent.gz", gzip.compress(ONE))
+        self.migrate_all("mail")
+        self.deliver(".sent")
+        with mock.patch.object(Record, "add_step", side_effect=KeyboardInterrupt):
+            with self.assertRaises(KeyboardInterrupt):
+                self.back()
+        lock = self.tree / "sent-back.lock"
+        lock.write_bytes(content_for(self.root))
+        self.assertEqual(self.fates(self.back("spool/mia")), {"spool/mia": (Fate.NOTHING_NEW, 0)})
         self.assertFalse(lock.exists())
 
     def test_what_was_deleted_since_stays_so(self) -> None:
