@@ -25,6 +25,7 @@ from tests.support.archives import (
     most,
     number_of,
     run_rules,
+    texts_of,
     want_said,
 )
 from tests.support.cases import Failed
@@ -70,6 +71,19 @@ def rule_6_after_a_killed_run(home: Home) -> None:
         home.has(2, why=(event, row))
         home.undo("OLD")
         home.has(why=event)
+
+
+def rule_6_nothing_is_gone_after_a_killed_run(home: Home) -> None:
+    """Whatever a killed run was to bring, the next one has brought it, and an undo says nothing of it."""
+    for call in range(1, 24, 2):
+        home.begin()
+        home.write("OLD", letters(1, 2, 3))
+        home.run("OLD", kill=Kill(call=call))
+        home.done("OLD")
+        row = home.undo("OLD")["OLD"]
+        if "gone" in texts_of(row):
+            raise Failed(f"{call}: {row}")
+        home.has(why=call)
 
 
 def rule_6_three_words(home: Home) -> None:
@@ -581,6 +595,7 @@ def as_often_as_one_has_it_among_readers_after_kills(home: Home) -> None:
 RULES = [
     rule_6_equal_mailboxes,
     rule_6_after_a_killed_run,
+    rule_6_nothing_is_gone_after_a_killed_run,
     rule_6_three_words,
     rule_6_without_the_other_mailbox,
     rule_6_after_growth_and_a_server,

@@ -48,7 +48,8 @@ class Shares:
         named_once = {line.message.name: line for line in own if line.message.name != NAMELESS}
         self.foreign = sum(self.has_it(line) for line in own if line.message.name == NAMELESS)
         for line in own:
-            if self.has_it(line) and not self.is_last(line):
+            # what a killed run was to bring, and a later one has brought, is not gone
+            if line.state in (State.HELD, State.OPEN) and not self.is_last(line):
                 self.miss(line)
         # what the mailbox had once may have other bytes than what it has
         order = {one: (not self.has_it(named_once[one]), (one not in self.there) != is_resumed) for one in named_once}

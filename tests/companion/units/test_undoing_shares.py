@@ -65,6 +65,16 @@ class SharesTest(LedgerTest):
         self.assertEqual((found.bases, found.renamed), (set(), 1))
         self.assertEqual(sum(found.kept.values()), 2)
 
+    def test_what_was_brought_again_after_a_kill(self) -> None:
+        """The killed run had placed the first message, and the second one is placed by the next run. None is gone."""
+        for need in (2, 1):
+            self.begin(THIRD, line_of(TWO), line_of(TWO, name=named_of(TWO, 2).decode()), need=need)
+        self.placed(THIRD, line_of(TWO), line_of(TWO, name=named_of(TWO, 2).decode()), need=1)
+        for count in (1, 2):
+            self.place(TWO, named_of(TWO, count).decode())
+        found = Shares(Ledger(self.folder), THIRD, Counter({line_of(TWO).core: 2}), False)
+        self.assertEqual((len(found.bases), found.gone, found.renamed), (2, 0, 0))
+
     def test_what_another_had_once(self) -> None:
         """A file that it placed stays. One that has its name since goes."""
         self.placed(BOX, *(one._replace(word=LOST) for one in (FIRST, SECOND)), need=0)
