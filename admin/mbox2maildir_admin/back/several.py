@@ -95,7 +95,7 @@ class Several:
         self.observer.total += len(folders)
         for folder in folders:
             self.observer.begin()
-            standing = Standing(found, self.root, folder, places.all_of(folder))
+            standing = Standing(found, self.root, folder, places.all_of(folder), self.record)
             for row in self.rows(folder, mails[folder], moved_to(found, folder), places):
                 self.tell(standing.row(row))
             for row in standing.rest():
@@ -242,7 +242,7 @@ def moved_to(found: Sorted, folder: bytes) -> Remarks:
 class Standing:
     """The messages of a folder that were deleted or changed there, and stand in its mailboxes as before."""
 
-    def __init__(self, found: Sorted, root: bytes, folder: bytes, paths: Sequence[bytes]) -> None:
+    def __init__(self, found: Sorted, root: bytes, folder: bytes, paths: Sequence[bytes], record: Record) -> None:
         self.folder = folder
         # how many, by the mailboxes; one that the record knows by another path has the place of the first one
         self.counts: collections.defaultdict[bytes, collections.Counter[str]]
@@ -253,9 +253,11 @@ class Standing:
                 if slot.folder == folder:
                     for path in [one for one in paths if names[one] & slot.paths] or [FIRST]:
                         self.counts[path][word] += 1
-        # the mailboxes that had another size when they were read last, so that nobody knows what they have now
+        # the mailboxes that had another size when they were read last, or fewer messages then than the ledger has, so
+        # that nobody knows what they have now
         noted = Ledger(folder_path(root, folder)).sources.values() if self.counts else ()
-        self.unsure = {path for path in paths if size_at(path) not in {source.key[0] for source in noted}}
+        sizes = {source.key[0] for source in noted if record.has_done(source.key, source.count())}
+        self.unsure = {path for path in paths if size_at(path) not in sizes}
 
     def row(self, row: Row) -> Row:
         """The row of a mailbox, with what stands in it."""

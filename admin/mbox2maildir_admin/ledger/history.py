@@ -219,6 +219,10 @@ class History:
         """The last line of a text of this size and SHA-256 that is done, in any folder."""
         return next((one for one in reversed(self.lines_of(size, digest)) if one.what is Step.DONE), None)
 
+    def has_done(self, key: tuple[int, str], count: int) -> bool:
+        """Whether a text of this size and SHA-256 is done that has so many messages."""
+        return any(one.what is Step.DONE and one.messages == count for one in self.lines_of(*key))
+
     def sizes_done(self) -> set[int]:
         """The sizes of the texts that are done."""
         return {entry.key.size for entry in self.lines() if entry.what is Step.DONE}

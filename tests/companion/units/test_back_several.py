@@ -201,6 +201,15 @@ class BackTest(BackHome):
         self.assertTrue(remark.says.endswith(", unless somebody has removed it from the mailbox"), remark.says)
         self.deliver(".sent")
         self.assertEqual(self.back()[0].remarks[-1].stands, 0)
+        # what went back is no message that it has lost
+        self.assertEqual(self.back()[0].remarks[-1].stands, 0)
+
+    def test_what_stands_in_a_mailbox_that_has_grown(self) -> None:
+        self.write_box("mail/sent", ONE + TWO)
+        self.migrate_all("mail")
+        sorted((self.maildir / ".sent/new").iterdir())[0].unlink()
+        self.deliver(".sent")
+        self.assertEqual([self.back()[0].remarks[-1].stands for _ in range(3)], [1, 1, 1])
 
     def test_what_stands_in_each_mailbox_of_a_folder(self) -> None:
         self.write_box("a", ONE)

@@ -139,6 +139,8 @@ class HistoryTest(unittest.TestCase):
         done = history.done(10, digest)
         assert done
         self.assertEqual((done.key.folder, history.done(20, digest_of(b"20"))), (b".", None))
+        has = [history.has_done((10, digest), count) for count in (done.messages, done.messages + 1)]
+        self.assertEqual((has, history.has_done((20, digest_of(b"20")), done.messages)), ([True, False], False))
         self.assertEqual((history.lines_of(10, "a"), history.lines_of(11, digest)), ([], []))
         self.assertEqual((history.sizes, history.sizes_done()), ({10, 20}, {10}))
 
