@@ -588,7 +588,7 @@ def helps(home: Path) -> None:
 
 def loaded(words: Sequence[str], home: Path) -> set[str]:
     """The modules that a run loads: those of the library, and those of the package without its name."""
-    alone = ["python3", "-I", "-S", "-B", "-v", str(ADMIN)]
+    alone = ["python3", "-I", "-S", "-B", "-v", str(home / "bin" / ADMIN.name)]
     ran = subprocess.run([*alone, *words], cwd=home, check=True, stdout=subprocess.PIPE, stderr=subprocess.PIPE)
     found = re.findall(r"(?m)^import '(\S+)' #", ran.stderr.decode())
     return {name.partition("mbox2maildir_admin.")[2] or name for name in found}
