@@ -36,7 +36,7 @@ INTERNAL = (
     b"is not\na real message.  It is created automatically by the mail system software.\nIf deleted, important folder "
     b"data will be lost, and it will be re-created\nwith the data reset to initial values.\n\n"
 )
-LIST = b"3 V1700000000 N9 Gabc\n4 W9 :1.a:2,\n7 :1.c\n"
+LIST = b"3 V1700000000 N9 Gabc\n4 W%d :1.a:2,\n7 :1.c\n" % 26
 
 
 class BaseTest(FolderTest):
