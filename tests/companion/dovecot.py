@@ -16,7 +16,7 @@ from pathlib import Path
 from tests.support.cases import LeftOut, nothing_wrong, run_cases
 from tests.support.dovecot.clients import IMAP, POP3, Client, missing
 from tests.support.dovecot.mailboxes import CASES, Build, drawn, hole_without_index, kept, never_read, tail, tree
-from tests.support.dovecot.served import Case, differences, mail
+from tests.support.dovecot.served import Case, differences, mail, served
 from tests.support.dovecot.server import Dovecot, is_there
 from tests.support.dovecot.settings import settings_here
 from tests.support.homes import fresh_home, install
@@ -415,20 +415,6 @@ def looks_as_before(number: int, build: Build, home: Path, server: Dovecot) -> I
         yield f"dovecot: {build.__doc__}: the log: {line}"
     if "RANDOM_MAILBOXES" in os.environ:
         print(f"dovecot: {build.__doc__}:", *(f"{count} {what}" for what, count in case.seen.items()), flush=True)
-
-
-@contextlib.contextmanager
-def served() -> Iterator[tuple[Path, Dovecot]]:
-    """A home, and a server for what is in it."""
-    with fresh_home() as home:
-        install(home / "bin")
-        server = Dovecot(str(home / "dovecot"))
-        server.write()
-        server.start()
-        try:
-            yield home, server
-        finally:
-            server.stop()
 
 
 def finds_nothing(check: Callable[[], Iterator[str]]) -> None:

@@ -20,10 +20,9 @@ from random import Random
 from tests.support.cases import Failed, LeftOut, run_cases
 from tests.support.checks import match_in
 from tests.support.dovecot.mailboxes import KEYWORDS
-from tests.support.dovecot.served import FLAGS, Case, mail
+from tests.support.dovecot.served import FLAGS, Case, mail, served
 from tests.support.dovecot.server import Dovecot, Folder, Row, is_there
 from tests.support.dovecot.settings import settings_here
-from tests.support.homes import fresh_home, install
 
 USERS, FIRST = int(os.environ.get("WAY_BACK_USERS") or 3), int(os.environ.get("WAY_BACK_FIRST") or 0)
 OLD, NEW, RENAMED = ["INBOX", "sent", "lists/garden", "later"], ["lists/sheds", "new"], {"lists/garden": "shed"}
@@ -226,20 +225,6 @@ def marks_of(row: Row, has_keywords: bool = True) -> tuple[int, str, str]:
 def brief(several: Mapping[str, Folder]) -> dict[str, tuple[int, int, list[tuple[int, str, str]]]]:
     """What is shown of folders, without the mail."""
     return {name: (one[0], one[1], list(map(marks_of, one[2]))) for name, one in several.items()}
-
-
-@contextlib.contextmanager
-def served() -> Iterator[tuple[Path, Dovecot]]:
-    """A server that all users share."""
-    with fresh_home() as home:
-        install(home / "bin")
-        server = Dovecot(str(home / "server"))
-        server.write()
-        server.start()
-        try:
-            yield home, server
-        finally:
-            server.stop()
 
 
 def way_of(place: Callable[[], tuple[Path, Dovecot]], seed: int) -> None:

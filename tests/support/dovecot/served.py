@@ -1,4 +1,5 @@
 """A mailbox of a user whom a Dovecot serves: what is done to it, what Dovecot shows of it, and how it is migrated."""
+import contextlib
 import copy
 import imaplib
 import os
@@ -16,6 +17,7 @@ from typing import Optional
 from tests.support.cases import LeftOut
 from tests.support.checks import differ, without_work
 from tests.support.dovecot.server import Dovecot, Folder, OtherSizes, Row
+from tests.support.homes import fresh_home, install
 from tests.support.splitter import split
 
 # each folder over IMAP, the UIDLs and mails over POP3, and the folders that the user is subscribed to
@@ -285,3 +287,17 @@ def differences_by_pop3(before: Shown, after: Shown, is_new: bool) -> Iterator[s
     for place, ((_, text), (_, its)) in enumerate(zip(before[1], after[1]), 1):
         if its not in (text, QUOTE.sub(b"", text)):
             yield f"over POP3: message {place}:\n{differ(its, text)}"
+
+
+@contextlib.contextmanager
+def served() -> Iterator[tuple[Path, Dovecot]]:
+    """A home, and a server for what is in it."""
+    with fresh_home() as home:
+        install(home / "bin")
+        server = Dovecot(str(home / "dovecot"))
+        server.write()
+        server.start()
+        try:
+            yield home, server
+        finally:
+            server.stop()
