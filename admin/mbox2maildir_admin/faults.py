@@ -107,7 +107,7 @@ class Reason(Phrase):
     UNDO = "undo", "It cannot be undone without harm to other mail, or its undo was interrupted."
     # what is wrong with the Maildir or its record
     NO_MAILDIR = "no-maildir", "The Maildir, or its folder, is not there, or something else is in its place."
-    RECORD = "record", "The record cannot be read or written, or others may write to it."
+    RECORD = "record", "The record cannot be read, written or locked, or others may write to it."
     # what is wrong with a user: the name, what the spool has under it, the home, the process
     NO_USER = "no-user", "The name belongs to no user."
     SYSTEM_ACCOUNT = "system-account", "The user is a system account."

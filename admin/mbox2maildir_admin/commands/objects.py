@@ -12,6 +12,7 @@ from ..migration.outcomes import Fate, Row
 from ..migration.rows import Reporter
 from ..nexts import ROOT, Quote, Todo, objects_of, task
 from ..terminal import complain, flush, is_text, named, put, shown, text_of
+from ..version import version
 
 
 def object_of(row: Row, user: Optional[str] = None) -> dict[str, Any]:
@@ -77,11 +78,14 @@ class ObjectReporter(Reporter):
                 "verdicts": {fate.value: self.counts[fate] for fate in Fate},
                 "left": [{"reason": one.word, "count": self.reasons[one]} for one in Reason if self.reasons[one]],
                 "messages": self.messages,
+                "before": dict(zip(("messages", "bytes"), self.before)),
                 "there_already": self.there,
                 "still_there": {word: self.stand[word] for word in ("deleted", "changed")},
                 "bytes": self.size,
                 "seconds": round(self.seconds(), 3),
                 "last_pass_seconds": rounded(self.last_pass()),
+                "host": os.uname().nodename,
+                "version": version(),
                 "says": line,
                 "next": objects_of(self.then),
             }

@@ -164,6 +164,11 @@ class Record(History):
                 "wait until it has ended" % named(maildir),
                 Reason.LOCKED,
             ) from fault
+        except OSError as fault:
+            # where nothing is locked, two would place the same mail
+            raise PlaceFault(
+                "%s: it cannot be locked: %s" % (named(self.path), fault.strerror), Reason.RECORD
+            ) from fault
 
     def read(self) -> None:
         """Reads its lines. A last line that was cut does not count."""

@@ -197,7 +197,7 @@ class FirstPass(LastPass):
         """Prepares it, unless it is done."""
         line = self.known.done_by(True)
         if line:
-            return self.row_before(line.plan, [])
+            return self.row_before(line.plan, line.messages, [])
         if self.is_made_anew():
             with self.choice() as choice:
                 return self.row_prepared(choice.plan)

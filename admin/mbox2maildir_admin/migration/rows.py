@@ -43,6 +43,8 @@ class Reporter(Observer):
         self.faults: collections.Counter[str] = collections.Counter()
         # of the mailboxes that are done, prepared or checked, or would be; and how many messages were there already
         self.messages = self.size = self.there = 0
+        # how many messages and bytes those have that were done before
+        self.before = 0, 0
         # how many messages stand in mailboxes although they were deleted or changed in the Maildir, by these words
         self.stand: collections.Counter[str] = collections.Counter()
         # how long a last pass would take, if this is a first one
@@ -97,6 +99,8 @@ class Reporter(Observer):
             self.size += row.size or 0
             self.there += sum(remark.there for remark in row.remarks)
             self.estimate.add(row.spent)
+        elif row.fate is Fate.BEFORE:
+            self.before = self.before[0] + (row.messages or 0), self.before[1] + (row.size or 0)
         # the next mailbox of a user may have to wait too
         self.waiting.discard(named(row.path) if user is None else named(user))
         self.at_work.end(label_of(row, user))
@@ -179,8 +183,10 @@ class Reporter(Observer):
 
 
 def head_of(row: Row, user: Optional[str] = None) -> str:
-    """What stands in a row before its fate: the mailbox, its folder, its kind and how many messages it has."""
-    what = ", ".join(filter(None, [row.kind, "messages %d" % row.messages if row.messages is not None else ""]))
+    """What stands in a row before its fate: the mailbox, its folder and, unless it was done before, its kind and how
+    many messages it has."""
+    count = None if row.fate is Fate.BEFORE else row.messages
+    what = ", ".join(filter(None, [row.kind, "messages %d" % count if count is not None else ""]))
     names = [label_of(row, user), folder_named(row.folder) if row.folder else ""]
     way = " -> ".join(filter(None, reversed(names) if row.is_back else names))
     return "%s: %s" % (way, what + ": " if what else "")

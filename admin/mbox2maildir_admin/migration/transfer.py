@@ -100,7 +100,7 @@ class Transfer:
         if line:
             keep_done(self.how, self.root, self.opened, line.plan)
             more, then = contradicted(self.how, self.root, self.opened, line)
-            return replace(self.row_before(line.plan, more), next=then)
+            return replace(self.row_before(line.plan, line.messages, more), next=then)
         return self.choose()
 
     def choose(self) -> Row:
@@ -114,8 +114,9 @@ class Transfer:
                 raise self.asked(question) from question
             return row
 
-    def row_before(self, words: Optional[str], more: list[Remark]) -> Row:
-        """The row of a mailbox that was done before by the words of a plan, with what else is said of it."""
+    def row_before(self, words: Optional[str], messages: Optional[int], more: list[Remark]) -> Row:
+        """The row of a mailbox with so many messages that was done before by the words of a plan, with what else is
+        said of it."""
         mailbox, name = self.opened.mailbox, self.opened.name
         of_uids = self.how.extra.remarks_on_done(name) if mailbox.size else []
         of_folder = back_in(self.ledger) + gone_from(self.ledger)
@@ -124,7 +125,7 @@ class Transfer:
         elif self.known.is_older:
             of_folder = [Remark("ledger-older", OLDER % counted(self.known.lacking(), "message"))]
         says = (*of_uids, *remarks_on_dropped(words), *of_folder, *more)
-        return Row(mailbox.path, name, "", None, Fate.BEFORE, size=mailbox.size, remarks=says)
+        return Row(mailbox.path, name, "", messages, Fate.BEFORE, size=mailbox.size, remarks=says)
 
     def row_of_question(self, question: Question) -> Optional[Row]:
         """The row of a mailbox about which there is a question, if it was done before as it was read then, or was
@@ -133,7 +134,7 @@ class Transfer:
             words = as_before(self.opened, self.ledger, self.path, (self.disk, self.how.extra))
             if words is not None:
                 keep_done(self.how, self.root, self.opened, words)
-                return self.row_before(words, [])
+                return self.row_before(words, self.known.last.messages if self.known.last else None, [])
         answer = answer_to(self.record, self.opened, question) if self.how.decision == UNDECIDED else None
         if not answer:
             return None
@@ -272,7 +273,7 @@ class Transfer:
         remarks = [*remarks_on_lost(match), *remarks_on_flags(self.ledger, self.path, contents)]
         if not self.how.dry:
             self.verified = with_names(self.begin(contents, Placing(match), 0), self.is_unread)
-        return self.row_before(contents.words, remarks)
+        return self.row_before(contents.words, len(contents.inventory), remarks)
 
     def take_steps(self, choice: Choice, contents: Contents, match: Match) -> Row:
         """Places what is nowhere, and does what else is to be done."""

@@ -2,6 +2,7 @@
 import contextlib
 import json
 import os
+import socket
 import unittest
 from dataclasses import replace
 from typing import Any, Optional
@@ -14,6 +15,7 @@ from mbox2maildir_admin.migration.rows import Reporter
 from mbox2maildir_admin.migration.several import run_all
 from mbox2maildir_admin.migration.steps import Options
 from mbox2maildir_admin.nexts import Answer, Command, Does, Next, Quote, Remark, Todo, task
+from mbox2maildir_admin.version import version
 
 from tests.support.mail import ONE, TWO
 from tests.support.migrating import Function
@@ -154,6 +156,26 @@ class PrintedTest(FolderTest):
         self.assertEqual(sums["seconds"], 4.25)
         sizes = "2 messages, %d bytes in 4 s" % len(ONE + TWO)
         self.assertEqual(sums["says"], "5 mailboxes: 2 would be done, 3 left; 1 other file: no mail; " + sizes)
+
+    def test_sums_of_a_run_that_goes_on(self) -> None:
+        """They count what was done before too, by the record, and say where they come from."""
+        old, root = self.here + b"/old", self.here + b"/M"
+        make(old, {"a": ONE + TWO, "b": TWO})
+        for names, sizes, before in (
+            (["a"], (2, len(ONE + TWO)), (0, 0)),
+            (["a", "b"], (1, len(TWO)), (2, len(ONE + TWO))),
+            (["a", "b"], (0, 0), (3, len(ONE + TWO + TWO))),
+        ):
+            reporter = ObjectReporter()
+            with printed() as caught:
+                run_all(Options(now=True), root, [old + b"/" + name.encode() for name in names], reporter, Function())
+                reporter.end()
+            *rows, sums = map(json.loads, caught.out)
+            self.assertEqual([wrong(one) for one in [*rows, sums]], [[]] * (len(names) + 1))
+            self.assertEqual((sums["messages"], sums["bytes"]), sizes)
+            self.assertEqual(sums["before"], {"messages": before[0], "bytes": before[1]})
+            self.assertEqual(sum(one["messages"] for one in rows), sizes[0] + before[0])
+            self.assertEqual((sums["host"], sums["version"]), (socket.gethostname(), version()))
 
     def test_what_is_left_by_reasons(self) -> None:
         """The object of the sums has each reason, in the order of their table, even if a single mailbox is left."""

@@ -1,10 +1,11 @@
 """The file of a record: its lines, its lock, and which files are refused."""
+import errno
 import os
 import shutil
 from pathlib import Path
 from unittest.mock import patch
 
-from mbox2maildir_admin.faults import Fault
+from mbox2maildir_admin.faults import Fault, PlaceFault, Reason
 from mbox2maildir_admin.ledger.history import Note, Step
 from mbox2maildir_admin.ledger.record import MOST, Record, Verified, unspelled
 from mbox2maildir_admin.maildir.making import RECORD
@@ -63,6 +64,14 @@ class RecordTest(FolderTest):
             found = [(one.what, one.path, one.ledger, one.size) for one in record.last_steps(b".")]
         wanted = [(Step.UNDOING, path, LEDGER, 90) for path in ("/box\\x0a", "/other")]
         self.assertEqual(found, wanted)
+
+    def test_a_disk_without_locks(self) -> None:
+        """Nothing shows whether another one is at work there, so it is left. The line names the record."""
+        with patch("fcntl.flock", side_effect=OSError(errno.ENOLCK, "no locks")):
+            self.refused("mbox2maildir-record: it cannot be locked: no locks")
+            with self.assertRaises(PlaceFault) as caught, Record.open(self.here):
+                self.fail("it was opened")
+        self.assertIs(caught.exception.reason, Reason.RECORD)
 
     def test_it_is_read_once_it_is_locked(self) -> None:
         """Another `migrate` may have written to it until then."""
