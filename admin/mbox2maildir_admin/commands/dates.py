@@ -40,7 +40,7 @@ class Dates:
         """Gives the files of one mailbox their dates, and names those that have none. Returns whether all have one."""
         before = os.stat(file)
         with open_text(file, maildir, say_of(file), Recorded(maildir).recorded) as text:
-            either = Either.of(maildir, text.messages(), text.mailbox, text.start)
+            either = Either.of(maildir, text.messages(with_cores=False), text.mailbox, text.start)
             dating = Dating.give(maildir, text.mailbox, either.inventory, self.headers)
             if dating.one_date is not None:
                 complain("%s: all From_ lines have the same date: %s" % (named(file), named(dating.one_date.rstrip())))

@@ -73,4 +73,4 @@ def check_of(program: bytes, maildir: bytes, text: Text, say: Say) -> tuple[Chec
 def inventory_of(text: Text, program: bytes) -> Inventory:
     """The messages of a text. Raises Fault unless `mbox2maildir list` has the same ones."""
     with Program(program).listing(text.mailbox.number, text.start) as listing:
-        return text.messages(listing)
+        return text.messages(listing, with_cores=False)

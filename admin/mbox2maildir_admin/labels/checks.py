@@ -20,7 +20,7 @@ def checks_of(
 ) -> Iterator[tuple[bytes, Check, int]]:
     """Looks into each folder of a Takeout, which is read as it was when it was recorded, and gives what was found."""
     with open_text(file, maildir, say, recorded) as text:
-        inventory = text.messages()
+        inventory = text.messages(with_cores=False)
         found = Sorting(headers_in(text.mailbox, inventory), noted.choosing).sorted()
         for folder, places in found.places.items():
             with part_of(text, inventory, places, disk_of(maildir)) as part:

@@ -37,19 +37,26 @@ class Inventory:
         mailbox: Mailbox,
         start: Offset,
         listing: Optional[Listing] = None,
+        with_cores: bool = True,
     ) -> "Inventory":
-        """Reads a text from an offset on. `listing` is what `mbox2maildir list` says of it, for comparison."""
+        """Reads a text from an offset on. `listing` is what `mbox2maildir list` says of it, for comparison. Cores and
+        bare forms, which a ledger needs, take a second digest of each message that has a noted field."""
         mailbox.file.seek(start)
-        return cls.of(mailbox, start, parts_of(mailbox.file, start, mailbox.line_at(start)), listing)
+        return cls.of(mailbox, start, parts_of(mailbox.file, start, mailbox.line_at(start)), listing, with_cores)
 
     @classmethod
     def of(
-        cls, mailbox: Mailbox, start: Offset, parts: Iterable[Part], listing: Optional[Listing] = None
+        cls,
+        mailbox: Mailbox,
+        start: Offset,
+        parts: Iterable[Part],
+        listing: Optional[Listing] = None,
+        with_cores: bool = True,
     ) -> "Inventory":
         """Reads the messages of a text that has these parts, and compares them with the listing."""
         self, held = cls(), int(start)
         try:
-            for message in messages_in(mailbox.path, parts, with_cores=True):
+            for message in messages_in(mailbox.path, parts, with_cores=with_cores):
                 base = self.table.add(message.digest.digest())
                 if listing:
                     listing.compare(message.number, message.line, base, message.size)

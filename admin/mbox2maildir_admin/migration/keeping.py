@@ -38,5 +38,5 @@ def keep_done(how: How, root: bytes, opened: Opened, words: Optional[str]) -> No
             raise Left(UNREAD)
         with Choice(source, plan).text(disk) as whole:
             text = whole.begun_at(how.extra.start_of(*whole.whole()))
-            lines = envelopes_of(text.mailbox, text.messages())
+            lines = envelopes_of(text.mailbox, text.messages(with_cores=False))
             keep(opened.folder, mailbox.key(), words or "", spelled(mailbox.path), lines)

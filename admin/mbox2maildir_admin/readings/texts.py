@@ -74,10 +74,10 @@ class Text(NamedTuple):
         start, offsets = Offset(self.offsets[skipped]), self.offsets[skipped:]
         return Text(self.mailbox, start, self.lines, self.quoted_before, full, offsets)
 
-    def messages(self, listing: Optional[Listing] = None) -> Inventory:
+    def messages(self, listing: Optional[Listing] = None, with_cores: bool = True) -> Inventory:
         """Its messages, with the lines of the mailbox in which they begin. `listing` is what `mbox2maildir list` says
         of the text."""
-        inventory = Inventory.read(self.mailbox, self.start, listing)
+        inventory = Inventory.read(self.mailbox, self.start, listing, with_cores)
         if self.lines is not None:
             inventory.lines = array.array("Q", self.lines[len(self.lines) - len(inventory) :])
         if self.full and len(self.full.offsets) != len(inventory.offsets):

@@ -1,4 +1,5 @@
 """The command `verify`: its line of counts, and what it names."""
+import contextlib
 import os
 import unittest
 from unittest import mock
@@ -7,9 +8,11 @@ from mbox2maildir_admin.commands import verify as module
 from mbox2maildir_admin.commands.verify import verify_file
 from mbox2maildir_admin.faults import Fault
 from mbox2maildir_admin.mbox.inventory import Inventory
+from mbox2maildir_admin.program import Program
 from mbox2maildir_admin.readings.texts import Text
+from mbox2maildir_admin.units import Offset
 
-from tests.support.units import base_of, folder, make, printed
+from tests.support.units import base_of, folder, make, printed, source_of
 
 ONE, TWO = b"one\n", b"two\n"
 TEXT = b"From a\none\n\nFrom b\ntwo\n\n"
@@ -31,6 +34,13 @@ class VerifyTest(unittest.TestCase):
         right, lines = self.verify({"M/new/" + base_of(ONE): ONE, "M/cur/%s:2,S" % base_of(TWO): TWO})
         counts = "/box: messages 2, bytes 8, there 2, under another name 0, other bytes 0, nowhere 0, doubles 0"
         self.assertEqual((right, lines), (True, [counts]))
+
+    def test_nothing_is_hashed_for_a_ledger(self) -> None:
+        with source_of(TEXT) as mailbox, mock.patch(
+            "mbox2maildir_admin.mbox.messages.InPass", side_effect=AssertionError
+        ):
+            with mock.patch.object(Program, "listing", return_value=contextlib.nullcontext()):
+                self.assertEqual(len(module.inventory_of(Text(mailbox, Offset(0)), b"")), 2)
 
     def test_what_is_not(self) -> None:
         right, lines = self.verify(
