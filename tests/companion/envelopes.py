@@ -106,13 +106,29 @@ def once(home: Path) -> None:
     equal("of one that is gone", kept(home / "M"), lines_of(PLAIN, PLAIN, ODD, LONG, SAME))
 
 
-def decided(home: Path) -> None:
-    """Of a mailbox that a human decided about, the lines are those of the reading by which it was done."""
-    mailbox(home / "box", text_of(CRLF, ODD) + b"From Tuesday on\n\nhi\n")
+def answer(home: Path) -> None:
+    """Migrates the mailbox by the answer that each line with a date is a From_ line."""
     printed = run(["migrate", "--now", "M", "box"], home)[1]
     (decide,) = (line.split() for line in printed.splitlines() if "--as unquoted" in line)
     equal("the answer", run(decide, home)[0], 0)
+
+
+def decided(home: Path) -> None:
+    """Of a mailbox that a human decided about, the lines are those of the reading by which it was done."""
+    mailbox(home / "box", text_of(CRLF, ODD) + b"From Tuesday on\n\nhi\n")
+    answer(home)
     keep(home, ["box"])
+    letters = CRLF, (ODD[0], b"", ODD[2] + b"\nFrom Tuesday on\n\nhi\n")
+    equal("its lines", kept(home / "M"), lines_of(*letters))
+
+
+def decided_and_cut(home: Path) -> None:
+    """Something is asked about a mailbox, and it has nothing new: it was done by an answer, and lost a message since.
+    Its lines are kept without another answer."""
+    mailbox(home / "box", text_of(CRLF, ODD) + b"From Tuesday on\n\nhi\n\n" + text_of(PLAIN))
+    answer(home)
+    mailbox(home / "box", text_of(CRLF, ODD) + b"From Tuesday on\n\nhi\n")
+    equal("done before", keep(home, ["box"]), "1 mailbox: 1 done before\n")
     letters = CRLF, (ODD[0], b"", ODD[2] + b"\nFrom Tuesday on\n\nhi\n")
     equal("its lines", kept(home / "M"), lines_of(*letters))
 
@@ -193,4 +209,4 @@ def on_full_disk(home: Path, disk: Path) -> None:
 
 
 if __name__ == "__main__":
-    check_all(each_form, once, decided, undo_keeps, not_kept, full_disk)
+    check_all(each_form, once, decided, decided_and_cut, undo_keeps, not_kept, full_disk)

@@ -104,12 +104,35 @@ class BackTest(BackHome):
         self.deliver(".sent")
         more = b"Subject: more\n\nx\n"
         self.deliver(".sent", more, "2.M2.host")
-        with mock.patch.object(Beside, "remove", side_effect=KeyboardInterrupt), self.assertRaises(KeyboardInterrupt):
-            self.back()
+        self.kill()
         text = box.read_bytes()
         box.write_bytes(text[: text.rindex(b"From MAILER-DAEMON")])
         self.back()
         self.assertEqual([box.read_bytes().count(b"Subject: %s\n" % one) for one in (b"new", b"more")], [1, 1])
+
+    def kill(self) -> None:
+        """Kills a run that has appended all."""
+        with mock.patch.object(Beside, "remove", side_effect=KeyboardInterrupt), self.assertRaises(KeyboardInterrupt):
+            self.back()
+
+    def test_a_part_in_a_mailbox_that_was_moved(self) -> None:
+        """It is taken back where the mailbox is now, also if a copy of it is at its old place."""
+        for is_copied in (False, True):
+            with self.subTest(is_copied=is_copied):
+                self.make_home(f"home-{int(is_copied)}")
+                self.tree = self.home / "mail"
+                box = self.write_box("mail/sent", ONE)
+                self.migrate_all("mail")
+                self.deliver(".sent")
+                self.kill()
+                part = box.read_bytes()[:-5]
+                box.write_bytes(part)
+                self.tree.rename(self.home / "other")
+                copy = self.write_box("mail/sent", part) if is_copied else None
+                self.back("other")
+                text = (self.home / "other/sent").read_bytes()
+                self.assertEqual((text[: len(ONE)], text.count(b"\nSubject: new\n")), (ONE, 1))
+                self.assertEqual(copy and copy.read_bytes(), part if is_copied else None)
 
     def test_a_lock_that_a_killed_run_left(self) -> None:
         """It was killed after it had noted that all is back, so that nothing may go back when it is run again."""

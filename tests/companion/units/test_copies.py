@@ -54,11 +54,12 @@ class CopyTest(FolderTest):
         mailbox = self.here + b"/box"
         Path(mailbox.decode()).write_bytes(TEXT)
         os.chown(mailbox, 65534, 65534)
-        os.chmod(mailbox, 0o640)
+        os.chmod(mailbox, 0o6750)
         with Mailbox.open(mailbox) as source, Copy.open(self.path) as file:
             write_copy(MBOXO, source, Offset(0), 2, file)
         state = os.stat(self.path)
-        self.assertEqual((state.st_uid, state.st_gid, state.st_mode & 0o777), (65534, 65534, 0o640))
+        # it is nothing that anybody runs
+        self.assertEqual((state.st_uid, state.st_gid, state.st_mode & 0o7777), (65534, 65534, 0o640))
 
     def test_without_files_that_have_no_name(self) -> None:
         with mock.patch.object(os, "O_TMPFILE", os.O_DIRECTORY):

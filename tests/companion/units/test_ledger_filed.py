@@ -49,6 +49,7 @@ class FiledTest(LedgerTest):
         self.assertEqual(self.filed(ONE + ONE + TWO), wanted)
         self.assertEqual(self.filed(ONE + TWO), [(named(ONE), 0), (named(TWO), 1)])
         self.assertEqual(self.filed(READ + ONE), [(named(ONE, 2), 0), (named(ONE), 1)])
+        self.assertEqual(self.filed(READ + READ), [(named(ONE), 0), (named(ONE, 2), 1)])
 
     def test_names_of_other_programs(self) -> None:
         self.bring(BOX, line_of(ONE, name="17.host"), line_of(TWO, name=named(TWO) + ",U=7"))

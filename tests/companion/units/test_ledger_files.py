@@ -36,6 +36,11 @@ class FilesTest(LedgerTest):
         self.assertEqual([files.has_digest(body_digest(one)) for one in (ONE, TWO, THREE)], [True, True, False])
         self.assertEqual(list(files.own_names(digest)), [named_of(ONE), named_of(ONE, 4)])
 
+    def test_a_link_with_such_a_name(self) -> None:
+        """The program places no message under a name that is taken, whatever has it."""
+        os.symlink(b"17.host", os.path.join(self.folder, b"new", named_of(ONE)))
+        self.assertEqual(list(self.files(ONE).there), [1])
+
     def test_those_that_are_marked_as_deleted(self) -> None:
         self.place(ONE, named_of(ONE).decode() + ":2,ST", "cur")
         self.place(TWO, "T.host:2,S", "cur")

@@ -3,7 +3,7 @@ import os
 import unittest
 from unittest import mock
 
-from mbox2maildir_admin.ledger.gone import back_in, gone_from, gone_of
+from mbox2maildir_admin.ledger.gone import back_in, gone_before, gone_from, gone_of
 from mbox2maildir_admin.ledger.ledger import Ledger
 from mbox2maildir_admin.ledger.lines import FOREIGN, LOST, SHARED, note_all_placed
 from mbox2maildir_admin.maildir.files import names_of
@@ -122,6 +122,12 @@ class KilledTest(LedgerTest):
         self.assertEqual(self.gone(number), {FOUR: 1, TWO: 1})
         self.place(TWO)
         self.assertEqual(self.gone(number), {FOUR: 1})
+
+    def test_several_mailboxes(self) -> None:
+        for path, message in ((BOX, ONE), (OTHER, TWO)):
+            note_all_placed(self.folder, self.begin(path, line_of(message), need=1, times=times_of(self.folder)))
+        wanted = {short(body_of(message)): 1 for message in (ONE, TWO)}
+        self.assertEqual(gone_before(Ledger(self.folder), {}), wanted)
 
     def test_what_it_no_longer_has(self) -> None:
         self.bring(BOX, line_of(ONE))

@@ -38,6 +38,20 @@ class PlaceTest(FolderTest):
         self.assertEqual(os.listdir(self.here + b"/folder"), [])
 
 
+    def test_what_others_made_first(self) -> None:
+        """Root looks again once the Maildir is there."""
+        roots = "mbox2maildir_admin.maildir.roots"
+        with mock.patch("os.geteuid", lambda: 0), mock.patch(f"{roots}.make_maildir") as made:
+            with mock.patch(f"{roots}.want_roots_alone", side_effect=[None, PlaceFault("theirs")]) as looked:
+                self.assertRaises(PlaceFault, make_alone, M)
+        self.assertEqual((made.call_count, looked.call_count), (1, 2))
+
+    def test_a_user_looks_at_nothing(self) -> None:
+        with mock.patch("os.geteuid", lambda: 1000):
+            with mock.patch("mbox2maildir_admin.maildir.roots.want_roots_alone", side_effect=AssertionError):
+                make_alone(self.here + b"/M")
+
+
 class AloneTest(unittest.TestCase):
     def why(self, path: bytes = b"", state: Optional[tuple[int, int]] = None) -> str:
         """Why root may not write into a Maildir if one of the folders is another one; "" if it may."""

@@ -70,6 +70,16 @@ class KnownTest(HomeTest):
             known = Known(record, Ledger(self.root), opened)
             self.assertEqual((known.lines_of_others(), known.lacking_of_others()), ([], 0))
 
+    def test_what_an_older_ledger_lacks_of_others(self) -> None:
+        self.bring("box", ONE)
+        kept = self.ledger.read_bytes()
+        for name, text in (("first", TWO), ("second", THREE)):
+            self.bring(name, text)
+        self.ledger.write_bytes(kept)
+        self.move_box("box")
+        with self.opened() as (opened, record):
+            self.assertEqual(Known(record, Ledger(self.root), opened).lacking_of_others(), 2)
+
     def test_a_mailbox_that_was_moved_from_another_folder(self) -> None:
         """It is done there, and not here."""
         self.bring("box", ONE, "X")

@@ -22,6 +22,7 @@ from tests.support.nexts import told
 
 READ = ONE.replace(b"\n\n", b"\nX-Mozilla-Status: 0001\n\n", 1)
 UNREAD = READ.replace(b"0001", b"0000")
+NO_SYNC = mock.patch("mbox2maildir_admin.maildir.syncing.sync_disk", side_effect=OSError(5, "I/O error"))
 
 
 class PostponedTest(HomeTest):
@@ -163,9 +164,9 @@ class OnceMoreTest(PostponedTest):
     def test_a_last_pass_that_was_killed(self) -> None:
         """One mailbox of a folder is done, and another one is not."""
         self.done(ONE)
-        first, second = self.path, self.home / "second"
-        second.write_bytes(TWO + THREE)
+        first = self.path
         self.move_box("second")
+        self.fill(TWO + THREE)
         with self.assertRaises(Killed):
             self.migrate(Cut(1))
         listener = Listener()
@@ -287,6 +288,14 @@ class UsedTest(PostponedTest):
         self.assertEqual((row.fate, row.reason), (Fate.LEFT, Reason.PREPARED))
         self.has(ONE)
 
+    def test_a_sync_that_failed(self) -> None:
+        self.done(ONE)
+        self.fill(ONE + TWO)
+        with NO_SYNC:
+            self.assertIs(self.migrate().reason, Reason.SYNC_FAILED)
+        self.assertIs(self.postpone().fate, Fate.LEFT)
+        self.assertEqual(list(Ledger(self.root).sources), [str(self.box)])
+
     def test_somebody_has_read_between_two_runs(self) -> None:
         """The second one does not hide that."""
         self.done(ONE)
@@ -340,15 +349,31 @@ class UsedTest(PostponedTest):
 
 
 class GoneTest(PostponedTest):
-    def test_a_mailbox_of_the_tree_is_gone(self) -> None:
-        """What was done from it is prepared again, and is removed on the day."""
-        tree = self.home / "tree"
-        tree.mkdir()
+    def migrate_two(self) -> list[bytes]:
+        """Migrates a tree of two mailboxes, and returns its name."""
+        (self.home / "tree").mkdir()
         for name in ("a", "b"):
             self.move_box(f"tree/{name}")
             self.fill(ONE)
-        options, names = Options(), [os.fsencode(tree)]
-        run_all(options, self.root, names, Listener(), Function())
+        names = [os.fsencode(self.home / "tree")]
+        run_all(Options(), self.root, names, Listener(), Function())
+        return names
+
+    def test_one_whose_sync_failed_is_gone(self) -> None:
+        """Nothing is said of its folder, which stays as it is."""
+        names = self.migrate_two()
+        self.fill(ONE + TWO)
+        with NO_SYNC:
+            run_all(Options(), self.root, names, Listener(), Function())
+        self.box.unlink()
+        listener = Listener()
+        run_all(Options(prepare=True, postponed=True), self.root, names, listener, Function())
+        self.assertEqual([(row.folder, row.fate) for row in listener.rows], [(b".a", Fate.PREPARED)])
+        self.assertEqual(len(Ledger(self.root + b"/.b").sources), 1)
+
+    def test_a_mailbox_of_the_tree_is_gone(self) -> None:
+        """What was done from it is prepared again, and is removed on the day."""
+        names = self.migrate_two()
         self.box.unlink()
         with Record.open(self.root) as record:
             rows = list(postponed_rows(record, self.root, [], [os.fsencode(self.home)], True))

@@ -304,6 +304,23 @@ class KilledTest(PreparingTest):
                 self.finish()
         return self.names()
 
+    def test_a_part_of_a_list_of_uids(self) -> None:
+        """It was killed while it wrote that, and its mailbox is gone on the day."""
+        (self.home / "tree").mkdir()
+        self.move_box("tree/a")
+        self.fill(READ)
+        names = [os.fsencode(self.home / "tree")]
+        run_all(Options(prepare=True, dovecot=True), self.root, names, Listener(), Function())
+        with mock.patch("mbox2maildir_admin.migration.dovecot.place_file", side_effect=Killed):
+            with self.assertRaises(Killed):
+                run_all(Options(dovecot=True), self.root, names, Listener(), Function())
+        (self.maildir / ".a/tmp/mbox2maildir-admin-dovecot-uidlist").write_bytes(b"3 V1")
+        self.box.unlink()
+        listener = Listener()
+        run_all(Options(gone=True), self.root, names, listener, Function())
+        self.assertEqual([row.fate for row in listener.rows], [Fate.UNDONE])
+        self.assertFalse((self.maildir / ".a").exists())
+
     def test_a_dry_run_takes_nothing_back(self) -> None:
         self.prepare(ONE)
         names, kept = self.killed(READ + TWO), self.prepared_list().read_bytes()

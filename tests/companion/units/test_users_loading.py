@@ -1,5 +1,6 @@
 """What a child may need is loaded before there is one."""
 import re
+import subprocess
 import sys
 import unittest
 from pathlib import Path
@@ -18,6 +19,16 @@ class LoadingTest(unittest.TestCase):
         load_for_children()
         wanted = {*OF_PYTHON, *("mbox2maildir_admin.%s" % name for name in OF_PACKAGE)}
         self.assertEqual(wanted - {*sys.modules}, set())
+
+    def test_what_a_first_call_loads(self) -> None:
+        """Where Python can load nothing more, each disk is still synced by itself, and any folder has its name."""
+        code = (
+            "import sys; from mbox2maildir_admin.users.loading import *; load_for_children(); "
+            "sys.meta_path.clear(); print(folder_of('\u00fc'), call_of_system().__name__)"
+        )
+        command = [sys.executable, "-c", code]
+        ran = subprocess.run(command, cwd=str(PACKAGE.parent), stdout=subprocess.PIPE, check=True)
+        self.assertEqual(ran.stdout, b"&APw- call\n")
 
     def test_nothing_else_is_loaded_late(self) -> None:
         """Each module that the code loads within a function is one of these."""
