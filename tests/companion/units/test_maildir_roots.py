@@ -37,7 +37,6 @@ class PlaceTest(FolderTest):
             make_alone(self.here + b"/M")
         self.assertEqual(os.listdir(self.here + b"/folder"), [])
 
-
     def test_what_others_made_first(self) -> None:
         """Root looks again once the Maildir is there."""
         roots = "mbox2maildir_admin.maildir.roots"
