@@ -37,7 +37,6 @@ TEXTS = {
 SINGLE = {
     "cut": (with_length(A, b"hello", 7), 1),
     "cr": ((A + b"\nhello\n\n" + B + b"\n").replace(b"\n", b"\r"), 2),
-    "crlf in part": ((A + b"\nhello\n\n").replace(b"\n", b"\r\n") + B + b"\n", 2),
 }
 
 

@@ -23,6 +23,7 @@ from tests.support.archives import (
     want_said,
 )
 from tests.support.cases import Failed
+from tests.support.mail import INTERNAL
 
 NONE, DOVECOT = [], ["--dovecot"]  # type: list[str], list[str]
 
@@ -74,6 +75,12 @@ def in_crlf(text: bytes) -> bytes:
     return text.replace(b"\n", b"\r\n")
 
 
+def in_thunderbird(text: bytes) -> bytes:
+    """A message whose first and last line end in CR LF."""
+    first, rest = text.split(b"\n", 1)
+    return first + b"\r\n" + rest[:-1] + b"\r\n"
+
+
 FROM = b"hello\n%sFrom the shed.\n"
 # a message with more `>`, and one with a CR in a text whose lines end without
 OTHER_BYTES = {
@@ -100,6 +107,29 @@ def rule_2_another_mailbox_in_crlf(home: Home) -> None:
     home.write("OTHER", in_crlf(letters(0, 1, 2)))
     home.done("OLD", "OTHER")
     home.has(0, 1, 2)
+
+
+# mailboxes in which only some From_ lines end in CR LF, and how many messages each has: Dovecot keeps an empty mailbox
+# by its own message; a server stores one more; a program ends only its own lines so, and others wrote before it; what
+# arrived with CR is delivered by a program that writes none
+PARTLY_CRLF = {
+    "Dovecot's own message": (INTERNAL + in_crlf(letters(0, 1)), 2, b""),
+    "a server's new message": (in_crlf(letters(0, 1)) + letter(2, b"X-UID: 3\n"), 3, b""),
+    "Thunderbird's lines": (letter(0) + in_thunderbird(letter(1)) + in_thunderbird(letter(2)), 3, b""),
+    "CR that arrived": (in_crlf(letter(0)) + letter(1, body=b"hello\r\nyes\n"), 2, b"\r"),
+}
+
+
+def rule_2_some_messages_in_crlf(home: Home) -> None:
+    """Nothing is asked. Each message loses the CR that the program has added which wrote its From_ line, and no
+    other."""
+    for what, (text, count, cr) in PARTLY_CRLF.items():
+        home.begin("--dovecot", "--folder", "Archive")
+        home.write("OLD", text)
+        ran = home.done("OLD")
+        home.has(*range(count), why=(what, ran.text))
+        if b"".join(path.read_bytes() for path in home.files()).count(b"\r") != len(cr):
+            raise Failed(f"{what}: {home.names()}")
 
 
 def rule_2_the_same_mailbox_with_other_line_ends(home: Home) -> None:
@@ -466,6 +496,7 @@ RULES = [
     rule_2_the_fields_of_another_mailbox,
     rule_2_only_the_cores_are_equal,
     rule_2_another_mailbox_in_crlf,
+    rule_2_some_messages_in_crlf,
     rule_2_the_same_mailbox_with_other_line_ends,
     rule_2_deleted,
     rule_2_deleted_by_a_reader,

@@ -102,14 +102,14 @@ def rewritten(home: Path) -> None:
 
 
 def rewritten_and_read_alike(home: Path) -> None:
-    """A mailbox that was rewritten is not left for a word that gives its messages with other line ends alone: what is
-    new in it is brought."""
+    """Nothing is asked about a mailbox whose lines end in CR LF once a program has put mail without CR before its
+    messages: what is new in it is brought."""
     text = crlf(ONE + TWO)
     mailbox(home / "box", text)
     expect(["migrate", "M", "box"], home, 0, None)
     mailbox(home / "box", THREE + text)
     said = run_to_the_end(home, "mbox2maildir-admin migrate M box")
-    match_in(r"(?s)\A\$ mbox2maildir-admin migrate --as mboxrd --of [0-9a-f]{16} M box: .*grew by 1 message", said[-1])
+    match_in(r"(?s)\A\$ mbox2maildir-admin migrate M box: 0: .*grew by 1 message", "".join(said))
     equal(f"what is there: {said}", subjects(home / "M"), ["one", "three", "two"])
 
 

@@ -139,12 +139,11 @@ def split(
 
     named = frozenset(place for place, number in enumerate(numbers) if number in begin)
     messages = messages_in(lines, begins, word in ("mboxcl", "mboxcl2"), named)
-    has_cr = [one.from_line.endswith(b"\r\n") for one in messages]
     bodies = []
     for one in messages:
         body = unquoted(one, word)
-        if all(has_cr):
-            # a program has added the CR before each line end
+        if one.from_line.endswith(b"\r\n"):
+            # the program that wrote the From_ line has added the CR before each line end
             body = [line[:-2] + b"\n" if line.endswith(b"\r\n") else line for line in body]
         # the blank line at its end belongs to the mailbox
         bodies.append(b"".join(body[:-1] if body and body[-1] == b"\n" else body))

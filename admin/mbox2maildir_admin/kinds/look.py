@@ -285,7 +285,6 @@ KEEPING = (
     ("holds mail",),
     ("cut",),
     ("deleted",),
-    ("CR LF",),
 )
 # the sorts that contradict a word
 AGAINST = {

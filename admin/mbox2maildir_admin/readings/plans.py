@@ -108,15 +108,9 @@ def is_lock(path: bytes) -> bool:
 
 
 def is_as_it_is(look: Look) -> bool:
-    """Whether it is known that no copy of a text is made, whatever follows: a message has no right length, and a From_
-    line does not end in CR LF."""
+    """Whether no copy of a text is made unless a later From_ line ends in CR LF: a message has no right length."""
     lacks_length = look.without or look.count("wrong")
-    return bool(not look.start and lacks_length and look.count("CR LF") < look.messages)
-
-
-def read_enough(look: Look) -> Look:
-    """Looks at as much of a text as shows that no copy of it is made."""
-    return look.read(is_as_it_is)
+    return bool(not look.start and lacks_length and not look.count("CR LF"))
 
 
 def plan_of(mailbox: Mailbox, read: Read = Look.read, decision: Reading = UNDECIDED) -> Plan:
@@ -183,7 +177,7 @@ def decided(mailbox: Mailbox, verdict: Verdict, decision: Reading) -> Optional[R
     if not decision.alone:
         if verdict.reading and (look is None or look.have_lengths()):
             return None
-        if look is None or look.count("joined", "holds mail", "cut") or look.count("CR LF") not in (0, look.messages):
+        if look is None or look.count("joined", "holds mail", "cut"):
             raise question_of(mailbox, verdict)
         if look.are_deleted() and not decision.drop or not is_answer(look, decision.word):
             raise question_of(mailbox, verdict)
@@ -192,8 +186,7 @@ def decided(mailbox: Mailbox, verdict: Verdict, decision: Reading) -> Optional[R
         raise question_of(mailbox, verdict)
     if look is None and decision.word in BY_LENGTHS:
         raise question(mailbox, verdict, NO_LENGTHS, verdict.answers)
-    ends = CR if look is None else CRLF * (look.count("CR LF") == look.messages)
-    return Reading(decision.word, decision.text, decision.begin, ends=ends)
+    return Reading(decision.word, decision.text, decision.begin, ends=CR if look is None else CRLF)
 
 
 def want_no_contradiction(mailbox: Mailbox, verdict: Verdict, look: Look, decision: Reading) -> None:
@@ -219,6 +212,8 @@ def others_than(one: str) -> list[str]:
 def plan_by(mailbox: Mailbox, verdict: Verdict, reading: Reading, decision: Reading, kind: str) -> Plan:
     """The plan of a mailbox that is read in this way. All of it is read for that; a copy is made if it would differ."""
     counts = measured(reading, mailbox, verdict.start)
+    if reading.ends == CRLF and not counts.crlf:
+        reading = reading._replace(ends="")
     says = remarks_on_text(verdict)
     if decision.drop and counts.marked != counts.messages:
         says.append(deleted_kept(counts))

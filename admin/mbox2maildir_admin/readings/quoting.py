@@ -24,14 +24,15 @@ NOT_FIRST = "line %d: the text begins here, but no message begins with this line
 
 
 class Counts(NamedTuple):
-    """What a copy has: its messages, the lines that were quoted in it, the bytes that were left out, and what
-    Thunderbird marked among its messages."""
+    """What a copy has: its messages, the lines that were quoted in it, the bytes that were left out, what Thunderbird
+    marked among its messages, and how many From_ lines end in CR LF."""
 
     messages: int
     quoted: int
     left_out: int
     marked: int
     deleted: int
+    crlf: int
 
 
 class Beginnings:
@@ -62,6 +63,8 @@ class Quoter:
         # the offsets between which nothing begins a message, by the length of the last one
         self.body = (0, 0)
         self.is_dropped, self.cr = False, b""
+        # whether a program has added a CR to each line of the message, and to how many messages
+        self.is_crlf, self.crlf = False, 0
 
     def run(self) -> "Quoter":
         """Gives the whole text."""
@@ -134,6 +137,8 @@ class Quoter:
         """Begins a message."""
         self.messages += 1
         self.is_dropped, self.body = False, (0, 0)
+        self.is_crlf = self.how.ends == CRLF and mark.piece.endswith(b"\r")
+        self.crlf += self.is_crlf
         if self.how.word in BY_LENGTHS or not self.how.ends == CR:
             self.take_header(Header.read(self.mailbox, mark))
         if not self.is_dropped:
@@ -158,7 +163,7 @@ class Quoter:
         if self.is_dropped:
             self.left_out += len(piece)
             return
-        if self.how.ends == CRLF:
+        if self.is_crlf:
             piece = self.cr + piece
             self.cr = b"\r" if piece.endswith(b"\r") else b""
             piece = piece[: len(piece) - len(self.cr)]
@@ -175,7 +180,7 @@ class Quoter:
         """What was given so far."""
         deleted, marked = self.marks[Deleted.YES], sum(self.marks.values())
         gone = deleted if self.how.drop else 0
-        return Counts(self.messages - gone, self.quoted, self.left_out, marked, deleted)
+        return Counts(self.messages - gone, self.quoted, self.left_out, marked, deleted, self.crlf)
 
     def check(self, size: int, messages: int, wanted: Optional[int] = None) -> None:
         """Checks that what was written is what was read: the copy has this size, and as many messages as wanted. Raises

@@ -21,7 +21,7 @@ from ..units import Line
 MBOXRD, MBOXO, MBOXCL, MBOXCL2, UNQUOTED = WORDS = ("mboxrd", "mboxo", "mboxcl", "mboxcl2", "unquoted")
 # the words by which a message with a right length ends where that says
 BY_LENGTHS = MBOXCL, MBOXCL2
-# line ends of CR LF, and of CR alone
+# line ends of CR LF, in the messages whose From_ line has them, and of CR alone in all of the text
 CRLF, CR = "crlf", "cr"
 DROP, BARE = "drop-deleted", "dovecot"
 

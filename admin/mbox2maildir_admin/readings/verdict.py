@@ -52,9 +52,7 @@ class Verdict:
 
     def tied(self, mailbox: Mailbox, decision: Reading) -> Reading:
         """A decision that holds only as long as the lines that are doubtful now stay so, and no other one is."""
-        is_in_part = self.look is not None and self.look.count("CR LF") not in (0, self.look.messages)
-        doubts = self.look.doubts if self.look else Doubts(self.start)
-        ties = doubts.ties(mailbox, self.kind + ", CR LF in part" * is_in_part)
+        ties = (self.look.doubts if self.look else Doubts(self.start)).ties(mailbox, self.kind)
         return decision._replace(of=ties.numbers if decision.text or decision.begin else ties.messages)
 
     def doubtful(self) -> list[Line]:
@@ -176,7 +174,7 @@ def doubts_of(look: Look) -> tuple[Reading, ...]:
         return mail, PLAIN
     if count("holds mail"):
         return PLAIN, by_lines(look, "holds mail")
-    if count("cut") or count("CR LF") not in (0, look.messages):
+    if count("cut"):
         return (PLAIN,)
     return ()
 

@@ -39,6 +39,7 @@ class VerdictTest(unittest.TestCase):
             (b"\xef\xbb\xbf" + A + b"\n", 3, PLAIN),
             (b"\n \n" + A + b"\n", 3, PLAIN),
             (crlf, 0, Reading("mboxrd", ends="crlf")),
+            (A + b"\n" + crlf, 0, Reading("mboxrd", ends="crlf")),
             (A + LENGTH.replace(b"hello", b"From ") + B + LENGTH, 0, Reading("mboxcl2")),
             (A + LENGTH.replace(b"6", b"7").replace(b"hello", b">From ") + B + LENGTH, 0, Reading("mboxcl2")),
             (A + LENGTH + B + LENGTH, 0, PLAIN),
@@ -48,11 +49,9 @@ class VerdictTest(unittest.TestCase):
             self.assertEqual((verdict.start, verdict.reading, verdict.answers), (start, reading, ()), text)
 
     def test_what_is_a_guess(self) -> None:
-        mixed = A.replace(b"\n", b"\r\n") + b"\r\n" + B + b"\n"
         inside = A + b"Content-Length: %d\n\n" % len(B + b"\nyes\n") + B + b"\nyes\n\n"
         text = A + b"\nhello\nFrom here on\n\n"
         for guess in (
-            mixed,
             inside,
             text,
             A + b"Content-Length: 9\n\nno end",

@@ -87,10 +87,9 @@ class OtherwiseTest(HomeTest):
         self.assertIn("--as mboxo ", told(row))
 
     def test_the_lines_that_a_human_names_hold_by_the_other_reading(self) -> None:
-        """A program wrote mail with other line ends, in which a line is in question."""
-        crlf = (ONE + TWO).replace(b"\n", b"\r\n")
-        lines = frozenset([Line(crlf.count(b"\n") + DOUBTFUL[: DOUBTFUL.index(b"From here")].count(b"\n") + 1)])
-        row = self.done(crlf, crlf + DOUBTFUL, "mboxrd", decision=Reading("mboxo", text=lines))
+        """A program wrote mail in which a line is in question."""
+        lines = frozenset([Line((QUOTED + DOUBTFUL[: DOUBTFUL.index(b"From here")]).count(b"\n") + 1)])
+        row = self.done(QUOTED, QUOTED + DOUBTFUL, "mboxrd", decision=Reading("mboxo", text=lines))
         self.assertEqual((row.reason, len(self.mail())), (Reason.ANOTHER_READING, 2))
         self.assertIn("--as mboxrd --text %s --of " % numbers(lines), told(row))
         self.assertIs(self.migrate(decision=Reading("mboxrd", text=lines)).fate, Fate.DONE)

@@ -118,9 +118,12 @@ class PlanTest(unittest.TestCase):
         plan = self.plan(text, tied_to(text, Reading("mboxrd", begin=begin)))
         self.assertEqual((plan.messages, plan.is_copied), (2, True))
 
-    def test_line_ends_in_part_of_one_of_several(self) -> None:
+    def test_line_ends_in_part(self) -> None:
+        """Nothing is asked, also about one of several."""
         text = A + b"\nhi\n\n" + (B + b"\nhi\n\n").replace(b"\n", b"\r\n")
-        self.assertRaises(Question, self.plan, text, Reading("mboxrd", alone=False))
+        for decision in (UNDECIDED, Reading("mboxrd"), Reading("mboxrd", alone=False)):
+            plan = self.plan(text, decision)
+            self.assertEqual((plan.reading, plan.is_copied), (Reading("mboxrd", ends="crlf"), True))
 
     def test_only_doubtful_lines_are_named(self) -> None:
         for line, is_taken in ((6, True), (5, False), (1, False)):

@@ -35,6 +35,11 @@ class QuotingTest(unittest.TestCase):
         self.assertEqual(self.copied(Reading("mboxrd", ends="crlf"), text.replace(b"\n", b"\r\n")), text)
         self.assertEqual(self.copied(Reading("mboxrd", ends="cr"), text.replace(b"\n", b"\r")), text)
         self.assertEqual(self.copied(Reading("mboxrd", ends="crlf"), b"From a\r\nhi\r\r\n\r"), b"From a\nhi\r\n\r")
+        mixed = b"From a\nhi\r\n" + b"From b\r\nhi\nho\r\n" + b"From c\nhi\r\n"
+        wanted = b"From a\nhi\r\n" + b"From b\nhi\nho\n" + b"From c\nhi\r\n"
+        self.assertEqual(self.copied(Reading("mboxrd", ends="crlf"), mixed), wanted)
+        with source_of(mixed) as mailbox:
+            self.assertEqual(measured(Reading("mboxrd", ends="crlf"), mailbox, Offset(0)), Counts(3, 0, 2, 0, 0, 1))
 
     def test_line_ends_between_two_blocks(self) -> None:
         text = A + b"\nhi\n\n" + B + b"\nhello\n\n"
@@ -63,7 +68,7 @@ class QuotingTest(unittest.TestCase):
     def test_what_is_measured(self) -> None:
         text = A + b"X-Mozilla-Status: 0009\n\n>>From x\n\n" + B + b"\nFrom y\n\n"
         with source_of(text) as mailbox:
-            self.assertEqual(measured(Reading("unquoted"), mailbox, Offset(0)), Counts(2, 2, 0, 1, 1))
+            self.assertEqual(measured(Reading("unquoted"), mailbox, Offset(0)), Counts(2, 2, 0, 1, 1, 0))
             self.assertEqual(measured(Reading("mboxo", drop=True), mailbox, Offset(0))[:2], (2, 0))
 
     def test_faults(self) -> None:

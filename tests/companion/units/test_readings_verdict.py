@@ -43,14 +43,11 @@ class VerdictTest(unittest.TestCase):
             return look_at(mailbox).tied(mailbox, decision).of
 
     def test_what_a_decision_is_tied_to(self) -> None:
-        """One that names lines to their numbers, which a program moves that writes into a header; and each to whether
-        only some lines end in CR LF."""
+        """One that names lines to their numbers, which a program moves that writes into a header."""
         text, moved = A + b"\n" + ODD, A + b"Status: RO\n\n" + ODD
         self.assertEqual(self.tie(text, Reading("mboxrd")), self.tie(moved, Reading("mboxrd")))
         lines = (Reading("mboxrd", frozenset({Line(number)})) for number in (5, 6))
         self.assertNotEqual(*(self.tie(one, decision) for one, decision in zip((text, moved), lines)))
-        in_part = text + B.replace(b"\n", b"\r\n") + b"\r\n"
-        self.assertNotEqual(self.tie(in_part, Reading("mboxrd")), self.tie(text + B + b"\n", Reading("mboxrd")))
 
     def decided(self, text: bytes) -> tuple[str, ...]:
         """What may be decided of a text, in words."""
@@ -75,7 +72,7 @@ class VerdictTest(unittest.TestCase):
             (A + b"\nFrom x\ry Mon Mar  3 09:12:44 2025\n\n", ("--as mboxrd", "--as mboxrd --text 5")),
             (A + b"X-Mozilla-Status: 0008\n\n", ("--drop-deleted", "--as mboxrd")),
             (A + WRONG + b"hi", ("--as mboxrd",)),
-            ((A + b"\n").replace(b"\n", b"\r\n") + B, ("--as mboxrd",)),
+            ((A + b"\n").replace(b"\n", b"\r\n") + B, ()),
             ((A + b"\n").replace(b"\n", b"\r"), ("--as mboxrd",)),
             # more lines than are kept with their numbers
             (A + b"\n" + ODD * 201, ("--as unquoted", "--as mboxrd")),

@@ -1,22 +1,19 @@
 """The reader of texts: its parts, its messages, and the descriptor that it reads by."""
 import gzip
 import hashlib
-import itertools
 import os
 import unittest
 from functools import partial
-from typing import Optional
 from unittest import mock
 
-from mbox2maildir_admin.faults import Fault, Left
-from mbox2maildir_admin.kinds.look import Look, Read
+from mbox2maildir_admin.faults import Fault
 from mbox2maildir_admin.maildir.space import trial_folder
 from mbox2maildir_admin.mbox import parts
 from mbox2maildir_admin.mbox.files import LineEnds, Reader
 from mbox2maildir_admin.mbox.mailbox import Mailbox
 from mbox2maildir_admin.mbox.messages import messages_of
 from mbox2maildir_admin.mbox.parts import FROM_LINE, MARK, TEXT, Part, from_lines_of, parts_of
-from mbox2maildir_admin.readings.plans import Plan, plan_of, read_enough
+from mbox2maildir_admin.readings.plans import Plan
 from mbox2maildir_admin.readings.reading import Reading
 from mbox2maildir_admin.readings.texts import Choice, Text, after_internal, disk_of, is_mbox, open_text
 from mbox2maildir_admin.units import Line, Offset
@@ -108,38 +105,18 @@ class OpenTextTest(FolderTest):
     RIGHT, INSIDE = A + b"Content-Length: 6\n\nhello\n\n", A + b"Content-Length: 15\n\nFrom here then\n\n"
     CRLF = PLAIN.replace(b"\n", b"\r\n")
 
-    def test_a_beginning_tells_what_the_whole_does(self) -> None:
-        def copied(path: bytes, read: Read = Look.read) -> Optional[Reading]:
-            with Mailbox.open(path) as handle:
-                try:
-                    plan = plan_of(handle, read)
-                    return plan.reading if plan.is_copied else None
-                except Left:
-                    return None
-
-        pieces = self.PLAIN, self.WRONG, self.RIGHT, self.INSIDE, self.CRLF, B
-        texts = [b"".join(some) for count in (1, 2, 3) for some in itertools.product(pieces, repeat=count)]
-        for text in texts + [b"\n" + text for text in texts[:6]]:
-            path = self.write("box", text)
-            self.assertEqual(copied(path, read_enough), copied(path), text)
-
     def test_what_is_read(self) -> None:
         for text, wanted, start in (
             (self.PLAIN, self.PLAIN, 0),
             (b"\n" + self.PLAIN, b"\n" + self.PLAIN, 1),
             (self.INSIDE, A + b"Content-Length: 15\n\n>From here then\n\n", 0),
             (self.CRLF, self.PLAIN, 0),
+            (self.PLAIN + self.CRLF, self.PLAIN * 2, 0),
         ):
             path = self.write("box", text)
             with open_text(path, os.path.dirname(path)) as found:
                 got = found.mailbox.at(0, found.mailbox.size), found.start
                 self.assertEqual(got, (wanted, start), text)
-
-    def test_a_plain_text_is_not_looked_at_twice(self) -> None:
-        text = self.PLAIN + b"x" * (4 << 20) + b"\n"
-        with Mailbox.open(self.write("box", text)) as handle:
-            plan_of(handle, read_enough)
-            self.assertLessEqual(handle.file.offset, 1 << 20)
 
 
 class InternalTest(FolderTest):
