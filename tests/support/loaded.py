@@ -8,6 +8,7 @@ from mbox2maildir_admin.flags.clients import labels_of
 from mbox2maildir_admin.maildir.folders import folder_of
 from mbox2maildir_admin.mbox.dates import reader_of_other_forms
 from mbox2maildir_admin.users.loading import load_for_children
+from mbox2maildir_admin.version import version
 
 
 def load_companion() -> None:
@@ -18,4 +19,5 @@ def load_companion() -> None:
     load_for_children()
     cli.command_line()
     reader_of_other_forms()
+    version()
     folder_of(labels_of("=?UTF-8?Q?=C3=BC?=")[0])
