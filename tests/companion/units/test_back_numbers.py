@@ -179,6 +179,11 @@ class NumberingTest(FolderTest):
         numbering, again = self.prepared(wanted, its, True)
         self.assertEqual((again, self.words(numbering)), (wanted, []))
 
+    def test_a_mailbox_that_has_given_more_uids(self) -> None:
+        """Its last one stays, since it was another message's."""
+        numbering, text = self.prepared(KEPT, Listed(1700000000, 3, {b"1.a": 2}, {}), True, b"1.a")
+        self.assertEqual((text, self.words(numbering)), (KEPT, []))
+
     def test_an_empty_mailbox_takes_the_numbers_of_the_folder(self) -> None:
         its = Listed(1700000001, 9, {b"1.a": 7}, {"a": b"Garden"})
         numbering, text = self.prepared(b"", its, False, b"1.b", b"1.a:2,a")

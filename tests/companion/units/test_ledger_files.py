@@ -82,6 +82,13 @@ class FilesTest(LedgerTest):
         # whoever reads many says so
         self.assertGreaterEqual(len(set(self.said)), 5)
 
+    def test_what_an_undo_has_kept(self) -> None:
+        """It is read whatever its name is, also if no program has named a file."""
+        self.place(READ)
+        files = self.files(ONE)
+        files.kept.add(named_of(READ))
+        self.assertEqual(files.foreign([0], (), False), {short(body_of(ONE)): [named_of(READ)]})
+
     def test_a_folder_without_them_is_not_read(self) -> None:
         self.place(ONE)
         files = self.files(ONE + TWO)

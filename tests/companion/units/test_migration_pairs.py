@@ -117,6 +117,13 @@ class PairsTest(HomeTest):
         self.assertEqual(self.rows("a.mboxrd", folder="Other"), {"a.mboxrd": ("done", "")})
         self.assertEqual(self.rows("a", "a.mboxrd"), {"a": ("done before", ""), "a.mboxrd": ("done before", "")})
 
+    def test_one_that_a_human_has_put_into_inbox(self) -> None:
+        """A file that is named as a folder stays there, without another word."""
+        self.make("sent", ONE)
+        self.assertEqual(self.rows("sent", folder="INBOX"), {"sent": ("done", "")})
+        self.make("sent", ONE + TWO)
+        self.assertEqual(self.rows("sent"), {"sent": ("done", "it grew by 1 message")})
+
     def test_the_copy_of_what_is_done(self) -> None:
         """As `quote` makes one."""
         self.make("box", ONE + b"From here on\n\n")

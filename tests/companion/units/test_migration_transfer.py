@@ -12,9 +12,10 @@ from mbox2maildir_admin.ledger.ledger import Ledger
 from mbox2maildir_admin.maildir.making import LEDGER
 from mbox2maildir_admin.migration.outcomes import Fate, Row
 from mbox2maildir_admin.migration.transfer import FEW, TENTH
+from mbox2maildir_admin.nexts import Remark
 from mbox2maildir_admin.readings.reading import UNDECIDED, Reading
 
-from tests.support.mail import MAY, ONE, THREE, TWO, A, bodies_of, with_length
+from tests.support.mail import MAY, ONE, THREE, TWO, A, bodies_of, digest_of, with_length
 from tests.support.migrating import Cut, HomeTest, Killed
 from tests.support.nexts import told
 
@@ -125,6 +126,15 @@ class NeverTwiceTest(TransferTest):
                 row = self.bring("box", again=True)
                 self.assertEqual((row.fate, len(self.mail())), (Fate.DONE, 100 + new))
         self.assertEqual((TENTH, FEW), (10, 3))
+
+    def test_what_is_said_of_one_that_was_edited_as_a_whole(self) -> None:
+        """It is looked at twice, and each thing is said once."""
+        self.bring("box", ONE * 11)
+        says = Remark("power-cut", "on this disk")
+        with mock.patch("mbox2maildir_admin.migration.transfer.want_syncs", return_value=[says]) as wanted:
+            row = self.bring("box", b"".join(OTHERS[:11]), again_rewritten=True, any_disk=True)
+        self.assertEqual((row.fate, row.remarks.count(says)), (Fate.DONE, 1))
+        self.assertEqual(wanted.call_args_list, [mock.call(self.root, True)] * 2)
 
     def test_few_of_few(self) -> None:
         """Three of three are gone, and as many new: nobody asks for that."""
@@ -270,6 +280,19 @@ class KilledTest(TransferTest):
         self.assertEqual(len(self.mail()), 2)
         self.assertIs(self.bring("box").fate, Fate.DONE)
         self.assertEqual(len(self.mail()), 2)
+
+    def test_what_may_have_come_back_in_a_run_that_was_killed(self) -> None:
+        """The next run says it: the ledger is older than another mailbox, whose mail was deleted."""
+        self.bring("first", THREE)
+        before = self.file().read_bytes()
+        self.bring("other", ONE + TWO)
+        self.file().write_bytes(before)
+        for body in bodies_of(ONE + TWO):
+            (self.maildir / "new" / (digest_of(body) + ".1")).unlink()
+        self.move_box("box")
+        self.fill(ONE + TWO)
+        self.assertRaises(Killed, self.migrate, Cut(1))
+        self.assertIn("up to 2 messages that had been deleted or moved came back", told(self.bring("box")))
 
     def test_a_mailbox_that_was_renamed_after_a_kill(self) -> None:
         self.move_box("box")

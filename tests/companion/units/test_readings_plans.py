@@ -192,6 +192,9 @@ class PlanTest(unittest.TestCase):
         self.assertEqual(self.plan(crlf, drop).reading, without._replace(ends="crlf"))
         plan = self.plan(deleted + marked, Reading("mboxrd"))
         self.assertEqual((plan.kind, plan.messages), ("mboxrd by --as", 2))
+        with self.assertRaises(Question):
+            # a word for several mailboxes brings no deleted mail back
+            self.plan(deleted + marked, Reading("mboxrd", alone=False))
         kept = "no deleted mail was left out, because 1 of 2 messages have no X-Mozilla-Status"
         plan = self.plan(deleted + B + b"\n", drop)
         self.assertEqual((plan.messages, plan.is_copied, plan.remarks), (2, False, (Remark("deleted-kept", kept),)))

@@ -43,12 +43,19 @@ class InboxesTest(FolderTest):
 
     def test_the_mode_of_the_others(self) -> None:
         """Root's files and locks are no inboxes."""
-        for name, mode, wanted in (("a", 0o660, 0o660), ("b.lock", 0o600, 0o660), ("c", 0o640, 0o600)):
+        for name, mode, wanted in (
+            ("a", 0o660, 0o660),
+            ("b.lock", 0o600, 0o660),
+            ("root", 0o600, 0o660),
+            ("c", 0o640, 0o600),
+        ):
             os.chmod(self.write(name, b""), mode)
             self.inboxes.mode = None
             with mock.patch("os.lstat", wraps=os.lstat) as lstat:
                 lstat.side_effect = lambda path: mock.Mock(
-                    st_mode=os.stat(path).st_mode, st_uid=1000, st_gid=os.stat(self.here).st_gid
+                    st_mode=os.stat(path).st_mode,
+                    st_uid=0 if path.endswith(b"/root") else 1000,
+                    st_gid=os.stat(self.here).st_gid,
                 )
                 self.assertEqual(self.inboxes.mode_of_new(), wanted, name)
         self.assertEqual(self.inboxes.mode_of_new(), 0o600)
