@@ -318,24 +318,17 @@ class PathsTest(LedgerTest):
 
     def test_an_undo_that_an_older_ledger_lacks(self) -> None:
         """Its next line says so, whatever that is, and no later one says it again."""
-        for number, write in enumerate((lambda one: one.begin(HEAD, ()), lambda one: one.move(OTHER, THIRD))):
-            self.make_folder(f"older-{number}")
+        for moves in (False, True):
+            self.make_folder(f"older-{int(moves)}")
             for path, message in ((BOX, ONE), (OTHER, TWO)):
                 self.bring(path, line_of(message))
             ledger = Ledger(self.folder)
             ledger.take_undone(BOX)
-            for _ in range(2):
-                write(ledger)
+            if moves:
+                ledger.move(OTHER, THIRD)
+            ledger.begin(HEAD, ())
             self.assertNotIn(BOX, Ledger(self.folder).sources)
             self.assertEqual(self.file.read_bytes().count(b"-\t"), 1)
-
-    def test_the_bytes_that_a_mailbox_had(self) -> None:
-        keys = [(size, "a" * 64) for size in (10, 11, 12)]
-        for key in keys:
-            number = Ledger(self.folder).begin(HEAD._replace(key=key), ())
-            if key != keys[-1]:
-                note_end(self.folder, number)
-        self.assertEqual(Ledger(self.folder).keys_of(BOX), {*keys})
 
     def test_the_last_batch_without_an_end(self) -> None:
         self.bring(BOX, line_of(ONE))
