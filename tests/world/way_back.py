@@ -1,7 +1,8 @@
 #!/usr/bin/env -S python3 -B
 """The way into a Maildir and back, over a real Dovecot: random users whom it serves before, in between, after
-`back --dovecot`, and after a further migration, into a new Maildir or into the same one. No UID ever means two
-messages; and the mail that came in between has its UID, its flags and its keywords in the mailboxes.
+`back --dovecot` and the commands that it prints, and after a further migration, into a new Maildir or into the same
+one. No UID ever means two messages; and the mail that came in between has its UID, its flags and its keywords in the
+mailboxes.
 
 The environment's WAY_BACK_USERS says how many users there are, and WAY_BACK_FIRST the first one. Everything is left out
 if Dovecot is missing.
@@ -9,6 +10,7 @@ if Dovecot is missing.
 import contextlib
 import os
 import re
+import shlex
 import shutil
 import subprocess
 from collections import Counter
@@ -23,14 +25,18 @@ from tests.support.dovecot.mailboxes import KEYWORDS
 from tests.support.dovecot.served import FLAGS, Case, mail, served
 from tests.support.dovecot.server import Dovecot, Folder, Row, is_there
 from tests.support.dovecot.settings import settings_here
+from tests.support.printed import commands_in
 
 USERS, FIRST = int(os.environ.get("WAY_BACK_USERS") or 3), int(os.environ.get("WAY_BACK_FIRST") or 0)
-OLD, NEW, RENAMED = ["INBOX", "sent", "lists/garden", "later"], ["lists/sheds", "new"], {"lists/garden": "shed"}
+OLD = ["INBOX", "sent", "lists/garden", "Gr&APwA3w-e"]
+NEW, RENAMED = ["lists/sheds", "new"], {"lists/garden": "shed"}
 KEPT_FLAGS = [flag for flag in FLAGS if flag != r"\Deleted"]
+# a first message has no room for the second one of the long ones
+MARKS = [*KEYWORDS, "-that-grows-in-the-garden-behind-the-shed", "and-is-longer-than-the-blanks-that-dovecot-leaves"]
 LDA = "/usr/lib/dovecot/dovecot-lda"
 LISTED = re.compile(rb'\(([^)]*)\) "/" "?([^"]*)"?')
 BACK = ["mbox2maildir-admin", "back", "--dovecot", "--now", "Maildir", "mail", "inbox"]
-LOST = "keywords are lost"
+ADDED = "Dovecot is to add keywords"
 
 
 class Trip:
@@ -50,7 +56,7 @@ class Trip:
     def marks(self) -> str:
         """Some flags and keywords."""
         draw = self.draw
-        return " ".join(draw.sample(KEPT_FLAGS, draw.randrange(3)) + draw.sample(KEYWORDS, draw.randrange(3)))
+        return " ".join(draw.sample(KEPT_FLAGS, draw.randrange(3)) + draw.sample(MARKS, draw.randrange(3)))
 
     def shown(self, user: str, when: str) -> dict[str, Folder]:
         """What Dovecot shows of each folder. Fails if a UID means another message than before."""
@@ -150,8 +156,12 @@ class Trip:
         says = self.done(*case.run(*BACK))
         yield says
         again = self.done(*case.run(*BACK))
-        if ": back" in again:
-            raise Failed(f"a second run brings mail back: {again}\n{says}")
+        if ": back" in again or self.commands(again) != self.commands(says):
+            raise Failed(f"a second run brings mail back, or prints other commands: {again}\n{says}")
+        self.add(self.commands(says))
+        again = self.done(*case.run(*BACK))
+        if self.commands(again):
+            raise Failed(f"Dovecot was told, and is to be told again: {again}\n{says}")
         self.compare(first, there, self.shown(case.name, "back"), says)
         self.compare_subscriptions(says)
         case.deliver(mail(self.number()))
@@ -171,6 +181,18 @@ class Trip:
         found = {name: one for name, one in brief(after).items() if one[2]}
         if is_new and found != wanted:
             raise Failed(f"there again: {found}, and it was {wanted}")
+
+    @staticmethod
+    def commands(says: str) -> list[list[str]]:
+        """The words of the commands for Dovecot that were printed."""
+        return [words for words in map(shlex.split, commands_in(says)) if words[0] == "doveadm"]
+
+    def add(self, commands: Sequence[Sequence[str]]) -> None:
+        """Runs commands for Dovecot, as those of the user."""
+        for _, noun, verb, *words in commands:
+            ran = self.server.doveadm(noun, verb, "-u", self.case.name, *words)
+            if ran.returncode:
+                raise Failed(f"{noun} {verb} {words}: {ran.stderr.decode()}")
 
     def done(self, status: int, says: str) -> str:
         """What a command says that ended well."""
@@ -198,8 +220,7 @@ class Trip:
             if not new and (its not in first or not first[its][2]):
                 # an empty mailbox has no numbers
                 continue
-            keeps = LOST not in says
-            lacks = Counter(marks_of(row, keeps) for row in new) - Counter(marks_of(row, keeps) for row in back[its][2])
+            lacks = Counter(map(marks_of, new)) - Counter(map(marks_of, back[its][2]))
             if lacks or back[its][0] != validity or back[its][1] < following:
                 raise Failed(f"{its}: lacks {lacks} of {validity} {following}: {brief(back)[its]}\n{says}")
 
@@ -216,10 +237,10 @@ def subject_of(text: bytes) -> str:
     return match_in(rb"Subject: (\d+)", text)[1].decode()
 
 
-def marks_of(row: Row, has_keywords: bool = True) -> tuple[int, str, str]:
+def marks_of(row: Row) -> tuple[int, str, str]:
     """The UID of a message, its subject, and its flags and keywords."""
     uid, flags, keywords, _, text = row
-    return uid, subject_of(text), b" ".join([*flags, *(keywords if has_keywords else [])]).decode()
+    return uid, subject_of(text), b" ".join([*flags, *keywords]).decode()
 
 
 def brief(several: Mapping[str, Folder]) -> dict[str, tuple[int, int, list[tuple[int, str, str]]]]:
@@ -233,7 +254,7 @@ def way_of(place: Callable[[], tuple[Path, Dovecot]], seed: int) -> None:
         raise LeftOut("Dovecot's server with IMAP and POP3 is not here")
     home, server = place()
     for says in Trip(home, server, seed).run():
-        words = re.findall("its next UID|its UIDVALIDITY|keywords are lost|subscriptions", says)
+        words = re.findall(f"its next UID|its UIDVALIDITY|{ADDED}|subscriptions", says)
         print(f"user {seed}: {dict(Counter(words))}", flush=True)
 
 

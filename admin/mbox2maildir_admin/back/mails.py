@@ -41,6 +41,7 @@ class Slot(NamedTuple):
     core: bytes
     paths: frozenset[str]
     is_held: bool = True
+    is_returned: bool = False
 
 
 class Mail(NamedTuple):
@@ -60,13 +61,15 @@ class Mail(NamedTuple):
 
 class Sorted(NamedTuple):
     """What is new, in the order of its time; what was moved, with the message that it is; the messages that were
-    changed, and those that were deleted; and the paths of all mailboxes that the ledgers have."""
+    changed, and those that were deleted; the paths of all mailboxes that the ledgers have; and what went back before,
+    and is in its folder."""
 
     new: Sequence[Mail]
     moved: Sequence[tuple[Mail, Slot]]
     changed: Sequence[Slot]
     deleted: Sequence[Slot]
     paths: frozenset[str] = frozenset()
+    returned: Sequence[Mail] = ()
 
 
 class Sorting:
@@ -76,6 +79,7 @@ class Sorting:
         self.slots, self.mails = list(slots), list(mails)
         self.moved: list[tuple[Mail, Slot]] = []
         self.changed: list[Slot] = []
+        self.returned: list[Mail] = []
 
     def run(self) -> Sorted:
         """Finds them: by the name and by the core in the folder, then in other folders."""
@@ -88,7 +92,8 @@ class Sorting:
         ):
             self.take(is_same, is_home)
         new = sorted(self.mails, key=lambda mail: (mail.time, mail.name, mail.folder))
-        return Sorted(new, self.moved, self.changed, [one for one in self.slots if one.is_held], paths)
+        deleted = [one for one in self.slots if one.is_held]
+        return Sorted(new, self.moved, self.changed, deleted, paths, self.returned)
 
     def take(self, key: Callable[[Mail], object], is_home: bool) -> None:
         """Takes the files that have the key of a message."""
@@ -104,6 +109,8 @@ class Sorting:
             slot = free[its].pop()
             if mail.core != slot.core:
                 self.changed.append(slot)
+            if slot.is_returned and is_home:
+                self.returned.append(mail)
             if not is_home:
                 self.moved.append((mail, slot))
         self.mails = rest
@@ -149,6 +156,7 @@ def slots_in(folder: bytes, ledger: Ledger) -> Iterator[Slot]:
     """The messages that mailboxes brought into a folder. What has a name is one message, whoever brought it; of what
     has none, as many are different ones as one mailbox has."""
     paths: collections.defaultdict[tuple[bytes, bytes, bool], set[str]] = collections.defaultdict(set)
+    returned: set[bytes] = set()
     nameless: collections.Counter[tuple[str, bytes]] = collections.Counter()
     for line in ledger.entries(None):
         is_held, one = line.state is State.HELD, line.message
@@ -156,13 +164,14 @@ def slots_in(folder: bytes, ledger: Ledger) -> Iterator[Slot]:
             nameless[line.path, one.core] += is_held
         elif is_held or line.state is State.FORMER and one.word == RETURNED:
             paths[one.name, one.core, is_held].add(line.path)
+            returned |= {one.name} if is_held and one.word == RETURNED else set()
     most: collections.Counter[bytes] = collections.Counter()
     for (_, core), count in nameless.items():
         most[core] = max(most[core], count)
     held = {name for name, _, is_held in paths if is_held}
     for (name, core, is_held), several in paths.items():
         if is_held or name not in held:
-            yield Slot(folder, name, core, frozenset(several), is_held)
+            yield Slot(folder, name, core, frozenset(several), is_held, name in returned)
     for core in most.elements():
         yield Slot(folder, NAMELESS, core, frozenset(path for path, its in nameless if its == core))
 

@@ -1,33 +1,31 @@
 """The UIDs and keywords of a mailbox that Dovecot keeps, after its mail was in a Maildir: no UID may mean two messages.
 
 Dovecot 2.3 takes over a higher last UID in `X-IMAPbase`, with its index and without, and keeps an `X-UID` that is not
-higher. Keywords that are not named there count for nothing. If a Maildir goes on with the UIDs of its mailbox, the
-messages that go back keep theirs. If it was to, and no longer does, UIDVALIDITY is new.
+higher. If a Maildir goes on with the UIDs of its mailbox, the messages that go back keep theirs. If it was to, and no
+longer does, UIDVALIDITY is new.
 """
 import os
 import time
 from collections.abc import Iterator, Sequence
 from typing import NamedTuple, Optional
 
-from ..flags.dovecot_headers import LONGEST_KEYWORD, MOST_VALIDITY, Head, Reading, header_at
+from ..flags.dovecot_headers import MOST_VALIDITY, Head, Reading, header_at
 from ..ledger.history import names_of
 from ..ledger.ledger import Ledger
 from ..ledger.record import Record, unspelled
-from ..maildir.folders import folder_name
 from ..mbox.inventory import Inventory
 from ..mbox.mailbox import Mailbox
 from ..migration.steps import Opened
 from ..nexts import NOTHING, Next, Remark, run_next
-from ..terminal import NAMED, named
 from ..units import Place
 from .base import Base
+from .keywords import NO_BASE, Keywords, commands_for
 from .listed import Listed
 from .mails import Mail
-from .steps import How
+from .places import name_in
+from .steps import How, Target
 
 RAISED, ANEW = "its next UID is %d now", "its UIDVALIDITY is %d now, so mail programs fetch all of it anew"
-LOST = "keywords are lost, because %s: %s"
-NO_BASE, NO_ROOM = "Dovecot had given it no UIDs", "its first message has no room for their names"
 NOT_RAISED = "its first message has no room for its next UID: run the command below before a mail program looks at it"
 # in the place of a UID
 NONE = 1 << 32
@@ -50,54 +48,51 @@ class Numbers(NamedTuple):
 class Numbering:
     """The numbers of one mailbox, and of the mail that goes back into it."""
 
-    def __init__(self, listed: Optional[Listed], is_numbered: bool, moment: Optional[int] = None) -> None:
-        """`is_numbered` says whether the folder got the numbers of the mailbox when it was migrated."""
-        self.listed, self.is_numbered = listed, is_numbered
+    def __init__(
+        self, listed: Optional[Listed], is_numbered: bool, name: str = "", moment: Optional[int] = None
+    ) -> None:
+        """`is_numbered` says whether the folder got the numbers of the mailbox when it was migrated. `name` is that by
+        which Dovecot knows the mailbox."""
+        self.listed, self.is_numbered, self.name = listed, is_numbered, name
         self.moment = int(time.time()) if moment is None else moment
         self.remarks: list[Remark] = []
         self.next: Next = NOTHING
-        # the keywords that messages may have; what the first message of an empty mailbox says; whether the UIDs of the
-        # Maildir count, and the last one that the mailbox has
-        self.known: set[bytes] = set()
+        self.keywords = Keywords(listed)
+        # what the first message of an empty mailbox says; whether the UIDs of the Maildir count, the last one that a
+        # message of the mailbox has, and the last one that was given
         self.first: Optional[Numbers] = None
-        self.is_same, self.last = False, 0
+        self.is_same, self.last, self.given = False, 0, 0
+        # the messages that went back, and may lack keywords; the UID of each message by its core, if any lacks some
+        self.lacking: Sequence[Mail] = ()
+        self.numbered: list[tuple[bytes, int]] = []
 
-    def prepare(self, mailbox: Mailbox, mails: Sequence[Mail], folder: str, is_dry: bool) -> None:
+    def prepare(self, mailbox: Mailbox, mails: Sequence[Mail], is_dry: bool) -> None:
         """Has the mailbox say what it is to say of its UIDs and keywords, before mail is appended: if that is
         interrupted, some UIDs are never given."""
-        words = self.words_of(mails)
+        words = self.keywords.names(mails)
         if not mailbox.size:
             if self.listed:
                 self.first = Numbers(self.listed.validity, self.listed.following - 1, True, words)
-                self.is_same, self.known = True, set(map(bytes.lower, words))
+                self.is_same = True
+                self.keywords.know(words)
             return
         base = Base.of(mailbox)
         if not base:
-            self.lose(NO_BASE, words)
+            self.keywords.why = NO_BASE
             return
-        self.known = set(map(bytes.lower, base.head.keywords))
+        self.keywords.know(base.head.keywords)
         wanted = self.wanted(base.head)
         header = base.header_with(wanted.validity, wanted.last, [])
         new: list[bytes] = []
-        lost: list[bytes] = []
-        for one in [one for one in words if one.lower() not in self.known]:
+        for one in self.keywords.unknown(mails):
             longer = base.header_with(wanted.validity, wanted.last, [*new, one])
             header = longer or header
-            (new if longer else lost).append(one)
-        self.lose(NO_ROOM, lost)
-        self.known.update(map(bytes.lower, new))
-        self.is_same = wanted.is_same
-        self.tell(base.head, wanted, bool(header), folder)
+            new += [one] * bool(longer)
+        self.keywords.know(new)
+        self.is_same, self.given = wanted.is_same, wanted.last
+        self.tell(base.head, wanted, bool(header))
         if header and header != base.header and not is_dry:
             base.write(mailbox, header)
-
-    def words_of(self, mails: Sequence[Mail]) -> list[bytes]:
-        """The keywords of files, each once."""
-        names: dict[bytes, bytes] = {}
-        for mail in mails:
-            for name in self.listed.keywords_in(mail.name) if self.listed else ():
-                names.setdefault(name.lower(), name)
-        return [one for one in names.values() if len(one) <= LONGEST_KEYWORD]
 
     def wanted(self, head: Head) -> Numbers:
         """What a mailbox with this head is to say."""
@@ -110,7 +105,7 @@ class Numbering:
             return Numbers(validity if validity <= MOST_VALIDITY else self.moment, head.last, False)
         return Numbers(head.validity, head.last, False)
 
-    def tell(self, head: Head, wanted: Numbers, has_room: bool, folder: str) -> None:
+    def tell(self, head: Head, wanted: Numbers, has_room: bool) -> None:
         """Says what is new; of what has no room, what has Dovecot write it."""
         more: list[str] = []
         if wanted.last > head.last:
@@ -121,21 +116,28 @@ class Numbering:
             more += ["--uid-validity", str(wanted.validity)]
         if more and not has_room:
             self.remarks = [Remark("uids-not-raised", NOT_RAISED)]
-            self.next = run_next("doveadm", "mailbox", "update", *more, folder)
+            self.next = run_next("doveadm", "mailbox", "update", *more, self.name)
 
-    def lose(self, why: str, names: Sequence[bytes]) -> None:
-        """Says which keywords are lost."""
-        if names:
-            more = " and %d more" % (len(names) - NAMED) if names[NAMED:] else ""
-            self.remarks.append(Remark("keywords-lost", LOST % (why, " ".join(map(named, names[:NAMED])) + more)))
+    def lack(self, mails: Sequence[Mail]) -> None:
+        """Takes messages that went back, the last one last, if any of them lacks a keyword."""
+        self.lacking = mails if self.keywords.unknown(mails) else ()
 
     def take(self, mailbox: Mailbox, inventory: Inventory) -> None:
         """Takes the UIDs of the messages that are in a text."""
-        if self.is_same and len(inventory):
+        if (self.is_same or self.lacking) and len(inventory):
             reading = Reading()
+            reading.last = self.given
             for place in map(Place, range(len(inventory))):
                 reading.add(header_at(mailbox, inventory.offset(place)))
             self.last = max(reading.uids)
+            pairs = ((inventory.core(Place(place)), uid) for place, uid in enumerate(reading.uids))
+            self.numbered = list(pairs) if self.lacking else []
+
+    def end(self, is_dry: bool) -> None:
+        """Has Dovecot add what messages lack in the text that was looked at last."""
+        wanted = self.keywords.uids(self.lacking, self.numbered)
+        self.remarks += self.keywords.remarks(self.keywords.unknown(self.lacking) if is_dry else [*wanted])
+        self.next = (*self.next, *([] if is_dry else commands_for(wanted, self.name)))
 
     def uid(self, mail: Mail) -> int:
         """The UID of a file that its message keeps; a higher number than any if it gets a new one."""
@@ -152,18 +154,17 @@ class Numbering:
             if last < uid < NONE:
                 fields.append(b"X-UID: %d" % uid)
                 last = uid
-            words = self.listed.keywords_in(mail.name) if self.listed else []
-            known = [one for one in words if one.lower() in self.known]
-            yield mail, fields + [b"X-Keywords: " + b" ".join(known)] * bool(known)
+            yield mail, fields + self.keywords.fields(mail)
 
 
-def numbering_of(opened: Opened, record: Record, mails: Sequence[Mail], how: How) -> Numbering:
+def numbering_of(opened: Opened, record: Record, target: Target, how: How) -> Numbering:
     """The numbers of an open mailbox and of its folder, whatever their names are now. The mailbox says from now on what
-    it is to say before this mail is appended."""
+    it is to say before its mail is appended."""
     if not how.dovecot:
         return Numbering(None, False)
     gone = [one for one in Ledger(opened.folder).paths() if not os.path.lexists(unspelled(one))]
     is_numbered = record.has_numbered({*gone, *names_of(opened.mailbox.path)})
-    numbering = Numbering(Listed.of(opened.folder), is_numbered)
-    numbering.prepare(opened.mailbox, mails, folder_name(opened.name), how.dry)
+    numbering = Numbering(Listed.of(opened.folder), is_numbered, name_in(how.trees, target.path, target.folder))
+    numbering.prepare(opened.mailbox, target.mails, how.dry)
+    numbering.lack([*target.returned, *target.mails])
     return numbering

@@ -10,11 +10,11 @@ from ..ledger.history import names_of
 from ..ledger.ledger import Ledger
 from ..ledger.record import Record, unspelled
 from ..ledger.strangers import folders_in
-from ..maildir.folders import INBOX, folder_named, folder_on_disk, folder_path, name_given
+from ..maildir.folders import INBOX, folder_named, folder_on_disk, folder_path, name_given, without_utf7
 from ..migration.places import Planned, recorded
 from ..migration.trees import Tree
 from ..readings.copies import COMPRESSED
-from ..terminal import named
+from ..terminal import named, text_of
 
 NO_TREE = "%s has no mailbox: name the folder of the old mailboxes too, in which one is made for it"
 NO_INBOX = "INBOX has no mailbox: name the one of the inbox too, such as /var/mail/NAME, even if it is not there"
@@ -138,3 +138,10 @@ class Places:
         while not os.path.lexists(above):
             above = os.path.dirname(above)
         return os.path.isdir(above)
+
+
+def name_in(trees: Sequence[bytes], path: bytes, folder: bytes) -> str:
+    """The name by which Dovecot knows the mailbox of a folder: that of its path below a tree."""
+    below = [os.path.relpath(path, tree) for tree in trees]
+    names = [one for one in below if one.split(b"/")[0] != b".."]
+    return without_utf7(text_of(names[0] if names else name_given(folder)))

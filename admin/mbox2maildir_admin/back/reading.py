@@ -1,14 +1,16 @@
 """How a mailbox is read, before and after something is appended, and whether that gives back what was written."""
 import contextlib
 import os
-from collections.abc import Callable, Sequence
+from collections.abc import Callable, Iterator, Sequence
 from typing import NamedTuple, Optional
 
 from ..faults import Fault, Left, Reason
 from ..kinds.starts import text_start
+from ..ledger.record import unspelled
 from ..mbox.core import Core
 from ..mbox.inventory import Inventory
 from ..mbox.mailbox import Mailbox
+from ..migration.known import Known
 from ..program import Program
 from ..readings.earlier import plan_then
 from ..readings.plans import plan_of
@@ -65,6 +67,27 @@ def takes_mail(mailbox: Mailbox, words: str) -> Optional[Dialect]:
     if mailbox.size and (text_start(mailbox) is None or form_of(mailbox)):
         return None
     return Dialect.of_words(words)
+
+
+def ways_to_read(known: Known) -> Iterator[tuple[str, Dialect]]:
+    """The words by which an open mailbox may be read, each with its dialect: those of its ledger, and those by which it
+    is read now. Programs that deliver without lengths may have changed that since it was migrated."""
+    path, now = path_in(known), reading_now(known.opened.mailbox)
+    for words in dict.fromkeys([known.ledger.words_of(path) if path else now, now]):
+        dialect = takes_mail(known.opened.mailbox, words)
+        if dialect:
+            yield words, dialect
+
+
+def path_in(known: Known) -> str:
+    """The path of a mailbox as its ledger spells it, also if it was moved from there; empty if the ledger does not have
+    it."""
+    ledger, mailbox = known.ledger, known.opened.mailbox
+    paths = ledger.paths()
+    if known.path in paths:
+        return known.path
+    gone = (one for one in paths if not os.path.lexists(unspelled(one)))
+    return next((one for one in gone if ledger.is_of(one, mailbox.key(), mailbox.state.st_ino)), "")
 
 
 def messages_by(

@@ -30,7 +30,7 @@ from .dialect import Dialect
 from .mails import Mail
 from .notes import Notes
 from .numbers import Numbering, numbering_of
-from .reading import Forms, Held, are_at, messages_by, reading_now, takes_mail
+from .reading import Forms, Held, are_at, messages_by, reading_now, ways_to_read
 from .steps import How, NotAsItIs, Outcome, TakesNothing, Target
 
 FILE_CHANGED = "%s was changed meanwhile: stop the program that did it, and run this again"
@@ -62,12 +62,23 @@ class Returning:
         path = target.path if os.geteuid() == 0 else os.path.realpath(target.path)
         with self.opened(path) as mailbox:
             opened = Opened.into(self.root, target.folder, mailbox)
-            return self.bring_into(target, opened, numbering_of(opened, self.record, target.mails, self.how))
+            return self.bring_into(target, opened, numbering_of(opened, self.record, target, self.how))
 
     def number(self, target: Target) -> Numbering:
-        """Has a mailbox that takes no mail say which UIDs were given. Returns what is to be said of that."""
+        """Has a mailbox that takes no mail say which UIDs were given. Returns what is to be said of that, and of
+        keywords of what went back before."""
         with self.opened(target.path) as mailbox:
-            return numbering_of(Opened.into(self.root, target.folder, mailbox), self.record, (), self.how)
+            opened = Opened.into(self.root, target.folder, mailbox)
+            numbering = numbering_of(opened, self.record, target, self.how)
+            if numbering.lacking:
+                known = Known(self.record, Ledger(opened.folder), opened)
+                # what cannot be read as it was is said once mail goes back
+                with contextlib.suppress(Left):
+                    for words, _ in ways_to_read(known):
+                        messages_by(words, mailbox, self.disk, None, numbering.take)
+                        break
+                numbering.end(self.how.dry)
+            return numbering
 
     @contextlib.contextmanager
     def opened(self, path: bytes) -> Iterator[Mailbox]:
@@ -91,12 +102,7 @@ class Returning:
     def bring_into(self, target: Target, opened: Opened, numbering: Numbering) -> Outcome:
         """Does it for an open mailbox."""
         known = Known(self.record, Ledger(opened.folder), opened)
-        path, now = self.path_in(known), reading_now(opened.mailbox)
-        # programs that deliver without lengths may have changed how it is read since it was migrated
-        for words in dict.fromkeys([known.ledger.words_of(path) if path else now, now]):
-            dialect = takes_mail(opened.mailbox, words)
-            if not dialect:
-                continue
+        for words, dialect in ways_to_read(known):
             for gap in dialect.gaps_after(opened.mailbox.at(opened.mailbox.size - ENDS, ENDS)):
                 notes = Notes(numbering)
                 inventory = messages_by(words, opened.mailbox, self.disk, self.program, notes.look)
@@ -112,17 +118,6 @@ class Returning:
         one does."""
         with self.opened(path) as mailbox:
             return recover(mailbox, beside)
-
-    @staticmethod
-    def path_in(known: Known) -> str:
-        """The path of a mailbox as its ledger spells it, also if it was moved from there; empty if the ledger does not
-        have it."""
-        ledger, mailbox = known.ledger, known.opened.mailbox
-        paths = ledger.paths()
-        if known.path in paths:
-            return known.path
-        gone = (one for one in paths if not os.path.lexists(unspelled(one)))
-        return next((one for one in gone if ledger.is_of(one, mailbox.key(), mailbox.state.st_ino)), "")
 
 
 class Read(NamedTuple):
@@ -174,8 +169,11 @@ class Appending:
         with self.draft() as draft:
             entries = self.drafted(draft, rest)
             size = draft.size if entries else 0
+            numbering = self.notes.numbering
+            numbering.lack([*self.target.returned, *self.there, *(one.mail for one in entries)])
             if not self.returning.how.dry:
                 self.bring(draft, entries)
+            numbering.end(self.returning.how.dry)
         return Outcome(self.row(entries, size), self.refused)
 
     def draft(self) -> Draft:
@@ -260,7 +258,8 @@ class Appending:
         the mailbox is as it was before."""
         mailbox, count = self.mailbox, len(self.inventory)
         try:
-            found = messages_by(self.words, mailbox, self.returning.disk, self.returning.program)
+            look = self.notes.numbering.take if self.notes.numbering.lacking else None
+            found = messages_by(self.words, mailbox, self.returning.disk, self.returning.program, look)
             is_right = are_at([one.forms for one in entries], found, count)
             cores = self.inventory.cores
             if not is_right or found.cores[: len(cores)] != cores or reading_now(mailbox) != reads:

@@ -70,6 +70,7 @@ def bring_all(program: Program, root: bytes, names: Names, how: How, copies: boo
     """Does it by a program, whoever runs this, and whatever was migrated."""
     os.umask(0o077)
     with Record.open(root, not how.dry) as record:
+        how = replace(how, trees=names.trees())
         return Several(program, root, record, how, observer).run(Places(root, record, names), copies)
 
 
@@ -88,15 +89,14 @@ class Several:
         if not self.how.dry:
             self.drop_locks(places, found)
         found = copied(found) if copies else found
-        mails: collections.defaultdict[bytes, list[Mail]] = collections.defaultdict(list)
-        for mail in found.new:
-            mails[mail.folder].append(mail)
+        mails, returned = by_folder(found.new), by_folder(found.returned)
         folders = list(self.folders(found, {*mails, *places.found}))
         self.observer.total += len(folders)
         for folder in folders:
             self.observer.begin()
             standing = Standing(found, self.root, folder, places.all_of(folder), self.record)
-            for row in self.rows(folder, mails[folder], moved_to(found, folder), places):
+            target = Target(b"", folder, mails[folder], moved_to(found, folder), returned[folder])
+            for row in self.rows(target, places):
                 self.tell(standing.row(row))
             for row in standing.rest():
                 self.tell(row)
@@ -126,35 +126,35 @@ class Several:
             if folder in wanted or os.path.lexists(os.path.join(path, GOES_BACK)):
                 yield folder
 
-    def rows(self, folder: bytes, mails: Sequence[Mail], remarks: Remarks, places: Places) -> Iterator[Row]:
+    def rows(self, target: Target, places: Places) -> Iterator[Row]:
         """The row of the mailbox to which the mail of a folder goes back; and that of a mailbox beside it, which gets
         what it cannot hold."""
+        folder, mails = target.folder, target.mails
         path = folder_path(self.root, folder)
         try:
             yield from self.recovered(folder, places)
             if not mails:
-                yield self.numbered(nothing_new(places.first(folder) or path, folder, remarks))
+                yield self.numbered(target._replace(path=places.first(folder) or path))
                 return
             several = places.of(folder)
         except (Fault, OSError) as fault:
-            yield left(path, folder, fault, len(mails), remarks)
+            yield left(path, folder, fault, len(mails), target.remarks)
             return
         for place in several:
-            found = self.brought(place, Target(place.path, folder, mails, remarks))
+            found = self.brought(place, target._replace(path=place.path))
             if found:
                 yield found.row
                 yield from self.rows_beside(Target(place.path, folder, found.refused), places, CANNOT_HOLD)
                 return
-        yield from self.rows_beside(Target(several[0].path, folder, mails, remarks), places, TAKES_NOTHING)
+        yield from self.rows_beside(target._replace(path=several[0].path), places, TAKES_NOTHING)
 
-    def numbered(self, row: Row) -> Row:
+    def numbered(self, target: Target) -> Row:
         """The row of a mailbox that takes no mail, once it says which UIDs the folder has given."""
+        row = nothing_new(target.path, target.folder, target.remarks)
         if not self.how.dovecot or not os.path.isfile(row.path):
             return row
         say = Beat(functools.partial(self.observer.progress, named(row.path)))
-        numbering = Returning(self.program, self.root, self.record, self.how, say).number(
-            Target(row.path, row.folder, ())
-        )
+        numbering = Returning(self.program, self.root, self.record, self.how, say).number(target)
         return replace(row, remarks=(*numbering.remarks, *row.remarks), next=numbering.next)
 
     def recovered(self, folder: bytes, places: Places) -> Iterator[Row]:
@@ -175,7 +175,7 @@ class Several:
 
     def rows_beside(self, target: Target, places: Places, why: str) -> Iterator[Row]:
         """The row of the mailbox beside one that does not get this mail, if there is some."""
-        path, folder, mails, remarks = target
+        path, folder, mails, remarks, _ = target
         if not mails:
             return
         try:
@@ -226,6 +226,14 @@ def left(path: bytes, folder: bytes, fault: Union[Fault, OSError], count: int, r
 def nothing_new(path: bytes, folder: bytes, remarks: Remarks) -> Row:
     """The row of a mailbox of whose folder no mail goes back."""
     return Row(path, folder, "", 0, Fate.NOTHING_NEW, remarks=remarks, is_back=True)
+
+
+def by_folder(mails: Sequence[Mail]) -> dict[bytes, list[Mail]]:
+    """Mail by its folders."""
+    found: collections.defaultdict[bytes, list[Mail]] = collections.defaultdict(list)
+    for mail in mails:
+        found[mail.folder].append(mail)
+    return found
 
 
 def moved_to(found: Sorted, folder: bytes) -> Remarks:

@@ -25,21 +25,23 @@ class NotAsItIs(Left):
 @dataclass(frozen=True)
 class How:
     """How mail goes back: whether nothing is written; whether no quiet minute is waited for; whether Dovecot keeps UIDs
-    and keywords in the mailboxes; and who makes what is missing beside them."""
+    and keywords in the mailboxes; who makes what is missing beside them; and the folders of mailboxes."""
 
     dry: bool = False
     now: bool = False
     dovecot: bool = False
     keeper: Keeper = Keeper()
+    trees: Sequence[bytes] = ()
 
 
 class Target(NamedTuple):
-    """A mailbox, its folder by the name on the disk, and the mail that goes back into it."""
+    """A mailbox, its folder by the name on the disk, the mail that goes back into it, and what went back before."""
 
     path: bytes
     folder: bytes
     mails: Sequence[Mail]
     remarks: tuple[Remark, ...] = ()
+    returned: Sequence[Mail] = ()
 
 
 class Outcome(NamedTuple):

@@ -86,6 +86,16 @@ def folder_of(place: str) -> str:
     return re.sub("[^ -~]+", encoded, name.replace("&", "&-"))
 
 
+def without_utf7(name: str) -> str:
+    """A name in modified UTF-7 as a human writes it."""
+
+    def letters(found: re.Match[str]) -> str:
+        text = found[0][1:-1].replace(",", "/")
+        return base64.b64decode(text + "=" * (-len(text) % 4)).decode("utf-16-be", "replace") if text else "&"
+
+    return ENCODED.sub(letters, name)
+
+
 def name_before(path: str) -> str:
     """The name of a mailbox by its path below the tree, as Dovecot names an mbox, if its folder gets another one: no
     part of a name there has a dot, or begins with `~`. What Thunderbird, KMail, Apple Mail and readpst put around their

@@ -36,18 +36,18 @@ def sorted_out(slots: Sequence[Slot], mails: Sequence[Mail]) -> Sorted:
 class SortingTest(LedgerTest):
     def test_a_file_at_home(self) -> None:
         for its in (mail(), mail(BASE + b":2,S"), mail(b"renamed")):
-            self.assertEqual(sorted_out([slot()], [its]), Sorted([], [], [], [], PATHS))
+            self.assertEqual(sorted_out([slot()], [its]), Sorted([], [], [], [], PATHS, []))
 
     def test_edited(self) -> None:
-        self.assertEqual(sorted_out([slot()], [mail(core=D)]), Sorted([], [], [slot()], [], PATHS))
+        self.assertEqual(sorted_out([slot()], [mail(core=D)]), Sorted([], [], [slot()], [], PATHS, []))
 
     def test_deleted(self) -> None:
-        self.assertEqual(sorted_out([slot()], []), Sorted([], [], [], [slot()], PATHS))
-        self.assertEqual(sorted_out([slot(is_held=False)], []), Sorted([], [], [], [], PATHS))
+        self.assertEqual(sorted_out([slot()], []), Sorted([], [], [], [slot()], PATHS, []))
+        self.assertEqual(sorted_out([slot(is_held=False)], []), Sorted([], [], [], [], PATHS, []))
 
     def test_moved(self) -> None:
         for its in (mail(folder=THERE), mail(b"renamed", folder=THERE)):
-            self.assertEqual(sorted_out([slot()], [its]), Sorted([], [(its, slot())], [], [], PATHS))
+            self.assertEqual(sorted_out([slot()], [its]), Sorted([], [(its, slot())], [], [], PATHS, []))
 
     def test_a_copy_is_new(self) -> None:
         copy = mail(b"copy", folder=THERE)
@@ -71,7 +71,14 @@ class SortingTest(LedgerTest):
 
     def test_what_was_moved_goes_back_too(self) -> None:
         its = mail(folder=THERE)
-        self.assertEqual(copied(sorted_out([slot()], [its])), Sorted([its], [], [], [slot()], PATHS))
+        self.assertEqual(copied(sorted_out([slot()], [its])), Sorted([its], [], [], [slot()], PATHS, []))
+
+
+    def test_what_went_back_before(self) -> None:
+        """What people moved after it went back is not counted: its keywords are those of another folder."""
+        its = slot()._replace(is_returned=True)
+        for one, returned in ((mail(), [mail()]), (mail(folder=THERE), [])):
+            self.assertEqual(sorted_out([its], [one]).returned, returned)
 
 
 class SlotsTest(LedgerTest):
@@ -97,6 +104,11 @@ class SlotsTest(LedgerTest):
         note_end(self.folder, self.begin(BOX, kept, gone, back))
         note_end(self.folder, self.begin(BOX, *(one._replace(word=LOST) for one in (gone, back))))
         self.assertEqual({one.name: one.is_held for one in self.slots()}, {kept.name: True, back.name: False})
+        self.assertEqual([one.is_returned for one in self.slots()], [False, False])
+
+    def test_what_went_back(self) -> None:
+        note_end(self.folder, self.begin(BOX, line_of(ONE), line_of(TWO, RETURNED)))
+        self.assertEqual({one.name for one in self.slots() if one.is_returned}, {line_of(TWO).name})
 
     def test_an_intention_counts_for_nothing(self) -> None:
         self.begin(BOX, line_of(ONE, RETURNED))

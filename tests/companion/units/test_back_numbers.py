@@ -6,13 +6,16 @@ from pathlib import Path
 from typing import Any, Optional
 from unittest import mock
 
-from mbox2maildir_admin.back import clients, listed, notes, subscriptions
+from mbox2maildir_admin.back import clients, keywords, listed, notes, subscriptions
 from mbox2maildir_admin.back.base import Base, without_blanks
+from mbox2maildir_admin.back.beside import Beside
 from mbox2maildir_admin.back.clients import Client
 from mbox2maildir_admin.back.dialect import Letter
 from mbox2maildir_admin.back.listed import Listed
 from mbox2maildir_admin.back.mails import Mail
-from mbox2maildir_admin.back.numbers import NO_BASE, NO_ROOM, Numbering
+from mbox2maildir_admin.back.keywords import NO_BASE, NO_ROOM
+from mbox2maildir_admin.back.numbers import Numbering
+from mbox2maildir_admin.back.places import name_in
 from mbox2maildir_admin.faults import Left
 from mbox2maildir_admin.flags.clients import CLIENTS
 from mbox2maildir_admin.ledger.history import Key, Note
@@ -144,10 +147,11 @@ class NumberingTest(FolderTest):
     def prepared(self, text: bytes, its: Optional[Listed], is_numbered: bool, *names: bytes) -> tuple[Numbering, bytes]:
         """The numbers of a mailbox into which the mail of files goes back, and the mailbox then."""
         path, mails = self.write("box", text), [Mail(b".", name, b"", b"", 0) for name in names]
-        numbering = Numbering(its, is_numbered, 1800000000)
+        numbering = Numbering(its, is_numbered, "a", 1800000000)
         with open_mailbox(path, quiet=False, kind=WRITING) as mailbox:
-            numbering.prepare(mailbox, mails, "a", False)
+            numbering.prepare(mailbox, mails, False)
             numbering.take(mailbox, Inventory.read(mailbox, 0) if text else Inventory())  # type: ignore[arg-type]
+        numbering.lack(mails)
         return numbering, Path(os.fsdecode(path)).read_bytes()
 
     def fields(self, numbering: Numbering, *names: bytes) -> list[tuple[bytes, list[bytes]]]:
@@ -212,23 +216,41 @@ class NumberingTest(FolderTest):
         self.assertEqual((text, self.words(numbering)), (KEPT, []))
         self.assertEqual(self.fields(numbering, b"1.a:2,a"), [(b"1.a:2,a", [b"X-Keywords: Garden"])])
 
-    def test_keywords_that_are_lost(self) -> None:
+    def foreseen(self, numbering: Numbering) -> list[str]:
+        """What a dry run says."""
+        numbering.end(True)
+        return [one.says for one in numbering.remarks]
+
+    def test_keywords_that_have_no_room(self) -> None:
         its = Listed(1700000000, 4, {}, {"a": b"Garden", "b": b"a-long-name"})
         numbering, text = self.prepared(KEPT, its, True, b"1.a:2,ab")
-        self.assertEqual((text, [one.says for one in numbering.remarks]), (KEPT, [
-            "keywords are lost, because %s: a-long-name" % NO_ROOM
-        ]))  # fmt: skip
+        self.assertEqual(text, KEPT)
         self.assertEqual(self.fields(numbering, b"1.a:2,ab"), [(b"1.a:2,ab", [b"X-Keywords: Garden"])])
+        self.assertEqual(self.foreseen(numbering), [keywords.ADDED % (NO_ROOM, "a-long-name")])
+        self.assertEqual(numbering.next, ())
         numbering, _ = self.prepared(FROM + b"A: b\n\nx\n", its, True, b"1.a:2,a")
-        self.assertEqual([one.says for one in numbering.remarks], ["keywords are lost, because %s: Garden" % NO_BASE])
         self.assertEqual(self.fields(numbering, b"1.a:2,a"), [(b"1.a:2,a", [])])
+        self.assertEqual(self.foreseen(numbering), [keywords.ADDED % (NO_BASE, "Garden")])
 
     def test_keywords_of_which_some_have_room(self) -> None:
-        its = Listed(1700000000, 4, {}, {"a": b"a-long-name", "b": b"Other"})
-        numbering, text = self.prepared(KEPT, its, True, b"1.a:2,ab")
+        its = Listed(1700000000, 4, {}, {"a": b"a-long-name", "b": b"Other", "c": b"x" * 51})
+        numbering, text = self.prepared(KEPT, its, True, b"1.a:2,abc")
         self.assertEqual(text, KEPT.replace(b"Garden\nX-UID: 1          \n", b"Garden Other\nX-UID: 1    \n"))
-        self.assertEqual([one.says.rpartition(": ")[2] for one in numbering.remarks], ["a-long-name"])
-        self.assertEqual(self.fields(numbering, b"1.a:2,ab"), [(b"1.a:2,ab", [b"X-Keywords: Other"])])
+        self.assertEqual(self.fields(numbering, b"1.a:2,abc"), [(b"1.a:2,abc", [b"X-Keywords: Other"])])
+        self.assertEqual([one.rpartition(": ")[2] for one in self.foreseen(numbering)], ["a-long-name"])
+
+    def test_commands_for_equal_messages(self) -> None:
+        """Of equal messages, the last ones went back, in the order of the files."""
+        its = keywords.Keywords(Listed(1, 4, {}, {"a": b"Garden", "b": b"-x"}))
+        pairs = (b"1:2,a", b"c"), (b"2:2,b", b"c"), (b"3:2,ab", b"d")
+        files = [Mail(b".", name, b"", core, 0) for name, core in pairs]
+        found = its.uids(files, [(b"c", 2), (b"d", 3), (b"c", 4), (b"c", 5)])
+        self.assertEqual(found, {b"-x": [3, 5], b"Garden": [3, 4]})
+        lines = [one.command.line() for one in keywords.commands_for(found, "a b")]  # type: ignore[union-attr]
+        self.assertEqual(lines, [
+            "doveadm flags add -- -x mailbox 'a b' uid 3,5",
+            "doveadm flags add Garden mailbox 'a b' uid 3:4",
+        ])  # fmt: skip
 
     def test_no_room_for_the_next_uid(self) -> None:
         text = FROM + b"X-IMAPbase: 1700000000 9\nX-UID: 9\n\nx\n"
@@ -313,6 +335,66 @@ class WayTest(BackHome):
         row = self.back(dovecot=True)[0]
         self.assertEqual((row.fate, [one.word for one in row.remarks]), (Fate.NOTHING_NEW, ["uids-raised"]))
         self.assertEqual(box.read_bytes(), KEPT.replace(b"0000000003", b"0000000008"))
+
+    def test_keywords_that_dovecot_adds(self) -> None:
+        """Each run prints the commands, until the mailbox names the keyword."""
+        box = self.numbered("mail/Gr&APwA3w-e", KEPT.replace(b"X-UID: 1          ", b"X-UID: 1"))
+        (self.maildir / ".Gr&APwA3w-e").rename(self.maildir / ".b")
+        self.deliver(".b", name="1.a").rename(self.maildir / ".b/cur/1.a:2,a")
+        self.deliver(".b", b"Subject: b\n\nb\n", name="1.b").rename(self.maildir / ".b/cur/1.b:2,a")
+        self.listed(".b", b"3 V1700000000 N9\n5 :1.a\n8 :1.b\n")
+        (self.maildir / ".b/dovecot-keywords").write_bytes(b"0 later\n")
+        wanted = [("doveadm", "flags", "add", "later", "mailbox", "Gr\xfc\xdfe", "uid", "5,8")]
+        for what in ("it goes back", "it is back"):
+            dry = self.back(dry=True, dovecot=True)[0]
+            row = self.back(dovecot=True)[0]
+            said = [[one.word for one in its.remarks if one.word != "uids-raised"] for its in (dry, row)]
+            self.assertEqual((said, dry.next), ([["keywords-added"]] * 2, ()), what)
+            self.assertEqual([one.command.words for one in row.next], wanted, what)  # type: ignore[union-attr]
+        box.write_bytes(box.read_bytes().replace(b" Garden\n", b" Garden later\n", 1))
+        row = self.back(dovecot=True)[0]
+        self.assertEqual((row.remarks, row.next), ((), ()))
+
+    def test_keywords_of_what_a_killed_run_appended(self) -> None:
+        """A run was killed before the ledger had that all was back."""
+        self.numbered(text=KEPT.replace(b"X-UID: 1          ", b"X-UID: 1"))
+        self.deliver(".sent", name="1.a").rename(self.maildir / ".sent/cur/1.a:2,a")
+        self.listed(".sent", b"3 V1700000000 N9\n5 :1.a\n")
+        (self.maildir / ".sent/dovecot-keywords").write_bytes(b"0 later\n")
+        with mock.patch.object(Beside, "remove", side_effect=KeyboardInterrupt), self.assertRaises(KeyboardInterrupt):
+            self.back(dovecot=True)
+        row = self.back(dovecot=True)[0]
+        self.assertEqual([one.command.words[-1] for one in row.next], ["5"])  # type: ignore[union-attr]
+
+    def test_uids_after_a_command_has_raised_the_next_one(self) -> None:
+        """Dovecot was seen to raise it before it numbers what was appended."""
+        self.numbered(text=FROM + b"X-IMAPbase: 1700000000 9\nX-UID: 9\n\nx\n")
+        self.deliver(".sent", name="1.a").rename(self.maildir / ".sent/cur/1.a:2,a")
+        self.listed(".sent", b"3 V1700000000 N12\n")
+        (self.maildir / ".sent/dovecot-keywords").write_bytes(b"0 later\n")
+        row = self.back(dovecot=True)[0]
+        self.assertEqual([one.command.words[1:3] for one in row.next], [  # type: ignore[union-attr]
+            ("mailbox", "update"), ("flags", "add")
+        ])  # fmt: skip
+        self.assertEqual(row.next[1].command.words[-1], "12")  # type: ignore[union-attr]
+
+    def test_uids_after_a_message_of_dovecot(self) -> None:
+        """Its own first message has the head, and no UID."""
+        self.numbered(text=INTERNAL + FROM + b"Subject: b\nX-UID: 3\n\nb\n\n")
+        self.deliver(".sent", name="1.a").rename(self.maildir / ".sent/cur/1.a:2,a")
+        self.listed(".sent", b"3 V1700000000 N9\n7 :1.a\n")
+        (self.maildir / ".sent/dovecot-keywords").write_bytes(b"0 %s\n" % (b"x" * 50))
+        row = self.back(dovecot=True)[0]
+        self.assertEqual([one.command.words[-1] for one in row.next], ["7"])  # type: ignore[union-attr]
+
+    def test_names_of_mailboxes(self) -> None:
+        for trees, path, name in (
+            ([b"/h/a", b"/h/mail"], b"/h/mail/lists/b", "lists/b"),
+            ([b"/h/mail"], b"/var/mail/mia", "new/a&b"),
+            ([], b"/var/mail/mia", "new/a&b"),
+        ):
+            self.assertEqual(name_in(trees, path, b".new.a&-b"), name)
+        self.assertEqual(name_in([b"/h/mail"], b"/var/mail/mia", b"."), "INBOX")
 
     def test_a_new_mailbox_is_known_the_next_time(self) -> None:
         self.numbered()

@@ -70,7 +70,7 @@ class BackHome(HomeTest):
         paths = [os.fsencode(str(self.home / name)) for name in names or ("mail",)]
         listener = Listener()
         with Record.open(self.root, not how.get("dry")) as record:
-            given: dict[str, Any] = {"now": True, **how}
+            given: dict[str, Any] = {"now": True, "trees": Names(paths).trees(), **how}
             one = Several(Function(), self.root, record, How(**given), listener)
             one.run(Places(self.root, record, Names(paths)), copies)
         return listener.rows
