@@ -205,6 +205,18 @@ class UndoneTest(unittest.TestCase):
         self.assertEqual(history.folders_of(b"/box"), [b"."])
         self.assertEqual(history.begun_at(b".", b"/box"), 1740996000 + 24 * 3600)
 
+    def test_what_an_older_ledger_has_still(self) -> None:
+        """What was undone once the ledger was longer; not what was moved, nor what was brought again."""
+        undone = entry_of(Step.UNDONE, 10)._replace(size=20)
+        history = history_of((Step.DONE, 10), (Step.UNDOING, 10))
+        history.take(undone)
+        self.assertEqual([history.undone_since(LEDGER, size) for size in (19, 20)], [["/box"], []])
+        self.assertEqual(history.undone_since("1" * 32, 19), [])
+        history.take(entry_of(Step.BEGUN, 10))
+        self.assertEqual(history.undone_since(LEDGER, 19), [])
+        history.take(undone)
+        self.assertEqual(history.undone_since(LEDGER, 19), [])
+
     def test_what_stays(self) -> None:
         """The same text at another path, this path in another folder, and the numbers of another mailbox."""
         history = history_of((Step.DONE, 10), (Step.DONE, 10, "/other"), (Step.DONE, 10, "/box", b".x"))
