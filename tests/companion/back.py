@@ -133,8 +133,8 @@ def folder_refuses(trial: Trial, folder: str, one: Appended) -> bool:
 def histories(dialect: str) -> None:
     """A case: some histories of one dialect."""
     wrong = []
-    for seed in range(FIRST, FIRST + SEEDS):
-        with fresh() as home:
+    with fresh() as home:
+        for seed in range(FIRST, FIRST + SEEDS):
             history = History(home, seed, dialect)
             try:
                 history.begin()

@@ -13,6 +13,7 @@ import re
 import shlex
 import shutil
 import subprocess
+import time
 from collections import Counter
 from collections.abc import Callable, Iterator, Mapping, Sequence
 from functools import lru_cache, partial
@@ -150,6 +151,9 @@ class Trip:
         """There, back, and there again. Returns what is said of the way back."""
         case = self.case
         first = self.before()
+        # Dovecot numbers an empty folder by the time, which cannot be that of the mailbox
+        while time.time() <= max(folder[0] for folder in first.values()) + 1:
+            time.sleep(0.1)
         self.done(*case.migrate())
         # nothing shows from which mailbox a folder came that had no mail
         there = self.between([name for name in RENAMED if first[name][2]])

@@ -102,7 +102,7 @@ class History:
 
     def begin(self) -> None:
         """Writes the mailboxes, and migrates them."""
-        self.home.begin("--jobs", "1")
+        self.home.begin()
         for path in self.boxes.values():
             count = 0 if path.endswith("empty") else self.draw.randrange(1, 5)
             messages = [self.message(True) for _ in range(count)]
@@ -138,7 +138,8 @@ class History:
         """Migrates each mailbox, and must be done."""
         several = []
         for words in self.commands(maildir):
-            ran = self.home.place.run(["migrate", "--json", "--now", *["--dovecot"] * self.has_uids, *words])
+            words = ["migrate", "--json", "--now", "--jobs", "1", *["--dovecot"] * self.has_uids, *words]
+            ran = self.home.place.run(words)
             if ran.status != 0 and '"no mail": 1' not in ran.output:
                 raise Failed(f"{words}: {ran.status}: {ran.output}")
             several.append(ran)
