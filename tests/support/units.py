@@ -4,6 +4,8 @@ import hashlib
 import io
 import os
 import sys
+import tempfile
+import time
 import unittest
 from collections.abc import Iterator
 from pathlib import Path
@@ -36,6 +38,15 @@ class FolderTest(unittest.TestCase):
         path.parent.mkdir(parents=True, exist_ok=True)
         path.write_bytes(text)
         return os.fsencode(str(path))
+
+
+def wait_for_tick(path: Path) -> None:
+    """Waits until what changes gets a later time than this file: the clock of a disk has ticks."""
+    then = path.stat().st_ctime_ns
+    with tempfile.TemporaryFile(dir=path.parent.parent) as probe:
+        while os.fstat(probe.fileno()).st_ctime_ns <= then:
+            time.sleep(0.002)
+            os.fchmod(probe.fileno(), 0o600)
 
 
 @contextlib.contextmanager

@@ -1,6 +1,5 @@
 """The list of what is prepared in a folder: its lines, and which files are ours."""
 import os
-import time
 from pathlib import Path
 from unittest import mock
 
@@ -20,7 +19,7 @@ from mbox2maildir_admin.mbox.bases import base_in
 from mbox2maildir_admin.migration.replica import clear_folder
 
 from tests.support.mail import ONE, TWO, bodies_of, digest_of
-from tests.support.units import FolderTest
+from tests.support.units import FolderTest, wait_for_tick
 
 ORIGIN = Origin((7, "ab" * 32), (1, 7, 2, 3), 2, "mboxrd", "/home/mia/mail", "/home/mia/mail/box")
 LINE = b"@\t7-%s\t1,7,2,3\t2\tmboxrd\t/home/mia/mail\t/home/mia/mail/box\n" % (b"ab" * 32)
@@ -179,7 +178,7 @@ class ListTest(FolderTest):
         prepared = self.wanted(NAME, OTHER_NAME)
         prepared.look()
         self.assertEqual(bytes(prepared.verified), b"\1\1")
-        time.sleep(0.02)
+        wait_for_tick(path)
         path.chmod(0o640)
         prepared.note_facts()
         self.assertEqual(bytes(prepared.verified), b"\0\1")
@@ -201,7 +200,7 @@ class ListTest(FolderTest):
         prepared = Prepared.read(self.here)
         prepared.look()
         self.assertEqual((prepared.unwanted(), prepared.count()), (1, 0))
-        time.sleep(0.02)
+        wait_for_tick(path)
         path.write_bytes(b"x" * len(BODY))
         prepared.remove()
         self.assertTrue(path.exists())

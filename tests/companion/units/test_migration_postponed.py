@@ -1,6 +1,5 @@
 """A move that was postponed: what is done is only prepared again, unless somebody has used the Maildir since."""
 import os
-import time
 from collections.abc import Callable
 from pathlib import Path
 from typing import Any, Optional
@@ -19,6 +18,7 @@ from mbox2maildir_admin.migration.steps import Options
 from tests.support.mail import ONE, THREE, TWO, bodies_of, digest_of
 from tests.support.migrating import Cut, Function, HomeTest, Killed, Listener
 from tests.support.nexts import told
+from tests.support.units import wait_for_tick
 
 READ = ONE.replace(b"\n\n", b"\nX-Mozilla-Status: 0001\n\n", 1)
 UNREAD = READ.replace(b"0001", b"0000")
@@ -268,8 +268,7 @@ class UsedTest(PostponedTest):
         for number, (use, says) in enumerate(uses):
             self.make_home(f"home-{number}")
             self.done(ONE + TWO)
-            # the clock of a file system has ticks
-            time.sleep(0.05)
+            wait_for_tick(self.maildir / "mbox2maildir-messages")
             use(next((self.maildir / "new").iterdir()))
             self.refused(says)
 

@@ -2,7 +2,6 @@
 program. What comes of it is what one `migrate` of the last text makes."""
 import os
 import shutil
-import time
 from pathlib import Path
 from typing import Any
 from unittest import mock
@@ -21,7 +20,7 @@ from tests.support.mail import ONE, THREE, TWO, bodies_of, digest_of
 from tests.support.migrating import Cut, Function, Killed, Listener
 from tests.support.nexts import told
 from tests.support.prepared import PreparingTest
-from tests.support.units import FolderTest
+from tests.support.units import FolderTest, wait_for_tick
 
 READ = ONE.replace(b"\n\n", b"\nX-Mozilla-Status: 0001\n\n", 1)
 
@@ -400,7 +399,7 @@ class FactsTest(FolderTest):
         path.write_bytes(b"one")
         before = signs_of(path.stat())
         self.assertEqual(signs_of(path.stat()), before)
-        time.sleep(0.02)
+        wait_for_tick(path)
         path.chmod(0o640)
         self.assertNotEqual(signs_of(path.stat()), before)
 
