@@ -23,6 +23,8 @@ from .undated import ending_of, shape_of
 GIT = re.compile(rb"From [0-9a-f]{40,64} Mon Sep 17 00:00:00 2001\r?\Z")
 ADDRESS = re.compile(rb"From \S+@\S+\s*\Z")
 NOTE = b"DON'T DELETE THIS MESSAGE -- FOLDER INTERNAL DATA"
+# what the header of a message has of which something is to be said, in lower case
+LOOKED_AT = b"content-length", b"x-mozilla-status", b"x-gm-thrid", NOTE.lower()
 
 
 class Look:
@@ -59,8 +61,10 @@ class Look:
         """Looks at each part of the text, and passes it on."""
         part = None
         self.mailbox.file.seek(self.start)
-        for part in parts_of(self.mailbox.file, self.start, self.mailbox.line_at(self.start)):
-            if part.what == MARK:
+        for part in parts_of(self.mailbox.file, self.start, self.mailbox.line_at(self.start), self.is_plain):
+            if part.rest:
+                self.plain(part)
+            elif part.what == MARK:
                 self.mark(part)
             elif part.what == TEXT:
                 self.text(part)
@@ -76,6 +80,24 @@ class Look:
         self.ending = None if self.count("dated") else self.ending
         self.mailbox.check()
         self.is_whole = True
+
+    def is_plain(self, offset: Offset, from_line: bytes, rest: bytes) -> bool:
+        """Whether nothing is to be said of a message after the first but that it is one: its From_ line has a date, a
+        header follows that has none of the fields that are looked at, and it has no CR."""
+        if offset <= self.start or offset < self.claimed or b"\r" in rest or b"\r" in from_line:
+            return False
+        header = rest[: rest.find(b"\n\n") + 1].lower()
+        is_odd = may_hold_mail(from_line) or GIT.match(from_line) or any(map(header.__contains__, LOOKED_AT))
+        return not is_odd and FIELD.match(header) is not None and is_dated(from_line)
+
+    def plain(self, mark: Part) -> None:
+        """Takes such a message."""
+        self.seen["dated"].add(mark.line, mark.piece, self.claimed_by)
+        self.doubts.take("dated", mark)
+        self.messages += 1
+        self.claimed, self.claimed_by, self.is_cut = Offset(0), mark.line, False
+        self.body = Offset(mark.offset + len(mark.piece) + mark.rest.find(b"\n\n") + 3)
+        self.without = self.without or mark.line
 
     def text(self, part: Part) -> None:
         """Looks at a piece of mail."""

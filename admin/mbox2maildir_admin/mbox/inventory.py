@@ -42,7 +42,8 @@ class Inventory:
         """Reads a text from an offset on. `listing` is what `mbox2maildir list` says of it, for comparison. Cores and
         bare forms, which a ledger needs, take a second digest of each message that has a noted field."""
         mailbox.file.seek(start)
-        return cls.of(mailbox, start, parts_of(mailbox.file, start, mailbox.line_at(start)), listing, with_cores)
+        parts = parts_of(mailbox.file, start, mailbox.line_at(start), lambda *_: True)
+        return cls.of(mailbox, start, parts, listing, with_cores)
 
     @classmethod
     def of(

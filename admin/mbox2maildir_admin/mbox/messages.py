@@ -77,6 +77,9 @@ def messages_in(
                 yield message
             number += 1
             message = Message(number, part, sizes, InPass() if with_cores else None)
+            if part.rest:
+                message.from_size = len(part.piece) + 1
+                message.add(part.rest, False)
         elif part.what == MARK:
             quoted = True
         elif not message:

@@ -1,7 +1,7 @@
 """The parts of an mbox text: lines `From `, with any number of `>` before them, and what is between them."""
 import re
-from collections.abc import Iterator
-from typing import NamedTuple, Union
+from collections.abc import Callable, Iterator
+from typing import NamedTuple, Optional, Union
 
 from ..units import Line, Offset
 from .files import BLOCK, LONG, LineEnds, Reader
@@ -13,7 +13,7 @@ MARK_BEGUN = re.compile(rb">*(?:From .*|F?|Fr|Fro|From)\Z", re.DOTALL)
 
 
 class Part(NamedTuple):
-    """A piece of a text. The parts of its line follow a mark."""
+    """A piece of a text. The parts of its line follow a mark, unless that is a whole message."""
 
     what: int
     offset: Offset
@@ -23,10 +23,14 @@ class Part(NamedTuple):
     quotes: int = 0
     # whether `From ` is within a line of a text, except after its first `>`
     has_word: bool = False
+    # what follows the line of a mark, if that is a whole message
+    rest: bytes = b""
 
 
 # whatever gives a text in blocks
 Source = Union[Reader, LineEnds, BareReader]
+# tells whether a message may be one part, by its offset, its From_ line, and what follows that
+IsPlain = Callable[[Offset, bytes, bytes], bool]
 
 
 def regions_of(file: Source) -> Iterator[tuple[bytes, bool]]:
@@ -58,6 +62,10 @@ class Mark(NamedTuple):
     word: int
     is_after_other: bool
 
+    def ends_message(self, region: bytes) -> bool:
+        """Whether the message before it ends there, and has no other `From ` but that of its From_ line."""
+        return self.begins == self.word < len(region) and not self.is_after_other
+
 
 def next_mark(region: bytes, at: int, begins_line: bool) -> Mark:
     """The next mark from a place on. `begins_line` says whether a line begins at that place. Each byte is looked at
@@ -74,9 +82,12 @@ def next_mark(region: bytes, at: int, begins_line: bool) -> Mark:
         is_after_other, begins_line, at = True, False, found.end()
 
 
-def parts_of(file: Source, offset: Offset = Offset(0), line: Line = Line(1)) -> Iterator[Part]:
+def parts_of(
+    file: Source, offset: Offset = Offset(0), line: Line = Line(1), is_plain: Optional[IsPlain] = None
+) -> Iterator[Part]:
     """The parts of a text: a MARK for each line of any number of `>` and `From `, with the first bytes of the line; the
-    bytes of From_ lines; and those of other lines. A part is hardly longer than a block."""
+    bytes of From_ lines; and those of other lines. A part is hardly longer than a block. A message is one part, a MARK,
+    if `is_plain` says so: all of it is in one piece of the text, and `From ` is nowhere in it but at its beginning."""
     in_from, here, number = False, int(offset), int(line)
     for region, begins_line in regions_of(file):
         position = 0
@@ -85,23 +96,27 @@ def parts_of(file: Source, offset: Offset = Offset(0), line: Line = Line(1)) -> 
             yield Part(FROM_LINE, Offset(here), Line(number), region[:position])
             in_from, begins_line = not region.endswith(b"\n", 0, position), True
             number += not in_from
-        at = position
+        ahead = next_mark(region, position, begins_line)
         while not in_from:
-            begins, word, has_word = next_mark(region, at, begins_line)
+            begins, word, has_word = ahead
             if begins > position:
                 yield Part(TEXT, Offset(here + position), Line(number), region[position:begins], 0, has_word)
                 number += region.count(b"\n", position, begins)
             if begins == len(region):
                 break
-            quotes, end = word - begins, region.find(b"\n", word)
+            quotes, end, mark_at = word - begins, region.find(b"\n", word), Offset(here + begins)
             end = len(region) if end < 0 else end
-            yield Part(MARK, Offset(here + begins), Line(number), region[begins : min(end, begins + LONG + 1)], quotes)
-            position, at, begins_line = begins, word + len(FROM), False
-            if not quotes:
-                position = at = end + 1
-                yield Part(FROM_LINE, Offset(here + begins), Line(number), region[begins:position])
-                in_from, begins_line = position > len(region), True
-                number += not in_from
+            piece, rest = region[begins : min(end, begins + LONG + 1)], b""
+            ahead = next_mark(region, word + len(FROM) if quotes else end + 1, not quotes)
+            if is_plain and not quotes and len(piece) <= LONG and ahead.ends_message(region):
+                rest = region[end + 1 : ahead.begins]
+                rest = rest if is_plain(mark_at, piece, rest) else b""
+            yield Part(MARK, mark_at, Line(number), piece, quotes, False, rest)
+            position = begins if quotes else ahead.begins if rest else end + 1
+            if not quotes and not rest:
+                yield Part(FROM_LINE, mark_at, Line(number), region[begins:position])
+            number += region.count(b"\n", begins, position)
+            in_from = position > len(region)
         here += len(region)
 
 

@@ -1,13 +1,23 @@
 """The look at a text: what it shows of its lines."""
+import itertools
 import unittest
+from unittest import mock
 
 from mbox2maildir_admin.kinds.look import Look
+from mbox2maildir_admin.mbox.headers import Header
 from mbox2maildir_admin.mbox.lines import Said
 from mbox2maildir_admin.units import Line, Offset
 
 from tests.support.checks import match_in
 from tests.support.mail import A, B, INTERNAL
 from tests.support.units import source_of
+
+
+def values_of(look: Look) -> dict[str, object]:
+    """All that a look has seen."""
+    seen = {sort: vars(lines) for sort, lines in look.seen.items()}
+    others = {name: value for name, value in vars(look).items() if name not in ("mailbox", "joins")}
+    return {**others, "seen": seen, "doubts": vars(look.doubts)}
 
 
 class LookTest(unittest.TestCase):
@@ -155,6 +165,38 @@ class LookTest(unittest.TestCase):
         ):
             look = self.look(text)
             self.assertEqual((look.count("no end"), look.count("cut")), (sort == "no end", sort == "cut"), text)
+
+    def test_a_message_that_is_one_part(self) -> None:
+        """It shows what it shows in its parts, which a message has of which something is to be said."""
+        from_line, hi = B.splitlines(True)[0], b"\nhi\n\n"
+        plain = B + hi, B + b"Status: RO\n" + hi, B + b"\n\n", B + b"\nhi\nFrom me\n\n"
+        fields = b"Content-Length: 3", b"Content-Length: 9", b"X-GM-THRID: 7", b"X-Mozilla-Status: 0009"
+        dates = b"2025\r\n", b"2025 x\n", b"2025\0\n", b"2025" + b" " * 999 + b"\n"
+        odd = (
+            *(B + field + b"\n" + hi for field in fields),
+            *(B.replace(b"2025\n", date) + hi for date in dates),
+            B.replace(b"boris@", b"boris\0@", 1) + hi,
+            *(B + b"\nhi%s\n\n" % rest for rest in (b"\r\nyou", b"\n>From me", b" " + A)),
+            *(from_line + rest for rest in (b"hello\n\n", hi, b"\n", b"", b"Subject: x\n")),
+            *(B.replace(b"\n", b"\r\n") + hi, INTERNAL),
+            b"From %s Mon Sep 17 00:00:00 2001\nSubject: x\n" % (b"a" * 40) + hi,
+        )
+        lengths = b"", *(b"Content-Length: %d\n" % length for length in (6, 10**6, 999))
+        for message, length, last in itertools.product((*plain, *odd), lengths, (B, b"From me\n\n")):
+            is_within = length.endswith(b"999\n")
+            hello = b"" if is_within else b"hello\n\n"
+            text = A + length.replace(b"999", b"%d" % (len(message) - 1)) + b"\n" + hello + message + last
+            with mock.patch.object(Look, "plain", autospec=True, side_effect=Look.plain) as taken:
+                found = values_of(self.look(text))
+            with mock.patch.object(Look, "is_plain", return_value=False):
+                wanted = values_of(self.look(text))
+            self.assertEqual((taken.called, found), (message in plain and not is_within, wanted), text)
+
+    def test_the_header_of_such_a_message_is_not_read_again(self) -> None:
+        with mock.patch.object(Header, "read", side_effect=Header.read) as read:
+            self.assertEqual(self.look((A + b"\nhello\n\n") * 9).messages, 9)
+        # that of the first message, and that of the last one
+        self.assertEqual(read.call_count, 2)
 
     def test_enough(self) -> None:
         with source_of((A + b"\n") * 9) as mailbox:

@@ -4,6 +4,7 @@ from unittest import mock
 
 from mbox2maildir_admin.mbox import parts
 from mbox2maildir_admin.mbox.parts import FROM_LINE, MARK, TEXT, from_lines_of, parts_of, regions_of
+from mbox2maildir_admin.units import Offset
 
 from tests.support.units import source_of
 
@@ -31,6 +32,22 @@ class PartsTest(unittest.TestCase):
             self.assertEqual(b"".join(region for region, _ in regions), text)
             for region, _ in regions:
                 self.assertNotRegex(region, rb"(?:\A|\n)(?:>+F?|Fr|Fro|From)\Z")
+
+    def test_whole_messages(self) -> None:
+        """A message is one part where its From_ line is no longer than a line may be, no other `From ` is in it, and
+        the next From_ line is in the same piece of the text."""
+        long = b"From " + b"a" * 999
+        text = b"From a\n\nx\n\nFrom b\n>From x\ny\nFrom c\nz From x\nFrom d\nFrom e\nw\n" + long + b"\nv\nFrom f\nu\n"
+        for block, wanted in ((1 << 20, {b"From a": b"\nx\n\n", b"From e": b"w\n"}), (1, {})):
+            with source_of(text) as mailbox, mock.patch.object(parts, "BLOCK", block):
+                found = list(parts_of(mailbox.file, is_plain=lambda *_: True))
+                self.assertEqual({part.piece: part.rest for part in found if part.rest}, wanted)
+                mailbox.file.seek(Offset(0))
+                others = list(parts_of(mailbox.file, is_plain=lambda *_: False))
+                mailbox.file.seek(Offset(0))
+                self.assertEqual(others, list(parts_of(mailbox.file)))
+            marks = [(part.offset, part.line, part.piece) for part in found if part.what == MARK]
+            self.assertEqual(marks, [(part.offset, part.line, part.piece) for part in others if part.what == MARK])
 
     def test_wherever_a_block_ends(self) -> None:
         """A block may end before the end of a line, even of a From_ line that is too long to wait for the next
