@@ -75,6 +75,19 @@ def as_one_at_a_time(home: Path) -> None:
         equal(f"the record with {jobs} jobs", lines[1], lines[0])
 
 
+def largest_first(home: Path) -> None:
+    """The largest mailboxes begin first, and each is noted as done when it is. Rows come in the order of names."""
+    for number in range(FOLDERS):
+        mailbox(home / f"old/f{number}", text_of(number, 4**number))
+    words = ["migrate", "--jobs", "2", "M", "old"]
+    _, out, _ = run(words, home)
+    equal("rows", [line.split(" ", 1)[0] for line in out.splitlines()[:-1]], [f"old/f{n}" for n in range(FOLDERS)])
+    lines = [line.split("\t")[:2] for line in (home / "M" / RECORD).read_text(encoding="utf-8").splitlines()]
+    first = {step: [folder for its, folder in lines if its == step][0] for step in ("begun", "done")}
+    equal("which begins first", first["begun"] in (f".f{FOLDERS - 1}", f".f{FOLDERS - 2}"), True)
+    equal("whether the smallest, which begins last, is noted first", first["done"] == ".f0", False)
+
+
 def names_in(maildir: Path) -> list[str]:
     """The names of the mail of a folder."""
     return sorted(path.name for path in mail_in(maildir))
@@ -313,6 +326,7 @@ def one_of_two_fits(home: Path) -> None:
 if __name__ == "__main__":
     check_all(
         as_one_at_a_time,
+        largest_first,
         ended_by_a_signal,
         without_their_parent,
         killed,

@@ -9,7 +9,7 @@ from ..faults import PlaceFault, Reason
 from ..maildir.folders import folder_name
 from ..maildir.making import sync_folder
 from ..migration.outcomes import Fate, Row
-from ..migration.rows import Reporter
+from ..migration.rows import SUMMED, Reporter
 from ..nexts import ROOT, Quote, Todo, objects_of, task
 from ..terminal import complain, flush, is_text, named, put, shown, text_of
 from ..version import version
@@ -72,16 +72,17 @@ class ObjectReporter(Reporter):
 
     def print_sums(self, line: str) -> None:
         """Prints the sums, and the line that says them."""
+        messages, size = self.amounts(*SUMMED)
         self.print_object(
             {
                 "type": "sum",
                 "verdicts": {fate.value: self.counts[fate] for fate in Fate},
                 "left": [{"reason": one.word, "count": self.reasons[one]} for one in Reason if self.reasons[one]],
-                "messages": self.messages,
-                "before": dict(zip(("messages", "bytes"), self.before)),
+                "messages": messages,
+                "before": dict(zip(("messages", "bytes"), self.amounts(Fate.BEFORE))),
                 "there_already": self.there,
                 "still_there": {word: self.stand[word] for word in ("deleted", "changed")},
-                "bytes": self.size,
+                "bytes": size,
                 "seconds": round(self.seconds(), 3),
                 "last_pass_seconds": rounded(self.last_pass()),
                 "host": os.uname().nodename,

@@ -15,6 +15,8 @@ MOST_WAITED = 60
 
 # takes the error of a sync that failed, or None
 Then = Callable[[Optional[OSError]], object]
+# syncs the disk of a folder; raises OSError if that fails
+SyncOne = Callable[[bytes], None]
 
 
 class Waiting(NamedTuple):
@@ -27,7 +29,9 @@ class Waiting(NamedTuple):
 class Syncs:
     """Syncs the disks of Maildirs once for everything that waits. What waits is then done in its order."""
 
-    def __init__(self) -> None:
+    def __init__(self, sync_one: Optional[SyncOne] = None) -> None:
+        """Takes what syncs the disk of a folder, if this process does not do that itself."""
+        self.sync_one = sync_one
         self.waiting: collections.deque[Waiting] = collections.deque()
         self.latest = 0.0
         # the disks of which a sync failed, with the errors: the system reports each only once
@@ -55,7 +59,8 @@ class Syncs:
         with INTERRUPTS.held():
             fault: Optional[OSError] = None
             try:
-                sync_disks((maildir for one in self.waiting for maildir in one.maildirs), self.failed)
+                maildirs = (maildir for one in self.waiting for maildir in one.maildirs)
+                sync_disks(maildirs, self.failed, self.sync_one)
             except OSError as error:
                 fault = error
             while self.waiting:
@@ -63,7 +68,7 @@ class Syncs:
                 one.then(fault if one.maildirs else None)
 
 
-def sync_disks(maildirs: Iterable[bytes], failed: dict[int, OSError]) -> None:
+def sync_disks(maildirs: Iterable[bytes], failed: dict[int, OSError], sync_one: Optional[SyncOne] = None) -> None:
     """Syncs the disks that Maildirs are on, each once. Raises OSError if a sync failed, now or before: a later one says
     nothing of what was lost."""
     folders: dict[int, bytes] = {}
@@ -75,7 +80,7 @@ def sync_disks(maildirs: Iterable[bytes], failed: dict[int, OSError]) -> None:
         if disk in failed:
             raise failed[disk]
         try:
-            sync_disk(path)
+            (sync_one or sync_disk)(path)
         except OSError as error:
             failed[disk] = error
             raise

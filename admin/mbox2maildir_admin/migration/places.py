@@ -19,6 +19,7 @@ from ..ledger.record import Record, unspelled
 from ..ledger.strangers import folders_in
 from ..maildir.files import names_of
 from ..maildir.folders import COPY, INBOX, folder_named, folder_path, words_of
+from ..maildir.syncing import SyncOne
 from ..mbox.mailbox import Mailbox
 from ..nexts import NOTHING, Answer, Command, Does, Next, Remark, Todo, in_shell, line_of, run_next, task
 from ..readings.copies import COMPRESSED
@@ -34,10 +35,11 @@ NAMED_AS_FOLDER = "INBOX has or gets other mail, and mail programs keep a folder
 
 
 class UserHome(NamedTuple):
-    """The home of a user, and whether the user's inbox is another mailbox, which is elsewhere."""
+    """The home of a user, whether the user's inbox is another mailbox, which is elsewhere, and what syncs a disk."""
 
     path: bytes
     has_inbox: bool
+    sync_one: Optional[SyncOne] = None
 
 
 class Planned(NamedTuple):

@@ -41,10 +41,11 @@ class Reporter(Observer):
         self.reasons: collections.Counter[Reason] = collections.Counter()
         # how many mailboxes are not whole, by the words for why
         self.faults: collections.Counter[str] = collections.Counter()
-        # of the mailboxes that are done, prepared or checked, or would be; and how many messages were there already
-        self.messages = self.size = self.there = 0
-        # how many messages and bytes those have that were done before
-        self.before = 0, 0
+        # how many messages and bytes the mailboxes have, by what became of these; and how many messages were there
+        # already
+        self.messages: collections.Counter[Fate] = collections.Counter()
+        self.sizes: collections.Counter[Fate] = collections.Counter()
+        self.there = 0
         # how many messages stand in mailboxes although they were deleted or changed in the Maildir, by these words
         self.stand: collections.Counter[str] = collections.Counter()
         # how long a last pass would take, if this is a first one
@@ -94,13 +95,11 @@ class Reporter(Observer):
             self.faults.update(remark.word for remark in row.remarks)
         for remark in row.remarks:
             self.stand[remark.word] += remark.stands
+        self.messages[row.fate] += row.messages or 0
+        self.sizes[row.fate] += row.size or 0
         if row.fate in SUMMED:
-            self.messages += row.messages or 0
-            self.size += row.size or 0
             self.there += sum(remark.there for remark in row.remarks)
             self.estimate.add(row.spent)
-        elif row.fate is Fate.BEFORE:
-            self.before = self.before[0] + (row.messages or 0), self.before[1] + (row.size or 0)
         # the next mailbox of a user may have to wait too
         self.waiting.discard(named(row.path) if user is None else named(user))
         self.at_work.end(label_of(row, user))
@@ -154,10 +153,14 @@ class Reporter(Observer):
         if not any(self.counts[fate] for fate in SUMMED):
             return []
         there = ", %d of them there already" % self.there if self.there else ""
-        messages = counted(self.messages, "message") + there
-        work = "%s, %s in %s" % (messages, length(self.size), duration(self.seconds()))
+        messages, size = self.amounts(*SUMMED)
+        work = "%s, %s in %s" % (counted(messages, "message") + there, length(size), duration(self.seconds()))
         last = self.last_pass()
         return [work, *(["a last pass would now take some %s" % duration(math.ceil(last))] if last is not None else [])]
+
+    def amounts(self, *fates: Fate) -> tuple[int, int]:
+        """How many messages and bytes the mailboxes have of which this became."""
+        return sum(self.messages[fate] for fate in fates), sum(self.sizes[fate] for fate in fates)
 
     def standing(self) -> list[str]:
         """How many messages mailboxes still have that were deleted or changed in the Maildir; nothing if none."""

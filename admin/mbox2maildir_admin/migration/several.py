@@ -1,13 +1,14 @@
 """Mailboxes that each go into a folder of one Maildir."""
 import functools
 import os
-from collections.abc import Iterator, Sequence
+from collections.abc import Callable, Iterator, Sequence
 from dataclasses import replace
 from typing import Optional
 
 from .. import ADMIN
 from ..faults import Fault, Left, PlaceFault, Reason
 from ..jobs.count import groups_of, jobs_of
+from ..jobs.order import InOrder, largest_first
 from ..jobs.parent import Parent
 from ..jobs.words import Places
 from ..kinds.folders import is_maildir
@@ -115,7 +116,7 @@ class Several:
     ) -> None:
         self.migration, self.names, self.observer, self.own = migration, names, observer, home is not None
         self.jobs = options.jobs
-        self.tell, self.syncs = observer.progress, Syncs()
+        self.tell, self.syncs = observer.progress, Syncs(home.sync_one if home else None)
         # an Inbox of a user's tree is not the user's inbox, if that is or was another mailbox
         is_taken = home and (home.has_inbox or migration.record.last_steps(INBOX))
         self.taken: set[bytes] = {INBOX} if is_taken else set()
@@ -138,11 +139,11 @@ class Several:
         self.observer.total += len(plan)
         # a symbolic link may give a folder two names, and it has one ledger
         groups = groups_of([one.folder and os.path.realpath(one.folder_in(self.migration.root)) for one in plan])
-        jobs = min(jobs_of(self.jobs, len(groups)), len(groups))
+        jobs, rows = min(jobs_of(self.jobs, len(groups)), len(groups)), InOrder(self.observer.row)
         try:
             if jobs > 1 and has_record(plan, self.migration.record, how.dry):
                 self.observer.at_once = jobs
-                self.migrate_at_once(plan, groups, jobs)
+                self.migrate_at_once(plan, largest_first(groups, [one.target or one.path for one in plan]), jobs, rows)
             else:
                 for one in plan:
                     self.observer.begin()
@@ -150,10 +151,11 @@ class Several:
         finally:
             # what was verified is done, even if a signal ends this
             self.syncs.sync()
+            rows.end()
         return [one for one in plan if one.path not in self.found]
 
-    def migrate_at_once(self, plan: Sequence[Planned], groups: Sequence[Places], jobs: int) -> None:
-        """Migrates the mailboxes of several folders at the same time. Rows come in the order of the plan."""
+    def migrate_at_once(self, plan: Sequence[Planned], groups: Sequence[Places], jobs: int, rows: InOrder) -> None:
+        """Migrates the mailboxes of several folders at the same time. What ends first is noted first."""
         from ..jobs.workers import Orders, Workers
 
         def leave(place: int, why: str, reason: Reason) -> Ended:
@@ -167,18 +169,19 @@ class Several:
             self.observer.rest,
             leave,
         )
-        workers, reported = Workers(jobs, groups, orders), 0
+        workers = Workers(jobs, groups, orders)
+
+        def report() -> None:
+            for place in sorted(workers.rows):
+                self.report(workers.rows.pop(place), functools.partial(rows.take, place))
+
         try:
             with workers:
                 for _ in workers.turns():
                     self.syncs.sync_in_time()
-                    while reported in workers.rows:
-                        self.report(workers.rows.pop(reported))
-                        reported += 1
+                    report()
         finally:
-            # if a signal ends this, some rows in between are missing
-            for place in sorted(workers.rows):
-                self.report(workers.rows.pop(place))
+            report()
 
     def work(self, plan: Sequence[Planned], parent: Parent) -> None:
         """Does the work of a worker. Its parent syncs and reports."""
@@ -189,14 +192,16 @@ class Several:
                 parent.begin(place)
                 parent.end(place, self.run_named(plan[place]))
 
-    def report(self, ended: Ended) -> None:
+    def report(self, ended: Ended, take: Optional[Callable[[Optional[Row]], object]] = None) -> None:
         """Reports what became of a name: of subscriptions once they are written, and of a mailbox that was verified,
-        and all after it, once that is on the disk."""
+        and all after it, once that is on the disk. `take` takes the row, and none of subscriptions."""
         if ended.row.fate == Fate.NO_MAIL:
             self.found[ended.row.path] = ended.row
         if ended.row.path not in self.subscriptions or ended.row.fate != Fate.NO_MAIL:
-            settled = functools.partial(self.migration.conversion.settled, ended)
-            self.syncs.add(ended.maildirs, lambda fault: self.observer.row(settled(fault)))
+            settled, tell = functools.partial(self.migration.conversion.settled, ended), take or self.observer.row
+            self.syncs.add(ended.maildirs, lambda fault: tell(settled(fault)))
+        elif take:
+            take(None)
 
     def progress(self, who: str, doing: str, place: Optional[int] = None, size: Optional[int] = None) -> None:
         """Passes on how far a mailbox is. Syncs if others have waited for long enough meanwhile."""

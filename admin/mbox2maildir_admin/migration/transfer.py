@@ -115,8 +115,7 @@ class Transfer:
             return row
 
     def row_before(self, words: Optional[str], messages: Optional[int], more: list[Remark]) -> Row:
-        """The row of a mailbox with so many messages that was done before by the words of a plan, with what else is
-        said of it."""
+        """The row of a mailbox of so many messages that was done before by the words of a plan; what else is said."""
         mailbox, name = self.opened.mailbox, self.opened.name
         of_uids = self.how.extra.remarks_on_done(name) if mailbox.size else []
         of_folder = back_in(self.ledger) + gone_from(self.ledger)

@@ -14,6 +14,8 @@ from ..terminal import named, operand, text_of
 FIRST_UID, NOBODY = 1000, (65534, 0xFFFFFFFE)
 # how much of login.defs is read
 LONGEST_SETTINGS = 1 << 20
+# of so many accounts, each is no longer asked for by itself: to answer, a system goes through half of its list
+MANY = 1000
 
 
 def first_uid() -> int:
@@ -67,6 +69,31 @@ def account_of(name: bytes) -> pwd.struct_passwd:
         return pwd.getpwnam(os.fsdecode(name))
     except (KeyError, ValueError):
         raise Left("no such user", Reason.NO_USER) from None
+
+
+def small(account: pwd.struct_passwd) -> pwd.struct_passwd:
+    """An account without what nobody asks it for: its password, its shell, and what it says of its user."""
+    return pwd.struct_passwd((account.pw_name, "", account.pw_uid, account.pw_gid, "", account.pw_dir, ""))
+
+
+class Accounts:
+    """The accounts of a system. If many are going to be asked for, those that it enumerates are read once."""
+
+    def __init__(self, count: int = 0) -> None:
+        """Takes how many accounts are going to be asked for."""
+        self.by_name: dict[str, pwd.struct_passwd] = {}
+        self.by_number: dict[int, pwd.struct_passwd] = {}
+        for account in map(small, pwd.getpwall() if count > MANY else ()):
+            self.by_name.setdefault(account.pw_name, account)
+            self.by_number.setdefault(account.pw_uid, account)
+
+    def of_name(self, name: bytes) -> pwd.struct_passwd:
+        """The account of a user. Raises Left if the name belongs to nobody."""
+        return self.by_name.get(os.fsdecode(name)) or account_of(name)
+
+    def of_number(self, number: int) -> pwd.struct_passwd:
+        """The account with a number. Raises KeyError if there is none."""
+        return self.by_number.get(number) or pwd.getpwuid(number)
 
 
 def want_user(account: pwd.struct_passwd, first: int, is_named: bool, spool: bytes, given: Sequence[str]) -> None:

@@ -3,7 +3,6 @@ import contextlib
 import json
 import os
 import pwd
-import resource
 import select
 import signal
 import time
@@ -18,8 +17,9 @@ from ..nexts import Todo, task
 from ..signals import ENDING, INTERRUPTS, blocked
 from ..terminal import named, shown
 from .clerks import Clerk, Refusal, Work
+from .disks import SYNC, Disks
 from .keyring import Join, joining
-from .limits import take_users_limits
+from .limits import close_all_but, take_users_limits
 from .telling import LONGEST, Teller, Whose, next_of, number_of, row_of, spelled
 
 # how long a child may say nothing, in seconds, and how long all of them are listened to at a time, in milliseconds
@@ -31,8 +31,6 @@ PATH = "/usr/local/sbin:/usr/local/bin:/usr/sbin:/usr/bin:/sbin:/bin"
 # for waitid; the module os has this name since Python 3.9
 STOPPED = getattr(os, "CLD_STOPPED", 5)
 BROKEN_OFF, BROKEN = 130, "its process was interrupted"
-# the folder that lists the descriptors of a process, and the highest number that one can have
-DESCRIPTORS, LAST_DESCRIPTOR = "/proc/self/fd", (1 << 31) - 1
 
 
 # the signals that are blocked
@@ -84,29 +82,20 @@ def become(account: pwd.struct_passwd, kept: tuple[int, ...], mask: Mask, join: 
     signal.pthread_sigmask(signal.SIG_SETMASK, mask)
 
 
-def close_all_but(kept: tuple[int, ...]) -> None:
-    """Closes the descriptors of a process, except for its three streams and some others."""
-    first = 3
-    for number in [*sorted(kept), end_of_descriptors()]:
-        os.closerange(first, number)
-        first = number + 1
-
-
-def end_of_descriptors() -> int:
-    """A number that is above those of all descriptors. If /proc is not mounted, which lists them, it is the hard limit,
-    so the limit must not have been lowered since they were opened."""
-    try:
-        return 1 + max(map(int, os.listdir(DESCRIPTORS)))
-    except OSError:
-        most = resource.getrlimit(resource.RLIMIT_NOFILE)[1]
-        return LAST_DESCRIPTOR if most == resource.RLIM_INFINITY else most
-
-
 class Child:
     """A child as root sees it: what it tells is only printed, and never trusted."""
 
-    def __init__(self, whose: Whose, pid: int, tells: int, life: int, clerk: Optional[Clerk] = None) -> None:
-        self.whose, self.pid, self.tells, self.life, self.clerk = whose, pid, tells, life, clerk or Clerk()
+    def __init__(
+        self,
+        whose: Whose,
+        pid: int,
+        tells: int,
+        life: int,
+        clerk: Optional[Clerk] = None,
+        disks: Optional[Disks] = None,
+    ) -> None:
+        self.whose, self.pid, self.tells, self.life = whose, pid, tells, life
+        self.clerk, self.disks = clerk or Clerk(), disks or Disks()
         self.rest, self.heard, self.is_open = b"", time.monotonic(), True
         # how many rows came, how often it told what is next, and how many rows it says it told, once it has ended
         self.rows = self.then = 0
@@ -144,6 +133,8 @@ class Child:
         elif what == "at":
             doing, *numbers = words
             reporter.progress(named(self.whose.name), shown(doing[:80]), *map(number_of, numbers[:2]))
+        elif what == "ask" and words[0] == SYNC:
+            self.disks.add(self.pid, number_of(words[1]), self.answer)
         elif what == "ask":
             self.answer(self.clerk.answer(words))
         elif what == "then":
@@ -155,7 +146,8 @@ class Child:
             raise ValueError("no word of a child")
 
     def answer(self, refusal: Refusal) -> None:
-        """Answers the child, if it reads that."""
+        """Answers the child, if it reads that. It had nothing to say while it waited."""
+        self.heard = time.monotonic()
         with contextlib.suppress(OSError):
             os.write(self.life, spelled(refusal) + b"\n")
 
@@ -205,6 +197,8 @@ class Child:
         self.clerk.end()
         for number in (self.tells, self.life):
             os.close(number)
+        # what it asked for last gets no answer
+        self.life = -1
 
 
 class Crew:
@@ -214,6 +208,7 @@ class Crew:
     def __init__(self, jobs: int, reporter: Observer, leave: Callable[[str, str, Reason], object]) -> None:
         """Makes a crew. `leave` takes the name of a child that ended badly, the reason, and the word for it."""
         self.jobs, self.reporter, self.leave, self.join = jobs, reporter, leave, joining()
+        self.disks = Disks()
         # a child may not be able to read the module
         reader_of_other_forms()
         # the children, by the pipes that they tell by
@@ -256,7 +251,7 @@ class Crew:
         if self.is_asked:
             return
         with blocked() as mask:
-            child = Child(whose, *start(account, work, mask, self.join), clerk)
+            child = Child(whose, *start(account, work, mask, self.join), clerk, self.disks)
             self.children[child.tells] = child
             self.poll.register(child.tells, select.POLLIN)
 
@@ -265,6 +260,7 @@ class Crew:
         while self.asked:
             self.pass_on(self.asked.pop())
         self.listen(SOON if any(not child.is_open for child in self.children.values()) else TURN)
+        self.disks.sync()
         is_late = self.deadline is not None and time.monotonic() > self.deadline
         for child in list(self.children.values()):
             if is_late:

@@ -20,6 +20,7 @@ from ..program import Program
 from ..terminal import named
 from .accounts import home_of, want_home
 from .clerks import Clerk, Work
+from .disks import synced_by_root
 from .telling import Teller
 
 
@@ -147,7 +148,8 @@ class Migrant:
 
     def run(self, root: bytes, names: list[bytes], relay: "Relay", program: Program) -> None:
         """Migrates the mailboxes at these paths into a Maildir."""
-        home = UserHome(home_of(self.account), bool(self.mailbox) or self.is_left)
+        sync_one = synced_by_root(relay.teller, program.alive) if program.alive is not None else None
+        home = UserHome(home_of(self.account), bool(self.mailbox) or self.is_left, sync_one)
         run_all(self.options, root, names, relay, program, home)
 
 

@@ -1,4 +1,5 @@
-"""The limits of a child: limits that root raised for itself are not for users."""
+"""The limits of a child, since those that root raised for itself are not for users, and what it keeps open."""
+import os
 import resource
 
 # the kinds of limits that Python knows, one of which has two names
@@ -7,6 +8,8 @@ KINDS = sorted({getattr(resource, name) for name in dir(resource) if name.starts
 FIRST = 1
 # no core dump, since it would hold the mail of a user
 NONE = (0, 0)
+# the folder that lists the descriptors of a process, and the highest number that one can have
+DESCRIPTORS, LAST_DESCRIPTOR = "/proc/self/fd", (1 << 31) - 1
 
 # a soft limit and a hard limit
 Limit = tuple[int, int]
@@ -34,3 +37,21 @@ def take_users_limits() -> None:
             continue
         resource.setrlimit(kind, lower_of(resource.getrlimit(kind), first))
     resource.setrlimit(resource.RLIMIT_CORE, NONE)
+
+
+def close_all_but(kept: tuple[int, ...]) -> None:
+    """Closes the descriptors of a process, except for its three streams and some others."""
+    first = 3
+    for number in [*sorted(kept), end_of_descriptors()]:
+        os.closerange(first, number)
+        first = number + 1
+
+
+def end_of_descriptors() -> int:
+    """A number that is above those of all descriptors. If /proc is not mounted, which lists them, it is the hard limit,
+    so the limit must not have been lowered since they were opened."""
+    try:
+        return 1 + max(map(int, os.listdir(DESCRIPTORS)))
+    except OSError:
+        most = resource.getrlimit(resource.RLIMIT_NOFILE)[1]
+        return LAST_DESCRIPTOR if most == resource.RLIM_INFINITY else most

@@ -9,6 +9,7 @@ from typing import AbstractSet, NamedTuple, Optional
 from .. import ADMIN
 from ..faults import Fault, Left, Reason
 from ..jobs.count import MOST, jobs_of
+from ..jobs.order import size_of
 from ..migration.outcomes import Fate, Observer, Row, row_left
 from ..migration.servers import locations
 from ..migration.steps import Options
@@ -17,7 +18,7 @@ from ..program import find_program
 from ..readings.copies import stem_of
 from ..readings.plans import is_no_mail
 from ..terminal import named, operand, shown, text_of
-from .accounts import account_of, first_uid, has_mailbox, home_of, is_users, own_name, want_entered, want_user
+from .accounts import Accounts, first_uid, has_mailbox, home_of, is_users, own_name, want_entered, want_user
 from .asked import ACCOUNTS, SPOOL, Sources, Tally
 from .children import Crew
 from .homes import Home, Kind, Migrant
@@ -101,30 +102,33 @@ def users_of(
 ) -> "Users":
     """The users whose mailboxes are migrated: those that were asked for, otherwise those of the spool, which has these
     names, and all users if homes have a folder of mailboxes. Says which names are left."""
-    first, users = first_uid(), Users(spool, names, functools.partial(report_left, reporter))
+    first = first_uid()
     if asked is None:
         sources = names_of(spool, names, first, functools.partial(report_no_mail, reporter))
     else:
         sources, tally.not_asked = asked, len({stem_of(name, names) for name in names} - asked.keys())
     tally.expect([SPOOL, ACCOUNTS] if asked is None else asked.values())
+    accounts = Accounts(len(sources))
+    users = Users(spool, names, functools.partial(report_left, reporter))
     for name, source in sources.items():
         try:
-            account = user_of(name, first, asked is not None, spool)
+            account = user_of(name, accounts, first, asked is not None, spool)
         except Left as left:
             users.leave(name, left)
             users.leave_beside(name)
         else:
-            users.add(name, account)
+            users.add(name, account, accounts)
             tally.count(source)
     if spool.kind.is_back:
         users.join()
     return users
 
 
-def user_of(name: bytes, first: int, is_named: bool, spool: Spool) -> pwd.struct_passwd:
+def user_of(name: bytes, accounts: Accounts, first: int, is_named: bool, spool: Spool) -> pwd.struct_passwd:
     """The account of a name. Raises Left if it is not a user's, and was not asked for by its name."""
-    account = account_of(name)
-    want_user(account, first, is_named, spool.path, [spool.kind.command, *spool.options.words()])
+    account = accounts.of_name(name)
+    if not is_users(account, first):
+        want_user(account, first, is_named, spool.path, [spool.kind.command, *spool.options.words()])
     return account
 
 
@@ -170,7 +174,7 @@ class Users:
         # further mailboxes of the same accounts
         self.others: list[Found] = []
 
-    def add(self, name: bytes, account: pwd.struct_passwd) -> None:
+    def add(self, name: bytes, account: pwd.struct_passwd, accounts: Accounts) -> None:
         """Adds a user. If something is wrong with the mailbox, that is said, and the home is looked at all the same."""
         key, mailbox, is_left = (account.pw_uid, home_of(account)), None, False
         try:
@@ -179,12 +183,12 @@ class Users:
             self.leave(name, left)
             is_left = True
         beside = self.beside_of(name, account) if mailbox else self.leave_beside(name)
-        other = self.other_name(name, key) if mailbox else None
+        other = self.other_name(name, key, accounts) if mailbox else None
         if mailbox and other is not None:
             self.others.append(Found(name, account, mailbox, False, self.why_not(key, other, mailbox), beside))
             mailbox, is_left, beside = None, True, ()
         if mailbox or self.spool.is_of_homes and key not in self.found:
-            place = os.path.join(self.spool.path, name)
+            place = mailbox or os.path.join(self.spool.path, name)
             self.found[key] = Found(name, account, mailbox, is_left, beside=beside, place=place)
 
     def join(self) -> None:
@@ -234,11 +238,11 @@ class Users:
         says = "%s is the same user, and its mailbox goes into INBOX" % named(other)
         return Left(says, Reason.SAME_USER, then)
 
-    def other_name(self, name: bytes, key: Key) -> Optional[bytes]:
+    def other_name(self, name: bytes, key: Key, accounts: Accounts) -> Optional[bytes]:
         """The other name of an account whose mailbox goes into its Maildir: the one that the system gives its number,
         if the spool has that, otherwise the first one."""
         try:
-            account = pwd.getpwuid(key[0])
+            account = accounts.of_number(key[0])
         except KeyError:
             pass
         else:
@@ -265,14 +269,6 @@ def names_of(spool: Spool, names: Collection[bytes], first: int, pass_over: Call
             if is_users(account, first):
                 found.setdefault(own_name(account), ACCOUNTS)
     return {name: found[name] for name in sorted(found)}
-
-
-def size_of(mailbox: bytes) -> int:
-    """How many bytes a mailbox of a spool has, if it can be seen; otherwise 0."""
-    try:
-        return os.lstat(mailbox).st_size
-    except OSError:
-        return 0
 
 
 def copies_among(names: AbstractSet[bytes]) -> dict[bytes, list[bytes]]:

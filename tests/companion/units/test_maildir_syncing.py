@@ -31,7 +31,7 @@ class SyncsTest(FolderTest):
 
     def test_one_serves_all_that_waits_in_its_order(self) -> None:
         with mock.patch.object(syncing, "sync_disks") as sync:
-            sync.side_effect = lambda maildirs, _: self.came.append("synced %r" % [*maildirs])
+            sync.side_effect = lambda maildirs, *_: self.came.append("synced %r" % [*maildirs])
             self.add("first")
             self.add("second", b"M")
             self.add("third")

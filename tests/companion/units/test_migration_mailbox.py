@@ -64,7 +64,7 @@ class BecomesTest(HomeTest):
     ) -> None:
         """Migrates the mailbox, and expects this fate."""
         row = self.migrate(**options)
-        kind = kind if messages is not None else ""
+        kind = kind if messages is not None and fate is not Fate.BEFORE else ""
         self.assertEqual((row.fate, told(row), row.messages, row.kind), (fate, why, messages, kind))
 
 
@@ -79,7 +79,7 @@ class SyncTest(BecomesTest):
             sync.side_effect = lambda path: self.assertEqual((self.words(), self.ends()), (["begun"], 0))
             self.became(Fate.DONE, messages=1)
             sync.assert_called_once_with(self.root)
-            self.became(Fate.BEFORE)
+            self.became(Fate.BEFORE, messages=1)
         self.assertEqual((sync.call_count, self.words()[-1], self.ends()), (1, "done", 1))
 
     def test_what_was_there_is_synced_too(self) -> None:
@@ -153,7 +153,7 @@ class PlanTest(BecomesTest):
         self.assertRegex(answered[7], "^mboxo of=[0-9a-f]{16} drop-deleted$")
         self.assertEqual([(line[0], line[7]) for line in lines], [("begun", plan), ("done", plan)])
         self.assertEqual(Ledger(self.root).words_of(str(self.box)), plan)
-        self.became(Fate.BEFORE, "without 1 message marked as deleted")
+        self.became(Fate.BEFORE, "without 1 message marked as deleted", 1)
 
     def test_a_conversion_that_was_ended_by_another_reading(self) -> None:
         """If as it is read now less of it is there, it is left."""
@@ -205,7 +205,7 @@ class OneMailboxTest(BecomesTest):
         self.fill(ONE)
         self.became(Fate.DONE, messages=1)
         next((self.maildir / "new").iterdir()).unlink()
-        self.became(Fate.BEFORE, GONE % (1, 1))
+        self.became(Fate.BEFORE, GONE % (1, 1), 1)
         self.assertEqual(self.mail(), [])
         self.became(Fate.DONE, "placed 1 message", messages=1, again=True)
         self.assertEqual(self.mail(), list(bodies_of(ONE)))
@@ -269,7 +269,7 @@ class OneMailboxTest(BecomesTest):
         self.became(Fate.DONE, messages=0, kind="empty", folder="Empty")
         self.assertEqual((self.words(), (self.maildir / ".Empty/maildirfolder").exists()), (["empty"], True))
         for dry, dovecot in ((False, False), (True, False), (False, True)):
-            self.became(Fate.BEFORE, folder="Empty", dry=dry, dovecot=dovecot)
+            self.became(Fate.BEFORE, messages=0, folder="Empty", dry=dry, dovecot=dovecot)
         self.became(Fate.DONE, messages=0, kind="empty", folder="Empty", again=True)
         # it is done in this folder, under this name, and as long as it is empty
         self.became(Fate.DONE, messages=0, kind="empty", folder="Other")

@@ -7,6 +7,8 @@ from unittest import mock
 
 from mbox2maildir_admin.faults import Left, PlaceFault
 from mbox2maildir_admin.users.accounts import (
+    MANY,
+    Accounts,
     account_of,
     first_uid,
     has_mailbox,
@@ -57,6 +59,22 @@ class AccountsTest(unittest.TestCase):
         for name in (b"no such user", b"\xff", b"a\0b", b"../mia"):
             self.assertRaisesRegex(Left, "no such user", account_of, name)
         self.assertEqual(account_of(b"root").pw_uid, 0)
+
+    def test_many_are_read_once(self) -> None:
+        """Few are asked for one by one. What a system does not enumerate is asked for, too."""
+        listed = [account(uid, home) for uid, home in ((1000, "/home/mia"), (1000, "/other"))]
+        with mock.patch("pwd.getpwall", return_value=listed) as read, mock.patch("pwd.getpwnam") as ask:
+            few, many = Accounts(MANY), Accounts(MANY + 1)
+            self.assertEqual(read.call_count, 1)
+            # of several with a name, the system answers with the first
+            self.assertEqual(home_of(many.of_name(b"mia")), b"/home/mia")
+            self.assertEqual((home_of(many.of_number(1000)), many.of_number(0).pw_name), (b"/home/mia", "root"))
+            self.assertEqual(ask.call_count, 0)
+            ask.side_effect = lambda name: account(7, "/" + name)
+            self.assertEqual(home_of(many.of_name(b"tom")), b"/tom")
+            self.assertEqual(home_of(few.of_name(b"mia")), b"/mia")
+            ask.side_effect = KeyError
+            self.assertRaisesRegex(Left, "no such user", many.of_name, b"ann")
 
     def test_a_spool_that_users_can_enter(self) -> None:
         want_entered(b"/")

@@ -1,0 +1,82 @@
+"""The disks of users' mail: root syncs each once for all children who wait for it."""
+import errno
+import os
+from collections.abc import Callable
+from typing import NamedTuple
+
+from ..faults import Reason
+from ..maildir.syncing import call_of_system
+from .clerks import Refusal
+from .telling import Teller
+
+# the word by which a child asks for a sync of the disk of a folder that it has open
+SYNC = "sync"
+FOLDER = os.O_RDONLY | os.O_DIRECTORY | os.O_CLOEXEC
+FAILED, UNSEEN = Reason.SYNC_FAILED.word, Refusal("root cannot open it", Reason.ERROR.word)
+
+
+class Waiting(NamedTuple):
+    """A child that waits for a sync: the disk, and what answers it."""
+
+    disk: int
+    answer: Callable[[Refusal], object]
+
+
+class Disks:
+    """Syncs disks for children, as root."""
+
+    def __init__(self) -> None:
+        self.waiting: list[Waiting] = []
+        # the folders by which the disks are synced, by the numbers of these
+        self.opened: dict[int, int] = {}
+        # the disks of which a sync failed, with the errors: the system reports each only once
+        self.failed: dict[int, OSError] = {}
+
+    def add(self, pid: int, number: int, answer: Callable[[Refusal], object]) -> None:
+        """Takes it that a child waits for the disk of a folder that it has open under a number. It need not be found by
+        a path, which the child's user could change."""
+        try:
+            folder = os.open("/proc/%d/fd/%d" % (pid, number), FOLDER)
+        except OSError:
+            # as in a file system of the user's own: the child syncs it
+            answer(UNSEEN)
+            return
+        disk = os.fstat(folder).st_dev
+        self.waiting.append(Waiting(disk, answer))
+        if disk in self.opened:
+            os.close(folder)
+        else:
+            self.opened[disk] = folder
+
+    def sync(self) -> None:
+        """Syncs each disk for which a child waits, and then answers all. If a sync fails, or has failed before, that is
+        the answer to each who waits for that disk."""
+        for disk, folder in self.opened.items():
+            try:
+                if disk not in self.failed:
+                    call_of_system()(folder)
+            except OSError as error:
+                self.failed[disk] = error
+            finally:
+                os.close(folder)
+        waiting, self.waiting, self.opened = self.waiting, [], {}
+        for one in waiting:
+            fault = self.failed.get(one.disk)
+            one.answer(Refusal(fault.strerror, FAILED) if fault else Refusal())
+
+
+def synced_by_root(teller: Teller, answers: int) -> Callable[[bytes], None]:
+    """The function by which a child has root sync the disk of a folder. It raises OSError if that failed."""
+
+    def sync(path: bytes) -> None:
+        number = os.open(path, FOLDER)
+        try:
+            why, word = teller.ask(answers, SYNC, number)
+            if word == FAILED:
+                raise OSError(errno.EIO, why)
+            if word:
+                call_of_system()(number)
+        finally:
+            os.close(number)
+
+    return sync
