@@ -13,7 +13,7 @@ from mbox2maildir_admin.back.mails import sorted_mail
 from mbox2maildir_admin.back.keeping import make_mailbox
 from mbox2maildir_admin.back.places import Names, Places
 from mbox2maildir_admin.back.reading import Forms, Held, are_at, messages_by, reading_now, takes_mail
-from mbox2maildir_admin.back.steps import How
+from mbox2maildir_admin.back.steps import How, Target
 from mbox2maildir_admin.back.several import Several
 from mbox2maildir_admin.commands import back as command
 from mbox2maildir_admin.commands.words import add_back
@@ -133,6 +133,17 @@ class BackTest(BackHome):
                 text = (self.home / "other/sent").read_bytes()
                 self.assertEqual((text[: len(ONE)], text.count(b"\nSubject: new\n")), (ONE, 1))
                 self.assertEqual(copy and copy.read_bytes(), part if is_copied else None)
+
+    def test_a_part_in_a_mailbox_that_is_not_named(self) -> None:
+        """It is taken back even if its folder has no new mail any more."""
+        box = self.write_box("mail/sent", ONE)
+        self.migrate_all("mail")
+        file = self.deliver(".sent")
+        self.kill()
+        box.write_bytes(box.read_bytes()[:-5])
+        file.unlink()
+        self.back("spool/mia")
+        self.assertEqual(box.read_bytes(), ONE)
 
     def test_a_lock_that_a_killed_run_left(self) -> None:
         """It was killed after it had noted that all is back, so that nothing may go back when it is run again."""
@@ -302,6 +313,28 @@ class BackTest(BackHome):
         self.tree.rename(self.home / "other")
         self.assertEqual(self.fates(self.back("other")), {"other/sent": (Fate.BACK, 1)})
         self.assertEqual(self.fates(self.back("other")), {"other/sent": (Fate.NOTHING_NEW, 0)})
+
+    def test_mailboxes_that_were_moved_and_are_named(self) -> None:
+        """Each gets the mail of its own folder."""
+        for old, new in (("a", "x"), ("b", "y")):
+            box = self.write_box(old, ONE.replace(b"one", old.encode()))
+            self.migrate_all(old, folder=old)
+            box.rename(self.home / new)
+            self.deliver("." + old, b"Subject: for %s\n\n" % new.encode())
+        self.assertEqual(self.fates(self.back("x", "y")), {name: (Fate.BACK, 1) for name in "xy"})
+        for name in "xy":
+            self.assertIn(b"\nSubject: for %s\n" % name.encode(), (self.home / name).read_bytes())
+
+    def test_a_link_to_a_mailbox(self) -> None:
+        """A user's own leads to it; root follows none, and does not open it."""
+        kept, link = self.write_box("kept", ONE), self.home / "link"
+        link.symlink_to("kept")
+        one = returning.Returning(Function(), self.root, mock.Mock(), How())
+        for user, path in ((0, link), (1000, kept)):
+            opened = mock.patch.object(one, "opened", side_effect=KeyboardInterrupt)
+            with mock.patch("os.geteuid", return_value=user), opened as opens:
+                self.assertRaises(KeyboardInterrupt, one.run, Target(os.fsencode(link), b".", ()))
+            opens.assert_called_once_with(os.fsencode(path))
 
     def test_an_inbox(self) -> None:
         self.write_box("mail/sent", ONE)

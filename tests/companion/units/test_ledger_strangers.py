@@ -3,6 +3,7 @@ import os
 import unittest
 from pathlib import Path
 
+from mbox2maildir_admin.ledger.ledger import Ledger
 from mbox2maildir_admin.ledger.lines import FOREIGN, SHARED, Brought
 from mbox2maildir_admin.ledger.strangers import folders_in, unexplained
 
@@ -50,6 +51,12 @@ class StrangersTest(LedgerTest):
         """Somebody has moved them here."""
         self.place(ONE)
         self.folder_has(".Old", line_of(ONE))
+        self.assertEqual(self.strangers(), set())
+
+    def test_what_an_undo_has_kept(self) -> None:
+        self.place(ONE)
+        self.bring(OTHER, line_of(ONE))
+        Ledger(self.folder).undo(OTHER)
         self.assertEqual(self.strangers(), set())
 
     def test_what_a_ledger_does_not_say(self) -> None:

@@ -34,7 +34,8 @@ class AnswersTest(HomeTest):
     def test_answers(self) -> None:
         """One is noted unless it is the last one; without one, nothing is."""
         self.fill(ONE)
-        for answer, noted in ((None, 0), (Reading("mboxo", of="1"), 1), (Reading("mboxo", of="1"), 1), (LATER, 2)):
+        first = Reading("mboxo", of="1")
+        for answer, noted in ((None, 0), (first, 1), (first, 1), (LATER, 2), (first, 3)):
             with self.opened() as (opened, record):
                 note_answer(record, opened, Plan("", 1, answer=answer))
                 self.assertEqual(len(record.noting(Note.ANSWERED, b".", self.path)), noted)

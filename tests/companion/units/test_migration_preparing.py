@@ -145,6 +145,20 @@ class RefusedTest(PreparingTest):
         self.left(self.prepare(ONE), "dovecot.index.log")
         self.assertEqual(self.names(), [])
 
+    def test_where_somebody_reads_and_nothing_has_changed(self) -> None:
+        """The next first pass does not call that prepared."""
+        self.prepare(ONE)
+        (self.maildir / "dovecot.index.log").touch()
+        self.left(self.prepare(), "somebody reads in its folder")
+
+    def test_another_folder_in_which_somebody_reads(self) -> None:
+        """Nothing is prepared in it, whatever is elsewhere."""
+        self.prepare(ONE, folder="x")
+        self.make_folders()
+        (self.maildir / "dovecot.index.log").touch()
+        self.move_box("second")
+        self.assertIs(self.finish(TWO).fate, Fate.DONE)
+
     def test_where_mail_of_a_mailbox_is(self) -> None:
         self.finish(ONE)
         self.assertIs(self.prepare().fate, Fate.BEFORE)

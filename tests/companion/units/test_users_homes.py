@@ -104,6 +104,8 @@ class HomesTest(unittest.TestCase):
         ):
             _, (row,), names = self.migrated(migrant)
             self.assertEqual((told(row)[:26], names), ("the home of its user is mi", [name]))
+        # the files beside an inbox are said too
+        self.assertEqual(self.migrated(replace(self.migrant(), beside=(BOX + b".gz",)))[2], ["", "/var/mail/mia.gz"])
 
     def test_a_tree_that_cannot_be_looked_for(self) -> None:
         make(self.here, {"file": b"", "folder/mail/": b""})

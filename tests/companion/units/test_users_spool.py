@@ -238,6 +238,13 @@ class MigrateTest(FolderTest):
             ],
         )
 
+    def test_a_copy_beside_a_mailbox_that_is_left(self) -> None:
+        make(self.here, {"mia.gz": b"From a\n"})
+        os.symlink("mia.gz", self.here + b"/mia")
+        self.assertEqual(self.migrate([b"mia"]), [])
+        reasons = [(name, reason) for name, _, _, reason in self.rows()]
+        self.assertEqual(reasons, [("mia", Reason.LINK), ("mia.gz", Reason.COPY)])
+
     def test_a_signal_ends_it(self) -> None:
         make(self.here, {"ann": b"", "mia": b""})
         self.crew.is_asked = True
