@@ -3,12 +3,13 @@
 done, begun and converted; with and without --dovecot. Each command that is printed is run. No message is there twice,
 none is missing, none has other bytes, and none comes back without a word. `trees` has several mailboxes, in a tree or
 in one folder, between which mail is moved; folders, ledgers and mailboxes are renamed, deleted, lost or restored.
+`passes` prepares such mailboxes by --prepare while people use them: all is then as after one `migrate`.
 
 By hand `python3 -B -m tests.companion.rewritten --seed N --count N [CASE]` tries that many of `rewritten`, `killed`,
-`undone` or `trees`, and prints what was seen, and at the end how many ended at once, by the same command once more, by
-a copied one, or never, with the reasons for which mailboxes were left; the owner of the mail is then also at work
-during runs. For what is wrong it prints the seed and what happened. The environment's REWRITTEN says how many of each
-are tried otherwise.
+`undone`, `trees` or `passes`, and prints what was seen, and at the end how many ended at once, by the same command once
+more, by a copied one, or never, with the reasons for which mailboxes were left; the owner of the mail is then also at
+work during runs. For what is wrong it prints the seed and what happened. The environment's REWRITTEN says how many of
+each are tried otherwise.
 """
 import argparse
 import os
@@ -25,6 +26,7 @@ from tests.support.dovecot.server import Dovecot, is_there
 from tests.support.fates.running import install
 from tests.support.homes import fresh_folder, in_memory
 from tests.support.rewriting.killed import Killed
+from tests.support.rewriting.passes import Passes
 from tests.support.rewriting.several import Several
 from tests.support.rewriting.stories import STORIES, Told
 from tests.support.rewriting.trial import Trial
@@ -35,9 +37,10 @@ CASES = {
     "killed": Killed,
     "undone": Undone,
     "trees": Several,
+    "passes": Passes,
 }  # type: dict[str, type[Trial]]
 # how many of each the gate tries
-COUNTS = {"rewritten": 12, "killed": 6, "undone": 10, "trees": 12}
+COUNTS = {"rewritten": 12, "killed": 6, "undone": 10, "trees": 12, "passes": 8}
 
 
 @contextmanager

@@ -21,7 +21,7 @@ def rewritten(tree: Tree) -> None:
     box = tree.draw.choice(tree.plain())
     ways = [one for one in BY_HAND if one is not appended_unquoted or tree.draw.random() < 0.1]
     for name, some in BY_PROGRAM.items():
-        if shutil.which(name) and (name != "dovecot" or box.path == INBOX):
+        if shutil.which(name) and (name != "dovecot" or tree.is_served(box)):
             ways += some
     way = tree.draw.choice(ways)
     tree.story.append(f"{way.__name__} {box.path}")

@@ -34,6 +34,8 @@ class Mailbox(NamedTuple):
     server: Dovecot
     draw: Random
     letters: list[Letter]
+    # its name for the server
+    folder: str = "INBOX"
 
     def pieces(self) -> list[bytes]:
         """Its messages, each with its From_ line and its blank line."""
@@ -58,7 +60,7 @@ def by_dovecot(box: Mailbox) -> None:
     """Dovecot looks at it until it has written everything that it writes."""
     seen = b""
     for _ in range(6):
-        box.server.doveadm("fetch", "-u", USER, "uid flags date.received size.physical", "mailbox", "INBOX", "all")
+        box.server.doveadm("fetch", "-u", USER, "uid flags date.received size.physical", "mailbox", box.folder, "all")
         if seen == box.path.read_bytes():
             break
         seen = box.path.read_bytes()
@@ -69,20 +71,20 @@ def flags_by_dovecot(box: Mailbox) -> None:
     by_dovecot(box)
     for flags in (r"\Seen", r"\Answered Garden", r"\Flagged later"):
         number = str(box.draw.randint(1, max(1, len(box.pieces()))))
-        box.server.doveadm("flags", "add", "-u", USER, flags, "mailbox", "INBOX", number)
+        box.server.doveadm("flags", "add", "-u", USER, flags, "mailbox", box.folder, number)
     by_dovecot(box)
 
 
 def deleted_by_dovecot(box: Mailbox) -> None:
     """A client of Dovecot's deletes a message."""
     number = str(box.draw.randint(1, max(1, len(box.pieces()))))
-    box.server.doveadm("expunge", "-u", USER, "mailbox", "INBOX", number)
+    box.server.doveadm("expunge", "-u", USER, "mailbox", box.folder, number)
     by_dovecot(box)
 
 
 def emptied_by_dovecot(box: Mailbox) -> None:
     """A client over POP3 fetches all mail and deletes it. Then mail comes."""
-    box.server.doveadm("expunge", "-u", USER, "mailbox", "INBOX", "all")
+    box.server.doveadm("expunge", "-u", USER, "mailbox", box.folder, "all")
     by_dovecot(box)
     if box.draw.random() < 0.7:
         appended(box)
@@ -97,7 +99,7 @@ def saved_by_dovecot(box: Mailbox) -> None:
         file.write(letter.header + b"\n" + letter.body)
         file.flush()
         os.chmod(file.name, 0o644)
-        box.server.doveadm("save", "-u", USER, "-m", "INBOX", file.name)
+        box.server.doveadm("save", "-u", USER, "-m", box.folder, file.name)
     if box.draw.random() < 0.5:
         by_dovecot(box)
 
@@ -130,7 +132,9 @@ def on_a_terminal(words: Sequence[str], home: Path) -> None:
 
 
 def mutt(box: Mailbox, keys: str) -> None:
-    """Gives mutt these keys, and lets it end."""
+    """Gives mutt these keys, and lets it end. Without mail it heeds no key that comes later."""
+    if not box.path.stat().st_size:
+        return
     words = ["mutt", "-n", "-F", "/dev/null", "-e", f"set folder={box.path.parent}; {SETTINGS}", "-f", str(box.path)]
     on_a_terminal([*words, "-e", f"push {keys}<sync-mailbox><exit>"], box.path.parent)
 
@@ -179,6 +183,24 @@ def appended(box: Mailbox) -> None:
     """One more delivery."""
     with open(str(box.path), "ab") as file:
         file.write(box.letter())
+
+
+def by_procmail(box: Mailbox) -> None:
+    """One more delivery, by procmail if it is here. It would append a message with LF."""
+    if box.kind != "mboxrd" or not shutil.which("procmail"):
+        appended(box)
+        return
+    box.letter()
+    subprocess.run(
+        ["procmail", "-f", "boris@example.com", f"DEFAULT={box.path}", "/dev/null"],
+        cwd=str(box.path.parent),
+        input=box.letters[-1].header + b"\n" + box.letters[-1].body,
+        stderr=subprocess.DEVNULL,
+        timeout=PATIENCE,
+        preexec_fn=as_user if is_root() else None,
+        env={"HOME": str(box.path.parent), "PATH": os.environ["PATH"]},
+        check=True,
+    )
 
 
 def appended_unquoted(box: Mailbox) -> None:

@@ -57,6 +57,10 @@ class Tree(Trial):
         """A mailbox as those see it who rewrite it."""
         return self.box._replace(path=self.home / box.path, kind=box.kind)
 
+    def is_served(self, box: Box) -> bool:
+        """Whether a server shows it."""
+        return box.path == INBOX
+
     def text_of(self, box: Box) -> bytes:
         """The text of a mailbox."""
         text = (self.home / box.path).read_bytes()

@@ -1,0 +1,149 @@
+"""What two Maildirs must have in common that were made in different ways: files, and what is said of mailboxes."""
+import hashlib
+import os
+import re
+import time
+from collections.abc import Callable, Iterable, Sequence
+from pathlib import Path
+
+from tests.support.archives import Row, objects, texts_of
+from tests.support.checks import LATER
+from tests.support.dovecot.server import Dovecot
+from tests.support.rewriting.rewriters import appended
+from tests.support.rewriting.runs import Kill, Ran
+from tests.support.rewriting.several import Several
+from tests.support.rewriting.trees import told
+
+# a list of UIDs begins with the time at which it was made, if no program has numbered the mailbox
+VALIDITY = re.compile(rb"\A(3 V)(\d+)")
+# mail without a date has the time at which it was placed; both are a test's, and lie at most so many seconds back
+LATELY = 3600
+# how often an answer is followed, and how often a run is tried that meets what a killed one has left at work
+ANSWERS, TRIES = 3, 100
+
+
+def files_in(maildir: Path) -> dict[str, object]:
+    """The files of a Maildir but for what is noted of mailboxes: the bytes of each, and when its mail came. A folder
+    has nothing."""
+    found = {}  # type: dict[str, object]
+    for path in sorted(maildir.rglob("*")):
+        if not path.name.startswith("mbox2maildir-"):
+            found[str(path.relative_to(maildir))] = signs_of(path) if path.is_file() else None
+    return found
+
+
+def signs_of(path: Path) -> tuple[str, float]:
+    """What must be the same of a file."""
+    text = path.read_bytes()
+    if path.name == "dovecot-uidlist":
+        return VALIDITY.sub(lambda found: found[1] + b"%d" % unless_lately(int(found[2])), text).decode(), 0
+    is_mail = path.parent.name in ("new", "cur")
+    return hashlib.sha256(text).hexdigest()[:12], unless_lately(path.stat().st_mtime) if is_mail else 0
+
+
+def unless_lately(seconds: float) -> float:
+    """A time, or 0 if it is not long ago."""
+    return 0 if abs(time.time() - seconds) < LATELY else seconds
+
+
+def answers_in(rows: Iterable[Row]) -> dict[str, object]:
+    """What rows say of mailboxes."""
+    return {row["path"]: (row["folder"], row["verdict"], row["reason"], texts_of(row)) for row in rows}
+
+
+class Twice(Several):
+    """Mailboxes that are migrated into a Maildir in some way, by a seed, and into another one at once."""
+
+    def __init__(self, server: Dovecot, programs: Path, seed: int) -> None:
+        super().__init__(server, programs, seed)
+        # the Maildir of the commands; and the mail that was delivered there, by its place
+        self.into = self.maildir.name
+        self.mail = {}  # type: dict[str, bytes]
+
+    def carry_out(self, words: Sequence[str], kill: Kill = Kill()) -> tuple[Ran, dict[str, Row]]:
+        for _ in range(TRIES):
+            ran = self.place.run(["migrate", "--json", "--now", *words], kill, self.meanwhile)
+            if ran.status != LATER:
+                break
+            time.sleep(0.1)
+        rows = {str(row["path"]): row for row in objects(ran.output) if row["type"] == "row"}
+        how = f" ({kill})" if kill != Kill() else ""
+        self.story.append(f"$ {' '.join(words)}{how} -> {ran.status}")
+        self.story += [f"  {told(row)}" for row in rows.values()] or [ran.output.strip()]
+        self.noted["runs"] += 1
+        if ran.status not in (None, 0, 1):
+            self.wrong.append(f"status {ran.status}")
+        return ran, rows
+
+    def deliver(self) -> None:
+        """Mail that a mailbox has, or another one, is delivered into a folder of the Maildir."""
+        folders = ["", *(path.name for path in sorted(self.maildir.glob(".*")) if (path / "new").is_dir())]
+        name = f"{self.draw.choice(folders)}/new/1703{self.draw.randint(0, 9999)}.host"
+        letter = self.draw.choice(self.box.letters)
+        is_new = self.draw.random() < 0.5
+        self.mail[name] = b"Subject: new\n\n%d\n" % len(self.mail) if is_new else letter.header + b"\n" + letter.body
+        self.lay_down(self.maildir, name)
+        self.story.append(f"delivered: {name}")
+
+    def lay_down(self, maildir: Path, name: str) -> None:
+        """Puts mail that is delivered into a Maildir."""
+        path = maildir / name.lstrip("/")
+        for folder in {maildir, path.parents[1]}:
+            for sub in ("tmp", "new", "cur"):
+                (folder / sub).mkdir(parents=True, exist_ok=True)
+        if path.parents[1] != maildir:
+            (path.parents[1] / "maildirfolder").touch()
+        path.write_bytes(self.mail[name])
+        os.utime(path, (1.7e9,) * 2)
+        self.own_all()
+
+    def compare(self) -> None:
+        """All is as one `migrate` makes it in another Maildir, now and later."""
+        for name in self.mail:
+            self.lay_down(self.home / "Once", name)
+        self.both("it", self.finish)
+        self.ended = "as after one run"
+        if self.seed % 3 == 0:
+            self.both("a further run", lambda: answers_in(self.run_rows()))
+        self.both("what an undo says", self.undo_rows)
+        for box in self.plain():
+            appended(self.mailbox(box))
+        self.both("what grew", lambda: answers_in(self.run_rows()))
+
+    def both(self, what: str, deed: Callable[[], dict[str, object]]) -> None:
+        """Does something with both Maildirs, and compares what it gives, and the files."""
+        later, seen = self.draw.getrandbits(64), []
+        for self.into in ("Once", "Maildir"):
+            self.draw.seed(later)
+            seen.append({**deed(), **files_in(self.home / self.into)})
+        for name in sorted({*seen[0], *seen[1]}):
+            once, passes = (str(one.get(name)).replace("Once", "Maildir") for one in seen)
+            if once != passes:
+                self.wrong.append(f"{what}: {name}: once {once}; by passes {passes}")
+
+    def run_rows(self, *words: str) -> list[Row]:
+        """Runs all, and returns the rows."""
+        return [
+            row for command in self.commands() for row in self.carry_out([*self.words, *words, *command])[1].values()
+        ]
+
+    def finish(self) -> dict[str, object]:
+        """Runs all until no answer is missing. Returns how each mailbox ended."""
+        for _ in range(ANSWERS):
+            rows = self.run_rows(*["--gone"] * (self.into == "Maildir"))
+            left = {row["path"]: row for row in rows if row["verdict"] == "left"}
+            if not left or not self.run_next(left):
+                break
+        return {
+            row["path"]: (row["folder"], row["verdict"].split()[0], row["reason"])
+            for row in rows
+            if row["verdict"] not in ("undone", "prepared")
+        }
+
+    def undo_rows(self) -> dict[str, object]:
+        """What an undo of each mailbox would do."""
+        rows = {}  # type: dict[str, object]
+        folder = ["--folder", self.folder] if self.folder else []
+        for box in self.draw.sample(self.boxes, min(2, len(self.boxes))):
+            rows.update(answers_in(self.carry_out([*folder, "--undo", "--dry-run", self.into, box.path])[1].values()))
+        return rows
