@@ -189,7 +189,7 @@ def give_flags(one: Bringing) -> None:
     marks = [marks_of(fields_of(one.contents.header(Place(place))), {}) for place in one.places]
     letters = [info_of(its, "", True) for its in marks]
     listed = {Place(place) for place, its in enumerate(marks) if is_listed(its)}
-    add_flags(one.opened.folder, one.part, letters, one.is_placed, listed)
+    add_flags(one.opened.folder, one.part, letters, one.is_unread, listed)
 
 
 def place_file(folder: bytes, name: bytes, text: bytes, note: Noted) -> None:

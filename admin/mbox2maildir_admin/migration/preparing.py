@@ -6,6 +6,7 @@ place the rest, dates and verifies. Files have the digests of messages as names,
 the mailbox was when it was read. The folder says what is prepared in it, wherever the mailbox is by then.
 """
 import contextlib
+import functools
 import os
 import time
 from collections.abc import Iterator
@@ -158,11 +159,14 @@ class LastPass(Transfer):
         one = super().bringing(contents, match, placing)
         prepared, table = self.prepared, one.part.table
 
-        def is_verified(place: Place) -> bool:
+        def is_marked(marks: bytearray, place: Place) -> bool:
             at = prepared.table.place_of(table.base(place))
-            return at is not None and bool(prepared.verified[at])
+            return at is not None and bool(marks[at])
 
-        return replace(one, is_verified=is_verified)
+        is_verified = functools.partial(is_marked, prepared.verified)
+        if self.again:
+            return replace(one, is_verified=is_verified)
+        return replace(one, is_verified=is_verified, is_prepared=functools.partial(is_marked, prepared.files))
 
     def origin(self, contents: Contents) -> Origin:
         """What this pass reads."""

@@ -109,12 +109,17 @@ class Bringing:
     begun_at: int = 0
     # whether all that is nowhere is placed
     again: bool = False
-    # whether a file was verified before, by the place of its message in the part
+    # whether a file was prepared, and whether it was verified then, by the place of its message in the part
+    is_prepared: Callable[[Place], bool] = lambda place: False
     is_verified: Callable[[Place], bool] = lambda place: False
 
     def is_placed(self, place: Place) -> bool:
         """Whether this run has placed one of its messages."""
         return self.places[place] in self.need
+
+    def is_unread(self, place: Place) -> bool:
+        """Whether nobody but this program has given the file of a message its name."""
+        return self.is_placed(place) or self.is_prepared(place)
 
 
 class Extra:
@@ -147,7 +152,7 @@ class Extra:
         if not kept:
             return []
         letters = [kept.letters[place] for place in one.places]
-        add_flags(one.opened.folder, one.part, letters, one.is_placed)
+        add_flags(one.opened.folder, one.part, letters, one.is_unread)
         return self.remarks_on(kept, one)
 
     def remarks_on(self, kept: Kept, one: Bringing) -> list[Remark]:

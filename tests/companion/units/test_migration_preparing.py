@@ -2,6 +2,7 @@
 program. What comes of it is what one `migrate` of the last text makes."""
 import os
 import shutil
+from collections.abc import Callable
 from pathlib import Path
 from typing import Any
 from unittest import mock
@@ -23,6 +24,18 @@ from tests.support.prepared import PreparingTest
 from tests.support.units import FolderTest, wait_for_tick
 
 READ = ONE.replace(b"\n\n", b"\nX-Mozilla-Status: 0001\n\n", 1)
+
+
+class Flagging(Function):
+    """Places mail with a flag, as the program does by a field `X-Status`."""
+
+    def convert(
+        self, number: int, start: Offset, folder: bytes, kept: int, tell: Callable[[Offset], None]
+    ) -> Converted:
+        converted = super().convert(number, start, folder, kept, tell)
+        for path in Path(os.fsdecode(folder), "new").iterdir():
+            path.rename(path.parent.parent / "cur" / f"{path.name}:2,F")
+        return converted
 
 
 class FirstPassTest(PreparingTest):
@@ -95,6 +108,19 @@ class FirstPassTest(PreparingTest):
         self.assertEqual([name[:3] for name in self.names()], ["new"])
         self.finish()
         self.assertEqual([name[:3] + name[-4:] for name in self.names()], ["cur:2,S"])
+
+    def test_flags_of_two_programs(self) -> None:
+        """What the program has placed with a flag gets those of another program too, as with one `migrate`."""
+        self.prepare(READ, Flagging())
+        self.assertEqual([name[:3] + name[-4:] for name in self.names()], ["cur:2,F"])
+        self.finish()
+        self.assertEqual([name[:3] + name[-5:] for name in self.names()], ["cur:2,FS"])
+
+    def test_flags_of_two_programs_after_a_reader(self) -> None:
+        """With --again, a reader may have given the flags."""
+        self.prepare(READ, Flagging())
+        self.finish(again=True)
+        self.assertEqual([name[:3] + name[-4:] for name in self.names()], ["cur:2,F"])
 
     def test_an_empty_mailbox(self) -> None:
         self.prepare(ONE)
