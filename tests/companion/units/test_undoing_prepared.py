@@ -7,12 +7,14 @@ from mbox2maildir_admin.ledger.record import Record
 from mbox2maildir_admin.maildir.making import PREPARED
 from mbox2maildir_admin.migration.outcomes import Fate
 from mbox2maildir_admin.migration.replica import reader_in
+from mbox2maildir_admin.migration.several import run_all
+from mbox2maildir_admin.migration.steps import Options
 from mbox2maildir_admin.ledger.prepared import Prepared
 from mbox2maildir_admin.undoing.prepared import name_of
 from mbox2maildir_admin.undoing.undo import How, undo_own
 
 from tests.support.mail import ONE, THREE, TWO
-from tests.support.migrating import Cut, HomeTest, Killed, Listener
+from tests.support.migrating import Cut, Function, HomeTest, Killed, Listener
 from tests.support.nexts import told
 
 
@@ -50,6 +52,21 @@ class UndoTest(HomeTest):
         self.assertEqual(self.undo()[0], Fate.UNDONE)
         self.assertEqual((self.mail(), Ledger(self.root).paths()), ([], []))
         self.assertEqual(self.migrate().messages, 3)
+
+    def test_a_second_mailbox_of_a_pass_that_was_killed(self) -> None:
+        """What was placed of it goes too, though the list has nothing of it."""
+        self.fill(ONE)
+        self.migrate(prepare=True)
+        first = self.path
+        self.move_box("second")
+        self.fill(TWO)
+        with mock.patch("mbox2maildir_admin.maildir.syncing.Syncs.sync", side_effect=Killed):
+            with self.assertRaises(Killed):
+                run_all(Options(), self.root, [first, self.path], Listener(), Function())
+        self.assertEqual(len(self.mail()), 2)
+        self.path = first
+        self.assertEqual(self.undo()[0], Fate.UNDONE)
+        self.assertEqual(self.mail(), [])
 
     def test_a_list_that_counts_no_more(self) -> None:
         """It comes from a backup: what is undone is what the ledger has."""
