@@ -3,7 +3,7 @@ prepared again, if nobody has read in the folders since, and nothing was deliver
 then on the list of a folder says so, and the next pass takes all of it back, as after a `migrate` that was killed."""
 import collections
 import os
-from collections.abc import Iterator, Sequence
+from collections.abc import Iterator, Mapping, Sequence
 from typing import NamedTuple
 
 from ..faults import Fault, PlaceFault, Reason
@@ -37,12 +37,18 @@ RENAMED = "%s: names in it have changed since its mail was done, so people use i
 BROUGHT_TOO = "%s: %s brought mail there too, and is no mailbox of this command"
 
 
+# the paths of trees, by those that they had when mailboxes in them were done
+Trees = dict[bytes, bytes]
+
+
 class Done(NamedTuple):
-    """A folder in which something is done, and the mailboxes that go there now: none if they are gone."""
+    """A folder in which something is done, and the mailboxes that go there now: none if they are gone. Then this is the
+    path that one of them would have."""
 
     name: bytes
     ledger: Ledger
     mailboxes: Sequence[bytes]
+    path: bytes = b""
 
 
 def is_done(ledger: Ledger, prepared: Prepared) -> bool:
@@ -56,18 +62,38 @@ def has_same_names(ledger: Ledger) -> bool:
     return not ledger.ended or ledger.names_then == sum_without(ledger)
 
 
-def done_in(root: bytes, plan: Sequence[Planned], names: Sequence[bytes]) -> Iterator[Done]:
-    """The folders of these mailboxes in which something is done, and those of mailboxes that were in these trees and
-    are gone."""
-    went: collections.defaultdict[bytes, list[bytes]] = collections.defaultdict(list)
-    for one in plan:
-        went[one.folder].append(one.target or one.path)
+def done_in(root: bytes) -> Iterator[Done]:
+    """The folders in which something is done."""
     for folder in folders_in(root):
-        name, ledger = name_of(root, folder), Ledger(folder)
+        ledger = Ledger(folder)
         if is_done(ledger, Prepared.read(folder)):
-            paths = map(unspelled, ledger.paths())
-            if name in went or all(tree_above(path, names) and not os.path.lexists(path) for path in paths):
-                yield Done(name, ledger, went[name])
+            yield Done(name_of(root, folder), ledger, ())
+
+
+def concerned(done: Sequence[Done], went: Mapping[bytes, Sequence[bytes]], trees: Trees) -> Iterator[Done]:
+    """Those of these folders into which mailboxes go, and those of mailboxes that were in these trees and are gone."""
+    for one in done:
+        paths = list(map(unspelled, one.ledger.paths()))
+        now = [path_now(path, trees) for path in paths]
+        if one.name in went or all(now) and not any(os.path.lexists(path) for path in [*paths, *now]):
+            yield one._replace(mailboxes=went.get(one.name, ()), path=now[0])
+
+
+def trees_of(done: Sequence[Done], went: Mapping[bytes, Sequence[bytes]], names: Sequence[bytes]) -> Trees:
+    """The trees of these names. One was moved since if the mailboxes of a folder had the same path in another one."""
+    trees = {os.path.realpath(name): os.path.realpath(name) for name in names}
+    for one in done:
+        paths = list(map(unspelled, one.ledger.paths()))
+        for mailbox in went.get(one.name, ()):
+            tree = unspelled(tree_above(mailbox, names))
+            inner = os.path.realpath(mailbox)[len(tree) :]
+            trees.update((path[: -len(inner)], tree) for path in paths if tree and path.endswith(inner))
+    return trees
+
+
+def path_now(path: bytes, trees: Trees) -> bytes:
+    """The path that a mailbox has in its tree now; empty if it was in none."""
+    return next((now + path[len(then) :] for then, now in trees.items() if path.startswith(then + b"/")), b"")
 
 
 def want_untouched(record: Record, done: Sequence[Done]) -> None:
@@ -183,15 +209,18 @@ def postponed_rows(
 ) -> Iterator[Row]:
     """Raises Fault unless everything that is done may be only prepared again. Then yields the rows of the folders whose
     mailboxes are gone; those of the others are prepared like any other."""
-    done = [one for one in done_in(root, plan, names) if not has_failed(record, one.name)]
+    went: collections.defaultdict[bytes, list[bytes]] = collections.defaultdict(list)
+    for planned in plan:
+        went[planned.folder].append(planned.target or planned.path)
+    found = list(done_in(root))
+    trees = trees_of(found, went, names)
+    done = [one for one in concerned(found, went, trees) if not has_failed(record, one.name)]
     want_untouched(record, done)
     for one in done:
         if not one.mailboxes:
-            path = unspelled(one.ledger.paths()[0])
-            postpone(record, one, origin_of(one.ledger, path, names), dry)
-            fate = Fate.WOULD_PREPARE if dry else Fate.PREPARED
-            yield row_gone(path, one.name, fate)
-    yield from rows_without_mail(record, root, plan, names, dry)
+            postpone(record, one, origin_of(one.ledger, one.path, names), dry)
+            yield row_gone(one.path, one.name, Fate.WOULD_PREPARE if dry else Fate.PREPARED)
+    yield from rows_without_mail(record, root, went, trees, dry)
 
 
 def row_gone(path: bytes, name: bytes, fate: Fate) -> Row:
@@ -200,14 +229,14 @@ def row_gone(path: bytes, name: bytes, fate: Fate) -> Row:
 
 
 def rows_without_mail(
-    record: Record, root: bytes, plan: Sequence[Planned], names: Sequence[bytes], dry: bool
+    record: Record, root: bytes, went: Mapping[bytes, Sequence[bytes]], trees: Trees, dry: bool
 ) -> Iterator[Row]:
     """Removes the folders that mailboxes without mail got, if they hold nothing: a first pass makes none for these.
     Yields the rows of those whose mailboxes are gone."""
-    went = {one.folder for one in plan}
     for line in record.empty():
         name, path = line.key.folder, unspelled(line.path)
-        folder, is_gone = folder_path(root, name), bool(tree_above(path, names)) and not os.path.lexists(path)
+        now = path_now(path, trees)
+        folder, is_gone = folder_path(root, name), bool(now) and not (os.path.lexists(path) or os.path.lexists(now))
         prepared, ledger = Prepared.read(folder), Ledger(folder)
         is_used, is_there = name == INBOX or prepared.is_there or bool(ledger.paths()), os.path.lexists(folder)
         if is_used or not (is_gone or name in went) or is_there and not holds_nothing(folder):
@@ -218,4 +247,4 @@ def rows_without_mail(
         if not dry:
             record.add(Note.UNPREPARED, line.key, 0, path)
         if is_gone:
-            yield row_gone(path, name, Fate.WOULD_UNDO if dry else Fate.UNDONE)
+            yield row_gone(now, name, Fate.WOULD_UNDO if dry else Fate.UNDONE)

@@ -60,6 +60,12 @@ class PostponedTest(HomeTest):
         self.assertIn(says, str(caught.exception))
         self.assertEqual({path: path.read_bytes() for path in self.maildir.rglob("*") if path.is_file()}, before)
 
+    def migrate_tree(self, tree: str = "tree", **options: Any) -> list[Fate]:
+        """Migrates a tree, and returns the fates of its mailboxes."""
+        listener = Listener()
+        run_all(Options(**options), self.root, [os.fsencode(self.home / tree)], listener, Function())
+        return [row.fate for row in listener.rows]
+
 
 class OnceMoreTest(PostponedTest):
     def test_the_next_passes_follow(self) -> None:
@@ -177,12 +183,6 @@ class OnceMoreTest(PostponedTest):
 
 class WithoutMailTest(PostponedTest):
     """A mailbox of a tree that had no mail when it was done: it got a folder."""
-
-    def migrate_tree(self, **options: Any) -> list[Fate]:
-        """Migrates the tree, and returns the fates of its mailboxes."""
-        listener = Listener()
-        run_all(Options(**options), self.root, [os.fsencode(self.home / "tree")], listener, Function())
-        return [row.fate for row in listener.rows]
 
     def test_its_folder_goes(self) -> None:
         """The last pass makes it again, unless the mailbox is gone by then."""
@@ -386,3 +386,17 @@ class GoneTest(PostponedTest):
         run_all(Options(gone=True), self.root, names, listener, Function())
         self.assertEqual({row.folder: row.fate for row in listener.rows}, {b".a": Fate.DONE, b".b": Fate.UNDONE})
         self.assertFalse((self.maildir / ".b").exists())
+
+    def test_a_mailbox_of_a_tree_that_was_moved_is_gone(self) -> None:
+        """On the day the tree stood elsewhere: the paths of other mailboxes in it show that."""
+        for name, text in (("a", ONE), ("b", ONE), ("c", b"")):
+            (self.home / "tree.old").mkdir(exist_ok=True)
+            (self.home / "tree.old" / name).write_bytes(text)
+        self.migrate_tree("tree.old", now=True)
+        (self.home / "tree.old").rename(self.home / "tree")
+        for name in ("b", "c"):
+            (self.home / "tree" / name).unlink()
+        fates = self.migrate_tree("tree", prepare=True, postponed=True)
+        self.assertEqual(sorted(fate.value for fate in fates), ["prepared", "prepared", "undone"])
+        self.migrate_tree("tree", now=True, gone=True)
+        self.assertEqual([path.name for path in self.maildir.glob(".*")], [".a"])
