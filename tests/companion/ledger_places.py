@@ -28,6 +28,7 @@ from tests.support.archives import (
     want_said,
 )
 from tests.support.cases import Failed
+from tests.support.checks import equal
 from tests.support.ledgers import as_if_killed
 from tests.support.mail import digest_of
 from tests.support.rewriting.runs import Kill
@@ -53,6 +54,27 @@ def rule_1_killed_and_deleted(home: Home) -> None:
         is_back = bool(home.those(there[0]))
         home.has(*(number for number in FIVE if is_back or number != there[0]), why=(kill, row))
         want_said(row, 1)
+
+
+def rule_1_killed_and_gone_from_it(home: Home) -> None:
+    """A run is killed at any moment, and its mailbox loses a message then. If the run has placed it, its file stays,
+    and the row says so."""
+    draw = Random(2)
+    for _ in range(SEEDS):
+        home.begin()
+        home.write("OLD", letters(*FIVE))
+        kill = Kill(event=draw.randint(20, 260))
+        home.run("OLD", kill=kill)
+        there = home.numbers()
+        home.write("OLD", letters(0, 2, 3, 4, 5))
+        row = home.done("OLD")["OLD"]
+        home.has(0, *[1] * there[1], 2, 3, 4, 5, why=(kill, row))
+        equal(
+            f"{kill}: whether it is said: {row}",
+            says(row, "1 message gone from it that it had brought"),
+            bool(there[1]),
+        )
+        equal(f"{kill}: what is said later", says(home.done("OLD")["OLD"], "gone from it"), False)
 
 
 def rule_1_deleted_and_brought_by_another(home: Home) -> None:
@@ -830,6 +852,7 @@ def rule_12_a_record_of_an_earlier_version(home: Home) -> None:
 
 RULES = [
     rule_1_killed_and_deleted,
+    rule_1_killed_and_gone_from_it,
     rule_1_deleted_and_brought_by_another,
     rule_1_deleted_at_once,
     rule_1_said_by_later_runs,

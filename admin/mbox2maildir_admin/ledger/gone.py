@@ -10,7 +10,8 @@ from ..mbox.bases import Table, base_in, before_info
 from ..nexts import Remark
 from ..units import counted
 from .ledger import Ledger
-from .lines import LOST, digest_at
+from .lines import LOST, PLACED, digest_at
+from .match import Match
 
 GONE = "%d of the %d messages that were placed in its folder are gone, or another program renamed them"
 BACK = "up to %s that had been deleted or moved came back"
@@ -34,6 +35,17 @@ def back_in(ledger: Ledger) -> list[Remark]:
     killed may have noted them as done and not said it."""
     back = sum(source.back for source in ledger.sources.values())
     return [Remark("came-back", "when its mail was placed, " + BACK % counted(back, "message"))] * (back > 0)
+
+
+def left_by_killed(match: Match) -> int:
+    """How many files are there that runs which were killed have placed of a mailbox, for messages that it has no longer
+    and no other one brought."""
+    ledger, path = match.ledger, match.path
+    if ledger.pending(path) is None:
+        return 0
+    placed = {one.name for one in ledger.intended(path, ledger.last_end(path)) if one.word == PLACED}
+    placed.difference_update(match.taken, ledger.names())
+    return len(match.files.present(placed))
 
 
 def gone_before(ledger: Ledger, begun_at: Mapping[str, int]) -> collections.Counter[bytes]:

@@ -4,6 +4,7 @@ from typing import Optional
 
 from ..flags.changed import changed_flags, lacking_flags, remarks_on_changed
 from ..ledger.filed import Filed
+from ..ledger.gone import left_by_killed
 from ..ledger.ledger import Ledger
 from ..ledger.lines import PLACED
 from ..ledger.match import Match
@@ -29,8 +30,9 @@ def remarks_on(one: Bringing, match: Match, ledger: Ledger, dry: bool) -> Iterat
         yield Remark("placed", "would place %s" % placed if dry else "placed %s" % placed)
     elif match.path in ledger.sources:
         yield from remarks_on_new(match)
-    elif one.opened.name == INBOX and not match.seen.shared:
-        yield from remarks_on_inbox(ledger)
+    else:
+        yield from remarks_on_lost(match)
+        yield from remarks_on_inbox(ledger) if one.opened.name == INBOX and not match.seen.shared else ()
     yield from remarks_on_shared(match)
     for word, count, says in (
         ("other-form", match.seen.other_form, "%s there in another form, by another mailbox"),
@@ -54,8 +56,9 @@ def remarks_on_new(match: Match) -> Iterator[Remark]:
 
 
 def remarks_on_lost(match: Match) -> Iterator[Remark]:
-    """What is to be said of messages that the mailbox no longer has."""
-    lost = sum(match.lost.values())
+    """What is to be said of messages that the mailbox no longer has, and that it brought, also in runs that were
+    killed."""
+    lost = sum(match.lost.values()) + left_by_killed(match)
     if lost:
         yield Remark(NO_LONGER, GONE % counted(lost, "message"))
 
