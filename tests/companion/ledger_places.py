@@ -16,6 +16,7 @@ from tests.support.archives import (
     RECORD,
     RO,
     Home,
+    Outcome,
     Row,
     Rule,
     letter,
@@ -503,6 +504,24 @@ def rule_9_an_older_ledger_with_the_mailbox(home: Home) -> None:
     want_offered(home.left("OLD"), "--again")
 
 
+def rule_9_a_ledger_was_lost_of_a_folder_with_uids_of_another(home: Home) -> None:
+    """The folder has the UIDs of a mailbox, its ledger is lost, and it has mail of another mailbox. The first command
+    that is printed stores the rest."""
+    home.begin("--dovecot", "--folder", "Archive")
+    uids = b"X-IMAPbase: 170000000%d 0000000003\nX-UID: 3\n"
+    home.write("OLD", letter(0, uids % 1) + letter(1))
+    home.write("OTHER", letter(1, uids % 2) + letter(2))
+    home.done("OLD")
+    home.ledger().unlink()
+    row = home.left("OTHER")
+    words = row["next"][0]["argv"][1:]
+    ran = Outcome(words, home.place.run(words))
+    if row["reason"] != "partly-there" or ran.status != 0:
+        raise Failed(f"what is printed first is left: {row} {ran.text}")
+    home.has(0, 1, 2)
+    want_said(row, "Archive has the UIDs of another mailbox")
+
+
 def rule_9_another_mailbox_after_a_ledger_was_lost(home: Home) -> None:
     """A ledger was lost, or comes from a backup, and lacks a mailbox of which mail was deleted. What comes back by
     another mailbox is counted, in each run. A ledger that is whole brings nothing back."""
@@ -877,6 +896,7 @@ RULES = [
     rule_9_an_older_ledger,
     rule_9_an_older_ledger_and_another_mailbox,
     rule_9_an_older_ledger_with_the_mailbox,
+    rule_9_a_ledger_was_lost_of_a_folder_with_uids_of_another,
     rule_9_another_mailbox_after_a_ledger_was_lost,
     rule_9_a_ledger_from_before_an_undo,
     rule_9_an_undo_by_an_older_ledger,

@@ -229,16 +229,21 @@ class Transfer:
             if ledger.damage and not self.how.dry:
                 ledger.put_aside()
         elif ledger.damage:
-            raise Left(LOST % ("damaged in line %d" % ledger.damage), Reason.LEDGER, self.stores_rest(contents))
+            raise self.left_to_store(LOST % ("damaged in line %d" % ledger.damage), Reason.LEDGER, contents)
         elif not known.is_at_home or known.is_older:
             how = "older than its record" if known.is_older else "missing"
-            raise Left(LOST % how, Reason.LEDGER, self.stores_rest(contents))
+            raise self.left_to_store(LOST % how, Reason.LEDGER, contents)
 
-    def stores_rest(self, contents: Contents) -> Next:
-        """The command that stores the messages that are nowhere, with how many these are."""
+    def left_to_store(self, why: str, reason: Reason, contents: Contents) -> Left:
+        """Why it is left, with the command that stores the messages that are nowhere, and with how many these are. If
+        what is done besides cannot be done then, the command leaves it out, and that is said."""
         ledger = self.ledger.without_lines() if self.ledger.damage else self.ledger
         match = Match.again(ledger, self.path, contents.inventory, contents.is_deleted, self.opened.mailbox.say)
-        return self.command(Does.DOUBLES, len(match.need), again=True)
+        changes: dict[str, Any] = {"again": True}
+        hindrance = self.hindrance(self.bringing(contents, match, self.placing(match)))
+        if hindrance:
+            why, changes["dovecot"] = "%s; %s" % (why, hindrance), False
+        return Left(why, reason, self.command(Does.DOUBLES, len(match.need), **changes))
 
     def command(self, does: Does, messages: Optional[int] = None, **changes: Any) -> Next:
         """The command that migrates this mailbox with these changes of the options, and how many messages it gives."""
@@ -261,7 +266,7 @@ class Transfer:
             return
         strangers = unexplained(self.root, match) if len(match.need) else []
         if strangers:
-            raise Left(PARTLY_THERE % len(strangers), Reason.PARTLY_THERE, self.stores_rest(contents))
+            raise self.left_to_store(PARTLY_THERE % len(strangers), Reason.PARTLY_THERE, contents)
         source, lost = self.ledger.sources.get(self.path), sum(match.lost.values())
         is_much = source is not None and lost > max(FEW, source.count() // TENTH)
         if is_much and match.count_new() >= lost:
@@ -345,11 +350,17 @@ class Transfer:
 
     def want_extra(self, one: Bringing) -> None:
         """Raises Left if what is done besides mail and dates cannot be, with the command that does everything else."""
+        hindrance = self.hindrance(one)
+        if hindrance:
+            raise Left(str(hindrance), hindrance.reason, self.command(Does.RUN, again=self.again, dovecot=False))
+
+    def hindrance(self, one: Bringing) -> Optional[Left]:
+        """Why what is done besides mail and dates cannot be done, if it can't."""
         try:
             self.how.extra.check(one)
         except Left as left:
-            then = self.command(Does.RUN, again=self.again, dovecot=False)
-            raise Left(str(left), left.reason, then) from left
+            return left
+        return None
 
     def may_come_back(self, match: Match) -> int:
         """How many messages that are nowhere may have been there before, and were deleted."""
