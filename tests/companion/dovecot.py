@@ -113,16 +113,19 @@ def comes_before(home: Path, server: Dovecot) -> Iterator[str]:
 
 
 def has_others(home: Path, server: Dovecot) -> Iterator[str]:
-    """A second mailbox for a folder that has numbers is left; Dovecot would number it after the first."""
+    """A second mailbox for a folder that has numbers is left if it has some too; Dovecot numbers it after the first. If
+    it has none, there is nothing to ask."""
     case = Case(home, server, "others")
     kept(case)
     before = case.before()
-    (case.home / "more").write_bytes(mail(20) + mail(21))
+    (case.home / "more").write_bytes(mail(20, "X-IMAPbase: 1700000000 0000000001\nX-UID: 1\n"))
+    (case.home / "none").write_bytes(mail(21))
     yield from says("the first of two", case.migrate(), 0, "done")
     yield from says(
         "the second", case.migrate(names=["more"]), 1, r"left \(numbered\): INBOX has the UIDs of another mailbox"
     )
     yield from says("the second, without", case.migrate("--folder", "INBOX", names=["more"]), 0, "done")
+    yield from says("one without numbers", case.migrate(names=["none"]), 0, "done, .*Dovecot gives what is new its UIDs")
     uids = [row[0] for row in case.after()[0]["INBOX"][2]]
     following = before[0]["INBOX"][1]
     if uids != [row[0] for row in before[0]["INBOX"][2]] + [following, following + 1]:

@@ -224,6 +224,13 @@ class Reading:
         return self.head.validity, last + 1, ((self.uids[place] or last, place) for place in order)
 
 
+def first_head(mailbox: Mailbox, start: Offset) -> Optional[Head]:
+    """The head of a mailbox whose text begins at an offset; None if Dovecot has given it no UIDs."""
+    reading = Reading(internal_head(mailbox, start)[0])
+    reading.add(header_at(mailbox, start))
+    return reading.head
+
+
 def marks_of(fields: Iterable[Field], names: dict[bytes, int]) -> int:
     """The flags and keywords of a message in bits. Bits from 0 on are its keywords by their places; from 32 on, the
     flags that Dovecot reads; from 40 on, those that mbox2maildir gives a file with all header fields; the last one says

@@ -12,7 +12,17 @@ from collections.abc import Callable, Iterator
 from typing import Optional
 
 from ..faults import Left, PlaceFault, Reason
-from ..flags.dovecot_headers import LETTERS, Reading, fields_of, header_at, info_of, internal_head, is_listed, marks_of
+from ..flags.dovecot_headers import (
+    LETTERS,
+    Reading,
+    fields_of,
+    first_head,
+    header_at,
+    info_of,
+    internal_head,
+    is_listed,
+    marks_of,
+)
 from ..flags.dovecot_list import list_of, name_by, raised, rename, replace
 from ..flags.renaming import add_flags
 from ..ledger.history import Entry, Key, Note, names_of
@@ -87,12 +97,9 @@ class Dovecot(Extra):
 
     def raise_next(self, one: Bringing) -> None:
         """Has the list of a folder give what is new no UID that the mailbox has given since."""
-        full, folder = one.contents.full, one.opened.folder
-        reading = Reading(internal_head(full.mailbox, full.start)[0])
-        for offset in full.offsets[:-1][:1]:
-            reading.add(header_at(full.mailbox, Offset(offset)))
+        head, folder = first_head(one.contents.full.mailbox, one.contents.full.start), one.opened.folder
         text = content_of(os.path.join(folder, LIST), LONGEST_LIST)
-        new = raised(text, reading.head.validity, reading.head.last) if reading.head and text else text
+        new = raised(text, head.validity, head.last) if head and text else text
         if text is not None and new is not None and new != text:
             if self.is_own(one.opened, LIST):
                 self.writer(one.opened.name)(LIST, len(new), hashlib.sha256(new).hexdigest())
@@ -123,8 +130,7 @@ class Dovecot(Extra):
     def write(self, one: Bringing, reading: Reading) -> None:
         """Writes the files. The list comes last, since with it Dovecot accepts the others."""
         opened, whole = one.opened, one.whole
-        key = Key(opened.name, *opened.mailbox.key())
-        self.record.add(Note.NUMBERED, key, len(whole), opened.mailbox.path)
+        self.record.add(Note.NUMBERED, Key(opened.name, *opened.mailbox.key()), len(whole), opened.mailbox.path)
         if reading.keywords:
             text = b"".join(b"%d %s\n" % pair for pair in enumerate(reading.keywords[:LETTERS]))
             place_file(opened.folder, KEYWORDS, text, self.writer(opened.name))
@@ -142,9 +148,9 @@ class Dovecot(Extra):
         numbered = self.record.numbered(opened.name)
         if numbered and not is_of(numbered, opened):
             says = OF_ANOTHER % folder_named(opened.name)
-            if one.places:
+            if one.places and first_head(one.contents.full.mailbox, one.contents.full.start):
                 raise Left(AFTER_THOSE % says, Reason.NUMBERED)
-            return [Remark("without-uids", WITHOUT % says)]
+            return [WHAT_IS_NEW if one.places else Remark("without-uids", WITHOUT % says)]
         there = [name for name in names_in(opened.folder) if name.startswith(b"dovecot")]
         if numbered and one.is_grown and LIST in there:
             return [WHAT_IS_NEW]
@@ -163,9 +169,8 @@ class Dovecot(Extra):
 
     def is_own_in(self, folder: bytes, path: bytes, name: bytes) -> bool:
         """The same for a folder of this name, at a path."""
-        if name not in (KEYWORDS, LIST):
-            return False
-        text = content_of(os.path.join(path, name), self.record.longest_written(folder))
+        path, most = os.path.join(path, name), self.record.longest_written(folder)
+        text = content_of(path, most) if name in (KEYWORDS, LIST) else None
         return text is not None and self.record.has_written(folder, name, hashlib.sha256(text).hexdigest())
 
 

@@ -141,7 +141,7 @@ class DovecotTest(DovecotCase):
         self.fill(NUMBERED)
         self.became(Fate.DONE)
         self.move_box("other")
-        self.fill(ONE)
+        self.fill(NUMBERED.replace(b"hello", b"other"))
         says = (
             "INBOX has the UIDs of another mailbox, and Dovecot gives these messages UIDs after those; "
             "run this next: "
@@ -151,6 +151,9 @@ class DovecotTest(DovecotCase):
         # the options that were given, without the one because of which it is left
         row = self.migrate(dovecot=True, again=True, now=True, decision=Reading("mboxo"))
         self.assertEqual(told(row), says + command.format("--now --again --as mboxo "))
+        # one that has no UIDs loses none
+        self.fill(TWO)
+        self.assertIn(NEW, told(self.migrate(dovecot=True)))
 
     def test_dovecot_was_there(self) -> None:
         self.fill(NUMBERED)
@@ -238,7 +241,7 @@ class BareTest(DovecotCase):
         self.fill(NUMBERED)
         self.became(Fate.DONE)
         self.move_box("other")
-        self.fill(ONE)
+        self.fill(NUMBERED.replace(b"hello", b"other"))
         before = self.words()
         self.assertEqual((self.migrate(dovecot=True).fate, self.words()), (Fate.LEFT, before))
         self.assertEqual(self.migrate().fate, Fate.DONE)
