@@ -5,14 +5,15 @@ BACK_SEEDS says how many histories there are of each dialect, and BACK_FIRST the
 """
 import os
 from collections import Counter
+from collections.abc import Sequence
 from functools import partial
 
-from tests.support.archives import fresh
+from tests.support.archives import Home, fresh
 from tests.support.cases import Failed, run_cases
 from tests.support.rewriting.runs import Ran
 from tests.support.wayback.dialects import DIALECTS, Dialect, bare, parted
 from tests.support.wayback.histories import BESIDE, Appended, History, flags_of, shown_of, tail_of, text_at
-from tests.support.wayback.programs import listed_in, numbers_of
+from tests.support.wayback.programs import Deliver, listed_in, numbers_of
 
 SEEDS, FIRST = int(os.environ.get("BACK_SEEDS") or 3), int(os.environ.get("BACK_FIRST") or 0)
 BACK = ["back", "--json", "--now", "M", "mail", "spool"]
@@ -130,21 +131,27 @@ def folder_refuses(trial: Trial, folder: str, one: Appended) -> bool:
     return bool(trial.before[folder]) and not trial.history.holds(one.bare)
 
 
-def histories(dialect: str) -> None:
-    """A case: some histories of one dialect."""
+def told(dialect: str, home: Home, programs: Sequence[Deliver] = ()) -> None:
+    """Tries some histories of one dialect in a home, in which these programs deliver too."""
     wrong = []
-    with fresh() as home:
-        for seed in range(FIRST, FIRST + SEEDS):
-            history = History(home, seed, dialect)
-            try:
-                history.begin()
-                history.act(history.draw.randrange(4, 20))
-                Trial(history).run()
-            except Failed as failed:
-                wrong.append(f"seed {seed}: {failed}")
+    for seed in range(FIRST, FIRST + SEEDS):
+        history = History(home, seed, dialect)
+        history.programs += programs
+        try:
+            history.begin()
+            history.act(history.draw.randrange(4, 20))
+            Trial(history).run()
+        except Failed as failed:
+            wrong.append(f"seed {seed}: {failed}")
     print(f"{dialect}: {SEEDS} histories, {len(wrong)} wrong", flush=True)
     if wrong:
         raise Failed("\n".join(wrong[:3]))
+
+
+def histories(dialect: str) -> None:
+    """A case: some histories of one dialect."""
+    with fresh() as home:
+        told(dialect, home)
 
 
 if __name__ == "__main__":

@@ -16,7 +16,6 @@ from tests.support import accounts
 from tests.support.checks import PATIENCE, equal, matches, text_of
 from tests.support.homes import ADMIN, check_all, expect, mailbox, run, script, want_users
 from tests.support.mail import ONE, THREE, TWO
-from tests.support.mounts import mount
 from tests.support.schema import wrong
 
 NAMES = ["m61one", "m61two", "m61three"]
@@ -386,60 +385,6 @@ def hostile_homes(home: Path) -> None:
         attempt("its lock", "mail/sent.lock", secret)
 
 
-@contextlib.contextmanager
-def on_full_disk(folder: Path) -> Iterator[None]:
-    """Has a folder on a disk of its own for a while, of which 32 kB are free."""
-    kept, state = folder.parent / f"{folder.name}.kept", folder.stat()
-    folder.rename(kept)
-    folder.mkdir()
-    mount("none", str(folder), "tmpfs", options="size=512k")
-    subprocess.run(["cp", "-a", f"{kept}/.", folder], check=True)
-    os.chown(folder, state.st_uid, state.st_gid)
-    folder.chmod(state.st_mode & 0o7777)
-    disk = os.statvfs(folder)
-    (folder / "filler").write_bytes(b"\0" * disk.f_frsize * max(0, disk.f_bavail - 8))
-    try:
-        yield
-    finally:
-        (folder / "filler").unlink()
-        shutil.rmtree(kept)
-        subprocess.run(["cp", "-a", folder, kept], check=True)
-        subprocess.run(["umount", "-l", folder], check=True)
-        folder.rmdir()
-        kept.rename(folder)
-
-
-def is_full(home: Path, folder: str) -> None:
-    """The disk of this folder is full, as if a quota were: who needs more room there is left, and nobody else. With
-    room the same command goes on."""
-    with migrated(home):
-        deliver(home, "m61one", text=NEW + b"x\n" * 40_000)
-        deliver(home, "m61two")
-        with on_full_disk(home / folder):
-            before = (home / "spool/m61one").read_bytes()
-            status, out, err = run(WORDS, home)
-            equal("status and standard error", (status, err), (1, ""))
-            rows = sorted(row for row in out.splitlines() if " -> " in row)
-            matches("who needs more room", rows[0], "INBOX -> m61one: messages 1: left (no-room): ...")
-            equal("who has room", rows[1:], ["INBOX -> m61two: mboxrd, messages 1: back"])
-            equal("the inbox", (home / "spool/m61one").read_bytes(), before)
-            equal("what is beside the inboxes", {*os.listdir(home / "spool")} - {"filler"}, {*NAMES})
-        expect([*WORDS, "m61two"], home, 0, None)
-        equal("an inbox that took it", rest_of(TWO, home / "spool/m61two"), BACK)
-        expect(WORDS, home, 0, "INBOX -> m61one: mboxrd, messages 1: back\n...\n" + moves(home, *NAMES))
-        equal("the inbox", rest_of(ONE, home / "spool/m61one"), BACK[:-1] + b"x\n" * 40_000 + b"\n")
-
-
-def full_spool(home: Path) -> None:
-    """The disk of the inboxes is full."""
-    is_full(home, "spool")
-
-
-def full_home(home: Path) -> None:
-    """The disk of a home is full."""
-    is_full(home, "homes/m61one")
-
-
 if __name__ == "__main__":
     check_all(
         went_back,
@@ -451,6 +396,4 @@ if __name__ == "__main__":
         killed,
         hostile_spool,
         hostile_homes,
-        full_spool,
-        full_home,
     )

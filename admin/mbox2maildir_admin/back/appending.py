@@ -1,6 +1,9 @@
 """Appends to an open mailbox, which is locked, what is in a file beside: all of it, or nothing."""
 import errno
+import functools
+import importlib
 import os
+from collections.abc import Callable
 from typing import Optional
 
 from ..faults import Left, Reason
@@ -11,8 +14,11 @@ from ..units import Line
 from .beside import Before, Beside, End, write_all
 
 CHANGED = "another program writes to it: stop that program, and run this again"
+NOT_CUT = "no room is left on its disk, not even to cut off what was appended in part: make room, and run this again"
 # the errors of a full disk
 FULL = errno.ENOSPC, errno.EDQUOT
+# the flag of the call fallocate by which the size of a file stays
+KEEP_SIZE = 1
 
 
 def before_of(mailbox: Mailbox) -> Before:
@@ -23,6 +29,7 @@ def before_of(mailbox: Mailbox) -> Before:
 def append(mailbox: Mailbox, beside: Beside) -> None:
     """Appends all of it, and syncs. If that fails, or is interrupted, the mailbox is as it was before."""
     try:
+        reserve(mailbox, beside.size)
         reader = beside.reader()
         for block in iter(lambda: reader.read(BLOCK), b""):
             write_all(mailbox.number, block)
@@ -31,13 +38,43 @@ def append(mailbox: Mailbox, beside: Beside) -> None:
         if beside.end_of(mailbox) is not End.WHOLE:
             raise Left(CHANGED, Reason.CHANGED)
     except OSError as error:
-        take_back(mailbox, beside)
+        try:
+            take_back(mailbox, beside)
+        except OSError as other:
+            if other.errno in FULL:
+                raise Left(NOT_CUT, Reason.NO_ROOM) from other
+            raise
         if error.errno in FULL:
             raise Left("no room is left on its disk", Reason.NO_ROOM) from error
         raise
     except BaseException:
         take_back(mailbox, beside)
         raise
+
+
+def reserve(mailbox: Mailbox, size: int) -> None:
+    """Has the disk keep room for so many bytes more, if it can. Raises OSError if there is none: nothing else shows a
+    quota before it is met, and then some disks cut no file either."""
+    error = call_of_system()(mailbox.number, mailbox.size, size)
+    if error in FULL:
+        raise OSError(error, os.strerror(error))
+
+
+@functools.lru_cache(maxsize=None)
+def call_of_system() -> Callable[[int, int, int], int]:
+    """Returns the call that has a disk keep room in an open file, from an offset on, and returns its error, or 0. If
+    Python cannot make it, it does nothing."""
+    try:
+        ctypes = importlib.import_module("ctypes")
+        fallocate = ctypes.CDLL(None, use_errno=True).fallocate64
+    except (ImportError, OSError, AttributeError):
+        return lambda number, offset, size: 0
+
+    def call(number: int, offset: int, size: int) -> int:
+        failed = fallocate(number, KEEP_SIZE, ctypes.c_int64(offset), ctypes.c_int64(size))
+        return int(ctypes.get_errno()) if failed else 0
+
+    return call
 
 
 def take_back(mailbox: Mailbox, beside: Beside) -> bool:

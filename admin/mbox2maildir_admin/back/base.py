@@ -13,6 +13,8 @@ from ..mbox.files import BLOCK
 from ..mbox.hidden import LONGEST
 from ..mbox.mailbox import Mailbox
 
+# so many bytes each disk writes at once, or not at all
+SECTOR = 512
 NOT_KEPT = "another program has changed its first message meanwhile: stop that program, and run this again"
 
 
@@ -46,7 +48,8 @@ class Base(NamedTuple):
 
     def header_with(self, validity: int, last: int, keywords: Sequence[bytes]) -> Optional[bytes]:
         """The header with these numbers, and with these keywords after those that are named. Unless the rest may move,
-        it grows into the blanks that Dovecot leaves in a header; None if there are too few."""
+        it grows into the blanks that Dovecot leaves in a header; None if there are too few, or if a power cut could
+        take bytes away, since the disk does not write all that changes at once."""
         value = self.header[self.begin : self.end]
         found = HEAD.match(value)
         assert found, "it is a head"
@@ -59,7 +62,16 @@ class Base(NamedTuple):
             ]
         )
         header = self.header[: self.begin] + text + self.header[self.end :]
-        return header if self.rest else without_blanks(header, len(header) - len(self.header))
+        if self.rest:
+            return header
+        header = without_blanks(header, len(header) - len(self.header)) or b""
+        return header if header and (len(text) == len(value) or self.is_in_one_sector(header)) else None
+
+    def is_in_one_sector(self, header: bytes) -> bool:
+        """Whether a header of the same size differs within one sector of the disk alone."""
+        first = len(os.path.commonprefix([header, self.header]))
+        last = len(header) - 1 - len(os.path.commonprefix([header[::-1], self.header[::-1]]))
+        return (self.offset + first) // SECTOR == (self.offset + last) // SECTOR
 
     def write(self, mailbox: Mailbox, header: bytes) -> None:
         """Writes the header anew, by one call, and syncs it. Raises Left if that is not what is read then."""

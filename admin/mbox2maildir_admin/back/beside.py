@@ -25,12 +25,13 @@ FOOT_HERE = re.compile(
 LONGEST_FOOT = 1 << 15
 # what another program writes after a message that was torn, and how many bytes are looked at for that
 OTHER_MAIL, MOST_LOOKED_AT = re.compile(rb"(?:\r?\n)?From "), 1 << 16
+HOLE = re.compile(rb"\0+")
 FLAGS = os.O_NOFOLLOW | os.O_CLOEXEC
 
 
 class End(enum.Enum):
-    """What follows, in a mailbox, how it was before: nothing; the beginning of what was to be appended; all of that; or
-    anything else, also if it was not before as it was."""
+    """What follows, in a mailbox, how it was before: nothing; the beginning of what was to be appended, perhaps with
+    holes; all of that; or anything else, also if it was not before as it was."""
 
     NOTHING = "nothing"
     PART = "part"
@@ -100,13 +101,11 @@ class Beside:
     def end_of(self, mailbox: Mailbox) -> End:
         """What follows in a mailbox how it was before."""
         follows = mailbox.size - self.before.size
-        if not self.is_begun_by(mailbox):
+        if not self.is_begun_by(mailbox) or follows > self.size:
             return End.OTHER
-        if self.same(mailbox) < min(follows, self.size) or follows > self.size:
-            return End.OTHER
-        if follows == self.size:
-            return End.WHOLE
-        return End.PART if follows else End.NOTHING
+        if not follows or self.same(mailbox) == self.size:
+            return End.WHOLE if follows else End.NOTHING
+        return End.PART if self.same(mailbox, True) == follows else End.OTHER
 
     def is_begun_by(self, mailbox: Mailbox) -> bool:
         """Whether a mailbox begins with what it was before."""
@@ -116,19 +115,24 @@ class Beside:
     def torn_in(self, mailbox: Mailbox) -> Optional[Offset]:
         """The offset of the message that was appended in part; None if none was, or if the mailbox does not begin as
         before, which shows nothing."""
-        count = self.same(mailbox) if self.is_begun_by(mailbox) else 0
-        start = max((start for start in self.starts if start < count), default=None)
+        if not self.is_begun_by(mailbox):
+            return None
+        count = self.same(mailbox)
+        has_hole = count < self.same(mailbox, True)
+        start = max((start for start in self.starts if start < count + has_hole), default=None)
         if start is None or count == self.size:
             return None
         begins = Offset(self.before.size + start)
-        return begins if is_torn(mailbox.at(begins, MOST_LOOKED_AT), count - start) else None
+        return begins if has_hole or is_torn(mailbox.at(begins, MOST_LOOKED_AT), count - start) else None
 
-    def same(self, mailbox: Mailbox) -> int:
-        """How many of the bytes that follow in a mailbox are the first ones that were to be appended."""
+    def same(self, mailbox: Mailbox, with_holes: bool = False) -> int:
+        """How many of the bytes that follow in a mailbox are the first ones that were to be appended. In a hole, a disk
+        has NUL in the place of some."""
         mine, its, count = self.reader(), Reader(mailbox.number, Offset(self.before.size), mailbox.size), 0
         while True:
             block = mine.read(BLOCK)
             other = its.read(len(block))
+            other = filled(other, block) if with_holes else other
             count += len(os.path.commonprefix([block, other]))
             if not other or block != other:
                 return count
@@ -141,6 +145,11 @@ class Beside:
     def close(self) -> None:
         """Closes it."""
         os.close(self.number)
+
+
+def filled(text: bytes, other: bytes) -> bytes:
+    """A text that has the bytes of another one in the place of each NUL."""
+    return HOLE.sub(lambda hole: other[hole.start() : hole.end()], text)
 
 
 def is_torn(text: bytes, count: int) -> bool:

@@ -144,6 +144,58 @@ class AppendingTest(FolderTest):
                 append(mailbox, beside)
         self.assertEqual(self.text(), OLD)
 
+    def test_a_quota_is_met_before_anything_is_written(self) -> None:
+        for error in appending.FULL:
+            call = mock.patch.object(appending, "call_of_system", return_value=lambda *_: error)
+            with self.opened() as mailbox, contextlib.closing(self.beside(mailbox)) as beside, call:
+                with mock.patch("os.ftruncate", side_effect=AssertionError), self.assertRaises(Left) as caught:
+                    append(mailbox, beside)
+            self.assertEqual((caught.exception.reason, self.text(), self.names()), (Reason.NO_ROOM, OLD, [b"box"]))
+
+    def test_a_disk_that_keeps_no_room(self) -> None:
+        for error in (0, errno.EOPNOTSUPP):
+            call = mock.patch.object(appending, "call_of_system", return_value=lambda *_: error)
+            with self.opened() as mailbox, contextlib.closing(self.beside(mailbox)) as beside, call:
+                append(mailbox, beside)
+        self.assertEqual(self.text(), OLD + TAIL * 2)
+
+    def test_a_disk_that_cuts_nothing_either(self) -> None:
+        full = OSError(errno.EDQUOT, "quota")
+
+        def write(number: int, piece: bytes) -> None:
+            os.write(number, piece[:20])
+            raise full
+
+        with self.opened() as mailbox, contextlib.closing(self.beside(mailbox)) as beside:
+            with mock.patch.object(appending, "write_all", write), mock.patch("os.ftruncate", side_effect=full):
+                with self.assertRaises(Left) as caught:
+                    append(mailbox, beside)
+            self.assertEqual((str(caught.exception), caught.exception.reason), (appending.NOT_CUT, Reason.NO_ROOM))
+            mailbox.take_state()
+            recover(mailbox, beside)
+        self.assertEqual(self.text(), OLD)
+
+    def test_holes_of_a_disk_are_cut(self) -> None:
+        """A disk may have zeros in the place of what was appended."""
+        for hole, count in ((b"\0" * 5, 0), (b"\0" * 5, 20), (b"\0", 9), (b"\0" * len(TAIL), 0)):
+            text = TAIL[:count] + hole + TAIL[count + len(hole) :]
+            for end in {count + len(hole), len(TAIL)}:
+                self.write("box", OLD)
+                with self.opened() as mailbox, contextlib.closing(self.beside(mailbox)) as beside:
+                    os.write(mailbox.number, text[:end])
+                    mailbox.take_state()
+                    self.assertEqual(beside.end_of(mailbox), End.PART)
+                    self.assertIsNone(recover(mailbox, beside))
+                self.assertEqual(self.text(), OLD)
+
+    def test_holes_before_what_others_wrote(self) -> None:
+        text = OLD + b"\0" * 5 + TAIL[5:20] + b"From d\n\nyes\n\n"
+        with self.opened() as mailbox, contextlib.closing(self.beside(mailbox)) as beside:
+            os.write(mailbox.number, text[len(OLD) :])
+            mailbox.take_state()
+            self.assertEqual((beside.end_of(mailbox), recover(mailbox, beside)), (End.OTHER, 5))
+        self.assertEqual(self.text(), text)
+
     def test_what_others_wrote_is_never_cut(self) -> None:
         torn = TAIL[: len(MAILS[0]) + 9]
         for what, text, line in (

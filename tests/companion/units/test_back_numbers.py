@@ -1,6 +1,7 @@
 """UIDs, keywords, flags of mail programs and subscriptions on the way back: the texts were worked out by hand, by what
 Dovecot 2.3 was seen to do with them."""
 import os
+import re
 from collections.abc import Sequence
 from pathlib import Path
 from typing import Any, Optional
@@ -23,6 +24,7 @@ from mbox2maildir_admin.ledger.record import Record
 from mbox2maildir_admin.mbox.inventory import Inventory
 from mbox2maildir_admin.mbox.locks import WRITING, open_mailbox
 from mbox2maildir_admin.migration.outcomes import Fate, Row
+from mbox2maildir_admin.nexts import COMMAND, lines_below
 from mbox2maildir_admin.units import Size
 
 from tests.companion.units.test_back_several import BackHome
@@ -64,6 +66,27 @@ class BaseTest(FolderTest):
                 base = Base.of(mailbox)
                 assert base
                 self.assertEqual(base.header_with(1700000000, 12, keywords), after)
+
+    def test_a_power_cut_takes_no_byte_of_a_mail(self) -> None:
+        """Whichever sectors of the mailbox the disk has written, the messages are there, and the next run goes on."""
+        for count in range(0, 600, 7):
+            text = KEPT.replace(b"Subject: a\n", b"Subject: " + b"a" * count + b"\n")
+            with self.subTest(count=count), source_of(text) as mailbox:
+                base = Base.of(mailbox)
+                assert base
+                header = base.header_with(1700000007, 12, [b"Other"]) or base.header_with(1700000007, 12, [])
+                assert header
+                after = text.replace(base.header, header)
+                self.assertEqual(len(after), len(text))
+                for at in range(0, len(text), 512):
+                    for mixed in (text[:at] + after[at:], after[:at] + text[at:]):
+                        self.assertEqual(self.without_notes(mixed), self.without_notes(text))
+                        with source_of(mixed) as cut:
+                            self.assertIsNotNone(Base.of(cut))
+
+    def without_notes(self, text: bytes) -> bytes:
+        """A mailbox without what Dovecot notes in it."""
+        return re.sub(rb"(?m)^X-(?:IMAPbase|UID|Keywords):.*\n", b"", text)
 
     def test_there_is_none(self) -> None:
         for text in (b"", FROM + b"A: b\n\nX-IMAPbase: 1 2\n", FROM + b"A: b\n\nx\n\n" + KEPT, b"hello\n"):
@@ -246,10 +269,10 @@ class NumberingTest(FolderTest):
         files = [Mail(b".", name, b"", core, 0) for name, core in pairs]
         found = its.uids(files, [(b"c", 2), (b"d", 3), (b"c", 4), (b"c", 5)])
         self.assertEqual(found, {b"-x": [3, 5], b"Garden": [3, 4]})
-        lines = [one.command.line() for one in keywords.commands_for(found, "a b")]  # type: ignore[union-attr]
+        lines = [*lines_below((), keywords.commands_for(found, "a b"))][1::2]
         self.assertEqual(lines, [
-            "doveadm flags add -- -x mailbox 'a b' uid 3,5",
-            "doveadm flags add Garden mailbox 'a b' uid 3:4",
+            COMMAND + "doveadm flags add -- -x mailbox 'a b' uid 3,5",
+            COMMAND + "doveadm flags add Garden mailbox 'a b' uid 3:4",
         ])  # fmt: skip
 
     def test_no_room_for_the_next_uid(self) -> None:
@@ -388,12 +411,9 @@ class WayTest(BackHome):
         self.assertEqual([one.command.words[-1] for one in row.next], ["7"])  # type: ignore[union-attr]
 
     def test_names_of_mailboxes(self) -> None:
-        for trees, path, name in (
-            ([b"/h/a", b"/h/mail"], b"/h/mail/lists/b", "lists/b"),
-            ([b"/h/mail"], b"/var/mail/mia", "new/a&b"),
-            ([], b"/var/mail/mia", "new/a&b"),
-        ):
-            self.assertEqual(name_in(trees, path, b".new.a&-b"), name)
+        self.assertEqual(name_in([b"/h/a", b"/h/mail"], b"/h/mail/lists/b", b".new.a&-b"), "lists/b")
+        self.assertEqual(name_in([b"/h/mail"], b"/var/mail/mia", b".new.a&-b"), "new/a&b")
+        self.assertEqual(name_in([], b"/var/mail/mia", b".new.a&-b"), "new/a&b")
         self.assertEqual(name_in([b"/h/mail"], b"/var/mail/mia", b"."), "INBOX")
 
     def test_a_new_mailbox_is_known_the_next_time(self) -> None:

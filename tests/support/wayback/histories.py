@@ -79,7 +79,8 @@ class History:
         self.filled: set[str] = set()
         self.keepers: dict[str, str] = {}
         self.has_uids = self.draw.random() < 0.3
-        self.deliveries = Deliveries(home.place, home.maildir)
+        # what delivers into the Maildir
+        self.programs = Deliveries(home.place, home.maildir).programs()
 
     def message(self, is_plain: bool = False) -> bytes:
         """A new message."""
@@ -219,9 +220,8 @@ class History:
             there = list(self.files())
             one = self.draw.choice(there) if there else None
             what = self.draw.choice(["deliver"] * 5 + ["flag", "move", "move", "copy", "delete", "edit", "rename"])
-            if what == "deliver" and self.deliveries.programs and self.draw.random() < 0.4:
-                program = self.draw.choice(self.deliveries.programs)
-                self.deliveries.run(program, self.draw.choice(FOLDERS), self.message())
+            if what == "deliver" and self.programs and self.draw.random() < 0.4:
+                self.draw.choice(self.programs)(self.draw.choice(FOLDERS), self.message())
             elif what == "deliver" or not one:
                 self.put(self.draw.choice(FOLDERS + [".sent.below"] * (self.draw.random() < 0.1)), self.message())
             elif what == "flag":

@@ -2,6 +2,7 @@
 import re
 import shutil
 from collections.abc import Callable
+from functools import partial
 from pathlib import Path
 from typing import NamedTuple, Optional
 
@@ -17,6 +18,8 @@ CAMEL = {"R": 0x1, "T": 0x2, "D": 0x4, "F": 0x8, "S": 0x10, "P": 0x400}
 LABELS = {"S": b"Opened", "F": b"Starred"}
 VALIDITY = 1700000000
 LINE = re.compile(rb"(\d+) .*?:(.*)")
+# delivers a message into a folder
+Deliver = Callable[[str, bytes], None]
 
 
 class Keeper(NamedTuple):
@@ -127,14 +130,17 @@ def listed_in(folder: Path, number_of: Callable[[bytes], int]) -> Optional[Numbe
 
 
 class Deliveries:
-    """What delivers into a Maildir as its owner: procmail, and Dovecot's LDA, if they are installed."""
+    """What delivers into a Maildir as its owner."""
 
     def __init__(self, place: Place, maildir: Path) -> None:
         self.place, self.maildir = place, maildir
-        own_dovecot(place.programs)
-        has_lda = (place.programs / "dovecot-lda").exists()
+
+    def programs(self) -> list[Deliver]:
+        """Procmail, and Dovecot's LDA, if they are installed."""
+        own_dovecot(self.place.programs)
+        has_lda = (self.place.programs / "dovecot-lda").exists()
         several = [(self.by_procmail, bool(shutil.which("procmail"))), (self.by_lda, has_lda)]
-        self.programs = [program for program, is_there in several if is_there]
+        return [partial(self.run, program) for program, is_there in several if is_there]
 
     def run(self, program: Callable[[str], list[str]], folder: str, message: bytes) -> None:
         """Has a program deliver a message into a folder."""
