@@ -141,7 +141,8 @@ def install(folder: Path) -> None:
             (folder / name).symlink_to(Path(installed, name))
         return
     shutil.copy(program(), str(folder / "mbox2maildir"))
-    shutil.copy(str(ADMIN), str(folder))
+    for path in (ADMIN, TOP / "VERSION"):
+        shutil.copy(str(path), str(folder))
     shutil.copytree(str(PACKAGE), str(folder / PACKAGE.name))
     open_to_others(folder)
 

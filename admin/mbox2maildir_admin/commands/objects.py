@@ -66,6 +66,11 @@ def put_object(fields: dict[str, Any]) -> None:
 class ObjectReporter(Reporter):
     """Prints an object for each row, even for those that have no line otherwise."""
 
+    def __init__(self, *given: Any, **others: Any) -> None:
+        """Takes what a reporter takes. Raises Fault, before anything is done, if the version is not known."""
+        super().__init__(*given, **others)
+        self.version = version()
+
     def print_row(self, row: Row, user: Optional[str]) -> None:
         """Prints what became of a mailbox."""
         self.print_object(object_of(row, user))
@@ -86,7 +91,7 @@ class ObjectReporter(Reporter):
                 "seconds": round(self.seconds(), 3),
                 "last_pass_seconds": rounded(self.last_pass()),
                 "host": os.uname().nodename,
-                "version": version(),
+                "version": self.version,
                 "says": line,
                 "next": objects_of(self.then),
             }
