@@ -125,7 +125,9 @@ def has_others(home: Path, server: Dovecot) -> Iterator[str]:
         "the second", case.migrate(names=["more"]), 1, r"left \(numbered\): INBOX has the UIDs of another mailbox"
     )
     yield from says("the second, without", case.migrate("--folder", "INBOX", names=["more"]), 0, "done")
-    yield from says("one without numbers", case.migrate(names=["none"]), 0, "done, .*Dovecot gives what is new its UIDs")
+    yield from says(
+        "one without numbers", case.migrate(names=["none"]), 0, "done, .*Dovecot gives what is new its UIDs"
+    )
     uids = [row[0] for row in case.after()[0]["INBOX"][2]]
     following = before[0]["INBOX"][1]
     if uids != [row[0] for row in before[0]["INBOX"][2]] + [following, following + 1]:
