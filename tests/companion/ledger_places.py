@@ -78,6 +78,16 @@ def rule_1_killed_and_gone_from_it(home: Home) -> None:
         equal(f"{kill}: what is said later", says(home.done("OLD")["OLD"], "gone from it"), False)
 
 
+def rule_1_killed_and_emptied(home: Home) -> None:
+    """The same of a mailbox that loses all."""
+    home.write("OLD", letters(*FIVE))
+    home.done("OLD")
+    as_if_killed(home.maildir)
+    home.write("OLD", b"")
+    want_said(home.done("OLD")["OLD"], "5 messages gone from it that it had brought")
+    home.has(*FIVE)
+
+
 def rule_1_deleted_and_brought_by_another(home: Home) -> None:
     """A run placed all, and was killed while it verified. A reader deletes a message, which another mailbox brings
     before the first goes on. It comes back, and that is said."""
@@ -872,6 +882,7 @@ def rule_12_a_record_of_an_earlier_version(home: Home) -> None:
 RULES = [
     rule_1_killed_and_deleted,
     rule_1_killed_and_gone_from_it,
+    rule_1_killed_and_emptied,
     rule_1_deleted_and_brought_by_another,
     rule_1_deleted_at_once,
     rule_1_said_by_later_runs,

@@ -86,6 +86,20 @@ def rule_6_nothing_is_gone_after_a_killed_run(home: Home) -> None:
         home.has(why=call)
 
 
+def rule_6_nothing_is_gone_of_a_rewritten_mailbox(home: Home) -> None:
+    """The same if a program rewrote the mailbox between the two, so that its files have other names."""
+    for call in range(1, 24, 2):
+        home.begin()
+        home.write("OLD", letters(1, 2, 3))
+        home.run("OLD", kill=Kill(call=call))
+        home.write("OLD", letters(1, 2, 3, fields=RO))
+        home.done("OLD")
+        row = home.undo("OLD")["OLD"]
+        if "gone" in texts_of(row):
+            raise Failed(f"{call}: {row}")
+        home.has(why=call)
+
+
 def rule_6_three_words(home: Home) -> None:
     """Of what was placed, what another mailbox shares stays, and what was nobody's stays always."""
     home.write("FIRST", letters(20))
@@ -596,6 +610,7 @@ RULES = [
     rule_6_equal_mailboxes,
     rule_6_after_a_killed_run,
     rule_6_nothing_is_gone_after_a_killed_run,
+    rule_6_nothing_is_gone_of_a_rewritten_mailbox,
     rule_6_three_words,
     rule_6_without_the_other_mailbox,
     rule_6_after_growth_and_a_server,

@@ -2,6 +2,7 @@
 from typing import Optional
 
 from ..ledger.history import Key, Note
+from ..ledger.ledger import Ledger
 from ..ledger.record import Record
 from ..maildir.folders import INBOX
 from ..mbox.mailbox import Mailbox
@@ -9,16 +10,20 @@ from ..nexts import Remark
 from ..readings.plans import Plan, Question
 from ..readings.reading import UNDECIDED, Reading, renumbered
 from ..units import Line
+from .remarks import remarks_on_none
 from .steps import Opened
 
 AS_ANSWERED = Remark("as-answered", "as it was answered before")
 
 
-def note_empty(record: Record, opened: Opened) -> None:
-    """Notes that a mailbox has its folder, if it has no byte."""
-    name, mailbox = opened.name, opened.mailbox
+def note_empty(record: Record, opened: Opened, ledger: Ledger, path: str) -> list[Remark]:
+    """Notes that a mailbox has no mail, and, if it has no byte, that it has its folder. Returns what is to be said of
+    what it had."""
+    name, mailbox, said = opened.name, opened.mailbox, list(remarks_on_none(ledger, path))
+    ledger.note_empty(path, mailbox.key())
     if not mailbox.size:
         record.add(Note.EMPTY, Key(name, *mailbox.key()), 0, mailbox.path)
+    return said
 
 
 def note_answer(record: Record, opened: Opened, plan: Plan) -> None:

@@ -11,6 +11,7 @@ from ..ledger.match import Match
 from ..ledger.record import unspelled
 from ..maildir.folders import INBOX
 from ..mbox.bases import BASE
+from ..mbox.inventory import Inventory
 from ..nexts import Remark
 from ..readings.reading import Reading
 from ..readings.remarks import left_out
@@ -61,6 +62,12 @@ def remarks_on_lost(match: Match) -> Iterator[Remark]:
     lost = sum(match.lost.values()) + left_by_killed(match)
     if lost:
         yield Remark(NO_LONGER, GONE % counted(lost, "message"))
+
+
+def remarks_on_none(ledger: Ledger, path: str) -> Iterator[Remark]:
+    """What is to be said of a mailbox without mail, if a run was killed that had begun with it."""
+    if ledger.pending(path) is not None:
+        yield from remarks_on_lost(Match.of(ledger, path, Inventory(), lambda place: False))
 
 
 def remarks_on_shared(match: Match) -> Iterator[Remark]:

@@ -177,8 +177,7 @@ class Transfer:
         if not choice.plan.messages:
             if not self.how.dry:
                 self.make_folder()
-                self.ledger.note_empty(self.path, self.opened.mailbox.key())
-                note_empty(self.record, self.opened)
+                self.remarks += note_empty(self.record, self.opened, self.ledger, self.path)
                 note_answer(self.record, self.opened, choice.plan)
             return self.row(choice.plan)
         self.remarks += want_syncs(self.opened.folder, self.how.any_disk)

@@ -48,8 +48,7 @@ class Shares:
         named_once = {line.message.name: line for line in own if line.message.name != NAMELESS}
         self.foreign = sum(self.has_it(line) for line in own if line.message.name == NAMELESS)
         for line in own:
-            # what a killed run was to bring, and a later one has brought, is not gone
-            if line.state in (State.HELD, State.OPEN) and not self.is_last(line):
+            if self.may_be_gone(line) and not self.is_last(line):
                 self.miss(line)
         # what the mailbox had once may have other bytes than what it has
         order = {one: (not self.has_it(named_once[one]), (one not in self.there) != is_resumed) for one in named_once}
@@ -61,6 +60,12 @@ class Shares:
     def has_it(line: Line) -> bool:
         """Whether the mailbox has the message of a line, which counts more than what it had."""
         return line.state is not State.FORMER
+
+    @staticmethod
+    def may_be_gone(line: Line) -> bool:
+        """Whether the file of a line that has none is gone. What a killed run was to bring, and a later one has
+        brought, is not."""
+        return line.state in (State.HELD, State.OPEN)
 
     def is_last(self, line: Line) -> bool:
         """Whether the name of a line was not placed again after it."""
@@ -106,7 +111,7 @@ class Shares:
         elif not has[one.core] and is_there:
             self.lost += 1
         elif not has[one.core]:
-            self.gone += self.has_it(line)
+            self.gone += self.may_be_gone(line)
         else:
             has[one.core] -= 1
             if lacking and is_there:

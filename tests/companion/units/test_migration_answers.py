@@ -1,5 +1,6 @@
 """What the record notes of a mailbox besides steps."""
 from mbox2maildir_admin.ledger.history import Key, Note
+from mbox2maildir_admin.ledger.ledger import Ledger
 from mbox2maildir_admin.migration.answers import answer_to, note_answer, note_empty, note_no_mail
 from mbox2maildir_admin.migration.outcomes import Fate
 from mbox2maildir_admin.readings.plans import Plan, Question, plan_of
@@ -28,7 +29,7 @@ class AnswersTest(HomeTest):
         for text, noted in ((ONE, []), (b"", [key_of(b"")])):
             self.fill(text)
             with self.opened() as (opened, record):
-                note_empty(record, opened)
+                self.assertEqual(note_empty(record, opened, Ledger(opened.folder), "/box"), [])
                 self.assertEqual([one.key for one in record.noting(Note.EMPTY, b".", self.path)], noted)
 
     def test_answers(self) -> None:
