@@ -197,6 +197,23 @@ def without_mailboxes(home: Path) -> None:
         equal("an old mailbox", (home / "spool/m61wait").read_bytes(), ONE)
 
 
+def tree_elsewhere(home: Path) -> None:
+    """If the mailboxes of a user's folders are not in the home's folder of mailboxes any more, no second one is made,
+    which would be in their way."""
+    with migrated(home):
+        own = home / "homes/m61two"
+        (own / "mail").rename(own / "mail.old")
+        deliver(home, "m61two", ".garden")
+        status, out, _ = run([*WORDS, "m61two"], home)
+        says = f"garden has no mailbox, and the folder of the others is not there: {own}/mail"
+        row = next(row for row in out.splitlines() if "garden" in row)
+        matches("the row", row, f"garden -> m61two Maildir/.garden: messages 1: left (missing): {says}")
+        equal("the status, and whether the folder is there", (status, (own / "mail").exists()), (1, False))
+        (own / "mail.old").rename(own / "mail")
+        expect([*WORDS, "m61two"], home, 0, None)
+        equal("the text", rest_of(b"", own / "mail/garden"), BACK)
+
+
 def second_mailbox(home: Path) -> None:
     """Both mailboxes of an account get the mail of their folders."""
     with migrated(home), accounts.users({"m61info": home / "homes/m61one"}, like="m61one"):
@@ -390,6 +407,7 @@ if __name__ == "__main__":
         went_back,
         new_inboxes,
         without_mailboxes,
+        tree_elsewhere,
         second_mailbox,
         rights,
         locked,

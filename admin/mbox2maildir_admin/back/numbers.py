@@ -26,6 +26,7 @@ from .places import name_in
 from .steps import How, Target
 
 RAISED, ANEW = "its next UID is %d now", "its UIDVALIDITY is %d now, so mail programs fetch all of it anew"
+NO_DOVECOT = "without --dovecot, Dovecot may give a UID twice"
 NOT_RAISED = "its first message has no room for its next UID: run the command below before a mail program looks at it"
 # in the place of a UID
 NONE = 1 << 32
@@ -160,10 +161,12 @@ class Numbering:
 def numbering_of(opened: Opened, record: Record, target: Target, how: How) -> Numbering:
     """The numbers of an open mailbox and of its folder, whatever their names are now. The mailbox says from now on what
     it is to say before its mail is appended."""
-    if not how.dovecot:
-        return Numbering(None, False)
     gone = [one for one in Ledger(opened.folder).paths() if not os.path.lexists(unspelled(one))]
     is_numbered = record.has_numbered({*gone, *names_of(opened.mailbox.path)})
+    if not how.dovecot:
+        numbering = Numbering(None, False)
+        numbering.remarks += [Remark("uids-not-raised", NO_DOVECOT)] * is_numbered
+        return numbering
     numbering = Numbering(Listed.of(opened.folder), is_numbered, name_in(how.trees, target.path, target.folder))
     numbering.prepare(opened.mailbox, target.mails, how.dry)
     numbering.lack([*target.returned, *target.mails])

@@ -17,6 +17,7 @@ from ..readings.copies import COMPRESSED
 from ..terminal import named, text_of
 
 NO_TREE = "%s has no mailbox: name the folder of the old mailboxes too, in which one is made for it"
+TREE_GONE = "%s has no mailbox, and the folder of the others is not there: %s"
 NO_INBOX = "INBOX has no mailbox: name the one of the inbox too, such as /var/mail/NAME, even if it is not there"
 GONE = "its mailbox is gone: %s"
 # what the name of a mailbox ends in that stands beside another one, which takes nothing
@@ -40,9 +41,10 @@ class Names(NamedTuple):
     tree: Optional[bytes] = None
     no_inbox: str = NO_INBOX
 
-    def trees(self) -> list[bytes]:
-        """The folders of mailboxes."""
-        made = [self.tree] if self.tree and not os.path.lexists(self.tree) else []
+    def trees(self, record: Record) -> list[bytes]:
+        """The folders of mailboxes. None is made if folders came from mailboxes: these stand elsewhere now, and a second
+        folder would be in their way."""
+        made = [self.tree] if self.tree and not os.path.lexists(self.tree) and not has_folders(record) else []
         return [path for path in self.paths if os.path.isdir(path)] or made
 
 
@@ -50,7 +52,7 @@ class Places:
     """The mailboxes of the folders of a Maildir, among those at some paths."""
 
     def __init__(self, root: bytes, record: Record, names: Names) -> None:
-        self.root, self.record, self.trees, self.no_inbox = root, record, names.trees(), names.no_inbox
+        self.root, self.record, self.trees, self.names = root, record, names.trees(record), names
         # by folders, as they are named on the disk: the mailboxes, in the order of the names
         self.found: collections.defaultdict[bytes, list[bytes]] = collections.defaultdict(list)
         for name in names.paths:
@@ -100,12 +102,14 @@ class Places:
             raise Left(GONE % named(unspelled(gone[0])), Reason.MISSING)
         if folder == INBOX:
             if not found:
-                raise Left(self.no_inbox, Reason.NO_MAILBOX)
+                raise Left(self.names.no_inbox, Reason.NO_MAILBOX)
             return [Place(found[0], True)]
         return [self.new(folder, paths)]
 
     def new(self, folder: bytes, paths: Sequence[str]) -> Place:
         """The new mailbox of a folder, in the first tree."""
+        if not self.trees and self.names.tree:
+            raise Left(TREE_GONE % (folder_named(folder), named(self.names.tree)), Reason.MISSING)
         if not self.trees:
             raise Left(NO_TREE % folder_named(folder), Reason.NO_MAILBOX)
         parts, tree = name_given(folder).split(b"/"), self.trees[0]
@@ -138,6 +142,11 @@ class Places:
         while not os.path.lexists(above):
             above = os.path.dirname(above)
         return os.path.isdir(above)
+
+
+def has_folders(record: Record) -> bool:
+    """Whether a folder other than INBOX came from a mailbox."""
+    return any(one.key.folder != INBOX for one in record.lines())
 
 
 def name_in(trees: Sequence[bytes], path: bytes, folder: bytes) -> str:

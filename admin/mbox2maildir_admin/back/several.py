@@ -70,8 +70,8 @@ def bring_all(program: Program, root: bytes, names: Names, how: How, copies: boo
     """Does it by a program, whoever runs this, and whatever was migrated."""
     os.umask(0o077)
     with Record.open(root, not how.dry) as record:
-        how = replace(how, trees=names.trees())
-        return Several(program, root, record, how, observer).run(Places(root, record, names), copies)
+        places = Places(root, record, names)
+        return Several(program, root, record, replace(how, trees=places.trees), observer).run(places, copies)
 
 
 class Several:

@@ -15,7 +15,7 @@ from mbox2maildir_admin.back.dialect import Letter
 from mbox2maildir_admin.back.listed import Listed
 from mbox2maildir_admin.back.mails import Mail
 from mbox2maildir_admin.back.keywords import NO_BASE, NO_ROOM
-from mbox2maildir_admin.back.numbers import Numbering
+from mbox2maildir_admin.back.numbers import NO_DOVECOT, Numbering
 from mbox2maildir_admin.back.places import name_in
 from mbox2maildir_admin.faults import Left
 from mbox2maildir_admin.flags.clients import CLIENTS
@@ -426,6 +426,12 @@ class WayTest(BackHome):
         self.assertIn(b"\nX-IMAPbase: 1700000007 0000000003\nX-UID: 3\n", text)
         self.assertEqual([row.says for row in self.back(dovecot=True)], ["", ""])
         self.assertEqual(box.read_bytes(), text)
+
+    def test_without_the_option(self) -> None:
+        """Then nothing raises the next UID of a mailbox whose UIDs the Maildir has."""
+        self.numbered()
+        self.deliver(".sent", name="1.a")
+        self.assertEqual([one.says for one in self.back()[0].remarks], [NO_DOVECOT])
 
     def test_the_record_knows_which_were_numbered(self) -> None:
         record = Record(self.here)

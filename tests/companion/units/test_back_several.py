@@ -70,9 +70,9 @@ class BackHome(HomeTest):
         paths = [os.fsencode(str(self.home / name)) for name in names or ("mail",)]
         listener = Listener()
         with Record.open(self.root, not how.get("dry")) as record:
-            given: dict[str, Any] = {"now": True, "trees": Names(paths).trees(), **how}
-            one = Several(Function(), self.root, record, How(**given), listener)
-            one.run(Places(self.root, record, Names(paths)), copies)
+            places = Places(self.root, record, Names(paths))
+            given: dict[str, Any] = {"now": True, "trees": places.trees, **how}
+            Several(Function(), self.root, record, How(**given), listener).run(places, copies)
         return listener.rows
 
     def fates(self, rows: list[Row]) -> dict[str, tuple[Fate, object]]:
