@@ -7,6 +7,7 @@ BACK_SEEDS says how many histories there are of each dialect, and BACK_FIRST the
 import os
 import shutil
 import subprocess
+from collections.abc import Iterator
 from functools import partial
 from pathlib import Path
 
@@ -19,9 +20,9 @@ from tests.support.rewriting.runs import Ran
 from tests.support.wayback.dialects import DIALECTS
 from tests.support.wayback.histories import History
 
-SEEDS, FIRST = int(os.environ.get("BACK_SEEDS") or 1), int(os.environ.get("BACK_FIRST") or 0)
+SEEDS, FIRST = int(os.environ.get("BACK_SEEDS") or 2), int(os.environ.get("BACK_FIRST") or 0)
 # what is on the disk, and how many of its blocks are free at first and then
-DISKS, ROOMS = (["M"], ["mail"], ["."]), ((0, 1), (1, 3), (2, 5), (4, 8), (7, 12))
+DISKS, ROOMS = ("M", "mail", "."), ((0, 1), (1, 3), (2, 5), (4, 8), (7, 12))
 BLOCK, SPARE, FILLER = 4096, 64, "filler"
 SAID = ("no-room", "No space left on device")
 
@@ -32,6 +33,7 @@ class Full:
     def __init__(self, history: History) -> None:
         self.history, self.home = history, history.home
         self.kept = self.home.path.parent / "kept"
+        shutil.rmtree(self.kept, ignore_errors=True)
         shutil.copytree(self.home.path, self.kept, copy_function=shutil.copy2)
         self.trial = Trial(history)
 
@@ -90,24 +92,29 @@ class Full:
         return any(statuses)
 
 
+def disks_of(seed: int) -> Iterator[tuple[str, tuple[int, int]]]:
+    """What is tried after a history: each of the disks, with other rooms than after the one before."""
+    for number, disk in enumerate(DISKS):
+        yield disk, ROOMS[(seed + number) % len(ROOMS)]
+
+
 def case(dialect: str) -> None:
     """A case: the way back after histories of one dialect."""
     want_users()
     wrong, count, full = [], 0, 0
-    for seed in range(FIRST, FIRST + SEEDS):
-        with fresh() as home:
+    with fresh() as home:
+        for seed in range(FIRST, FIRST + SEEDS):
             history = History(home, seed + 200, dialect)
             history.begin()
             history.act(14)
             one = Full(history)
-            for (disk,) in DISKS:
-                for rooms in ROOMS:
-                    count += 1
-                    try:
-                        full += one.try_on(disk, rooms)
-                    except Failed as failed:
-                        wrong.append(f"seed {seed}: {failed}")
-    print(f"{dialect}: {count} disks, {full} of them too full, {len(wrong)} wrong", flush=True)
+            for disk, rooms in disks_of(seed):
+                count += 1
+                try:
+                    full += one.try_on(disk, rooms)
+                except Failed as failed:
+                    wrong.append(f"seed {seed}: {failed}")
+    print(f"{dialect}: {SEEDS} histories, {count} disks, {full} of them too full, {len(wrong)} wrong", flush=True)
     if wrong or not full:
         raise Failed("\n".join(wrong[:3] or ["no disk was full"]))
 

@@ -42,6 +42,7 @@ class Killed:
     def __init__(self, history: History, killer: Killer) -> None:
         self.history, self.home, self.killer = history, history.home, killer
         self.kept = self.home.path.parent / "kept"
+        shutil.rmtree(self.kept, ignore_errors=True)
         shutil.copytree(self.home.path, self.kept, copy_function=shutil.copy2)
         self.trial, begun = Trial(history), time.monotonic()
         ran, self.calls = killer.run(partial(self.home.place.run, self.trial.words, BY_OTHERS))
@@ -174,8 +175,8 @@ def case(name: str) -> None:
     """A case: the way back after histories of one dialect, each of which is killed at each call, or at some; or after
     histories of any dialect, while mail comes."""
     wrong, count = [], 0
-    for seed in range(FIRST + 100, FIRST + 100 + SEEDS):
-        with fresh() as home:
+    with fresh() as home:
+        for seed in range(FIRST + 100, FIRST + 100 + SEEDS):
             history = History(home, seed, "" if name == MEANWHILE else name)
             history.begin()
             history.act(12)
