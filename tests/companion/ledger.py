@@ -17,6 +17,7 @@ from tests.support.archives import (
     letter,
     letters,
     mail_of,
+    objects,
     run_rules,
     texts_of,
     want_offered,
@@ -143,6 +144,20 @@ def rule_2_the_same_mailbox_with_other_line_ends(home: Home) -> None:
         home.write("OLD", then)
         home.done("OLD")
         home.has(0, 2, 3, 4)
+
+
+def rule_2_verified(home: Home) -> None:
+    """What is there already with other fields of mail programs is whole for `verify`, as often as it is there."""
+    home.write("OLD", letters(0, 1, 1, fields=RO))
+    home.write("OTHER", letters(1, 2))
+    home.done("OLD", "OTHER")
+    home.has(0, 1, 1, 2)
+    home.write("MORE", letters(1, 1, 1, 2))
+    for name, deleted, wanted in (("OTHER", (), (2, 1, 0)), ("MORE", (), (3, 2, 1)), ("OTHER", (1, 1), (1, 0, 1))):
+        home.take(*deleted)
+        counts = next(objects(home.place.run(["verify", "--json", "M/.Archive", name]).output))["counts"]
+        if tuple(counts[one] for one in ("there", "without-fields", "nowhere")) != wanted:
+            raise Failed(f"{name} {deleted}: {counts}")
 
 
 def rule_2_deleted(home: Home) -> None:
@@ -498,6 +513,7 @@ RULES = [
     rule_2_another_mailbox_in_crlf,
     rule_2_some_messages_in_crlf,
     rule_2_the_same_mailbox_with_other_line_ends,
+    rule_2_verified,
     rule_2_deleted,
     rule_2_deleted_by_a_reader,
     rule_2_flags,

@@ -1,19 +1,21 @@
 """The command `verify`: whether each message is in the Maildir, or in the Maildirs of many users."""
 import argparse
+import collections
 import functools
 import importlib
 
 from ..faults import Status
 from ..labels.checks import checks_of
 from ..labels.noted import Noted, noted_of
-from ..maildir.checking import Check
+from ..maildir.checking import Check, State
 from ..maildir.either import Either
+from ..maildir.files import paths_of
 from ..maildir.folders import INBOX
 from ..mbox.inventory import Inventory
 from ..mbox.lines import Lines
 from ..program import Program, find_program
 from ..readings.texts import Text, open_text
-from ..units import Say
+from ..units import Place, Say
 from .command_line import WrongOptions, want_operands
 from .files import each, for_mailboxes
 from .findings import LINES, Checked, Findings, findings_of
@@ -64,10 +66,32 @@ def verify_takeout(maildir: bytes, file: bytes, program: bytes, noted: Noted, te
 
 
 def check_of(program: bytes, maildir: bytes, text: Text, say: Say) -> tuple[Check, int]:
-    """What a look into a Maildir shows of the messages of a text, and how many of them are there without fields."""
+    """What a look into a Maildir shows of the messages of a text, and how many of them are there without fields, or
+    with other ones."""
     either = Either.of(maildir, inventory_of(text, program), text.mailbox, text.start)
     check = Check.of(maildir, either.inventory, say=say, others=either.others())
-    return check, sum(either.are_bare(check.digests()))
+    bare = sum(either.are_bare(check.digests()))
+    return check, bare + take_alike(maildir, text, check)
+
+
+def take_alike(maildir: bytes, text: Text, check: Check) -> int:
+    """Takes a file for each message that is nowhere if they differ only in header fields that mail programs write for
+    themselves: another mailbox has brought it. Returns how many."""
+    if not check.count(State.NOWHERE):
+        return 0
+    # only this one needs what knows bare forms
+    forms_in = importlib.import_module("..ledger.files", __package__).forms_in
+    inventory, taken, count = text.messages(), {*check.paths.values()}, 0
+    wanted: collections.defaultdict[bytes, list[Place]] = collections.defaultdict(list)
+    for found in check.found(State.NOWHERE):
+        wanted[inventory.bare(found.place)].append(found.place)
+    for name, path in paths_of(maildir):
+        forms = forms_in(path) if check.inventory.place(name) is None and path not in taken else None
+        places = wanted.get(forms[1]) if forms else None
+        if places:
+            check.take_alike(places.pop(0), path)
+            count += 1
+    return count
 
 
 def inventory_of(text: Text, program: bytes) -> Inventory:

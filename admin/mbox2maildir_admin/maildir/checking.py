@@ -96,6 +96,11 @@ class Check:
             self.paths[place], self.states[place] = self.copies[digest].popitem()[1], State.RENAMED
             self.renamed[place] = digest
 
+    def take_alike(self, place: Place, path: bytes) -> None:
+        """Takes a file for a message that is nowhere, since they differ only in fields of mail programs."""
+        self.states[place] = State.THERE
+        self.note_owner(path, os.lstat(path).st_uid)
+
     def find_doubles(self, maildir: bytes) -> None:
         """Looks for files that have the same base."""
         homes: collections.defaultdict[Place, list[bytes]] = collections.defaultdict(list)
