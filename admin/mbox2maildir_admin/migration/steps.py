@@ -5,6 +5,7 @@ from dataclasses import dataclass, replace
 from typing import Any, NamedTuple, Optional
 
 from .. import ADMIN
+from ..faults import Left
 from ..flags.clients import GMAIL, Kept, kept_in, letters_of_evolution
 from ..flags.dovecot_headers import fields_of, flags_of, header_at, marks_of
 from ..flags.renaming import add_flags
@@ -140,6 +141,14 @@ class Extra:
 
     def check(self, one: Bringing) -> None:
         """Raises Left, before anything is placed, if `run` could not do it."""
+
+    def hindrance(self, one: Bringing) -> Optional[Left]:
+        """Why `run` could not do it, if it can't."""
+        try:
+            self.check(one)
+        except Left as left:
+            return left
+        return None
 
     def foresee(self, one: Bringing) -> list[Remark]:
         """What `run` would say, if nothing may be made."""

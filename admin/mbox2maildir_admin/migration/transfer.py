@@ -234,15 +234,13 @@ class Transfer:
             raise self.left_to_store(LOST % how, Reason.LEDGER, contents)
 
     def left_to_store(self, why: str, reason: Reason, contents: Contents) -> Left:
-        """Why it is left, with the command that stores the messages that are nowhere, and with how many these are. If
-        what is done besides cannot be done then, the command leaves it out, and that is said."""
+        """Why it is left, with the command that stores what is nowhere: without what could not be done besides then."""
         ledger = self.ledger.without_lines() if self.ledger.damage else self.ledger
         match = Match.again(ledger, self.path, contents.inventory, contents.is_deleted, self.opened.mailbox.say)
-        changes: dict[str, Any] = {"again": True}
-        hindrance = self.hindrance(self.bringing(contents, match, self.placing(match)))
-        if hindrance:
-            why, changes["dovecot"] = "%s; %s" % (why, hindrance), False
-        return Left(why, reason, self.command(Does.DOUBLES, len(match.need), **changes))
+        hindrance = self.how.extra.hindrance(self.bringing(contents, match, self.placing(match)))
+        stays = self.how.options.dovecot and not hindrance
+        then = self.command(Does.DOUBLES, len(match.need), again=True, dovecot=stays)
+        return Left("%s; %s" % (why, hindrance) if hindrance else why, reason, then)
 
     def command(self, does: Does, messages: Optional[int] = None, **changes: Any) -> Next:
         """The command that migrates this mailbox with these changes of the options, and how many messages it gives."""
@@ -349,17 +347,9 @@ class Transfer:
 
     def want_extra(self, one: Bringing) -> None:
         """Raises Left if what is done besides mail and dates cannot be, with the command that does everything else."""
-        hindrance = self.hindrance(one)
+        hindrance = self.how.extra.hindrance(one)
         if hindrance:
             raise Left(str(hindrance), hindrance.reason, self.command(Does.RUN, again=self.again, dovecot=False))
-
-    def hindrance(self, one: Bringing) -> Optional[Left]:
-        """Why what is done besides mail and dates cannot be done, if it can't."""
-        try:
-            self.how.extra.check(one)
-        except Left as left:
-            return left
-        return None
 
     def may_come_back(self, match: Match) -> int:
         """How many messages that are nowhere may have been there before, and were deleted."""
