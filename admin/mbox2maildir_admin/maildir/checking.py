@@ -43,6 +43,8 @@ class Check:
         self.owner: Optional[int] = None
         # whether a message's file was verified before, and is not read again
         self.is_verified: Callable[[Place], bool] = lambda place: False
+        # gives the digest of a message if it has these bytes; None where files are hashed
+        self.digest_by: Optional[Callable[[Place, bytes], Optional[bytes]]] = None
         # by message: how it is found, and the path of its file if that has another name
         self.states = bytearray(len(inventory))
         self.paths: dict[Place, bytes] = {}
@@ -66,7 +68,8 @@ class Check:
     def look(self, maildir: bytes) -> None:
         """Looks for the messages in the files of a Maildir, which other programs may have renamed."""
         self.owner = os.stat(maildir).st_uid
-        threads = threads_for(len(self.inventory), sum(self.inventory.sizes))
+        # bytes are compared faster than they are handed over
+        threads = 1 if self.digest_by else threads_for(len(self.inventory), sum(self.inventory.sizes))
         for again, paths in enumerate(listings_of(maildir)):
             is_home = functools.partial(self.is_home, bool(again))
             for number, (name, path, read) in enumerate(readable(paths, is_home, threads), 1):
@@ -149,6 +152,8 @@ class Check:
 
     def look_at_home(self, place: Place, path: bytes, wanted: bytes, read: Read) -> None:
         """Looks at the file that has a message's base."""
+        if self.digest_by:
+            read = functools.partial(digest_of, path, known=functools.partial(self.digest_by, place))
         digest, owner = (wanted, None) if self.is_verified(place) else read()
         if self.states[place]:
             self.met_again.add(place)

@@ -4,7 +4,7 @@ import hashlib
 import os
 import stat
 import time
-from collections.abc import Container, Iterator
+from collections.abc import Callable, Container, Iterator
 from typing import Optional
 
 from ..mbox.bases import before_info
@@ -14,8 +14,13 @@ from ..mbox.files import BLOCK, REGULAR
 PASSES = 5
 CLOCK_TICK = 0.1
 
+# larger files are hashed, since it would take much memory to compare them
+MOST_COMPARED = 8 * BLOCK
+
 # the name of a file, and its path
 Named = tuple[bytes, bytes]
+# gives the digest of bytes if it is known
+Known = Callable[[bytes], Optional[bytes]]
 
 
 def paths_of(maildir: bytes) -> Iterator[Named]:
@@ -59,13 +64,21 @@ def changed_at(maildir: bytes) -> list[float]:
     return [os.stat(os.path.join(maildir, sub)).st_mtime for sub in (b"new", b"cur")]
 
 
-def digest_of(path: bytes, sizes: Optional[Container[int]] = None) -> tuple[Optional[bytes], Optional[int]]:
+def knows_none(_: bytes) -> Optional[bytes]:
+    """Knows no digest."""
+    return None
+
+
+def digest_of(
+    path: bytes, sizes: Optional[Container[int]] = None, known: Known = knows_none
+) -> tuple[Optional[bytes], Optional[int]]:
     """The digest of a file of one of these sizes, or of any size, and its owner. There is no digest if the size is
-    another one, or if it is no file. A symbolic link may lead anywhere, and is no mail."""
+    another one, or if it is no file. A symbolic link may lead anywhere, and is no mail. A file whose digest is known by
+    its bytes is not hashed."""
     try:
         number = os.open(path, REGULAR | os.O_NOFOLLOW)
         try:
-            return digest_of_open(number, sizes)
+            return digest_of_open(number, sizes, known)
         finally:
             os.close(number)
     except OSError as error:
@@ -75,7 +88,9 @@ def digest_of(path: bytes, sizes: Optional[Container[int]] = None) -> tuple[Opti
         raise OSError(error.errno, error.strerror, path) from error
 
 
-def digest_of_open(number: int, sizes: Optional[Container[int]]) -> tuple[Optional[bytes], Optional[int]]:
+def digest_of_open(
+    number: int, sizes: Optional[Container[int]], known: Known = knows_none
+) -> tuple[Optional[bytes], Optional[int]]:
     """The same of an open file."""
     state = os.fstat(number)
     if not stat.S_ISREG(state.st_mode):
@@ -83,8 +98,11 @@ def digest_of_open(number: int, sizes: Optional[Container[int]]) -> tuple[Option
     if sizes is not None and state.st_size not in sizes:
         return None, state.st_uid
     # allocating a whole block would take longer than reading most mail
-    count = min(BLOCK, state.st_size + 1)
+    count = min(BLOCK if known is knows_none else MOST_COMPARED, state.st_size + 1)
     block = os.read(number, count)
+    found = known(block) if len(block) == state.st_size < count else None
+    if found:
+        return found, state.st_uid
     digest = hashlib.sha256(block)
     # most mail has ended by then: it was asked for a byte more than it has
     while block and (len(block) == count or len(block) < state.st_size):

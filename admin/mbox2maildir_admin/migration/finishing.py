@@ -17,7 +17,7 @@ def finish(one: Bringing, extra: Extra) -> list[Remark]:
     folder, text, say = one.opened.folder, one.contents.text, one.opened.mailbox.say
     remarks = [*date_from(folder, text, one.part, say, one.is_placed).remarks(), *extra.run(one)]
     check = Check(one.part, say=say)
-    check.is_verified = one.is_verified
+    check.is_verified, check.digest_by = one.is_verified, one.digest_by
     check.look(folder)
     # it was decided what From_ lines hold, or they hold no mail: otherwise nothing would have been converted
     check.doubts = Lines()

@@ -1,4 +1,5 @@
 """Checks of a Maildir: how each message of a text is found in it, and what else is there."""
+import hashlib
 import os
 import unittest
 from unittest import mock
@@ -70,6 +71,20 @@ class CheckTest(unittest.TestCase):
             check = Check.of(here, Inventory.read(mailbox, Offset(0)))
         self.assertEqual((check.count(State.THERE), check.is_right()), (1, False))
         self.assertIn("; 1 From_ line may contain mail", check.report())
+
+    def test_files_that_are_compared(self) -> None:
+        """A file with a message's bytes has that message's digest, which may be another one than that of its name."""
+        with folder() as here, source_of(TEXT) as mailbox:
+            make(here, {"new/": b"", "cur/": b"", **HOMES})
+            check = Check(Inventory.read(mailbox, Offset(0)))
+            digests = check.inventory.table.digest(Place(0)), b"another", None
+            check.digest_by = lambda place, _: digests[place]
+            check.is_verified = lambda place: place == 2
+            with mock.patch.object(hashlib, "sha256", side_effect=AssertionError), mock.patch(
+                CHECKING + "threads_for", return_value=2
+            ):
+                check.look(here)
+            self.assertEqual(list(check.states), [State.THERE, State.OTHER, State.THERE])
 
     def test_a_file_that_a_mail_program_moves_meanwhile(self) -> None:
         """A listing has its name in `new`, and it is in `cur` once it is read. The next listing has it there."""

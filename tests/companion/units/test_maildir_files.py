@@ -2,6 +2,7 @@
 import hashlib
 import os
 import unittest
+from typing import Optional
 from unittest import mock
 
 from mbox2maildir_admin.maildir import files
@@ -94,6 +95,27 @@ class FilesTest(unittest.TestCase):
                     os, "read", lambda number, count, most=most: read(number, min(count, most))
                 ):
                     self.assertEqual(digest_of(path), (hashlib.sha256(text).digest(), os.geteuid()), (size, most))
+
+    def test_a_file_whose_digest_is_known_is_not_hashed(self) -> None:
+        """All of it was read. One that is too large to compare is hashed."""
+        path, owner, asked = self.here + b"/new/1", os.geteuid(), list[bytes]()
+
+        def known(found: bytes) -> Optional[bytes]:
+            asked.append(found)
+            return b"known" if found == b"one" else None
+
+        with mock.patch.object(hashlib, "sha256", side_effect=AssertionError):
+            self.assertEqual(digest_of(path, known=known), (b"known", owner))
+        for text, most, is_asked in ((b"two", 8, True), (b"one", 3, False), (b"one", 4, True)):
+            make(self.here, {"new/1": text})
+            asked.clear()
+            with mock.patch.object(files, "MOST_COMPARED", most):
+                found = digest_of(path, known=known)
+            wanted = b"known" if is_asked and text == b"one" else hashlib.sha256(text).digest()
+            self.assertEqual((found, asked), ((wanted, owner), [text] * is_asked))
+        read = os.read
+        with mock.patch.object(os, "read", lambda number, _: read(number, 2)):
+            self.assertEqual(digest_of(path, known=lambda _: b"known"), (hashlib.sha256(b"one").digest(), owner))
 
     def test_a_disk_that_can_not_be_read(self) -> None:
         path = self.here + b"/new/1"

@@ -1,6 +1,7 @@
 """What is done once the messages of a mailbox are placed."""
 import os
 from typing import Any
+from unittest import mock
 
 from mbox2maildir_admin.faults import Left
 from mbox2maildir_admin.mbox.inventory import Inventory
@@ -39,6 +40,13 @@ class FinishTest(HomeTest):
         self.assertEqual(self.finish(), ["it was done"])
         found = {path.stat().st_mtime for path in (self.maildir / "new").iterdir()}
         self.assertEqual(found, {moment_of(ONE), moment_of(TWO)})
+
+    def test_files_are_compared_with_the_text(self) -> None:
+        self.fill(ONE + TWO)
+        self.place(ONE + TWO)
+        with mock.patch("mbox2maildir_admin.maildir.files.hashlib"):
+            # a digest that is made is none
+            self.assertEqual(self.finish(), ["it was done"])
 
     def test_what_is_not_right(self) -> None:
         self.fill(ONE + TWO)

@@ -12,7 +12,7 @@ from mbox2maildir_admin.readings.reading import Reading
 from mbox2maildir_admin.readings.texts import Choice
 from mbox2maildir_admin.units import Offset, Place
 
-from tests.support.mail import ONE, THREE, TWO
+from tests.support.mail import ONE, THREE, TWO, bodies_of
 from tests.support.migrating import HomeTest
 
 
@@ -82,6 +82,31 @@ class ContentsTest(HomeTest):
             found = [contents.unquoted([place]) for place in range(2)]
             self.assertEqual((found, contents.unquoted([0, 1])), (wanted, sum(wanted)), is_copied)
 
+    def test_the_digest_of_bytes(self) -> None:
+        """It is known if they are those of the message as it was read."""
+        long = b"From " + b"x" * 2000
+        contents = self.contents(ONE + long + b"\none\n\nFrom b\n>From me\n\nFrom c\n\nFrom d\nend")
+        *digests, text = *map(contents.inventory.table.digest, range(5)), contents.text.at(0, contents.text.size)
+        first = next(bodies_of(ONE))
+        for place, found, wanted in (
+            (0, first, digests[0]),
+            (0, first[:-1] + b"x", None),
+            (0, first[:-1], None),
+            (0, first + b"\n", None),
+            # its From_ line is longer than what is read of the text, and its body has four bytes
+            (1, b"one\n", None),
+            (1, long[:4], None),
+            # it has lost a `>`
+            (2, b"From me\n", None),
+            (2, b">From me", None),
+            (3, b"", digests[3]),
+            (4, b"end", digests[4]),
+            (4, text[-4:], None),
+        ):
+            self.assertEqual(contents.digest_by(place, found), wanted, (place, found))
+        with mock.patch("mbox2maildir_admin.migration.steps.IN_MEMORY", len(text) - 1):
+            self.assertIsNone(contents.digest_by(0, first))
+
 
 class BringingTest(HomeTest):
     def test_what_this_run_has_placed(self) -> None:
@@ -92,6 +117,9 @@ class BringingTest(HomeTest):
             contents = Contents(opened.mailbox, Offset(0), inventory)
             one = Bringing(opened, contents, inventory, [0, 2], inventory, {2})
             self.assertEqual([one.is_placed(Place(place)) for place in range(2)], [False, True])
+            bodies = [*bodies_of(ONE + TWO + THREE)]
+            known = [[one.digest_by(Place(place), body) is not None for body in bodies] for place in range(2)]
+            self.assertEqual(known, [[True, False, False], [False, False, True]])
 
 
 class HowTest(HomeTest):
