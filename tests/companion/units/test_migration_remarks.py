@@ -83,6 +83,15 @@ class SaidTest(HomeTest):
         (remark,) = remarks_on_dropped("mboxo dropped=3 drop-deleted")
         self.assertEqual(remark.says, "without 3 messages marked as deleted")
 
+    def test_a_mailbox_that_was_emptied(self) -> None:
+        """INBOX has no mail of it any more."""
+        for text in (ONE, b""):
+            self.fill(text)
+            self.migrate()
+        self.move_box("other")
+        self.fill(TWO)
+        self.assertEqual([one.word for one in self.migrate().remarks], [])
+
     def test_flags_that_files_of_others_lack(self) -> None:
         """Equal messages of two mailboxes have one file, and the second one may know more of them."""
         flagged = ONE.replace(b"\n\n", b"\nStatus: RO\nX-Status: F\n\n", 1)

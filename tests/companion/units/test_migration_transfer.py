@@ -131,10 +131,9 @@ class NeverTwiceTest(TransferTest):
         """It is looked at twice, and each thing is said once."""
         self.bring("box", ONE * 11)
         says = Remark("power-cut", "on this disk")
-        with mock.patch("mbox2maildir_admin.migration.transfer.want_syncs", return_value=[says]) as wanted:
-            row = self.bring("box", b"".join(OTHERS[:11]), again_rewritten=True, any_disk=True)
+        with mock.patch("mbox2maildir_admin.migration.transfer.want_syncs", return_value=[says]):
+            row = self.bring("box", b"".join(OTHERS[:11]), again_rewritten=True)
         self.assertEqual((row.fate, row.remarks.count(says)), (Fate.DONE, 1))
-        self.assertEqual(wanted.call_args_list, [mock.call(self.root, True)] * 2)
 
     def test_few_of_few(self) -> None:
         """Three of three are gone, and as many new: nobody asks for that."""
