@@ -260,7 +260,7 @@ class Follower:
         path = Path("/home/emil/.procmailrc")
         if path.exists():
             before, recipe = (REFERENCE.cells(name)[-1] for name in ("procmail", "procmail's recipes"))
-            equal("procmail's row", ("the same" in before or "3.22" in before, "/.lists.sheds/" in recipe), (True, True))
+            equal("procmail's rows", ("3.22" in before, "/.lists.sheds/" in recipe), (True, True))
             text = (
                 path.read_text(encoding="utf-8")
                 .replace(":0:", ":0")
