@@ -11,20 +11,22 @@ from unittest import mock
 from mbox2maildir_admin.faults import Left, Reason
 from mbox2maildir_admin.ledger.gone import GONE
 from mbox2maildir_admin.ledger.ledger import Ledger
+from mbox2maildir_admin.ledger.lines import put
 from mbox2maildir_admin.ledger.record import Record
 from mbox2maildir_admin.mbox.mailbox import Mailbox
 from mbox2maildir_admin.migration.converting import CHANGED_MEANWHILE, SYNC_FAILED
 from mbox2maildir_admin.migration.known import Known
 from mbox2maildir_admin.migration.mailbox import Migration
 from mbox2maildir_admin.migration.outcomes import Fate, Row
-from mbox2maildir_admin.migration.steps import Bringing, Extra, How
+from mbox2maildir_admin.migration.several import run_all
+from mbox2maildir_admin.migration.steps import Bringing, Extra, How, Options
 from mbox2maildir_admin.nexts import Remark, lines_below
 from mbox2maildir_admin.program import Converted
 from mbox2maildir_admin.readings.reading import Reading
 from mbox2maildir_admin.units import Offset, counted
 
 from tests.support.mail import ONE, THREE, TWO, bodies_of, digest_of, moment_of
-from tests.support.migrating import DATED, Cut, Function, HomeTest, Killed
+from tests.support.migrating import DATED, Cut, Function, HomeTest, Killed, Listener
 from tests.support.nexts import told
 from tests.support.ties import tied_to
 
@@ -131,6 +133,23 @@ class SyncTest(BecomesTest):
             with mock.patch("mbox2maildir_admin.maildir.syncing.sync_disk", side_effect=change):
                 self.became(Fate.LEFT, CHANGED_MEANWHILE, 1)
             self.assertEqual((set(self.words()), self.ends()), ({"begun"}, 0))
+
+    def test_another_mailbox_after_a_disk_was_full(self) -> None:
+        """It reads anew what the ledger has got."""
+        first, faults = self.path, [OSError(errno.ENOSPC, os.strerror(errno.ENOSPC))]
+        self.fill(ONE)
+        self.move_box("other")
+        self.fill(TWO)
+
+        def full(number: int, piece: bytes) -> None:
+            put(number, piece[:-1] if faults else piece)
+            if faults:
+                raise faults.pop()
+
+        listener = Listener()
+        with mock.patch("mbox2maildir_admin.ledger.lines.put", full):
+            run_all(Options(), self.root, [first, self.path], listener, Function())
+        self.assertEqual([row.reason for row in listener.rows], [Reason.LEDGER, None])
 
     def test_what_a_power_cut_kept_in_tmp(self) -> None:
         """The program removes it, though nothing is converted any more."""

@@ -1,7 +1,6 @@
 """Mailboxes that are prepared while people use them, and finished by `migrate`, with a function in place of the
 program. What comes of it is what one `migrate` of the last text makes."""
 import os
-import shutil
 from collections.abc import Callable
 from pathlib import Path
 from typing import Any
@@ -254,14 +253,6 @@ class RefusedTest(PreparingTest):
         self.left(self.finish(ONE + TWO), "the list of what was prepared", Reason.LEDGER)
         self.has(ONE)
         self.assertIs(self.finish(again=True).fate, Fate.DONE)
-
-    def test_a_folder_that_somebody_removed(self) -> None:
-        """Nothing of it is lost: it is made anew."""
-        self.prepare(ONE, folder="x")
-        shutil.rmtree(self.maildir / ".x")
-        self.assertIs(self.prepare(ONE + TWO, folder="x").fate, Fate.PREPARED)
-        shutil.rmtree(self.maildir / ".x")
-        self.assertIs(self.finish(folder="x").fate, Fate.DONE)
 
     def test_a_list_that_is_damaged(self) -> None:
         self.prepare(ONE)
