@@ -42,8 +42,8 @@ class Names(NamedTuple):
     no_inbox: str = NO_INBOX
 
     def trees(self, record: Record) -> list[bytes]:
-        """The folders of mailboxes. None is made if folders came from mailboxes: these are elsewhere, and it would be in
-        their way."""
+        """The folders of mailboxes. None is made where folders came from mailboxes: it would be in the way of these,
+        which are elsewhere."""
         made = [self.tree] if self.tree and not os.path.lexists(self.tree) and not has_folders(record) else []
         return [path for path in self.paths if os.path.isdir(path)] or made
 
