@@ -463,6 +463,25 @@ def rule_9_a_ledger_was_lost(home: Home) -> None:
             home.has(0, 1, 2, 4, 5, 6)
 
 
+def rule_9_a_ledger_was_lost_and_nothing_is_nowhere(home: Home) -> None:
+    """A mailbox has changed, and all that it has is there: there is nothing to place, or to ask. What its files are is
+    not known any more, so an undo keeps them."""
+    for lose in (without_ledger, of_no_byte):
+        home.begin()
+        home.write("OLD", letters(*FIVE))
+        home.done("OLD")
+        lose(home)
+        home.write("OLD", letters(*FIVE, fields=RO))
+        row = home.done("OLD")["OLD"]
+        want_said(row, "5 messages there already, by no mailbox")
+        home.has(*FIVE)
+        home.write("OLD", letters(*FIVE, 5, fields=RO))
+        home.done("OLD")
+        home.has(*FIVE, 5)
+        home.undo("OLD")
+        home.has(*FIVE)
+
+
 def rule_9_an_older_ledger(home: Home) -> None:
     """A ledger comes from a backup that is older than its folder. A mailbox whose files it does not explain is left."""
     home.write("OLD", letters(*FIVE))
@@ -904,6 +923,7 @@ RULES = [
     rule_8_a_folder_was_deleted,
     rule_8_the_mail_of_a_folder_was_deleted,
     rule_9_a_ledger_was_lost,
+    rule_9_a_ledger_was_lost_and_nothing_is_nowhere,
     rule_9_an_older_ledger,
     rule_9_an_older_ledger_and_another_mailbox,
     rule_9_an_older_ledger_with_the_mailbox,

@@ -98,6 +98,10 @@ class LastPass(Transfer):
             then = self.command(Does.RUN, dovecot=is_bare)
             raise Left(OTHERWISE % ("with" if is_bare else "without"), Reason.PREPARED, then)
 
+    def is_whole(self, rest: Match) -> bool:
+        """The same; what is prepared is no mail yet."""
+        return super().is_whole(rest) and not self.prepared.is_there
+
     def is_lost(self) -> bool:
         """Whether the record has it that the folder is prepared, and the list is gone though nothing is done there."""
         is_gone = os.path.lexists(self.opened.folder) and not self.prepared.is_there and not self.ledger.sources

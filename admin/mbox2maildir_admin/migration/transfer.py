@@ -195,8 +195,13 @@ class Transfer:
 
     def matched(self, contents: Contents) -> Match:
         """The messages of the text, with what is there of them."""
-        look = Match.again if self.again else Match.of
-        return look(self.ledger, self.path, contents.inventory, contents.is_deleted, self.opened.mailbox.say)
+        if self.again:
+            return self.matched_again(self.ledger, contents)
+        return Match.of(self.ledger, self.path, contents.inventory, contents.is_deleted, self.opened.mailbox.say)
+
+    def matched_again(self, ledger: Ledger, contents: Contents) -> Match:
+        """The same if all that is nowhere is placed."""
+        return Match.again(ledger, self.path, contents.inventory, contents.is_deleted, self.opened.mailbox.say)
 
     def placing(self, match: Match) -> Placing:
         """How the program is to place what is nowhere."""
@@ -222,22 +227,28 @@ class Transfer:
             raise Left(SYNC_FAILED, Reason.SYNC_FAILED)
 
     def want_ledger(self, contents: Contents) -> None:
-        """Raises Left if the ledger is damaged, or not what the record names, unless all that is nowhere is placed."""
+        """Raises Left if the ledger is damaged, or not what the record names, unless all that is nowhere is placed; a
+        ledger that is not what the record names says nothing that matters if nothing is nowhere."""
         known, ledger = self.known, self.ledger
         if self.again:
             if ledger.damage and not self.how.dry:
                 ledger.put_aside()
         elif ledger.damage:
-            raise self.left_to_store(LOST % ("damaged in line %d" % ledger.damage), Reason.LEDGER, contents)
+            rest = self.matched_again(ledger.without_lines(), contents)
+            raise self.left_to_store(LOST % ("damaged in line %d" % ledger.damage), Reason.LEDGER, contents, rest)
         elif not known.is_at_home or known.is_older:
-            how = "older than its record" if known.is_older else "missing"
-            raise self.left_to_store(LOST % how, Reason.LEDGER, contents)
+            how, rest = "older than its record" if known.is_older else "missing", self.matched_again(ledger, contents)
+            if not self.is_whole(rest):
+                raise self.left_to_store(LOST % how, Reason.LEDGER, contents, rest)
+            self.again = True
 
-    def left_to_store(self, why: str, reason: Reason, contents: Contents) -> Left:
+    def is_whole(self, rest: Match) -> bool:
+        """Whether nothing is nowhere, so that nobody needs to know who brought what."""
+        return not len(rest.need)
+
+    def left_to_store(self, why: str, reason: Reason, contents: Contents, match: Match) -> Left:
         """Why it is left, with the command that stores what is nowhere: without what could not be done besides then."""
-        ledger = self.ledger.without_lines() if self.ledger.damage else self.ledger
-        match = Match.again(ledger, self.path, contents.inventory, contents.is_deleted, self.opened.mailbox.say)
-        hindrance = self.how.extra.hindrance(self.bringing(contents, match, self.placing(match)))
+        hindrance = self.how.extra.hindrance(self.bringing(contents, match, Placing(match)))
         stays = self.how.options.dovecot and not hindrance
         then = self.command(Does.DOUBLES, len(match.need), again=True, dovecot=stays)
         return Left("%s; %s" % (why, hindrance) if hindrance else why, reason, then)
@@ -263,7 +274,8 @@ class Transfer:
             return
         strangers = unexplained(self.root, match) if len(match.need) else []
         if strangers:
-            raise self.left_to_store(PARTLY_THERE % len(strangers), Reason.PARTLY_THERE, contents)
+            rest = self.matched_again(self.ledger, contents)
+            raise self.left_to_store(PARTLY_THERE % len(strangers), Reason.PARTLY_THERE, contents, rest)
         source, lost = self.ledger.sources.get(self.path), sum(match.lost.values())
         is_much = source is not None and lost > max(FEW, source.count() // TENTH)
         if is_much and match.count_new() >= lost:
