@@ -13,7 +13,7 @@ from mbox2maildir_admin.migration.steps import Options
 from mbox2maildir_admin.readings.copies import stem_of
 from mbox2maildir_admin.users import spool as module
 from mbox2maildir_admin.users.asked import ACCOUNTS, COMMAND_LINE, SPOOL, Tally
-from mbox2maildir_admin.users.homes import Home, Migrant
+from mbox2maildir_admin.users.homes import Home, Kind, Migrant
 from mbox2maildir_admin.users.spool import Spool, is_passed, migrate_users, names_of
 
 from tests.support.nexts import told
@@ -87,7 +87,7 @@ class MigrateTest(FolderTest):
         self.crew.__exit__.return_value = False
 
     def migrate(
-        self, names: Optional[list[bytes]], home: Home = PLAIN, jobs: int = 2
+        self, names: Optional[list[bytes]], home: Home = PLAIN, jobs: int = 2, kind: Kind = Kind()
     ) -> list[tuple[str, Optional[bytes]]]:
         """Migrates users of a spool. Returns the names of the children, and the mailboxes that they got."""
         asked = None if names is None else dict.fromkeys(names, COMMAND_LINE)
@@ -97,7 +97,7 @@ class MigrateTest(FolderTest):
                 with mock.patch.multiple(
                     pwd, getpwnam=by_name, getpwuid=by_number, getpwall=lambda: list(ACCOUNTS_HERE.values())
                 ), mock.patch.object(module, "has_mailbox", lambda path, account: self.has_mailbox(path)):
-                    migrate_users(Spool(self.here, home), asked, Options(jobs=jobs), self.reporter, self.tally)
+                    migrate_users(Spool(self.here, home), asked, Options(jobs=jobs), self.reporter, self.tally, kind)
         return [(call[0][0].name, self.migrant_of(call[0][2]).mailbox) for call in self.crew.add.call_args_list]
 
     @staticmethod
@@ -192,6 +192,14 @@ class MigrateTest(FolderTest):
         self.crew.add.reset_mock()
         self.assertEqual(self.migrate([b"info"]), [("info", self.here + b"/info")])
         self.assertEqual(str(self.migrant_of(self.crew.add.call_args[0][2]).why_not)[:3], "mia")
+
+    def test_each_mailbox_of_an_account_on_the_way_back(self) -> None:
+        """One child has all of them."""
+        make(self.here, {"info": b"", "mia": b"", "sales": b""})
+        self.migrate([b"mia", b"info", b"sales"], kind=Kind(is_back=True))
+        (migrant,) = map(self.migrant_of, self.tasks())
+        boxes = [os.path.basename(path or b"") for path in (migrant.mailbox, *migrant.others)]
+        self.assertEqual(boxes, [b"mia", b"info", b"sales"])
 
     def test_a_tree_beside_a_mailbox_of_a_further_name(self) -> None:
         """What the spool has of the account is or will be its inbox, so that an old Inbox of the tree is not."""
