@@ -17,7 +17,7 @@ from tests.support.wayback.postfix import postfix_for
 def histories(dialect: str) -> None:
     """A case: some histories of one dialect."""
     with fresh() as home, postfix_for(home.maildir, FOLDERS, Random(FIRST)) as server:
-        told(dialect, home, 4 * server.programs)
+        told(dialect, home, server.programs)
         print(f"{dialect}: {server.count} mails by Postfix", flush=True)
 
 

@@ -56,6 +56,7 @@ from tests.support.powercut.others import (
 )
 from tests.support.powercut.passes import AnotherFirst, Passes, PassesOfServer, Postponed
 from tests.support.powercut.readers import Again, Between, BetweenListings, Later, Reader
+from tests.support.powercut.returned import Returned
 from tests.support.powercut.sharing import BroughtAgain, Grown, Overlapping
 from tests.support.powercut.systems import SYSTEMS
 from tests.support.powercut.workloads import Fresh, Home, Killed, Seen, Tools, Unseen, Workload
@@ -86,6 +87,7 @@ WORKLOADS = {
     "another_first": AnotherFirst,
     "passes_of_server": PassesOfServer,
     "postponed": Postponed,
+    "returned": Returned,
     "restored_synced": RestoredSynced,
     "restored_migrated": RestoredMigrated,
     "on_overlay": OnOverlay,

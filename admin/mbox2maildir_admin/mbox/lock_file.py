@@ -147,6 +147,8 @@ def make_lock(spot: Spot, owner: bytes) -> int:
     number = beside.open(os.O_RDWR | os.O_CREAT | os.O_EXCL, 0o444)
     try:
         os.write(number, content_for(owner))
+        # after a power cut, nobody knows whose a lock without its content is
+        os.fsync(number)
         with contextlib.suppress(OSError):
             # whoever wants to know whether it is left asks for the other kind
             fcntl.flock(number, fcntl.LOCK_SH | fcntl.LOCK_NB)

@@ -50,6 +50,18 @@ class LockFileTest(FolderTest):
         # programs read the number of a process at its start
         self.assertEqual(int(text.split()[0]), os.getpid())
 
+    def test_a_power_cut_leaves_none_without_its_content(self) -> None:
+        """It gets its name once its content is on the disk."""
+        link, synced = os.link, []  # type: ignore[var-annotated]
+
+        def linked(*words: object, **where: object) -> None:
+            self.assertEqual(synced, [content_for(b"M")])
+            link(*words, **where)  # type: ignore[arg-type]
+
+        with mock.patch("os.fsync", lambda number: synced.append(os.pread(number, 256, 0))):
+            with mock.patch("os.link", linked), lock_file_of(self.mailbox, b"M"):
+                self.assertTrue(self.lock.exists())
+
     def test_what_a_killed_run_left_is_known(self) -> None:
         self.left()
         with lock_file_of(self.mailbox, b"M"):

@@ -26,6 +26,7 @@ class Wrong(enum.Enum):
     IN_TMP = "a file is in tmp and at home"
     NOT_FINISHED = "the same run again does not end with all that is owed"
     OTHERS = "a file of other programs is not as it was"
+    MAILBOX = "a mailbox to which mail goes back has lost something"
     UNDATED = "a date or Dovecot's list is not what is owed"
     UNDATED_AGAIN = "the same after the run again"
     UNMOUNTED = "the file system can't be mounted"
@@ -76,6 +77,7 @@ class Checker:
         changed = [name for name in FOREIGN if now.get(name) != self.others.get(name)]
         if changed:
             yield Wrong.OTHERS, ", ".join(changed)
+        yield from ((Wrong.MAILBOX, line) for line in self.workload.besides(at))
         yield from ((Wrong.UNDATED, line) for line in self.undated(self.workload.dated(at, marks), looks))
         yield from ((Wrong.UNDATED, line) for line in self.unlisted(self.workload.listed(at, marks), looks))
         if is_run_again:

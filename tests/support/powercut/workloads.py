@@ -8,7 +8,7 @@ import random
 import signal
 import subprocess
 import time
-from collections.abc import Sequence
+from collections.abc import Iterable, Sequence
 from typing import NamedTuple, Optional
 
 from tests.support.powercut.expected import owed
@@ -146,6 +146,11 @@ class Workload:
     def undone(self, at: str) -> Owed:
         """What must be gone from a disk."""
         return self.all_undone(at)
+
+    def besides(self, at: str) -> Iterable[str]:
+        """What is wrong with a mailbox on a disk."""
+        del at
+        return []
 
     def dated(self, at: str, marks: Sequence[str]) -> Owed:
         """The folders whose dates must be there."""
