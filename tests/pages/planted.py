@@ -1,5 +1,6 @@
 """The mistakes that are planted by hand fit the sources: the text that each replaces is there once, and so is the test
-that is to see it."""
+that is to see it. With a mistake of the companion a module is still Python."""
+import ast
 import re
 from collections.abc import Callable, Iterator
 from functools import partial
@@ -34,11 +35,20 @@ def is_test(name: str) -> bool:
     return name in ("", "the prover") or path.is_file() and re.search(rf"\b{case}\b", text_of(path)) is not None
 
 
+def said_of_text(mutant: companion.Mutant) -> Iterator[str]:
+    """What is said of a mistake that no test sees, since no module is loaded with it."""
+    try:
+        ast.parse(mutant.text)
+    except SyntaxError as fault:
+        yield f"{mutant}: {fault}"
+
+
 def wrong_companion() -> Iterator[str]:
     """Mistakes of the companion."""
     places = companion.all_places()
     for mutant in listed(companion.LIST, companion.Mutant)[0]:
         yield from said_by(partial(mutant.find, places))
+        yield from said_of_text(mutant)
         test = mutant.seen.partition(":")[0]
         folder = "companion/units" if test.startswith("test_") else "companion"
         if test and not (TOP / "tests" / folder / f"{test}.py").is_file():
