@@ -88,8 +88,7 @@ class DisksTest(FolderTest):
         self.assertEqual(self.asked(Refusal("root cannot open it", Reason.ERROR.word)), ["sync", "well"])
 
     def test_a_child_is_answered_once_the_disk_is_synced(self) -> None:
-        alive, life = os.pipe()
-        tells, told = os.pipe()
+        (alive, life), (tells, told), (reads, writes) = (os.pipe() for _ in range(3))
         os.set_blocking(alive, False)
         child = Child(Whose("mia", "mia"), os.getpid(), tells, life, disks=self.disks)
         number = os.open(self.here, FOLDER)
@@ -100,11 +99,13 @@ class DisksTest(FolderTest):
         child.take_line(b'["ask", "sync", %d]' % number, Observer())
         child.close()
         # a descriptor with its number may belong to another child by now
-        self.assertEqual(os.dup(alive), min(tells, life))
+        os.dup2(writes, life)
         self.disks.sync()
         self.assertEqual(child.rows, 0)
-        for one in (alive, told, number, min(tells, life)):
+        for one in (alive, told, number, writes, life):
             os.close(one)
+        self.assertEqual(os.read(reads, 99), b"")
+        os.close(reads)
 
     def test_lines_that_nobody_would_tell(self) -> None:
         child, reporter = Child(Whose("mia", "mia"), os.getpid(), 0, 0, disks=self.disks), mock.Mock(spec=Observer)
