@@ -40,7 +40,7 @@ CASES = {
     "passes": Passes,
 }  # type: dict[str, type[Trial]]
 # how many of each the gate tries
-COUNTS = {"rewritten": 12, "killed": 6, "undone": 10, "trees": 12, "passes": 8}
+COUNTS = {"rewritten": 12, "killed": 6, "undone": 10, "trees": 12, "passes": 6}
 
 
 @contextmanager
