@@ -80,7 +80,7 @@ class Inventory:
         self.offsets.append(message.offset)
         self.unquoted.append(message.left_out)
         if message.core:
-            core, bare = message.core.end(message.digest.hash)
+            core, bare = message.core.end(message.digest)
             self.cores += core
             self.bares += bare
         date = seconds_of(message.from_line)

@@ -1,4 +1,5 @@
 """The messages of an mbox text, by the rules of mbox2maildir."""
+import hashlib
 from collections.abc import Iterable, Iterator
 from typing import Optional
 
@@ -8,7 +9,6 @@ from ..nexts import Does, run_next
 from ..terminal import operand
 from ..units import Line, Offset
 from .core import InPass
-from .digest import Digest
 from .files import LONG, Reader
 from .hidden import BareReader
 from .mailbox import Mailbox
@@ -18,12 +18,11 @@ from .parts import FROM_LINE, MARK, Part, parts_of
 class Message:
     """A message of a text: its From_ line, and the size and the digest of its body."""
 
-    def __init__(self, number: int, mark: Part, sizes: Iterable[int] = (), core: Optional[InPass] = None) -> None:
-        """Begins the message of a mark. The digests of its beginnings of these sizes are wanted, and perhaps those of
-        its core and its bare form."""
+    def __init__(self, number: int, mark: Part, core: Optional[InPass] = None) -> None:
+        """Begins the message of a mark. The digests of its core and its bare form may be wanted."""
         self.core = core
         self.number, self.offset, self.line, self.from_line = number, mark.offset, mark.line, mark.piece
-        self.size, self.digest = 0, Digest(sizes)
+        self.size, self.digest = 0, hashlib.sha256()
         # the bytes of its From_ line, and those that are no mail: the blank line at the end, and a `>` of each quoted
         # line
         self.from_size = self.left_out = 0
@@ -36,7 +35,7 @@ class Message:
         self.last = piece[-1:]
         mail = b"\n" * held + piece[quoted : len(piece) - self.held]
         if self.core:
-            self.core.take(mail, self.digest.hash, quoted)
+            self.core.take(mail, self.digest, quoted)
         self.digest.update(mail)
         self.size += len(mail)
         self.left_out += quoted
@@ -52,13 +51,10 @@ def may_hold_mail(from_line: bytes) -> bool:
     return b"\r" in from_line[:-1] or b"\0" in from_line or len(from_line) > LONG
 
 
-def messages_of(
-    mailbox: Mailbox, start: Offset = Offset(0), line: Line = Line(1), sizes: Iterable[int] = ()
-) -> Iterator[Message]:
-    """The messages of a text that begins at an offset, in this line. The digests of their beginnings of these sizes are
-    wanted."""
+def messages_of(mailbox: Mailbox, start: Offset = Offset(0), line: Line = Line(1)) -> Iterator[Message]:
+    """The messages of a text that begins at an offset, in this line."""
     mailbox.file.seek(start)
-    return messages_in(mailbox.path, parts_of(mailbox.file, start, line), sizes)
+    return messages_in(mailbox.path, parts_of(mailbox.file, start, line))
 
 
 def bare_messages_of(mailbox: Mailbox, start: Offset) -> Iterator[Message]:
@@ -66,9 +62,7 @@ def bare_messages_of(mailbox: Mailbox, start: Offset) -> Iterator[Message]:
     return messages_in(mailbox.path, parts_of(BareReader(Reader(mailbox.number, start, mailbox.size))))
 
 
-def messages_in(
-    path: bytes, parts: Iterable[Part], sizes: Iterable[int] = (), with_cores: bool = False
-) -> Iterator[Message]:
+def messages_in(path: bytes, parts: Iterable[Part], with_cores: bool = False) -> Iterator[Message]:
     """The messages that consist of these parts of a file at a path."""
     message, quoted, number = None, False, 0
     for part in parts:
@@ -76,7 +70,7 @@ def messages_in(
             if message:
                 yield message
             number += 1
-            message = Message(number, part, sizes, InPass() if with_cores else None)
+            message = Message(number, part, InPass() if with_cores else None)
             if part.rest:
                 message.from_size = len(part.piece) + 1
                 message.add(part.rest, False)

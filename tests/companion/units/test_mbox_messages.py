@@ -35,12 +35,6 @@ class MessagesTest(unittest.TestCase):
                 found = message.size, message.digest.digest(), message.read_size
                 self.assertEqual(found, (len(body), hashlib.sha256(body).digest(), len(text)), (text, block))
 
-    def test_beginnings(self) -> None:
-        with source_of(b"From a\none\n>From b\n") as mailbox:
-            (message,) = messages_of(mailbox, sizes=[3, 9])
-        self.assertEqual(message.digest.beginnings[3], hashlib.sha256(b"one").hexdigest())
-        self.assertEqual(message.digest.beginnings[9], hashlib.sha256(b"one\nFrom ").hexdigest())
-
     def test_where_mail_may_stand_in_a_from_line(self) -> None:
         for line, may_hold in (
             (b"From a", False),
