@@ -83,8 +83,8 @@ Each file is counted in one of these columns:
 - *Other*: the message has other bytes.
 - *Broken*: the file ends too early, or holds no message.
 
-*Lost* counts messages without a file, and *Doubled* messages with several files. *Flags* counts those of the {flagged}
-messages with flags that kept them.
+*Lost* counts messages without a file, and *Doubled* messages with several files. {flagged} messages have flags: *Flags*
+counts how many of them kept theirs.
 
 {plain}
 The times were measured on a disk in memory, where a sync costs nothing. They only show an order: on a real disk
@@ -93,8 +93,8 @@ The times were measured on a disk in memory, where a sync costs nothing. They on
 ## Killed, and the same command again
 
 Each converter ran {kills} times. Each time it was killed at a different moment, with all processes that it had started.
-These moments are spread over its run; a run that ended before its moment was replaced by another. Then the same command
-ran to its end. The columns are totals over the {kills} runs.
+These moments are spread over its run. If a run ended before its moment came, another run took its place. Then the same
+command ran to its end. The columns are totals over the {kills} runs.
 
 {killed}
 ## A full disk
