@@ -73,7 +73,6 @@ class SortingTest(LedgerTest):
         its = mail(folder=THERE)
         self.assertEqual(copied(sorted_out([slot()], [its])), Sorted([its], [], [], [slot()], PATHS, []))
 
-
     def test_what_went_back_before(self) -> None:
         """What people moved after it went back is not counted: its keywords are those of another folder."""
         its = slot()._replace(is_returned=True)

@@ -48,7 +48,7 @@ class BaseTest(FolderTest):
     """The line of the first message."""
 
     def test_what_it_is_then(self) -> None:
-        for before, keywords, after in (
+        for before, names, after in (
             (b"X-IMAPbase: 1700000000 0000000003\n", (), b"X-IMAPbase: 1700000000 0000000012\n"),
             (b"X-IMAP: 1700000000 0000000003\n", (), b"X-IMAP: 1700000000 0000000012\n"),
             (b"X-IMAPbase: 1700000000 12 a\n", (), b"X-IMAPbase: 1700000000 12 a\n"),
@@ -65,7 +65,7 @@ class BaseTest(FolderTest):
             with self.subTest(before=before), source_of(FROM + before + b"\nx\n") as mailbox:
                 base = Base.of(mailbox)
                 assert base
-                self.assertEqual(base.header_with(1700000000, 12, keywords), after)
+                self.assertEqual(base.header_with(1700000000, 12, names), after)
 
     def test_a_power_cut_takes_no_byte_of_a_mail(self) -> None:
         """Whichever sectors of the mailbox the disk has written, the messages are there, and the next run goes on."""
@@ -139,10 +139,10 @@ class BaseTest(FolderTest):
 class ListedTest(FolderTest):
     """The list of a folder."""
 
-    def listed(self, text: bytes, keywords: bytes = b"") -> Optional[Listed]:
+    def listed(self, text: bytes, names: bytes = b"") -> Optional[Listed]:
         """What Dovecot keeps in a folder."""
         self.write("dovecot-uidlist", text)
-        self.write("dovecot-keywords", keywords)
+        self.write("dovecot-keywords", names)
         return Listed.of(self.here)
 
     def test_lists(self) -> None:

@@ -274,6 +274,10 @@ class BackTest(BackHome):
             one.run(Places(self.root, record, Names([os.fsencode(str(self.tree))])), False)
         self.assertEqual(len(reporter.at_work), 0)
 
+
+class PlacesTest(BackHome):
+    """Where mail goes back to."""
+
     def test_a_packed_one_takes_nothing(self) -> None:
         self.write_box("mail/sent.gz", gzip.compress(ONE))
         self.migrate_all("mail")

@@ -12,6 +12,25 @@ from tests.support.checks import match_in
 from tests.support.mail import A, B, INTERNAL
 from tests.support.units import source_of
 
+HI = b"\nhi\n\n"
+# messages of which nothing is to be said, and others
+PLAIN = B + HI, B + b"Status: RO\n" + HI, B + b"\n\n", B + b"\nhi\nFrom me\n\n"
+ODD = (
+    *(
+        B + b"%s\n" % field + HI
+        for field in (b"Content-Length: 3", b"Content-Length: 9", b"X-GM-THRID: 7", b"X-Mozilla-Status: 0009")
+    ),
+    *(
+        B.replace(b"2025\n", date) + HI
+        for date in (b"2025\r\n", b"2025 x\n", b"2025\0\n", b"2025" + b" " * 999 + b"\n")
+    ),
+    B.replace(b"boris@", b"boris\0@", 1) + HI,
+    *(B + b"\nhi%s\n\n" % rest for rest in (b"\r\nyou", b"\n>From me", b" " + A)),
+    *(B.splitlines(True)[0] + rest for rest in (b"hello\n\n", HI, b"\n", b"", b"Subject: x\n")),
+    *(B.replace(b"\n", b"\r\n") + HI, INTERNAL),
+    b"From %s Mon Sep 17 00:00:00 2001\nSubject: x\n" % (b"a" * 40) + HI,
+)
+
 
 def values_of(look: Look) -> dict[str, object]:
     """All that a look has seen."""
@@ -168,21 +187,8 @@ class LookTest(unittest.TestCase):
 
     def test_a_message_that_is_one_part(self) -> None:
         """It shows what it shows in its parts, which a message has of which something is to be said."""
-        from_line, hi = B.splitlines(True)[0], b"\nhi\n\n"
-        plain = B + hi, B + b"Status: RO\n" + hi, B + b"\n\n", B + b"\nhi\nFrom me\n\n"
-        fields = b"Content-Length: 3", b"Content-Length: 9", b"X-GM-THRID: 7", b"X-Mozilla-Status: 0009"
-        dates = b"2025\r\n", b"2025 x\n", b"2025\0\n", b"2025" + b" " * 999 + b"\n"
-        odd = (
-            *(B + field + b"\n" + hi for field in fields),
-            *(B.replace(b"2025\n", date) + hi for date in dates),
-            B.replace(b"boris@", b"boris\0@", 1) + hi,
-            *(B + b"\nhi%s\n\n" % rest for rest in (b"\r\nyou", b"\n>From me", b" " + A)),
-            *(from_line + rest for rest in (b"hello\n\n", hi, b"\n", b"", b"Subject: x\n")),
-            *(B.replace(b"\n", b"\r\n") + hi, INTERNAL),
-            b"From %s Mon Sep 17 00:00:00 2001\nSubject: x\n" % (b"a" * 40) + hi,
-        )
         lengths = b"", *(b"Content-Length: %d\n" % length for length in (6, 10**6, 999))
-        for message, length, last in itertools.product((*plain, *odd), lengths, (B, b"From me\n\n")):
+        for message, length, last in itertools.product((*PLAIN, *ODD), lengths, (B, b"From me\n\n")):
             is_within = length.endswith(b"999\n")
             hello = b"" if is_within else b"hello\n\n"
             text = A + length.replace(b"999", b"%d" % (len(message) - 1)) + b"\n" + hello + message + last
@@ -190,7 +196,7 @@ class LookTest(unittest.TestCase):
                 found = values_of(self.look(text))
             with mock.patch.object(Look, "is_plain", return_value=False):
                 wanted = values_of(self.look(text))
-            self.assertEqual((taken.called, found), (message in plain and not is_within, wanted), text)
+            self.assertEqual((taken.called, found), (message in PLAIN and not is_within, wanted), text)
 
     def test_the_header_of_such_a_message_is_not_read_again(self) -> None:
         with mock.patch.object(Header, "read", side_effect=Header.read) as read:
