@@ -102,7 +102,7 @@ class Reason(Phrase):
     NOT_HELD = "not-held", "Its form cannot hold some of the mail that would go back into it."
     TORN = (
         "torn",
-        "A run was killed while it appended to it, and another program has written after that: a message is cut.",
+        "A run was killed while it appended mail, and another program has written behind that: a message is cut.",
     )
     UNDO = "undo", "It cannot be undone without harm to other mail, or its undo was interrupted."
     # what is wrong with the Maildir or its record
@@ -111,7 +111,7 @@ class Reason(Phrase):
     # what is wrong with a user: the name, what the spool has under it, the home, the process
     NO_USER = "no-user", "The name belongs to no user."
     SYSTEM_ACCOUNT = "system-account", "The user is a system account."
-    NO_MAILBOX = "no-mailbox", "The folder has no mailbox, or the spool none of a user who was named."
+    NO_MAILBOX = "no-mailbox", "The folder has no mailbox, or the spool has none of a user who was named."
     OTHER_OWNER = "other-owner", "It belongs to another user."
     SAME_USER = "same-user", "The user has another mailbox, which goes into INBOX."
     HOME = "home", "The home is missing, cannot be entered, or belongs to another user."

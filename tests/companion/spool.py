@@ -261,7 +261,7 @@ def names_of_a_list(home: Path) -> None:
         1,
         "m61gone: left (no-user): no such user\ndaemon: left (no-mailbox): no mailbox of that name in ...\n"
         "  1 left (no-user): The name belongs to no user.\n"
-        "  1 left (no-mailbox): The folder has no mailbox, or the spool none of a user who was named.\n"
+        "  1 left (no-mailbox): The folder has no mailbox, or the spool has none of a user who was named.\n"
         "4 mailboxes: 2 done before, 2 left; 3 users: 1 from the command line, 2 from list; "
         "4 names of the spool were not asked for\n",
     )
