@@ -15,7 +15,7 @@ from random import Random
 from tests.support.cases import Failed, LeftOut
 from tests.support.checks import PATIENCE
 from tests.support.fates.running import NOBODY
-from tests.support.homes import fresh_folder
+from tests.support.homes import fresh_folder, in_memory
 from tests.support.wayback.programs import Deliver
 
 DAEMONS = "/usr/lib/postfix/sbin"
@@ -171,7 +171,7 @@ def postfix_for(maildir: Path, names: Sequence[str], draw: Random) -> Iterator[P
     """A server that is running."""
     if os.geteuid() != 0 or not shutil.which("postfix"):
         raise LeftOut("it wants root and Postfix")
-    with fresh_folder() as folder:
+    with fresh_folder(in_memory()) as folder:
         server = Postfix(folder, maildir, names, draw)
         server.write()
         server.control("start")
