@@ -275,6 +275,23 @@ def rule_8_moved_and_killed(home: Home) -> None:
             want_said(row, 3, "x")
 
 
+def rule_8_moved_before_anything_was_placed(home: Home) -> None:
+    """A run over a tree is killed before it has placed mail of `mail/x`, which is `mail/y` then. The folder x stays if
+    it was made, since nothing shows who made it, and holds nothing."""
+    made = 0
+    for event in range(34, 70, 3):
+        home.begin("--jobs", "1")
+        home.write("mail/x", letters(*FIVE))
+        home.run("mail", kill=Kill(event=event))
+        if not home.numbers("x"):
+            made += home.folder("x").exists()
+            (home.path / "mail/x").rename(home.path / "mail/y")
+            home.done("mail")
+            home.has(*FIVE, name="y")
+            home.has(name="x")
+    equal("whether x was made before a kill", made > 0, True)
+
+
 def rule_8_a_named_folder_was_renamed(home: Home) -> None:
     """The same of a folder that was named by --folder."""
     home.write("OLD", letters(*FIVE))
@@ -913,6 +930,7 @@ RULES = [
     rule_8_a_folder_was_renamed,
     rule_8_moved_and_more,
     rule_8_moved_and_killed,
+    rule_8_moved_before_anything_was_placed,
     rule_8_a_named_folder_was_renamed,
     rule_8_two_folders_change_their_names,
     rule_8_a_mailbox_was_away,
