@@ -151,6 +151,7 @@ class Passes(Twice):
                 if self.draw.random() < 0.15:
                     self.deliver()
             self.last_passes()
+            self.noted["histories with a real Dovecot"] += any("dovecot" in name for name in self.noted)
             self.compare()
         except AssertionError as failed:
             self.wrong.append(str(failed))
