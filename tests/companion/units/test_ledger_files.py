@@ -89,6 +89,11 @@ class FilesTest(LedgerTest):
         files.kept.add(named_of(READ))
         self.assertEqual(files.foreign([0], (), False), {short(body_of(ONE)): [named_of(READ)]})
 
+    def test_what_was_converted_in_another_form(self) -> None:
+        """A mailbox that has brought nothing so far finds it, also if no program has named a file."""
+        self.place(READ)
+        self.assertEqual(self.files(ONE).foreign([0], (), True), {short(body_of(ONE)): [named_of(READ)]})
+
     def test_a_folder_without_them_is_not_read(self) -> None:
         self.place(ONE)
         files = self.files(ONE + TWO)

@@ -68,6 +68,15 @@ class SourceTest(unittest.TestCase):
             self.assertEqual(source.lost, {CORES[message]: count for message, count in gone.items()}, batches)
             self.assertEqual(source.count(), sum(has.values()), batches)
 
+    def test_how_many_are_the_same_from_the_start(self) -> None:
+        """Neither another core nor another bare form."""
+        same, other = (line_of(ONE), line_of(TWO)), (line_of(ONE), line_of(TWO, core=THREE, bare=TWO))
+        cores, bares = (bytearray(b"".join(one[at] for one in same)) for at in (2, 3))
+        with mock.patch.object(Source, "STEP", len(same[0].core)):
+            self.assertEqual([source_of(lines).same_start(cores, bares) for lines in (same, other)], [1, 1])
+            self.assertEqual(source_of(same + same).same_start(cores * 2, bares * 2), 3)
+            self.assertEqual(source_of(other * 2).same_start(cores * 2, bares * 2), 1)
+
     def test_how_it_was_read_last(self) -> None:
         source = Source()
         for key, words in (((1, "a"), "mboxo"), ((2, "b"), "mboxrd crlf")):

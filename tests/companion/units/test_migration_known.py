@@ -1,5 +1,6 @@
 """What the record and the ledger know of a mailbox before it is read, where one of them is older, or another one's."""
 import os
+from collections.abc import Callable
 from pathlib import Path
 
 from mbox2maildir_admin.ledger.history import Entry, Note, Step
@@ -159,13 +160,20 @@ class KnownTest(HomeTest):
         self.assertEqual(numbered and numbered.path, str(self.box))
 
     def test_where_it_went_before(self) -> None:
-        """Only a mailbox that is gone was moved."""
-        self.bring("box", ONE + THREE, "X")
-        for is_there in (True, False):
+        """Only a mailbox that is gone was moved, wherever it was. Another one may be at its place by now."""
+        changes: list[tuple[str, Callable[[Path], object], list[bool]]] = [
+            ("box", Path.exists, []),
+            ("box", Path.unlink, [True]),
+            ("old/box", Path.unlink, [True]),
+            ("box", lambda path: path.write_bytes(TWO), [False]),
+        ]
+        for number, (name, change, are_moved) in enumerate(changes):
+            self.make_home(f"home-{number}")
+            (self.home / "old").mkdir()
+            self.bring(name, ONE + THREE, "X")
             self.move_box("second")
             self.fill(ONE + THREE)
-            if not is_there:
-                (self.home / "box").unlink()
+            change(self.home / name)
             with self.opened() as (opened, record):
                 found = Known(record, Ledger(self.root), opened).elsewhere(inventory_of(ONE + THREE))
-            self.assertEqual([one.is_moved for one in found], [] if is_there else [True])
+            self.assertEqual([one.is_moved for one in found], are_moved, number)

@@ -195,6 +195,7 @@ class PlanTest(unittest.TestCase):
         with self.assertRaises(Question):
             # a word for several mailboxes brings no deleted mail back
             self.plan(deleted + marked, Reading("mboxrd", alone=False))
+        self.assertEqual(self.plan(deleted + marked, Reading("mboxrd", drop=True, alone=False)).messages, 1)
         kept = "no deleted mail was left out, because 1 of 2 messages have no X-Mozilla-Status"
         plan = self.plan(deleted + B + b"\n", drop)
         self.assertEqual((plan.messages, plan.is_copied, plan.remarks), (2, False, (Remark("deleted-kept", kept),)))

@@ -46,8 +46,12 @@ class VerdictTest(unittest.TestCase):
         """One that names lines to their numbers, which a program moves that writes into a header."""
         text, moved = A + b"\n" + ODD, A + b"Status: RO\n\n" + ODD
         self.assertEqual(self.tie(text, Reading("mboxrd")), self.tie(moved, Reading("mboxrd")))
-        lines = (Reading("mboxrd", frozenset({Line(number)})) for number in (5, 6))
-        self.assertNotEqual(*(self.tie(one, decision) for one, decision in zip((text, moved), lines)))
+        before, after = frozenset({Line(5)}), frozenset({Line(6)})
+        for one, other in (
+            (Reading("mboxrd", text=before), Reading("mboxrd", text=after)),
+            (Reading("mboxrd", begin=before), Reading("mboxrd", begin=after)),
+        ):
+            self.assertNotEqual(self.tie(text, one), self.tie(moved, other))
 
     def decided(self, text: bytes) -> tuple[str, ...]:
         """What may be decided of a text, in words."""

@@ -4,6 +4,7 @@ import os
 import unittest
 from collections.abc import Collection, Sequence
 from pathlib import Path
+from typing import Optional
 from unittest import mock
 
 from mbox2maildir_admin.faults import Left
@@ -20,6 +21,12 @@ DIGEST = bytes.fromhex(digest_of(BODY))
 def bases_of(*names: str) -> Collection[bytes]:
     """The bases of some names."""
     return {base for base in map(base_in, map(os.fsencode, names)) if base}
+
+
+def without(found: dict[bytes, list[bytes]], missed: list[Optional[bytes]]) -> dict[bytes, list[bytes]]:
+    """What a listing has found without the next one that it misses."""
+    found.pop(missed.pop() or b"" if missed else b"", None)
+    return found
 
 
 class RemovalTest(FolderTest):
@@ -74,6 +81,15 @@ class RemovalTest(FolderTest):
         with mock.patch.object(removal, "listed", side_effect=moved):
             removal.run()
         self.assertEqual((self.left(), removal.counts().removed), ([], 1))
+
+    def test_a_file_that_a_listing_misses(self) -> None:
+        """It was renamed while the folder was listed: another listing shows it."""
+        one, two = base_of(BODY), base_of(OTHER)
+        removal = self.removal({"new/" + one: BODY, "new/" + two: OTHER}, one, two)
+        listed, missed = removal.listed, [base_in(os.fsencode(two))]
+        with mock.patch.object(removal, "listed", side_effect=lambda: without(listed(), missed)):
+            removal.run()
+        self.assertEqual((self.left(), removal.counts().removed), ([], 2))
 
     def test_names_that_change_all_the_time(self) -> None:
         name = base_of(BODY)
