@@ -1,8 +1,11 @@
 """The files of a folder, as far as they may stand for the messages of a text."""
+import itertools
 import os
 import unittest
+from unittest import mock
 
 from mbox2maildir_admin.ledger.files import Files, digest_of_file, forms_in
+from mbox2maildir_admin.maildir.files import names_of
 
 from tests.support.brought import LedgerTest, body_of, inventory_of, named_of, short
 from tests.support.mail import ONE, THREE, TWO
@@ -81,6 +84,16 @@ class FilesTest(LedgerTest):
         self.assertEqual({one: sorted(names) for one, names in found.items()}, wanted)
         # whoever reads many says so
         self.assertGreaterEqual(len(set(self.said)), 5)
+
+    def test_the_order_of_a_listing(self) -> None:
+        """What any of the files shows counts, whichever comes last."""
+        self.place(ONE, "17.host")
+        self.place(READ)
+        self.place(TWO)
+        for listed in itertools.permutations(names_of(self.folder)):
+            with mock.patch("mbox2maildir_admin.ledger.files.names_of", return_value=listed):
+                files = self.files(TWO)
+            self.assertEqual((files.has_named, files.has_strange, files.others), (True, True, 1), listed)
 
     def test_what_an_undo_has_kept(self) -> None:
         """It is read whatever its name is, also if no program has named a file."""
