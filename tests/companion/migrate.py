@@ -6,6 +6,7 @@ import fcntl
 import hashlib
 import os
 import shlex
+import shutil
 import signal
 import subprocess
 import time
@@ -483,22 +484,25 @@ def begun(home: Path) -> None:
 
 def begun_otherwise(home: Path) -> None:
     """What was begun is left for a run with or without --dovecot that it was not begun with. The command of that row
-    goes on, and says that a message that somebody has deleted meanwhile may come back."""
+    goes on. If nothing is there of it, the run goes on by its own words. Either says that a message that somebody has
+    deleted meanwhile may come back."""
     mailbox(home / "box", ONE + TWO + THREE)
     without, with_it = [], ["--dovecot"]  # type: list[str], list[str]
     ways = (without, with_it, "without --dovecot"), (with_it, without, "with --dovecot")
     for number, (first, then, says) in enumerate(ways):
         maildir = f"R{number}"
         killed_after(home, maildir, ONE, *first)
-        file_of(home / maildir, "one").unlink()
         status, out, _ = run(["migrate", *then, maildir, "box"], home)
         row = f"left (another-reading): its conversion was begun {says}\n"
         equal(f"begun {says}, and {then}: {out}", (status, row in out), (1, True))
-        equal(f"begun {says}, and {then}", subjects(home / maildir), [])
-        status, out, _ = run(commands_in(out)[0].split()[1:], home)
-        # of the three, only one had been placed
-        assert status == 0 and int(match_in(r"done, .*?up to (\d) messages? that had been deleted", out)[1]) >= 1, out
-        equal(f"begun {says}, and as it was begun", subjects(home / maildir), ["one", "three", "two"])
+        equal(f"begun {says}, and {then}", subjects(home / maildir), ["one"])
+        file_of(home / maildir, "one").unlink()
+        shutil.copytree(home / maildir, home / f"{maildir}-deleted")
+        for words in (commands_in(out)[0].split()[1:], ["migrate", *then, f"{maildir}-deleted", "box"]):
+            status, out, _ = run(words, home)
+            # of the three, only one had been placed
+            assert status == 0 and int(match_in(r"done, .*?up to (\d) messages? that had been deleted", out)[1]), out
+            equal(f"begun {says}: {words}", subjects(home / words[-2]), ["one", "three", "two"])
 
 
 def converted(home: Path) -> None:

@@ -9,6 +9,8 @@ from ..ledger.history import Entry
 from ..ledger.ledger import Ledger
 from ..ledger.lines import counted_in
 from ..ledger.match import Match, bares_of, cores_of
+from ..maildir.files import names_of
+from ..mbox.bases import before_info
 from ..mbox.inventory import Inventory
 from ..mbox.mailbox import Mailbox
 from ..nexts import NOTHING, Answer, Does, Next, Remark
@@ -16,6 +18,7 @@ from ..readings.earlier import decision_by, messages_then, plan_then
 from ..readings.reading import MBOXO, UNDECIDED, UNQUOTED, Reading
 from ..readings.texts import Choice, choice_of, content_of, disk_of
 from ..units import counted
+from .dovecot import names_in
 from .known import Known
 from .steps import Contents, Extra, How, Opened
 
@@ -104,7 +107,7 @@ def want_same_reading(how: How, known: Known, choice: Choice, contents: Contents
     """Raises Left if more of what the ledger has of a mailbox is in it as it was read then, with what to run."""
     before, root, opened = Before.of(known, contents.reading), known.root, known.opened
     command = how.command(root, opened, again=how.again, dovecot=before.reading.bare)
-    if before.batch and not how.again and before.reading.bare != contents.reading.bare:
+    if before.reading.bare != contents.reading.bare and not how.again and has_begun(known):
         says = "its conversion was begun %s --dovecot" % ("with" if before.reading.bare else "without")
         raise Left(says, Reason.ANOTHER_READING, (Answer(command),))
     if before.reading.of_text == contents.reading.of_text:
@@ -128,6 +131,16 @@ def want_same_reading(how: How, known: Known, choice: Choice, contents: Contents
     else:
         command = how.command(root, opened, again=how.again, decision=decision)
     raise Left(says, Reason.ANOTHER_READING, (Answer(command),))
+
+
+def has_begun(known: Known) -> bool:
+    """Whether something is there of what a killed run was to place, or a list of Dovecot's. Else another run may do it
+    in another way."""
+    if known.ledger.pending(known.path) is None:
+        return False
+    names, folder = {one.name for one in known.ledger.intended(known.path)}, known.opened.folder
+    is_numbered = any(name.startswith(b"dovecot") for name in names_in(folder))
+    return is_numbered or any(before_info(name) in names for name, _ in names_of(folder))
 
 
 def is_enough(text: Mailbox, decision: Reading, disk: bytes) -> bool:
