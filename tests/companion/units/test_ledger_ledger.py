@@ -214,6 +214,7 @@ class CountsTest(LedgerTest):
             # an end of nothing, one that comes twice, and a message of no mailbox
             ([b"=\t1\n"], 1),
             ([*lines, lines[4]], 6),
+            ([*lines, b"+\t7\n"], 6),
             ([lines[2], *lines], 1),
             # bytes that are no text, and a name without a digest
             ([*lines, b">\t/box\t/\xff\n"], 6),

@@ -141,6 +141,10 @@ class PlacingTest(LedgerTest):
         self.assertEqual([part.table.name(place) for place in range(2)], [named_of(TWO, 2), named_of(THREE)])
         for row in ("sizes", "lines", "offsets", "unquoted", "dates"):
             self.assertEqual(list(getattr(part, row)), list(getattr(placing.inventory, row))[1:3], row)
+        # also if all of them are
+        whole = placing.part(placing.places())
+        names = [named_of(ONE), named_of(TWO, 2), named_of(THREE)]
+        self.assertEqual([whole.table.name(place) for place in range(3)], names)
 
     def test_the_whole_with_the_files_that_stand_for_it(self) -> None:
         """Files of other programs have no base that could stand there, and no base stands there twice."""
