@@ -128,9 +128,9 @@ class Postfix:
             self.want(client.data(in_lines(message)))
 
     def by_chunks(self, folder: str, message: bytes) -> None:
-        """Sends a message by BDAT."""
+        """Sends a message by BDAT, in two pieces, of which none may be empty."""
         text = in_lines(message)
-        middle = self.draw.randrange(len(text))
+        middle = self.draw.randrange(1, len(text))
         with self.awaiting(folder), self.client(folder) as client:
             for chunk, end in ((text[:middle], ""), (text[middle:], " LAST")):
                 client.putcmd(f"BDAT {len(chunk)}{end}")
