@@ -367,6 +367,14 @@ class KilledTest(PreparingTest):
             self.migrate(prepare=prepare, dry=True)
             self.assertEqual((self.names(), self.prepared_list().read_bytes()), (names, kept))
 
+    def test_what_others_delivered_is_not_taken_back(self) -> None:
+        self.prepare(ONE)
+        (self.maildir / "new" / "1700000000.M1.host").write_bytes(b"mail\n")
+        self.killed(ONE + TWO)
+        self.assertIs(self.prepare(ONE).fate, Fate.PREPARED)
+        one = "new/%s.1" % digest_of(next(bodies_of(ONE)))
+        self.assertEqual(self.names(), sorted(["new/1700000000.M1.host", one]))
+
     def test_the_record_knows_that_it_was_taken_back(self) -> None:
         self.prepare(ONE)
         self.killed(ONE + TWO)
