@@ -15,7 +15,7 @@ from typing import Any, NamedTuple, Optional
 
 from mbox2maildir_admin import cli
 
-from tests.support.checks import PATIENCE
+from tests.support.checks import LATER, PATIENCE
 from tests.support.fates.running import COMPANION, NOBODY, as_user, is_root
 from tests.support.kills import Killer, Moment, settings_in
 from tests.support.loaded import load_companion
@@ -31,6 +31,8 @@ class Kill(NamedTuple):
     seconds: Optional[float] = None
 
 
+# how often a run is tried again
+TRIES = 100
 # for a run that something else may kill
 BY_OTHERS = Kill(seconds=PATIENCE)
 
@@ -54,6 +56,16 @@ class Place:
         if is_root():
             for path in paths:
                 os.chown(str(path), NOBODY, NOBODY)
+
+    def run_later(self, words: Sequence[str], kill: Kill = Kill(), meanwhile: Callable[[], object] = bool) -> Ran:
+        """Runs the companion again as long as it meets what a killed run has left at work."""
+        ran = self.run(words, kill, meanwhile)
+        for _ in range(TRIES):
+            if ran.status != LATER:
+                break
+            time.sleep(0.1)
+            ran = self.run(words, kill, meanwhile)
+        return ran
 
     def run(self, words: Sequence[str], kill: Kill = Kill(), meanwhile: Callable[[], object] = bool) -> Ran:
         """Runs the companion with these words. Meanwhile a function is called again and again."""

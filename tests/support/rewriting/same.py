@@ -7,7 +7,6 @@ from collections.abc import Callable, Iterable, Sequence
 from pathlib import Path
 
 from tests.support.archives import Row, objects, texts_of
-from tests.support.checks import LATER
 from tests.support.dovecot.server import Dovecot
 from tests.support.rewriting.rewriters import appended
 from tests.support.rewriting.runs import Kill, Ran
@@ -18,8 +17,8 @@ from tests.support.rewriting.trees import told
 VALIDITY = re.compile(rb"\A(3 V)(\d+)")
 # mail without a date has the time at which it was placed; both are a test's, and lie at most so many seconds back
 LATELY = 3600
-# how often an answer is followed, and how often a run is tried that meets what a killed one has left at work
-ANSWERS, TRIES = 3, 100
+# how often an answer is followed
+ANSWERS = 3
 
 
 def files_in(maildir: Path) -> dict[str, object]:
@@ -61,11 +60,7 @@ class Twice(Several):
         self.mail = {}  # type: dict[str, bytes]
 
     def carry_out(self, words: Sequence[str], kill: Kill = Kill()) -> tuple[Ran, dict[str, Row]]:
-        for _ in range(TRIES):
-            ran = self.place.run(["migrate", "--json", "--now", *words], kill, self.meanwhile)
-            if ran.status != LATER:
-                break
-            time.sleep(0.1)
+        ran = self.place.run_later(["migrate", "--json", "--now", *words], kill, self.meanwhile)
         rows = {str(row["path"]): row for row in objects(ran.output) if row["type"] == "row"}
         how = f" ({kill})" if kill != Kill() else ""
         self.story.append(f"$ {' '.join(words)}{how} -> {ran.status}")

@@ -106,7 +106,7 @@ class Trial:
 
     def run(self, words: Sequence[str], kill: Kill = Kill(), in_shell: str = "") -> Ran:
         """Runs the companion, and looks at the files."""
-        ran = self.place.in_shell(in_shell) if in_shell else self.place.run(words, kill, self.meanwhile)
+        ran = self.place.in_shell(in_shell) if in_shell else self.place.run_later(words, kill, self.meanwhile)
         self.said += ran.output
         how = f" ({kill})" if kill != Kill() else ""
         self.story.append(f"$ {in_shell or ' '.join(words)}{how} -> {ran.status}: {ran.output.strip()}")
