@@ -59,7 +59,8 @@ class TextTest(FolderTest):
         """Files of others, which have gone since, had the names between them."""
         inventory = inventory_of(TWO, ONE)
         text = Text(AsRead(0, 2, "mboxrd"), inventory, [0, 20])
-        for bases in ([ONE + b".2", ONE + b".1"], [TWO + b".1", ONE + b".2"]):
+        more = [TWO + b".1", ONE + b".1", ONE + b".2"]
+        for bases in ([ONE + b".2", ONE + b".1"], [TWO + b".1", ONE + b".2"], more):
             self.assertIsNone(self.noted(text, Table.of(bases)), bases)
 
     def test_only_what_each_message_has_is_noted(self) -> None:

@@ -87,6 +87,15 @@ class KnownTest(HomeTest):
         self.move("moved")
         self.assertFalse(self.done_by())
 
+    def test_a_mailbox_that_was_moved_is_noted(self) -> None:
+        """Another one may have its old place by the next run. A dry run writes nothing."""
+        self.bring("box", ONE)
+        self.move("moved")
+        for dry, path in ((True, self.home / "box"), (False, self.box)):
+            with self.opened() as (opened, record):
+                self.assertIsNotNone(Known(record, Ledger(self.root), opened).done_by(dry))
+            self.assertEqual(Ledger(self.root).paths(), [str(path)])
+
     def test_a_mailbox_that_was_moved_twice(self) -> None:
         """The record knows nothing of that, and has its first path."""
         self.bring("box", ONE)

@@ -86,6 +86,14 @@ class OtherwiseTest(HomeTest):
         self.assertEqual((row.fate, row.reason, len(self.mail())), (Fate.LEFT, Reason.ANOTHER_READING, 2))
         self.assertIn("--as mboxo ", told(row))
 
+    def test_mail_without_a_length_came(self) -> None:
+        """Each `>From ` of the old mail loses a `>` then, which makes no other message of it."""
+        self.fill(MEASURED)
+        self.assertIs(self.migrate().fate, Fate.DONE)
+        self.fill(MEASURED + TWO)
+        row = self.migrate()
+        self.assertEqual((row.fate, row.kind, len(self.mail())), (Fate.DONE, "mboxrd or mboxo", 3))
+
     def test_the_lines_that_a_human_names_hold_by_the_other_reading(self) -> None:
         """A program wrote mail in which a line is in question."""
         lines = frozenset([Line((QUOTED + DOUBTFUL[: DOUBTFUL.index(b"From here")]).count(b"\n") + 1)])
