@@ -475,6 +475,15 @@ class SubscriptionsTest(BackHome):
             self.lists(b"sent\nlists/b\n", b"sent\nlists.sheds\nrenamed\n"), b"sent\nlists/b\nlists/sheds\n"
         )
 
+    def test_a_list_that_migrate_has_not_written(self) -> None:
+        """It does not say who was unsubscribed."""
+        self.write_box("mail/sent", KEPT)
+        self.migrate_all("mail", dovecot=True)
+        self.write_box("mail/.subscriptions", b"sent\n")
+        (self.maildir / "subscriptions").write_bytes(b"INBOX\n")
+        self.back(dovecot=True)
+        self.assertEqual((self.tree / ".subscriptions").read_bytes(), b"sent\nINBOX\n")
+
     def test_a_dry_run(self) -> None:
         self.assertEqual(self.lists(b"sent\n", b"sent\nlists.sheds\n", dry=True), b"sent\n")
         self.assertEqual(self.rows[-1].fate, Fate.WOULD_BACK)

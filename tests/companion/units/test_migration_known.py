@@ -159,14 +159,15 @@ class KnownTest(HomeTest):
             self.bring("third", THREE, "X")
 
     def test_the_uids_of_a_mailbox_that_was_moved(self) -> None:
-        self.bring("box", ONE)
-        path = self.path
-        self.move("moved")
-        with self.opened() as (opened, record):
-            record.add(Note.NUMBERED, key_of(ONE), 1, path)
-            Known(record, Ledger(self.root), opened).take_place(inventory_of(ONE), False)
-            numbered = record.numbered(b".")
-        self.assertEqual(numbered and numbered.path, str(self.box))
+        for name, is_its in (("box", True), ("other", False)):
+            self.make_home(f"home-{name}")
+            self.bring("box", ONE)
+            self.move("moved")
+            with self.opened() as (opened, record):
+                record.add(Note.NUMBERED, key_of(ONE), 1, os.fsencode(self.home / name))
+                Known(record, Ledger(self.root), opened).take_place(inventory_of(ONE), False)
+                numbered = record.numbered(b".")
+            self.assertEqual(numbered and numbered.path, str(self.box if is_its else self.home / name))
 
     def test_where_it_went_before(self) -> None:
         """Only a mailbox that is gone was moved, wherever it was. Another one may be at its place by now."""

@@ -42,7 +42,8 @@ class InboxesTest(FolderTest):
         self.assertEqual(self.names(), [b"mia"])
 
     def test_the_mode_of_the_others(self) -> None:
-        """Root's files and locks are no inboxes."""
+        """Root's files, locks and folders are no inboxes."""
+        os.mkdir(os.path.join(self.here, b"old"))
         for name, mode, wanted in (
             ("a", 0o660, 0o660),
             ("b.lock", 0o600, 0o660),
