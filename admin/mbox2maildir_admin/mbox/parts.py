@@ -62,6 +62,11 @@ class Mark(NamedTuple):
     word: int
     is_after_other: bool
 
+    @property
+    def quotes(self) -> int:
+        """How many `>` there are."""
+        return self.word - self.begins
+
     def ends_message(self, region: bytes) -> bool:
         """Whether the message before it ends there, and has no other `From ` but that of its From_ line."""
         return self.begins == self.word < len(region) and not self.is_after_other
@@ -98,24 +103,25 @@ def parts_of(
             number += not in_from
         ahead = next_mark(region, position, begins_line)
         while not in_from:
-            begins, word, has_word = ahead
-            if begins > position:
-                yield Part(TEXT, Offset(here + position), Line(number), region[position:begins], 0, has_word)
-                number += region.count(b"\n", position, begins)
-            if begins == len(region):
+            mark = ahead
+            if mark.begins > position:
+                piece = region[position : mark.begins]
+                yield Part(TEXT, Offset(here + position), Line(number), piece, 0, mark.is_after_other)
+                number += piece.count(b"\n")
+            if mark.begins == len(region):
                 break
-            quotes, end, mark_at = word - begins, region.find(b"\n", word), Offset(here + begins)
+            end = region.find(b"\n", mark.word)
             end = len(region) if end < 0 else end
-            piece, rest = region[begins : min(end, begins + LONG + 1)], b""
-            ahead = next_mark(region, word + len(FROM) if quotes else end + 1, not quotes)
-            if is_plain and not quotes and len(piece) <= LONG and ahead.ends_message(region):
+            piece, rest = region[mark.begins : min(end, mark.begins + LONG + 1)], b""
+            ahead = next_mark(region, mark.word + len(FROM) if mark.quotes else end + 1, not mark.quotes)
+            if is_plain and not mark.quotes and len(piece) <= LONG and ahead.ends_message(region):
                 rest = region[end + 1 : ahead.begins]
-                rest = rest if is_plain(mark_at, piece, rest) else b""
-            yield Part(MARK, mark_at, Line(number), piece, quotes, False, rest)
-            position = begins if quotes else ahead.begins if rest else end + 1
-            if not quotes and not rest:
-                yield Part(FROM_LINE, mark_at, Line(number), region[begins:position])
-            number += region.count(b"\n", begins, position)
+                rest = rest if is_plain(Offset(here + mark.begins), piece, rest) else b""
+            yield Part(MARK, Offset(here + mark.begins), Line(number), piece, mark.quotes, False, rest)
+            position = mark.begins if mark.quotes else ahead.begins if rest else end + 1
+            if not mark.quotes and not rest:
+                yield Part(FROM_LINE, Offset(here + mark.begins), Line(number), region[mark.begins : position])
+            number += region.count(b"\n", mark.begins, position)
             in_from = position > len(region)
         here += len(region)
 

@@ -244,7 +244,7 @@ class Transfer:
 
     def is_whole(self, rest: Match) -> bool:
         """Whether nothing is nowhere, so that nobody needs to know who brought what."""
-        return not len(rest.need)
+        return len(rest.need) == 0
 
     def left_to_store(self, why: str, reason: Reason, contents: Contents, match: Match) -> Left:
         """Why it is left, with the command that stores what is nowhere: without what could not be done besides then."""

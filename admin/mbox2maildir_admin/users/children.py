@@ -8,7 +8,7 @@ import signal
 import time
 from collections.abc import Callable
 from types import FrameType
-from typing import Optional, Union
+from typing import NamedTuple, Optional, Union
 
 from ..faults import Left, Reason
 from ..mbox.dates import reader_of_other_forms
@@ -37,10 +37,18 @@ BROKEN_OFF, BROKEN = 130, "its process was interrupted"
 Mask = set[Union[int, signal.Signals]]
 
 
-def start(account: pwd.struct_passwd, work: Work, mask: Mask, join: Join) -> tuple[int, int, int]:
+class Ends(NamedTuple):
+    """A process, and root's ends of two pipes: the process tells by the first, and lives as long as the second is open,
+    by which it is answered."""
+
+    pid: int
+    tells: int
+    life: int
+
+
+def start(account: pwd.struct_passwd, work: Work, mask: Mask, join: Join) -> Ends:
     """Starts a task with the rights of an account and this mask of signals; until the child has set the mask, all of
-    them are blocked. Returns the process and two pipes: the child tells by the first, and lives as long as the second
-    is open, by which it is answered. A child that does not read answers keeps nobody."""
+    them are blocked. A child that does not read answers keeps nobody."""
     tells, told = os.pipe()
     alive, life = os.pipe()
     os.set_blocking(life, False)
@@ -57,7 +65,7 @@ def start(account: pwd.struct_passwd, work: Work, mask: Mask, join: Join) -> tup
             os._exit(status)
     os.close(told)
     os.close(alive)
-    return pid, tells, life
+    return Ends(pid, tells, life)
 
 
 def become(account: pwd.struct_passwd, kept: tuple[int, ...], mask: Mask, join: Join) -> None:
@@ -88,13 +96,11 @@ class Child:
     def __init__(
         self,
         whose: Whose,
-        pid: int,
-        tells: int,
-        life: int,
+        ends: Ends,
         clerk: Optional[Clerk] = None,
         disks: Optional[Disks] = None,
     ) -> None:
-        self.whose, self.pid, self.tells, self.life = whose, pid, tells, life
+        self.whose, (self.pid, self.tells, self.life) = whose, ends
         self.clerk, self.disks = clerk or Clerk(), disks or Disks()
         self.rest, self.heard, self.is_open = b"", time.monotonic(), True
         # how many rows came, how often it told what is next, and how many rows it says it told, once it has ended
@@ -251,7 +257,7 @@ class Crew:
         if self.is_asked:
             return
         with blocked() as mask:
-            child = Child(whose, *start(account, work, mask, self.join), clerk, self.disks)
+            child = Child(whose, start(account, work, mask, self.join), clerk, self.disks)
             self.children[child.tells] = child
             self.poll.register(child.tells, select.POLLIN)
 

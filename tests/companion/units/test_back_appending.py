@@ -146,16 +146,16 @@ class AppendingTest(FolderTest):
 
     def test_a_quota_is_met_before_anything_is_written(self) -> None:
         for error in appending.FULL:
-            call = mock.patch.object(appending, "call_of_system", return_value=lambda *_: error)
-            with self.opened() as mailbox, contextlib.closing(self.beside(mailbox)) as beside, call:
+            call = mock.patch.object(appending, "call_of_system", return_value=mock.Mock(return_value=error))
+            with call, self.opened() as mailbox, contextlib.closing(self.beside(mailbox)) as beside:
                 with mock.patch("os.ftruncate", side_effect=AssertionError), self.assertRaises(Left) as caught:
                     append(mailbox, beside)
             self.assertEqual((caught.exception.reason, self.text(), self.names()), (Reason.NO_ROOM, OLD, [b"box"]))
 
     def test_a_disk_that_keeps_no_room(self) -> None:
         for error in (0, errno.EOPNOTSUPP):
-            call = mock.patch.object(appending, "call_of_system", return_value=lambda *_: error)
-            with self.opened() as mailbox, contextlib.closing(self.beside(mailbox)) as beside, call:
+            call = mock.patch.object(appending, "call_of_system", return_value=mock.Mock(return_value=error))
+            with call, self.opened() as mailbox, contextlib.closing(self.beside(mailbox)) as beside:
                 append(mailbox, beside)
         self.assertEqual(self.text(), OLD + TAIL * 2)
 
@@ -179,7 +179,7 @@ class AppendingTest(FolderTest):
         """A disk may have zeros in the place of what was appended."""
         for hole, count in ((b"\0" * 5, 0), (b"\0" * 5, 20), (b"\0", 9), (b"\0" * len(TAIL), 0)):
             text = TAIL[:count] + hole + TAIL[count + len(hole) :]
-            for end in {count + len(hole), len(TAIL)}:
+            for end in sorted({count + len(hole), len(TAIL)}):
                 self.write("box", OLD)
                 with self.opened() as mailbox, contextlib.closing(self.beside(mailbox)) as beside:
                     os.write(mailbox.number, text[:end])

@@ -18,7 +18,7 @@ from mbox2maildir_admin.mbox.mailbox import Mailbox
 from mbox2maildir_admin.migration.outcomes import Fate, Observer, Row
 from mbox2maildir_admin.readings.unnamed import copy_of_some
 from mbox2maildir_admin.units import Offset, Place, Say
-from mbox2maildir_admin.users.children import Child
+from mbox2maildir_admin.users.children import Child, Ends
 from mbox2maildir_admin.users.telling import LONGEST, Teller, Whose, row_of
 
 from tests.support.mail import ONE, TWO, bodies_of
@@ -108,7 +108,7 @@ class ChildTest(unittest.TestCase):
 
     def test_lines(self) -> None:
         heard, tell = os.pipe()
-        child = Child(MIA, 0, heard, 0)
+        child = Child(MIA, Ends(0, heard, 0))
         rows = []  # type: list[tuple[Optional[str], Fate]]
 
         class Rows(Observer):

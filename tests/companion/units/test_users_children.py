@@ -14,7 +14,7 @@ from mbox2maildir_admin.nexts import Answer, Command
 from mbox2maildir_admin.signals import ENDING
 from mbox2maildir_admin.terminal import LINE
 from mbox2maildir_admin.users import children, limits
-from mbox2maildir_admin.users.children import UNREADABLE, Child, Crew
+from mbox2maildir_admin.users.children import UNREADABLE, Child, Crew, Ends
 from mbox2maildir_admin.users.clerks import Clerk, Refusal, Work
 from mbox2maildir_admin.users.telling import LONGEST, Teller, Whose
 
@@ -26,7 +26,7 @@ ACCOUNT = pwd.struct_passwd(("mia", "x", os.geteuid(), os.getegid(), "", "/", "/
 
 class ChildTest(unittest.TestCase):
     def setUp(self) -> None:
-        self.child = Child(MIA, 0, 0, 0)
+        self.child = Child(MIA, Ends(0, 0, 0))
 
     def test_lines_that_nobody_would_tell(self) -> None:
         lines = (
@@ -95,7 +95,7 @@ class ChildTest(unittest.TestCase):
         os.set_blocking(life, False)
         clerk = mock.Mock(spec=Clerk)
         clerk.answer.return_value = Refusal("it is full", "no-room")
-        child = Child(MIA, 0, 0, life, clerk)
+        child = Child(MIA, Ends(0, 0, life), clerk)
         child.take_line(b'["ask", "make", 0]', Observer())
         clerk.answer.assert_called_once_with(["make", 0])
         self.assertEqual(json.loads(os.read(alive, LONGEST)), ["it is full", "no-room"])

@@ -7,7 +7,7 @@ from mbox2maildir_admin.faults import Reason
 from mbox2maildir_admin.maildir.syncing import Syncs
 from mbox2maildir_admin.migration.outcomes import Observer
 from mbox2maildir_admin.users import disks as module
-from mbox2maildir_admin.users.children import Child
+from mbox2maildir_admin.users.children import Child, Ends
 from mbox2maildir_admin.users.clerks import Refusal
 from mbox2maildir_admin.users.disks import FOLDER, Disks, synced_by_root
 from mbox2maildir_admin.users.telling import Teller, Whose
@@ -90,7 +90,7 @@ class DisksTest(FolderTest):
     def test_a_child_is_answered_once_the_disk_is_synced(self) -> None:
         (alive, life), (tells, told), (reads, writes) = (os.pipe() for _ in range(3))
         os.set_blocking(alive, False)
-        child = Child(Whose("mia", "mia"), os.getpid(), tells, life, disks=self.disks)
+        child = Child(Whose("mia", "mia"), Ends(os.getpid(), tells, life), disks=self.disks)
         number = os.open(self.here, FOLDER)
         child.take_line(b'["ask", "sync", %d]' % number, Observer())
         self.assertRaises(BlockingIOError, os.read, alive, 99)
@@ -108,7 +108,9 @@ class DisksTest(FolderTest):
         os.close(reads)
 
     def test_lines_that_nobody_would_tell(self) -> None:
-        child, reporter = Child(Whose("mia", "mia"), os.getpid(), 0, 0, disks=self.disks), mock.Mock(spec=Observer)
+        child, reporter = Child(Whose("mia", "mia"), Ends(os.getpid(), 0, 0), disks=self.disks), mock.Mock(
+            spec=Observer
+        )
         for line in (b'["ask"]', b'["ask", "sync"]', b'["ask", "sync", -1]', b'["ask", "sync", "1"]'):
             child.take_line(line, reporter)
         self.assertEqual((reporter.row.call_count, self.disks.waiting), (4, []))

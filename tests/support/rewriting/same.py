@@ -83,7 +83,7 @@ class Twice(Several):
     def lay_down(self, maildir: Path, name: str) -> None:
         """Puts mail that is delivered into a Maildir."""
         path = maildir / name.lstrip("/")
-        for folder in {maildir, path.parents[1]}:
+        for folder in sorted({maildir, path.parents[1]}):
             for sub in ("tmp", "new", "cur"):
                 (folder / sub).mkdir(parents=True, exist_ok=True)
         if path.parents[1] != maildir:
