@@ -81,9 +81,8 @@ class Passes(Twice):
         return True
 
     def own_all(self) -> None:
-        """Gives to its owner what is not the owner's. The times of files stay: by these a pass knows mailboxes."""
-        account = self.server.account
-        self.place.own(*(path for path in self.home.rglob("*") if path.lstat().st_uid != account.pw_uid))
+        """Gives the mailboxes to their owner. A pass may be at work in the Maildir."""
+        self.own_some([*self.home.glob("inbox*"), *self.home.glob("mail*"), *self.home.glob("mail*/**/*")])
 
     def commands(self) -> list[list[str]]:
         paths = [box.path for box in self.boxes]

@@ -90,7 +90,13 @@ class Twice(Several):
             (path.parents[1] / "maildirfolder").touch()
         path.write_bytes(self.mail[name])
         os.utime(path, (1.7e9,) * 2)
-        self.own_all()
+        self.own_some([maildir, *maildir.rglob("*")])
+
+    def own_some(self, paths: Iterable[Path]) -> None:
+        """Gives to the owner of the mail what is not the owner's. The times of all else stay: by these a pass knows
+        files."""
+        account = self.server.account
+        self.place.own(*(path for path in paths if path.lstat().st_uid != account.pw_uid))
 
     def compare(self) -> None:
         """All is as one `migrate` makes it in another Maildir, now and later."""
