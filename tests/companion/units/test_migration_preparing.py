@@ -8,6 +8,7 @@ from unittest import mock
 
 from mbox2maildir_admin.faults import Reason
 from mbox2maildir_admin.ledger.ledger import Ledger
+from mbox2maildir_admin.ledger.prepared import Prepared
 from mbox2maildir_admin.migration import preparing
 from mbox2maildir_admin.migration.outcomes import Fate, Row
 from mbox2maildir_admin.migration.replica import signs_of
@@ -71,9 +72,16 @@ class FirstPassTest(PreparingTest):
 
     def test_what_was_removed_by_hand_is_placed_again(self) -> None:
         self.prepare(ONE + TWO)
-        next((self.maildir / "new").iterdir()).unlink()
-        self.finish()
-        self.has(ONE, TWO)
+        for follow in (self.prepare, self.finish):
+            next((self.maildir / "new").iterdir()).unlink()
+            follow()
+            self.has(ONE, TWO)
+
+    def test_a_list_that_has_nothing_yet(self) -> None:
+        """A pass was killed once it had made the folder."""
+        self.make_folders()
+        Prepared.read(self.root).make_folder()
+        self.assertIs(self.prepare(ONE).fate, Fate.PREPARED)
 
     def test_an_unchanged_file_is_not_read(self) -> None:
         """Neither a mailbox between first passes, nor a file on the day."""
@@ -188,9 +196,13 @@ class RefusedTest(PreparingTest):
         self.finish(ONE)
         self.assertIs(self.prepare().fate, Fate.BEFORE)
         self.left(self.prepare(ONE + TWO), "mail of a mailbox is in its folder already")
-        # the record shows it too
-        (self.maildir / "mbox2maildir-messages").unlink()
-        self.left(self.prepare(), "mail of a mailbox is in its folder already")
+        # each of the ledger and the record shows it
+        for name in ("mbox2maildir-record", "mbox2maildir-messages"):
+            kept = (self.maildir / name).read_bytes()
+            (self.maildir / name).unlink()
+            self.left(self.prepare(), "mail of a mailbox is in its folder already")
+            (self.maildir / name).write_bytes(kept)
+            (self.maildir / name).chmod(0o600)
 
     def test_what_is_placed_is_verified(self) -> None:
         """Unlike what was prepared, and has not changed since."""
