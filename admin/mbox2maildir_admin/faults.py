@@ -74,7 +74,11 @@ class Reason(Phrase):
     )
     # the folder that it would go to
     NO_FOLDER = "no-folder", "Another mailbox has its folder, or its name cannot be the name of a folder."
-    NOT_OWN = "not-own", "A folder on the way does not belong to its user."
+    NOT_OWN = (
+        "not-own",
+        "A folder on the path belongs to another user, can be changed by others, cannot be entered by users, or is a "
+        "link or a file.",
+    )
     NO_ROOM = (
         "no-room",
         "The disk has too little room, or too few inodes.",
@@ -106,7 +110,10 @@ class Reason(Phrase):
     )
     UNDO = "undo", "It cannot be undone without harm to other mail, or its undo was interrupted."
     # what is wrong with the Maildir or its record
-    NO_MAILDIR = "no-maildir", "The Maildir, or its folder, is not there, or something else is in its place."
+    NO_MAILDIR = (
+        "no-maildir",
+        "The Maildir, or the folder above it, is missing or something else, or the Maildir has no record.",
+    )
     RECORD = "record", "The record cannot be read, written or locked, or others may write to it."
     # what is wrong with a user: the name, what the spool has under it, the home, the process
     NO_USER = "no-user", "The name belongs to no user."
