@@ -87,14 +87,14 @@ Each file is counted in one of these columns:
 counts how many of them kept theirs.
 
 {plain}
-The times were measured on a disk in memory, where a sync costs nothing. They only show an order: on a real disk
+The times were measured on a disk in memory, where a sync costs nothing. Compare them only roughly: on a real disk
 `convert` waits for the sync of each file, and most others sync no file.
 
 ## Killed, and the same command again
 
 Each converter ran {kills} times. Each time it was killed at a different moment, with all processes that it had started.
-These moments are spread over its run. If a run ended before its moment came, another run took its place. Then the same
-command ran to its end. The columns are totals over the {kills} runs.
+These moments are spread over its run. After each kill, the same command ran to its end. If a run ended before its
+moment came, another run took its place. The columns are totals over the {kills} runs.
 
 {killed}
 ## A full disk
