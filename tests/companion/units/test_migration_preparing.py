@@ -303,6 +303,15 @@ class KilledTest(PreparingTest):
         self.prepare(TWO + THREE)
         self.has(TWO, THREE)
 
+    def test_a_first_pass_before_its_sync(self) -> None:
+        """What it has placed may not be on the disk, so the next one does not leave it at that."""
+        self.fill(ONE)
+        with mock.patch("mbox2maildir_admin.migration.converting.finish_list", side_effect=Killed):
+            self.assertRaises(Killed, self.prepare)
+        self.assertFalse(Prepared.read(self.root).is_whole)
+        self.prepare()
+        self.assertTrue(Prepared.read(self.root).is_whole)
+
     def test_a_last_pass(self) -> None:
         """What it has done is taken back: the mailbox may be another one by then."""
         self.prepare(ONE)
