@@ -28,6 +28,8 @@ CRLF = (
     b"Subject: three\r\n\r\nhello\r\n\r\n",
     b"Subject: three\r\n\r\nhello\r\n\r\n",
 )
+# as a file has it
+AS_LF = (CRLF[0][:-1], b"", b"Subject: three\n\nhello\n")
 LONG = (b"From %b Mon Mar  3 09:12:44 2025" % (b"x" * 900), HEAD % b"four" + b"\n", HEAD % b"four")
 INSIDE = b"Subject: five\nContent-Length: 16\n\nFrom Tuesday on\n"
 WITH_LENGTH = (b"From ann@example.org Thu Mar  6 09:12:44 2025", INSIDE + b"\n", INSIDE)
@@ -70,8 +72,8 @@ def each_form(home: Path) -> None:
         ("plain", (PLAIN, ODD, SAME, PLAIN)),
         ("lengths", (WITH_LENGTH, WITH_LENGTH)),
         ("packed", (SAME, ODD)),
-        # if all lines end in CR LF, none does in the files
-        ("crlf", ((CRLF[0][:-1], b"", b"Subject: three\n\nhello\n"),)),
+        # what ends in CR LF in the mailbox does not in the files
+        ("crlf", (AS_LF,)),
     ):
         equal(name, kept(home / f"M/.{name}"), lines_of(*letters))
         digests = {path.name[:32] for path in mail_in(home / f"M/.{name}")}
@@ -118,7 +120,7 @@ def decided(home: Path) -> None:
     mailbox(home / "box", text_of(CRLF, ODD) + b"From Tuesday on\n\nhi\n")
     answer(home)
     keep(home, ["box"])
-    letters = CRLF, (ODD[0], b"", ODD[2] + b"\nFrom Tuesday on\n\nhi\n")
+    letters = AS_LF, (ODD[0], b"", ODD[2] + b"\nFrom Tuesday on\n\nhi\n")
     equal("its lines", kept(home / "M"), lines_of(*letters))
 
 
@@ -129,7 +131,7 @@ def decided_and_cut(home: Path) -> None:
     answer(home)
     mailbox(home / "box", text_of(CRLF, ODD) + b"From Tuesday on\n\nhi\n")
     equal("done before", keep(home, ["box"]), "1 mailbox: 1 done before\n")
-    letters = CRLF, (ODD[0], b"", ODD[2] + b"\nFrom Tuesday on\n\nhi\n")
+    letters = AS_LF, (ODD[0], b"", ODD[2] + b"\nFrom Tuesday on\n\nhi\n")
     equal("its lines", kept(home / "M"), lines_of(*letters))
 
 

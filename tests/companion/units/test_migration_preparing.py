@@ -72,9 +72,9 @@ class FirstPassTest(PreparingTest):
 
     def test_what_was_removed_by_hand_is_placed_again(self) -> None:
         self.prepare(ONE + TWO)
-        for follow in (self.prepare, self.finish):
+        for prepare in (True, False):
             next((self.maildir / "new").iterdir()).unlink()
-            follow()
+            self.migrate(prepare=prepare)
             self.has(ONE, TWO)
 
     def test_a_list_that_has_nothing_yet(self) -> None:
