@@ -83,7 +83,7 @@ class Full:
             for _ in range(2):
                 self.trial.check(self.home.place.run(self.trial.words))
             left = [str(path) for path in self.home.path.rglob("*") if "lock" in path.name or "-back" in path.name]
-            left = [path for path in left if not path.endswith(("spool-back", "sent-back", "b-back", "empty-back"))]
+            left = [path for path in left if not path.endswith(("inbox-back", "sent-back", "b-back", "empty-back"))]
             self.trial.wants(not left, f"left behind: {left}")
         except Failed as failed:
             raise Failed(f"{disk}, rooms {rooms}: {failed}") from failed

@@ -119,7 +119,10 @@ class Places:
         return self.first_free(os.path.join(tree, b"-".join(parts)), paths)
 
     def beside(self, path: bytes, folder: bytes) -> Place:
-        """The new mailbox beside one that takes nothing."""
+        """The new mailbox beside one that takes nothing. That of an inbox outside of the first tree is in the tree: its
+        owner may make none in a spool, and would not see it there."""
+        if folder == INBOX and self.trees and os.path.relpath(path, self.trees[0]).startswith(b"../"):
+            path = os.path.join(self.trees[0], b"inbox")
         path = next((path[: -len(end)] for end in COMPRESSED if path.endswith(end)), path)
         return self.first_free(path + BESIDE, Ledger(folder_path(self.root, folder)).paths())
 

@@ -153,7 +153,7 @@ class History:
             yield [maildir, "mail", "spool"]
         for folder, path in self.paths().items():
             is_beside = folder.endswith(BESIDE)
-            if not (self.home.path / path).exists() or not self.dialect.words and path != "spool-back":
+            if not (self.home.path / path).exists() or not self.dialect.words:
                 continue
             place = self.place_of(folder) if maildir != "M" else "" if is_beside else folder
             name = ["--folder", place[1:].replace(".", "/")] if place else []
@@ -168,7 +168,8 @@ class History:
     def paths(self) -> dict[str, str]:
         """The mailboxes by their folders, with those of new folders, and those beside others."""
         paths = {**{folder: path for folder, path in NEW.items() if folder not in self.boxes}, **self.boxes}
-        return {**paths, **{folder + BESIDE: path + "-back" for folder, path in self.boxes.items()}}
+        beside = {folder: path if folder else "mail/inbox" for folder, path in self.boxes.items()}
+        return {**paths, **{folder + BESIDE: path + "-back" for folder, path in beside.items()}}
 
     def place_of(self, folder: str) -> str:
         """The folder of a new Maildir for the mailbox of a folder."""
