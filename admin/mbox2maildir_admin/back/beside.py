@@ -101,11 +101,18 @@ class Beside:
     def end_of(self, mailbox: Mailbox) -> End:
         """What follows in a mailbox how it was before."""
         follows = mailbox.size - self.before.size
-        if not self.is_begun_by(mailbox) or follows > self.size:
+        if not self.is_begun_by(mailbox):
             return End.OTHER
-        if not follows or self.same(mailbox) == self.size:
+        if not follows or follows == self.same(mailbox) == self.size:
             return End.WHOLE if follows else End.NOTHING
-        return End.PART if self.same(mailbox, True) == follows else End.OTHER
+        is_ours = self.same(mailbox, True) == min(follows, self.size)
+        return End.PART if is_ours and self.is_empty_after(mailbox) else End.OTHER
+
+    def is_empty_after(self, mailbox: Mailbox) -> bool:
+        """Whether nothing but NUL follows in a mailbox what was to be appended: a repair of a disk may give a file all
+        of its blocks."""
+        reader = Reader(mailbox.number, Offset(self.before.size + self.size), mailbox.size)
+        return not any(block.strip(b"\0") for block in iter(lambda: reader.read(BLOCK), b""))
 
     def is_begun_by(self, mailbox: Mailbox) -> bool:
         """Whether a mailbox begins with what it was before."""

@@ -188,6 +188,17 @@ class AppendingTest(FolderTest):
                     self.assertIsNone(recover(mailbox, beside))
                 self.assertEqual(self.text(), OLD)
 
+    def test_what_a_repair_of_a_disk_adds_is_cut(self) -> None:
+        """It may give a file all of its blocks."""
+        for more, end, after in ((b"\0" * 9, End.PART, OLD), (b"\0x\0", End.OTHER, OLD + TAIL + b"\0x\0")):
+            self.write("box", OLD)
+            with self.opened() as mailbox, contextlib.closing(self.beside(mailbox)) as beside:
+                os.write(mailbox.number, TAIL + more)
+                mailbox.take_state()
+                self.assertEqual(beside.end_of(mailbox), end)
+                recover(mailbox, beside)
+            self.assertEqual(self.text(), after)
+
     def test_holes_before_what_others_wrote(self) -> None:
         text = OLD + b"\0" * 5 + TAIL[5:20] + b"From d\n\nyes\n\n"
         with self.opened() as mailbox, contextlib.closing(self.beside(mailbox)) as beside:
