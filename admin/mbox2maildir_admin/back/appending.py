@@ -1,4 +1,5 @@
 """Appends to an open mailbox, which is locked, what is in a file beside: all of it, or nothing."""
+import contextlib
 import errno
 import functools
 import importlib
@@ -57,6 +58,9 @@ def reserve(mailbox: Mailbox, size: int) -> None:
     quota before it is met, and then some disks cut no file either."""
     error = call_of_system()(mailbox.number, mailbox.size, size)
     if error in FULL:
+        # ext4 keeps what it found
+        with contextlib.suppress(OSError):
+            os.ftruncate(mailbox.number, mailbox.size)
         raise OSError(error, os.strerror(error))
 
 

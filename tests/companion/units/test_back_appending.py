@@ -148,8 +148,10 @@ class AppendingTest(FolderTest):
         for error in appending.FULL:
             call = mock.patch.object(appending, "call_of_system", return_value=mock.Mock(return_value=error))
             with call, self.opened() as mailbox, contextlib.closing(self.beside(mailbox)) as beside:
-                with mock.patch("os.ftruncate", side_effect=AssertionError), self.assertRaises(Left) as caught:
+                with mock.patch("os.ftruncate") as cut, self.assertRaises(Left) as caught:
                     append(mailbox, beside)
+                # what the disk has kept until then is free again
+                cut.assert_called_once_with(mailbox.number, len(OLD))
             self.assertEqual((caught.exception.reason, self.text(), self.names()), (Reason.NO_ROOM, OLD, [b"box"]))
 
     def test_a_disk_that_keeps_no_room(self) -> None:
