@@ -4,7 +4,7 @@ import array
 import collections
 from collections.abc import Mapping
 
-from ..maildir.files import names_of
+from ..maildir.files import names_of, sum_of_names
 from ..maildir.traces import Traces, times_of
 from ..mbox.bases import Table, base_in, before_info
 from ..nexts import Remark
@@ -78,3 +78,10 @@ def gone_of(ledger: Ledger, number: int, begun_at: int) -> collections.Counter[b
     if len(after):
         gone += [places[1][place] for place in Traces(ledger.folder, after, batch.head.times, begun_at).may_be_gone()]
     return collections.Counter(digest_at(batch.cores, at) for at in gone)
+
+
+def sum_without(ledger: Ledger) -> str:
+    """The sum of the names in a folder without those of files that a run was to place which was killed."""
+    numbers = {number for number, batch in ledger.open.items() if number > ledger.last_end(batch.path)}
+    begun = {one.name for _, one in ledger.messages(numbers) if one.word == PLACED} if numbers else set()
+    return sum_of_names(ledger.folder, begun.difference(ledger.names() if begun else ()))

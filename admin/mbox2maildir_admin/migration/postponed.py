@@ -8,6 +8,7 @@ from typing import NamedTuple
 
 from ..faults import Fault, PlaceFault, Reason
 from ..flags.dovecot_headers import home_of_text
+from ..ledger.gone import sum_without
 from ..ledger.history import Note, names_of
 from ..ledger.ledger import Ledger
 from ..ledger.lines import PLACED
@@ -165,13 +166,6 @@ def beginning_of(path: bytes) -> bytes:
             return read_up_to(file, BLOCK << 2)
     except (Fault, OSError):
         return b""
-
-
-def sum_without(ledger: Ledger) -> str:
-    """The sum of the names in a folder without those of files that a run was to place which was killed."""
-    numbers = {number for number, batch in ledger.open.items() if number > ledger.last_end(batch.path)}
-    begun = {one.name for _, one in ledger.messages(numbers) if one.word == PLACED} if numbers else set()
-    return files.sum_of_names(ledger.folder, begun.difference(ledger.names() if begun else ()))
 
 
 def prepared_in(record: Record, how: How, opened: Opened, ledger: Ledger) -> Prepared:

@@ -11,7 +11,7 @@ from typing import Any, Optional
 
 from ..faults import Fault, Left, Reason
 from ..kinds.look import Look, Read
-from ..ledger.gone import BACK, back_in, gone_before, gone_from
+from ..ledger.gone import BACK, back_in, gone_before, gone_from, sum_without
 from ..ledger.history import Step
 from ..ledger.ledger import Ledger
 from ..ledger.lines import Head
@@ -334,7 +334,7 @@ class Transfer:
         opened, mailbox, match = self.opened, self.opened.mailbox, placing.match
         key, times, inode = mailbox.key(), times_of(opened.folder), mailbox.state.st_ino
         head = Head(placing.count_of_lines(), len(match.need), back, times, key, contents.words, self.path, inode)
-        self.is_unread = not self.ledger.ended or self.ledger.names_then == sum_of_names(opened.folder)
+        self.is_unread = not self.ledger.ended or self.ledger.names_then == sum_without(self.ledger)
         number = self.ledger.begin(head, placing.lines())
         words = self.known.key, len(contents.inventory), unspelled(self.path), contents.words
         verified = Verified(*words, opened.folder, mailbox.state, self.ledger.number, number)

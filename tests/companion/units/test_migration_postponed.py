@@ -180,6 +180,19 @@ class OnceMoreTest(PostponedTest):
         self.assertEqual([row.fate for row in listener.rows], [Fate.PREPARED, Fate.LEFT])
         self.has(ONE)
 
+    def test_a_run_that_was_killed_and_made_again(self) -> None:
+        """What it had placed of the second mailbox of a folder changes no name that the first one's end has."""
+        self.done(ONE)
+        first = self.path
+        self.move_box("second")
+        self.fill(TWO + THREE)
+        with self.assertRaises(Killed):
+            self.migrate(Cut(1))
+        self.assertIs(self.migrate().fate, Fate.DONE)
+        listener = Listener()
+        run_all(Options(prepare=True, postponed=True), self.root, [first, self.path], listener, Function())
+        self.assertEqual([row.fate for row in listener.rows], [Fate.PREPARED, Fate.LEFT])
+
 
 class WithoutMailTest(PostponedTest):
     """A mailbox of a tree that had no mail when it was done: it got a folder."""
