@@ -493,7 +493,7 @@ class PartsTest(HomeTest):
         with Record.open(self.root, False) as record:
             places = Places(self.root, record, Names([os.fsencode(str(self.home / "mail"))]))
             self.assertTrue(places.beside(os.fsencode(str(self.home / "mail/x.gz")), b".x").path.endswith(b"/x-back-3"))
-            inbox = places.beside(os.fsencode(str(self.home / "spool/mia")), INBOX).path
+            inbox = places.beside(os.fsencode(str(self.home / "spool/mia")), b".").path
             self.assertEqual(inbox, os.fsencode(str(self.home / "mail/inbox-back")))
             with mock.patch.object(mailboxes, "NAMES", 2), self.assertRaises(Left):
                 places.beside(os.fsencode(str(self.home / "mail/x")), b".x")
