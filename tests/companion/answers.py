@@ -278,6 +278,29 @@ def after_an_undo(home: Path) -> None:
     equal(f"with other numbers: {out}", (status, len(list(mail_in(home / "M")))), (0, count + 1))
 
 
+def by_what_it_brought(home: Path) -> None:
+    """A line is not asked about that is in a message which the mailbox brought without a question, and no run notes an
+    answer. If new mail has such a line too, a human is asked."""
+    text = with_length(A, MAY) + b"\n"
+    mailbox(home / "box", text)
+    expect(["migrate", "--now", "M", "box"], home, 0, "box -> INBOX: mboxcl2, quoted, messages 1: done\n...\n")
+    mailbox(home / "box", text + NEW + B + b"\nyes\nFrom me to you.\n\n")
+    status, out, _ = run(["migrate", "--now", "M", "box"], home)
+    equal(f"a line in new mail: {out}", (status, len(answers_in(out, "box"))), (1, 2))
+    mailbox(home / "box", text + NEW)
+    said = "as the messages show that it brought; it grew by 1 message\n...\n"
+    for words, wanted in (
+        (["--dry-run"], f"box -> INBOX: mboxcl2 by --as, messages 2: would be done, {said}"),
+        (["--dry-run", "--json"], '{..."remark": "as-brought"...}\n...\n'),
+        (["--no-questions"], f"box -> INBOX: mboxcl2 by --as, messages 2: done, {said}"),
+        (["--no-questions"], "1 mailbox: 1 done before\n"),
+    ):
+        expect(["migrate", "--now", *words, "M", "box"], home, 0, wanted)
+    bodies = [one.read_bytes().split(b"\n\n", 1)[1] for one in mail_in(home / "M")]
+    equal("the mail", sorted(bodies), sorted([MAY, b"hello\n"]))
+    equal("the notes", notes_in(home), [])
+
+
 def of_words_that_were_typed(home: Path) -> None:
     """A word without a tie is taken for each mailbox to whose question it is an answer, as it is now, and noted with
     what it was given for."""
@@ -377,6 +400,7 @@ if __name__ == "__main__":
         of_numbers,
         without_asking_again,
         after_an_undo,
+        by_what_it_brought,
         of_words_that_were_typed,
         of_lengths,
         without_numbers,

@@ -98,9 +98,12 @@ class Before(NamedTuple):
         human's word counts for each `>`; without one, messages are the same that differ in that alone."""
         was, is_now = self.reading.word, contents.reading.word
         is_by_word = was != is_now and (bool(decision.word) or was in (MBOXO, UNQUOTED))
-        had = brought_by(self.source, is_by_word) | brought_by(self.batch, is_by_word)
-        forms = bares_of if is_by_word else cores_of
+        had, forms = self.had(is_by_word), bares_of if is_by_word else cores_of
         return [sum((had & forms(its)).values()) for its in (then, contents.inventory)]
+
+    def had(self, is_by_word: bool = False) -> collections.Counter[bytes]:
+        """How often it has brought each bare form, or each core, or was going to."""
+        return brought_by(self.source, is_by_word) | brought_by(self.batch, is_by_word)
 
 
 def want_same_reading(how: How, known: Known, choice: Choice, contents: Contents) -> None:

@@ -40,6 +40,7 @@ from .known import Known
 from .otherwise import as_before, contradicted, want_same_reading
 from .outcomes import Fate, Row, row_left
 from .remarks import remarks_on, remarks_on_dropped, remarks_on_flags, remarks_on_joined, remarks_on_lost
+from .shown import AS_BROUGHT, answer_shown
 from .steps import Bringing, Contents, How, Opened
 
 # how many bytes a line of the ledger may have that names a file of this program
@@ -128,17 +129,20 @@ class Transfer:
 
     def row_of_question(self, question: Question) -> Optional[Row]:
         """The row of a mailbox about which there is a question, if it was done before as it was read then, or was
-        answered before; None if a human must answer."""
+        answered before, or if what it has brought answers; None if a human must."""
         if not self.again:
             words = as_before(self.opened, self.ledger, self.path, (self.disk, self.how.extra))
             if words is not None:
                 keep_done(self.how, self.root, self.opened, words)
                 return self.row_before(words, self.known.last.messages if self.known.last else None, [])
-        answer = answer_to(self.record, self.opened, question) if self.how.decision == UNDECIDED else None
-        if not answer:
+        if self.how.decision != UNDECIDED:
             return None
-        self.remarks.append(AS_ANSWERED)
-        self.how = replace(self.how, decision=answer)
+        answer = answer_to(self.record, self.opened, question)
+        shown = None if answer else answer_shown(self.how, self.known, question)
+        if not (answer or shown):
+            return None
+        self.remarks.append(AS_ANSWERED if answer else AS_BROUGHT)
+        self.how = replace(self.how, decision=answer or shown)
         return self.run()
 
     def asked(self, question: Question) -> Left:
@@ -293,7 +297,7 @@ class Transfer:
         placing = self.placing(match)
         one = self.bringing(contents, match, placing)
         self.want_extra(one)
-        if not self.how.dry:
+        if not self.how.dry and AS_BROUGHT not in self.remarks:
             note_answer(self.record, self.opened, choice.plan)
         self.want_room_for(contents, placing)
         self.remarks += remarks_on(one, match, self.ledger, self.how.dry)

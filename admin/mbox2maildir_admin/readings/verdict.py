@@ -60,6 +60,15 @@ class Verdict:
         return self.look.doubts.numbers() if self.look else []
 
     @property
+    def is_on_lines(self) -> bool:
+        """Whether nothing is doubtful besides which lines begin messages: no mail is cut or marked as deleted, and no
+        From_ line may contain mail."""
+        look = self.look
+        if look is None or look.count("cut", "holds mail") or look.are_deleted():
+            return False
+        return bool(self.doubtful())
+
+    @property
     def is_as_it_is(self) -> bool:
         """Whether it is converted as it is."""
         return self.reading == PLAIN and not self.start
