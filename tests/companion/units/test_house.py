@@ -46,9 +46,9 @@ LONGER = {
     "ledger.match": 352,
     "migration.several": 312,
     "migration.steps": 312,
-    "migration.transfer": 382,
+    "migration.transfer": 386,
 }
-MORE = {"back": 17, "commands": 18, "migration": 23}
+MORE = {"back": 17, "commands": 18, "migration": 24}
 
 
 def name_of(path: Path) -> str:
