@@ -113,6 +113,17 @@ def is_as_it_is(look: Look) -> bool:
     return bool(not look.start and lacks_length and not look.count("CR LF"))
 
 
+def read_enough(look: Look) -> Look:
+    """Looks at as much of a text as shows that no copy of it is made: at all of it if it has a CR, since a later From_
+    line may end in CR LF."""
+    return look.read() if has_cr(look.mailbox) else look.read(is_as_it_is)
+
+
+def has_cr(text: Mailbox) -> bool:
+    """Whether a text has a CR."""
+    return any(b"\r" in text.at(offset, BLOCK) for offset in range(0, text.size, BLOCK))
+
+
 def plan_of(mailbox: Mailbox, read: Read = Look.read, decision: Reading = UNDECIDED) -> Plan:
     """Looks at as much of a mailbox as is wanted. Raises Left if something would be a guess that was not decided."""
     verdict = look_at(mailbox, read)

@@ -23,7 +23,7 @@ from ..mbox.mailbox import Mailbox
 from ..mbox.messages import messages_of
 from ..program import Listing
 from ..units import Line, Offset, Say, silent
-from .plans import NoMail, NotKnown, OtherKind, Plan, Question, plan_of
+from .plans import NoMail, NotKnown, OtherKind, Plan, Question, plan_of, read_enough
 from .reading import UNDECIDED, Reading
 from .unnamed import bare_copy, quoted_copy
 
@@ -199,7 +199,7 @@ def open_text(
         mailbox = stack.enter_context(Mailbox.open(path, say))
         source = stack.enter_context(content_of(mailbox, where))
         try:
-            plan = recorded(mailbox, source) or plan_of(source)
+            plan = recorded(mailbox, source) or plan_of(source, read_enough)
             text = stack.enter_context(Choice(source, plan.bared(False)).text(where))
         except Left:
             text = Text(source, Offset(0))
