@@ -167,14 +167,19 @@ class OnceMoreTest(PostponedTest):
         self.assertIs(self.postpone(TWO + THREE).fate, Fate.PREPARED)
         self.has(TWO, THREE)
 
-    def test_a_last_pass_that_was_killed(self) -> None:
-        """One mailbox of a folder is done, and another one is not."""
+    def killed_at_second(self) -> bytes:
+        """One mailbox of a folder is done, and a run over the second one was killed. Returns the first one's path."""
         self.done(ONE)
         first = self.path
         self.move_box("second")
         self.fill(TWO + THREE)
         with self.assertRaises(Killed):
             self.migrate(Cut(1))
+        return first
+
+    def test_a_last_pass_that_was_killed(self) -> None:
+        """One mailbox of a folder is done, and another one is not."""
+        first = self.killed_at_second()
         listener = Listener()
         run_all(Options(prepare=True, postponed=True), self.root, [first, self.path], listener, Function())
         self.assertEqual([row.fate for row in listener.rows], [Fate.PREPARED, Fate.LEFT])
@@ -182,12 +187,7 @@ class OnceMoreTest(PostponedTest):
 
     def test_a_run_that_was_killed_and_made_again(self) -> None:
         """What it had placed of the second mailbox of a folder changes no name that the first one's end has."""
-        self.done(ONE)
-        first = self.path
-        self.move_box("second")
-        self.fill(TWO + THREE)
-        with self.assertRaises(Killed):
-            self.migrate(Cut(1))
+        first = self.killed_at_second()
         self.assertIs(self.migrate().fate, Fate.DONE)
         listener = Listener()
         run_all(Options(prepare=True, postponed=True), self.root, [first, self.path], listener, Function())
