@@ -80,8 +80,10 @@ def gone_of(ledger: Ledger, number: int, begun_at: int) -> collections.Counter[b
     return collections.Counter(digest_at(batch.cores, at) for at in gone)
 
 
-def sum_without(ledger: Ledger) -> str:
-    """The sum of the names in a folder without those of files that a run was to place which was killed."""
-    numbers = {number for number, batch in ledger.open.items() if number > ledger.last_end(batch.path)}
+def sum_without(ledger: Ledger, number: int = 0) -> str:
+    """The sum of the names in a folder without those of files that runs were to place which were killed. A batch with
+    this number is about to end."""
+    path = ledger.open[number].path if number else None
+    numbers = {one for one, its in ledger.open.items() if its.path != path and one > ledger.last_end(its.path)}
     begun = {one.name for _, one in ledger.messages(numbers) if one.word == PLACED} if numbers else set()
-    return sum_of_names(ledger.folder, begun.difference(ledger.names() if begun else ()))
+    return sum_of_names(ledger.folder, begun.difference(ledger.names({number}) if begun else ()))

@@ -19,7 +19,6 @@ from ..ledger.match import Match
 from ..ledger.placing import Placing
 from ..ledger.record import Record, Verified, unspelled
 from ..ledger.strangers import unexplained
-from ..maildir.files import sum_of_names
 from ..maildir.mounts import want_syncs
 from ..maildir.space import Need, want_room
 from ..maildir.traces import times_of
@@ -289,7 +288,7 @@ class Transfer:
         """The row of a mailbox that has nothing new. The ledger notes that it was read."""
         remarks = [*remarks_on_lost(match), *remarks_on_flags(self.ledger, self.path, contents)]
         if not self.how.dry:
-            self.verified = with_names(self.begin(contents, Placing(match), 0), self.is_unread)
+            self.verified = with_names(self.begin(contents, Placing(match), 0), self.ledger, self.is_unread)
         return self.row_before(contents.words, len(contents.inventory), remarks)
 
     def take_steps(self, choice: Choice, contents: Contents, match: Match) -> Row:
@@ -321,7 +320,7 @@ class Transfer:
         if back:
             says = BACK % counted(min(back, len(contents.inventory)), "message")
             self.remarks.append(Remark("came-back", says))
-        self.verified = with_names(verified, self.is_unread)
+        self.verified = with_names(verified, self.ledger, self.is_unread)
         return self.row(choice.plan, then)
 
     def want_room_for(self, contents: Contents, placing: Placing) -> None:
@@ -380,7 +379,7 @@ class Transfer:
         return back if number is None else back + ledger.open[number].head.back
 
 
-def with_names(verified: Verified, is_unread: bool) -> Verified:
+def with_names(verified: Verified, ledger: Ledger, is_unread: bool) -> Verified:
     """A mailbox that was verified with the sum of the names in its folder, if only this program has given them so
     far."""
-    return verified._replace(names=sum_of_names(verified.folder)) if is_unread else verified
+    return verified._replace(names=sum_without(ledger, verified.batch)) if is_unread else verified

@@ -193,6 +193,24 @@ class OnceMoreTest(PostponedTest):
         run_all(Options(prepare=True, postponed=True), self.root, [first, self.path], listener, Function())
         self.assertEqual([row.fate for row in listener.rows], [Fate.PREPARED, Fate.LEFT])
 
+    def test_what_a_killed_run_placed_while_another_mailbox_ends(self) -> None:
+        """Of two messages, one was moved into the other mailbox since, and one was removed. They are in no sum of names
+        until a mailbox ends that has them, or their own."""
+        self.done(ONE)
+        first = self.path, self.box
+        self.move_box("second")
+        second = self.path, self.box
+        self.fill(TWO + THREE)
+        with self.assertRaises(Killed):
+            self.migrate(Cut(2))
+        self.path, self.box = first
+        self.done(ONE + TWO)
+        self.path, self.box = second
+        self.done(READ)
+        listener = Listener()
+        run_all(Options(prepare=True, postponed=True), self.root, [first[0], second[0]], listener, Function())
+        self.assertEqual([row.fate for row in listener.rows], [Fate.PREPARED, Fate.LEFT])
+
 
 class WithoutMailTest(PostponedTest):
     """A mailbox of a tree that had no mail when it was done: it got a folder."""
