@@ -159,13 +159,14 @@ class History:
             self._folders[entry.path][folder] = None
             if entry.what is Step.BEGUN:
                 self._begun.setdefault((folder, entry.path), entry.seconds())
+                self.forget_notes(folder, entry.path, Note.EMPTY)
         else:
             self._notes[entry.what, folder].append(entry)
         if entry.what is Note.PREPARED:
             self._prepared[folder], self.has_prepared = entry, True
         elif entry.what in (Note.UNPREPARED, Step.DONE):
             self._prepared.pop(folder, None)
-        if entry.what is Note.UNPREPARED:
+        if entry.what in (Note.PREPARED, Note.UNPREPARED):
             self._notes.pop((Note.EMPTY, folder), None)
 
     def prepared(self, folder: bytes) -> Optional[Entry]:
@@ -181,7 +182,11 @@ class History:
             self._texts[key[1:]].pop((key, path), None)
         self._begun.pop((folder, path), None)
         self._folders[path].pop(folder, None)
-        for note in (Note.NUMBERED, Note.ANSWERED):
+        self.forget_notes(folder, path, Note.NUMBERED, Note.ANSWERED)
+
+    def forget_notes(self, folder: bytes, path: str, *several: Note) -> None:
+        """Forgets what is noted of a mailbox in a folder."""
+        for note in several:
             notes = self._notes[note, folder]
             notes[:] = [one for one in notes if one.path != path]
 

@@ -247,6 +247,23 @@ class WithoutMailTest(PostponedTest):
         self.assertEqual(self.migrate_tree(prepare=True, postponed=True, dry=True), [Fate.WOULD_PREPARE])
         self.assertEqual(self.migrate_tree(prepare=True, postponed=True), [Fate.PREPARED])
 
+    def test_it_got_mail_and_lost_it(self) -> None:
+        """It counts as done no more, so that no pass leaves what one before has placed."""
+        self.done(b"")
+        self.assertIs(self.postpone(ONE).fate, Fate.PREPARED)
+        self.assertIs(self.postpone(b"").fate, Fate.PREPARED)
+        self.has()
+
+    def test_it_got_mail_and_lost_it_between_two_runs(self) -> None:
+        """The next one says that the one that was killed had placed a message."""
+        self.done(b"")
+        self.fill(ONE + TWO)
+        with self.assertRaises(Killed):
+            self.migrate(Cut(1))
+        self.fill(b"")
+        self.assertEqual(told(self.migrate()), "1 message gone from it that it had brought")
+        self.assertIs(self.migrate().fate, Fate.BEFORE)
+
     def test_it_is_gone(self) -> None:
         """Its folder goes, unless something came there."""
         for name in ("", "cur/delivered", "dovecot.index.log"):
