@@ -158,7 +158,8 @@ def want_tied(mailbox: Mailbox, verdict: Verdict, decision: Reading) -> None:
 
 def planned(mailbox: Mailbox, verdict: Verdict, decision: Reading) -> Plan:
     """The plan of an mbox text, as it is certain or decided."""
-    reading = decided(mailbox, verdict, decision) if decision.word and verdict.messages else None
+    is_empty = not (verdict.messages or verdict.answers)
+    reading = decided(mailbox, verdict, decision) if decision.word and not is_empty else None
     if reading:
         return plan_by(mailbox, verdict, reading, decision, "%s by --as" % decision.word)
     reading = verdict.reading

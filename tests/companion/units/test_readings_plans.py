@@ -7,6 +7,7 @@ from pathlib import Path
 
 from mbox2maildir_admin.faults import Left
 from mbox2maildir_admin.mbox.digest import Digest
+from mbox2maildir_admin.mbox.files import LONG
 from mbox2maildir_admin.nexts import Does, Remark
 from mbox2maildir_admin.readings.plans import NoMail, NotKnown, OtherKind, Plan, Question, is_no_mail, plan_of
 from mbox2maildir_admin.readings.reading import UNDECIDED, Reading
@@ -221,6 +222,16 @@ class PlanTest(unittest.TestCase):
         words = [tied_to(NOT_QUOTED, Reading(word)) for word in ("unquoted", "mboxrd")]
         wanted = [(words[0], 1, Does.BELONGS), (words[1], 2, Does.BEGINS)]
         self.assertEqual(left.answers, wanted)
+
+    def test_a_first_line_that_is_too_long_for_a_date(self) -> None:
+        """No message begins by what is seen of it. The one answer is that one does."""
+        text = b"From a@x%s%s\nSubject: one\n\nhi\n" % (b" " * LONG, DATED[-24:])
+        with self.assertRaises(Question) as raised:
+            self.plan(text)
+        left, answer = raised.exception, tied_to(text, Reading("mboxrd"))
+        self.assertEqual(left.messages, 0)
+        self.assertEqual(left.answers, [(answer, 1, Does.RUN)])
+        self.assertEqual(replace(self.plan(text, answer), answer=None), Plan("mboxrd by --as", 1))
 
     def test_how_many_more_would_be(self) -> None:
         """The first ones are shown, with those around them. All are counted."""
