@@ -60,12 +60,12 @@ def lacking_flags(folder: bytes, mailbox: Mailbox, offset_of: OffsetOf, is_bare:
 
 
 def changed_flags(folder: bytes, mailbox: Mailbox, offset_of: OffsetOf, is_bare: bool) -> int:
-    """How many messages have a flag in their headers that their files lack, or no longer have one that is in the header
-    of the file, as it was when that was made. Bare text does not show those."""
+    """How many messages have got or lost a flag in their headers that their files lack or have. The header of a file
+    shows what a message had when its file was made. Bare text does not: then each flag counts as new."""
     count = 0
     for path, letters, now in known_in(folder, mailbox, offset_of, is_bare):
-        had = frozenset() if is_bare or letters <= now else flags_of_file(path)
-        count += not had <= now <= letters
+        had = frozenset() if is_bare or letters == now else flags_of_file(path)
+        count += bool((had ^ now) & (letters ^ now))
     return count
 
 

@@ -5,6 +5,7 @@ Another program may have renamed a file. So one that no line names, in the bare 
 that file. Each counts once.
 """
 import collections
+import itertools
 from collections.abc import Callable, Iterable, Iterator
 from typing import Optional
 
@@ -12,50 +13,55 @@ from ..mbox.bases import OWN
 from ..mbox.inventory import Inventory
 from .batches import Line, State
 from .ledger import Ledger
-from .lines import LOST, NAMELESS
+from .lines import LOST, NAMELESS, PLACED
 
 
 class Filed:
-    """The files of the mailbox at a path, with the places of their messages in its text. Equal messages have their
-    files in their order."""
+    """The files that the mailbox at a path has placed, with the places of their messages in its text. Equal messages
+    have their files in their order. If another mailbox, or nobody, brought some of these, nothing shows which: then
+    only a file counts whose base the text has."""
 
     def __init__(self, ledger: Ledger, path: str, inventory: Inventory) -> None:
         self.inventory = inventory
-        # by place: 1 if its file has the base that the message has in the text, as most have; and the places of the
-        # messages of other bases, as names have them
-        self.own = bytearray(len(inventory))
+        # by place: 1 if the mailbox placed the file of the base that the message has in the text, as it did of most; 1
+        # if somebody else did; and the places of the messages of other bases, as names have them
+        self.own, self.others = bytearray(len(inventory)), bytearray(len(inventory))
         self.places: dict[bytes, int] = {}
-        self.find(self.held_by(ledger, path))
+        self.find(self.placed_by(ledger, path))
 
     def __bool__(self) -> bool:
         return any(self.own) or bool(self.places)
 
     def get(self, base: bytes) -> Optional[int]:
-        """The place of the message of a file by its base; None if the mailbox has it not."""
+        """The place of the message of a file by its base; None if the mailbox has it not, or did not place it."""
         place = self.inventory.table.own_place(base)
         return place if place is not None and self.own[place] else self.places.get(base)
 
-    def held_by(self, ledger: Ledger, path: str) -> dict[bytes, bytes]:
+    def placed_by(self, ledger: Ledger, path: str) -> dict[bytes, bytes]:
         """Notes the bases that files have or had, as far as the mailbox had their messages when it was read last.
-        Returns those that the text has not, with the cores of their messages."""
-        cores: dict[bytes, bytes] = {}
-        lost: set[bytes] = set()
+        Returns those that the mailbox placed and the text has not, with the cores of their messages, unless somebody
+        else brought a message of that core."""
+        placed: dict[bytes, bytes] = {}
+        others: dict[bytes, bytes] = {}
         for _, one in ledger.messages({number for number, its in ledger.ended.items() if its == path}):
             place = self.inventory.table.own_place(one.name)
-            base = OWN.match(one.name) if place is None else None
             if place is not None:
-                self.own[place] = one.word != LOST
-            elif base:
-                cores.setdefault(base[0], one.core)
-                (lost.add if one.word == LOST else lost.discard)(base[0])
-        return {base: core for base, core in cores.items() if base not in lost} if lost else cores
+                self.own[place], self.others[place] = one.word == PLACED, one.word not in (PLACED, LOST)
+                continue
+            placed.pop(one.name, None)
+            others.pop(one.name, None)
+            if one.word != LOST:
+                (placed if one.word == PLACED else others)[one.name] = one.core
+        theirs = map(self.inventory.core, itertools.compress(itertools.count(), self.others))
+        wanted = {*placed.values()}.difference(others.values(), theirs)
+        return {name: core for name, core in placed.items() if core in wanted and OWN.match(name)}
 
-    def find(self, others: dict[bytes, bytes]) -> None:
+    def find(self, placed: dict[bytes, bytes]) -> None:
         """Finds the places of messages by the cores that such bases have."""
         # the next file of each core, and those after it
         waiting: dict[bytes, bytes] = {}
         more: collections.defaultdict[bytes, collections.deque[bytes]] = collections.defaultdict(collections.deque)
-        for base, core in others.items():
+        for base, core in placed.items():
             if waiting.setdefault(core, base) is not base:
                 more[core].append(base)
         for place in (one for one, is_own in enumerate(self.own) if not is_own and waiting):

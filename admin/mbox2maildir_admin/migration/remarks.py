@@ -116,8 +116,8 @@ def remarks_on_dropped(words: Optional[str]) -> list[Remark]:
 
 
 def remarks_on_flags(ledger: Ledger, path: str, contents: Contents) -> list[Remark]:
-    """What is to be said of a mailbox that programs wrote into since it brought messages: how many of these got other
-    flags in it."""
+    """What is to be said of a mailbox that programs wrote into since it placed messages: how many of these got other
+    flags in it. A file of another mailbox does not show which flags a message had in this one."""
     full, found = contents.full, Filed(ledger, path, contents.inventory)
 
     def offset_of(base: bytes) -> Optional[int]:

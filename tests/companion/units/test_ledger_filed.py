@@ -5,7 +5,7 @@ from collections import Counter
 from mbox2maildir_admin.ledger.batches import Line, State
 from mbox2maildir_admin.ledger.filed import Filed, claims, missing, unfiled
 from mbox2maildir_admin.ledger.ledger import Ledger
-from mbox2maildir_admin.ledger.lines import NAMELESS
+from mbox2maildir_admin.ledger.lines import FOREIGN, LOST, NAMELESS, RETURNED, SHARED
 
 from tests.support.brought import BOX, OTHER, LedgerTest, inventory_of, line_of, named_of
 from tests.support.mail import ONE, THREE, TWO
@@ -38,7 +38,7 @@ class FiledTest(LedgerTest):
     def test_what_it_no_longer_has(self) -> None:
         """Nor another name of what it has under another one since."""
         self.bring(BOX, line_of(ONE), line_of(TWO))
-        self.bring(BOX, line_of(ONE)._replace(word=b"l"), line_of(ONE, name=named(ONE, 4)))
+        self.bring(BOX, line_of(ONE, LOST), line_of(ONE, name=named(ONE, 4)))
         self.assertEqual(self.filed(ONE + TWO), [(named(ONE, 4), 0), (named(TWO), 1)])
         self.assertEqual(self.filed(READ + TWO), [(named(ONE, 4), 0), (named(TWO), 1)])
 
@@ -50,6 +50,24 @@ class FiledTest(LedgerTest):
         self.assertEqual(self.filed(ONE + TWO), [(named(ONE), 0), (named(TWO), 1)])
         self.assertEqual(self.filed(READ + ONE), [(named(ONE, 2), 0), (named(ONE), 1)])
         self.assertEqual(self.filed(READ + READ), [(named(ONE), 0), (named(ONE, 2), 1)])
+
+    def test_what_others_brought(self) -> None:
+        """Another mailbox, or nobody, until the mailbox itself has placed it."""
+        theirs = [line_of(ONE, SHARED), line_of(TWO, FOREIGN), line_of(THREE, RETURNED)]
+        self.bring(BOX, *theirs)
+        self.assertEqual(self.filed(ONE + TWO + THREE), [])
+        self.assertEqual(self.filed(READ + TWO), [])
+        self.bring(BOX, line_of(ONE, LOST), line_of(ONE))
+        for text in (ONE + TWO, READ + TWO):
+            self.assertEqual(self.filed(text), [(named(ONE), 0)])
+
+    def test_equal_ones_that_others_brought_in_part(self) -> None:
+        """Nothing shows which of them is whose, but for the bytes of one."""
+        self.bring(BOX, line_of(ONE, SHARED), line_of(ONE, name=named(ONE, 2)), line_of(TWO))
+        two = [(named(TWO), 2)]
+        self.assertEqual(self.filed(ONE + ONE + TWO), [(named(ONE, 2), 1), *two])
+        for text in (READ + ONE, ONE + READ, READ + READ):
+            self.assertEqual(self.filed(text + TWO), two)
 
     def test_names_of_other_programs(self) -> None:
         self.bring(BOX, line_of(ONE, name="17.host"), line_of(TWO, name=named(TWO) + ",U=7"))

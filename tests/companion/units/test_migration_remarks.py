@@ -16,7 +16,7 @@ from mbox2maildir_admin.migration.remarks import (
 )
 
 from tests.support.brought import BOX, OTHER, THIRD, LedgerTest, line_of
-from tests.support.mail import ONE, THREE, TWO
+from tests.support.mail import ONE, THREE, TWO, bodies_of, digest_of
 from tests.support.migrating import HomeTest
 from tests.support.nexts import told
 
@@ -133,6 +133,33 @@ class SaidTest(HomeTest):
                 changed = "flags of %d message%s changed in it since then and are not carried over"
                 wanted += [changed % (count, "s" * (count > 1))] * bool(count)
                 self.assertEqual(told(row), "; ".join(wanted), (old, is_quoted, more))
+
+    def test_flags_that_another_mailbox_has_not(self) -> None:
+        """The file of a message that two mailboxes have shows the flags that it has in the first one. Whichever comes
+        first, nothing changed in the other one if it grows."""
+        texts = {"read": THREE + TWO.replace(b"\n\n", b"\nStatus: RO\n\n", 1), "unread": ONE + TWO}
+        for names in (("read", "unread"), ("unread", "read")):
+            self.make_home("home-%s" % names[0])
+            for is_again, name in itertools.product((False, True), names):
+                self.move_box(name)
+                self.fill(texts[name] + MORE.replace(b"more", b"more, " + name.encode()) * is_again)
+                row = self.migrate()
+                self.take_flags(False)
+                if is_again:
+                    self.assertEqual(told(row), "it grew by 1 message", (names, name))
+
+    def test_flags_that_changed_in_the_maildir(self) -> None:
+        """That is no change of the mailbox, nor is a change carried over that both have had."""
+        read, unread = ONE.replace(b"\n\n", b"\nStatus: RO\n\n", 1), ONE
+        rows = ((read, "", read), (read, "FRS", read), (unread, "FRS", unread), (unread, "S", read), (read, "", unread))
+        for number, (before, letters, after) in enumerate(rows):
+            self.make_home("home-%d" % number)
+            self.fill(before + TWO)
+            self.migrate()
+            file = self.maildir / "new" / (digest_of(next(bodies_of(before))) + ".1")
+            file.rename(self.maildir / "cur" / (file.name + ":2," + letters))
+            self.fill(after + TWO + MORE)
+            self.assertEqual(told(self.migrate()), "it grew by 1 message", number)
 
     def take_flags(self, all_of_them: bool) -> None:
         """Gives new files the flags that the program would have given them, or a user's."""
