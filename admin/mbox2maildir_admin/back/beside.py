@@ -116,8 +116,7 @@ class Beside:
 
     def is_begun_by(self, mailbox: Mailbox) -> bool:
         """Whether a mailbox begins with what it was before."""
-        size = self.before.size
-        return mailbox.size >= size and digest_of_beginning(mailbox, size) == self.before.digest
+        return digest_of_beginning(mailbox, self.before.size) == self.before.digest
 
     def torn_in(self, mailbox: Mailbox) -> Optional[Offset]:
         """The offset of the message that was appended in part; None if none was, or if the mailbox does not begin as
@@ -199,7 +198,7 @@ class Draft:
 
     def __exit__(self, *_: object) -> None:
         os.close(self.number)
-        if self.path and os.path.lexists(self.path):
+        if os.path.lexists(self.path):
             os.unlink(self.path)
 
     def text(self) -> Mailbox:

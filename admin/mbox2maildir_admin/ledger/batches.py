@@ -81,7 +81,7 @@ class Source:
         at, end = 0, 0 if self.lost else min(len(self.cores), len(cores))
         for at in range(0, end, self.STEP):
             several = slice(at, at + self.STEP)
-            if at + self.STEP > end or self.cores[several] != cores[several] or self.bares[several] != bares[several]:
+            if self.cores[several] != cores[several] or self.bares[several] != bares[several]:
                 break
         return at // SHORT
 

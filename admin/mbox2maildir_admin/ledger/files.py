@@ -1,7 +1,6 @@
 """The files of a folder, as far as they may stand for the messages of a text."""
 import collections
 import os
-import stat
 from collections.abc import Container, Iterator, Sequence
 from typing import Optional
 
@@ -85,7 +84,7 @@ class Files:
         )
         for before, path in self.numbered() if sizes else ():
             is_read = before in self.kept or is_first and self.inventory.table.own_place(before) is None
-            if (is_read or not is_first and not is_own(before)) and before not in known:
+            if (is_read or not is_own(before)) and before not in known:
                 bare = self.bare_in(path, None if is_read else sizes)
                 if bare:
                     found[bare].append(before)
@@ -132,7 +131,6 @@ def forms_in(path: bytes) -> Optional[tuple[bytes, bytes]]:
 def digest_of_file(path: bytes, sizes: Container[int]) -> Optional[bytes]:
     """The digest of a file of one of these sizes; None for other files. No symbolic link is followed."""
     try:
-        state = os.lstat(path)
-        return digest_of(path)[0] if stat.S_ISREG(state.st_mode) and state.st_size in sizes else None
+        return digest_of(path)[0] if os.lstat(path).st_size in sizes else None
     except OSError:
         return None

@@ -108,7 +108,7 @@ class Entry(NamedTuple):
         folder, size, digest = self.key
         words = [self.what.value, shown(folder), str(size), digest, str(self.messages), self.when, self.path]
         words += [] if self.plan is None else [self.plan]
-        words += ["%s-%d" % (self.ledger, self.size)] if self.ledger and self.plan is not None else []
+        words += ["%s-%d" % (self.ledger, self.size)] if self.ledger else []
         return "\t".join(words).encode() + b"\n"
 
     def seconds(self) -> int:
@@ -176,9 +176,8 @@ class History:
     def forget(self, folder: bytes, path: str) -> None:
         """Forgets a mailbox in a folder, all of which was undone."""
         steps = self._steps[folder]
-        keys = {key for key, its in steps if its == path}
         self._steps[folder] = {one: entry for one, entry in steps.items() if one[1] != path}
-        for key in keys:
+        for key, _ in steps:
             self._texts[key[1:]].pop((key, path), None)
         self._begun.pop((folder, path), None)
         self._folders[path].pop(folder, None)
@@ -261,7 +260,7 @@ class History:
 
     def empty(self) -> list[Entry]:
         """The last line of each folder that a mailbox of no byte has."""
-        return [several[-1] for (note, _), several in self._notes.items() if note is Note.EMPTY and several]
+        return [several[-1] for (note, _), several in self._notes.items() if note is Note.EMPTY]
 
     def noting(self, note: Note, folder: bytes, path: bytes) -> list[Entry]:
         """The lines that note this with a path, in their order."""

@@ -89,7 +89,7 @@ class Ledger:
                 # what was cut is no damage, unless a line that follows needs it
                 first = first or number
                 if not text.endswith(CUT + b"\n") and b"\0" not in text:
-                    self.damage = self.damage or first
+                    self.damage = first
             self.size, number = self.size + len(text), number + text.count(b"\n")
         for batch, names in (verified or {}).items():
             self.end(batch, names)

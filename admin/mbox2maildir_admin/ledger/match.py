@@ -264,7 +264,7 @@ class Serving:
         gone = set(unfiled(lines, lambda name: self.is_there(name) and not taken[name]))
         for line in sorted(lines, key=gone.__contains__):
             one, word = line.message, word_for_others(line.message.word)
-            if count > 0 and self.waiting and self.take(word, one.name, most=max(1, claimed[one.name])):
+            if count > 0 and self.take(word, one.name, most=max(1, claimed[one.name])):
                 count -= 1
                 self.match.seen.shared[line.path] += 1
                 self.unfiled += [line] if line in gone else []
@@ -274,7 +274,7 @@ class Serving:
         for line in self.lines:
             one, before = line.message, self.waiting[:]
             is_mine = line.path == self.match.path and line.state is State.OPEN and one.word != SHARED
-            if is_mine and self.waiting and one.name in self.match.present and self.take(one.word, one.name):
+            if is_mine and one.name in self.match.present and self.take(one.word, one.name):
                 self.match.fresh.update(set(before).difference(self.waiting) if is_own(one.name) else ())
 
     def take_of_lines(self, bare: bytes) -> None:
@@ -286,7 +286,7 @@ class Serving:
             if not (may_serve or is_mine and line.state is not State.HELD):
                 continue
             word = one.word if is_mine and one.word != SHARED else word_for_others(one.word)
-            if self.waiting and one.name in self.match.present and self.take(word, one.name):
+            if one.name in self.match.present and self.take(word, one.name):
                 self.match.seen.regained += line.state is State.FORMER
 
     def unnamed(self, bare: bytes) -> list[bytes]:
@@ -322,11 +322,11 @@ class Serving:
         then those without a line."""
         for line in sorted(self.lines, key=lambda line: line.path != self.match.path):
             word, name = line.message.word, line.message.name
-            if self.waiting and name in self.match.present:
+            if name in self.match.present:
                 kept = word if line.path == self.match.path else word_for_others(word)
                 self.take(kept, name)
         for name in unnamed:
-            if self.waiting and self.take(FOREIGN, name):
+            if self.take(FOREIGN, name):
                 self.match.seen.foreign.append(name)
 
     def end(self) -> list[int]:

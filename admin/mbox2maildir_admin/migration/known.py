@@ -48,7 +48,7 @@ class Known:
         shows."""
         line, folders = self.record.last_of(self.opened.name, names), self.record.folders_with(names)
         others = (self.record.last_of(folder, names) for folder in reversed(folders))
-        return line or next((one for one in others if one and one.ledger and one.ledger == self.ledger.number), None)
+        return line or next((one for one in others if one and one.ledger == self.ledger.number), None)
 
     def lines_of_others(self) -> list[Entry]:
         """The last line about each other mailbox of the folder, also by the name that the folder had before."""
@@ -68,13 +68,12 @@ class Known:
     @property
     def is_at_home(self) -> bool:
         """Whether the folder has the ledger that the record names."""
-        return not self.last or not self.last.ledger or self.ledger.number == self.last.ledger
+        return not self.last or self.ledger.number == self.last.ledger
 
     @property
     def is_older(self) -> bool:
         """Whether the ledger is older than the record."""
-        has_ledger = self.last and self.last.ledger and self.is_at_home
-        return bool(self.last and has_ledger and self.lacks(self.last, *self.names))
+        return bool(self.last and self.is_at_home and self.lacks(self.last, *self.names))
 
     def lacks(self, line: Entry, *names: str) -> bool:
         """Whether the ledger is older than a line of the record about a mailbox, whose path is one of some: it is
@@ -95,7 +94,7 @@ class Known:
     def lacked(self) -> list[Entry]:
         """The lines of the record about other mailboxes that the ledger lacks as they were then: it is older, or was
         lost."""
-        several = [one for one in self.lines_of_others() if one.ledger and not self.has_moved(one.ledger)]
+        several = [one for one in self.lines_of_others() if not self.has_moved(one.ledger)]
         return [one for one in several if self.lacks(one, one.path)]
 
     def has_moved(self, ledger: str) -> bool:

@@ -53,6 +53,13 @@ class AppendingTest(FolderTest):
             self.assertEqual(beside.end_of(mailbox), End.WHOLE)
         self.assertEqual(self.text(), OLD + TAIL)
 
+    def test_more_than_is_read_at_once(self) -> None:
+        with mock.patch("mbox2maildir_admin.back.beside.BLOCK", 8):
+            self.test_all_is_appended()
+            self.test_what_a_killed_run_left()
+            self.test_what_others_wrote_is_never_cut()
+            self.test_it_says_what_it_was_for()
+
     def test_it_says_what_it_was_for(self) -> None:
         with self.opened() as mailbox:
             self.beside(mailbox).close()
@@ -68,7 +75,8 @@ class AppendingTest(FolderTest):
             self.beside(mailbox).close()
         path = Path(os.fsdecode(self.here), GOES_BACK.decode())
         whole = path.read_bytes()
-        for text in (b"", whole[:-1], whole[1:], whole.replace(b"bee", b"boo"), whole + b"x"):
+        longer = TAIL + b"1" + whole[len(TAIL) :]
+        for text in (b"", whole[:-1], whole[1:], whole.replace(b"bee", b"boo"), whole + b"x", longer):
             path.write_bytes(text)
             self.assertIsNone(Beside.left_in(self.here))
             self.assertEqual(self.names(), [b"box"])
@@ -202,12 +210,15 @@ class AppendingTest(FolderTest):
             self.assertEqual(self.text(), after)
 
     def test_holes_before_what_others_wrote(self) -> None:
-        text = OLD + b"\0" * 5 + TAIL[5:20] + b"From d\n\nyes\n\n"
-        with self.opened() as mailbox, contextlib.closing(self.beside(mailbox)) as beside:
-            os.write(mailbox.number, text[len(OLD) :])
-            mailbox.take_state()
-            self.assertEqual((beside.end_of(mailbox), recover(mailbox, beside)), (End.OTHER, 5))
-        self.assertEqual(self.text(), text)
+        """The message in which the first one is counts as cut."""
+        for torn in (b"\0" * 5 + TAIL[5:20], MAILS[0][:-1] + b"\0" + MAILS[1][:5]):
+            self.write("box", OLD)
+            text = OLD + torn + b"From d\n\nyes\n\n"
+            with self.opened() as mailbox, contextlib.closing(self.beside(mailbox)) as beside:
+                os.write(mailbox.number, text[len(OLD) :])
+                mailbox.take_state()
+                self.assertEqual((beside.end_of(mailbox), recover(mailbox, beside)), (End.OTHER, 5))
+            self.assertEqual(self.text(), text)
 
     def test_what_others_wrote_is_never_cut(self) -> None:
         torn = TAIL[: len(MAILS[0]) + 9]
@@ -216,6 +227,9 @@ class AppendingTest(FolderTest):
             ("mail after a torn message", OLD + torn + b"\nFrom d\n\n", 9),
             ("mail after a torn From_ line", OLD + b"From \nFrom d\n\n", 5),
             ("mail alone", OLD + b"From d\n\n", None),
+            ("a message that goes on otherwise", OLD + TAIL.replace(b"bee", b"boo"), 5),
+            ("mail that has an empty From_ line", OLD + b"From \n\nFrom d\n\n", None),
+            ("anything else", OLD + b"x\n", None),
             ("a beginning that changed", OLD.replace(b"old", b"odd") + torn, None),
             ("a mailbox that is shorter", OLD[:-3], None),
             ("mail after all of it", OLD + TAIL + b"From d\n\n", None),
@@ -242,10 +256,12 @@ class AppendingTest(FolderTest):
                 self.assertEqual((self.text(), self.names()), (wanted, [b"box"]))
 
     def test_a_copy_of_the_mailbox_is_not_cut(self) -> None:
-        with self.opened() as mailbox:
-            beside = self.beside(mailbox)
-        os.rename(self.path, self.path + b".old")
-        self.write("box", OLD + TAIL[:9])
-        with self.opened() as mailbox, contextlib.closing(beside):
-            self.assertEqual(recover(mailbox, beside), 5)
-        self.assertEqual(self.text(), OLD + TAIL[:9])
+        for count in (3, 9):
+            self.write("box", OLD)
+            with self.opened() as mailbox:
+                beside = self.beside(mailbox)
+            os.rename(self.path, self.path + b".old")
+            self.write("box", OLD + TAIL[:count])
+            with self.opened() as mailbox, contextlib.closing(beside):
+                self.assertEqual(recover(mailbox, beside), 5)
+            self.assertEqual(self.text(), OLD + TAIL[:count])

@@ -1,4 +1,5 @@
 """The way back of a small Maildir: which mailbox gets what, and what the rows say."""
+import errno
 import gzip
 import os
 from pathlib import Path
@@ -132,7 +133,19 @@ class BackTest(BackHome):
                 self.back("other")
                 text = (self.home / "other/sent").read_bytes()
                 self.assertEqual((text[: len(ONE)], text.count(b"\nSubject: new\n")), (ONE, 1))
+                self.assertTrue(text.endswith(b"\n>From me\n\n"))
                 self.assertEqual(copy and copy.read_bytes(), part if is_copied else None)
+
+    def test_a_part_in_a_copy_of_the_mailbox(self) -> None:
+        """It stays there, and the row says so."""
+        box = self.write_box("mail/sent", ONE)
+        self.migrate_all("mail")
+        self.deliver(".sent")
+        self.kill()
+        part = box.read_bytes()[:-5]
+        self.write_box("copy", part).replace(box)
+        self.assertEqual([row.reason for row in self.back()], [Reason.TORN, None])
+        self.assertTrue(box.read_bytes().startswith(part))
 
     def test_a_part_in_a_mailbox_that_is_not_named(self) -> None:
         """It is taken back even if its folder has no new mail any more."""
@@ -244,6 +257,14 @@ class BackTest(BackHome):
         sorted((self.maildir / ".sent/new").iterdir())[0].unlink()
         self.deliver(".sent")
         self.assertEqual([self.back()[0].remarks[-1].stands for _ in range(3)], [1, 1, 1])
+
+    def test_what_stands_in_a_mailbox_that_was_moved(self) -> None:
+        """The ledger has it by another path."""
+        self.write_box("mail/sent", ONE + TWO)
+        self.migrate_all("mail")
+        sorted((self.maildir / ".sent/new").iterdir())[0].unlink()
+        self.tree.rename(self.home / "other")
+        self.assertEqual([one.word for row in self.back("other") for one in row.remarks], ["deleted"])
 
     def test_what_stands_in_each_mailbox_of_a_folder(self) -> None:
         self.write_box("a", ONE)
@@ -437,11 +458,14 @@ class PlacesTest(BackHome):
         self.write_box("mail/sent", ONE)
         self.migrate_all("mail")
         self.deliver("")
-        for names, is_right in ((["mail"], False), (["mail", "spool/mia"], True)):
+        (self.home / "M.back").mkdir()
+        both = ["mail", "spool/mia"]
+        for names, is_dry, is_right in ((["mail"], False, False), (both, True, False), (both, False, True)):
             paths = Names([os.fsencode(str(self.home / name)) for name in names])
-            with Record.open(self.root) as record:
-                one = Several(Function(), self.root, record, How(now=True), Listener())
-                self.assertEqual(bool(one.run(Places(self.root, record, paths), False)), is_right)
+            with Record.open(self.root, not is_dry) as record:
+                one = Several(Function(), self.root, record, How(is_dry, now=True), Listener())
+                aside = one.run(Places(self.root, record, paths), False)
+            self.assertEqual("M.back-2" in repr(aside), is_right)
 
     def test_mail_without_a_length_came(self) -> None:
         """Then the mailbox is read otherwise than when it was migrated, and is written so."""
@@ -485,6 +509,11 @@ class PartsTest(HomeTest):
         Path(os.fsdecode(path)).write_bytes(ONE)
         make_mailbox(path)
         self.assertEqual(Path(os.fsdecode(path)).read_bytes(), ONE)
+
+    def test_which_errors_say_that_no_room_is_left(self) -> None:
+        for error, is_full in ((errno.ENOSPC, True), (errno.EDQUOT, True), (errno.EIO, False)):
+            row = several.left(b"box", b".", OSError(error, "no"), 1)
+            self.assertIs(row.reason is Reason.NO_ROOM, is_full)
 
     def test_names_for_new_mailboxes(self) -> None:
         for name in ("mail/x-back", "mail/x-back-2"):

@@ -363,7 +363,16 @@ class PathsTest(LedgerTest):
         self.bring(BOX, line_of(THREE, SHARED))
         self.begin(BOX, line_of(ONE, FOREIGN), line_of(THREE))
         self.bring(OTHER, line_of(ONE))
+        self.begin(OTHER, line_of(TWO))
         self.assertEqual(Ledger(self.folder).placed_last(BOX), [line_of(TWO), line_of(THREE)])
+
+    def test_what_others_have_begun_when_one_is_undone(self) -> None:
+        self.begin(OTHER, line_of(ONE))
+        self.bring(BOX, line_of(TWO))
+        Ledger(self.folder).undo(BOX)
+        ledger = Ledger(self.folder)
+        self.assertEqual({one.path: one.state for one in ledger.entries(None)}, {OTHER: State.OPEN, BOX: State.UNDONE})
+        self.assertEqual(([*ledger.keys_of(BOX)], [*ledger.keys_of(OTHER)]), ([], [KEY]))
 
     def test_a_mailbox_that_has_no_message_any_more(self) -> None:
         """That is noted once."""

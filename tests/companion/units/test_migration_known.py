@@ -13,7 +13,7 @@ from mbox2maildir_admin.migration.steps import Opened
 
 from tests.support.brought import inventory_of
 from tests.support.mail import ONE, THREE, TWO
-from tests.support.migrating import HomeTest, key_of
+from tests.support.migrating import Cut, HomeTest, Killed, key_of
 
 
 class KnownTest(HomeTest):
@@ -81,6 +81,22 @@ class KnownTest(HomeTest):
         with self.opened() as (opened, record):
             self.assertEqual(Known(record, Ledger(self.root), opened).lacking_of_others(), 2)
 
+    def test_what_a_lost_ledger_lacks_of_others(self) -> None:
+        self.bring("first", ONE)
+        self.bring("box", TWO)
+        self.ledger.unlink()
+        with self.opened() as (opened, record):
+            lacked = Known(record, Ledger(self.root), opened).lacked()
+        self.assertEqual([line.path for line in lacked], [str(self.home / "first")])
+
+    def test_a_mailbox_that_was_begun_and_moved(self) -> None:
+        """It is not done."""
+        with self.assertRaises(Killed):
+            self.fill(ONE)
+            self.migrate(Cut(1))
+        self.move("moved")
+        self.assertFalse(self.done_by())
+
     def test_a_mailbox_that_was_moved_from_another_folder(self) -> None:
         """It is done there, and not here."""
         self.bring("box", ONE, "X")
@@ -135,6 +151,16 @@ class KnownTest(HomeTest):
         with self.opened() as (opened, record):
             self.assertIsNotNone(Known(record, Ledger(self.root), opened).last)
 
+    def test_another_path_of_a_mailbox(self) -> None:
+        """It is known by the path that the ledger has."""
+        (self.home / "old").mkdir()
+        (self.home / "link").symlink_to("old")
+        self.bring("old/box", ONE)
+        path = str(self.box)
+        self.move_box("link/box")
+        with self.opened() as (opened, record):
+            self.assertEqual(Known(record, Ledger(self.root), opened).path, path)
+
     def test_a_mailbox_whose_undo_was_killed_is_leaving(self) -> None:
         self.bring("other", ONE)
         other = self.path
@@ -168,6 +194,29 @@ class KnownTest(HomeTest):
                 Known(record, Ledger(self.root), opened).take_place(inventory_of(ONE), False)
                 numbered = record.numbered(b".")
             self.assertEqual(numbered and numbered.path, str(self.box if is_its else self.home / name))
+
+    def test_beside_which_mailboxes_it_goes(self) -> None:
+        """Only a new one of a tree joins others, and not in INBOX: another one is known by the record or the ledger."""
+        self.bring("other", ONE, "X")
+        other, ledger = self.path, self.maildir / ".X" / os.fsdecode(LEDGER)
+        old_ledger, old_record = ledger.read_bytes(), self.record.read_bytes()
+        self.bring("box", TWO, "X")
+        new_ledger, new_record = ledger.read_bytes(), self.record.read_bytes()
+        begun = new_ledger[: new_ledger.rindex(b"= 2".replace(b" ", b"\t"))]
+        for texts, folder, given, paths in (
+            ((old_ledger, old_record), b".X", (), [other]),
+            ((old_ledger, old_record), b".X", (self.path,), []),
+            ((old_ledger, old_record), b".", (), []),
+            ((new_ledger, old_record), b".X", (), []),
+            ((old_ledger, new_record), b".X", (), []),
+            ((begun, old_record), b".X", (), [other]),
+        ):
+            ledger.write_bytes(texts[0])
+            self.ledger.write_bytes(old_ledger)
+            self.record.write_bytes(texts[1])
+            with Record.open(self.root) as record, open_mailbox(self.path) as mailbox:
+                opened = Opened.into(self.root, folder, mailbox)
+                self.assertEqual(Known(record, Ledger(opened.folder), opened).joined(given), paths)
 
     def test_where_it_went_before(self) -> None:
         """Only a mailbox that is gone was moved, wherever it was. Another one may be at its place by now."""
