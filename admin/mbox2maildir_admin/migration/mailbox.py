@@ -18,7 +18,7 @@ from ..mbox.mailbox import Mailbox
 from ..mbox.snapshot import snapshot
 from ..nexts import Answer
 from ..program import Program
-from ..readings.plans import NoMail, NotKnown, OtherKind, is_no_mail, read_enough
+from ..readings.plans import NoMail, NotKnown, OtherKind, is_no_mail, read_begun
 from ..readings.texts import choice_of, disk_of
 from ..readings.unnamed import unnamed
 from ..units import Say, silent
@@ -100,7 +100,7 @@ class Migration:
     def judge(self, opened: Opened, why: Left) -> Row:
         """The row of a mailbox that is left for this reason, unless its text gives another reason."""
         mailbox = opened.mailbox
-        with choice_of(mailbox, disk_of(self.root, self.how.dry), read_enough):
+        with choice_of(mailbox, disk_of(self.root, self.how.dry), read_begun):
             return row_left(mailbox.path, b"", why, None, mailbox.size)
 
     def spare(self, opened: Opened, kind: str) -> Row:

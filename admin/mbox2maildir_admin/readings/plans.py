@@ -113,10 +113,15 @@ def is_as_it_is(look: Look) -> bool:
     return bool(not look.start and lacks_length and not look.count("CR LF"))
 
 
+def read_begun(look: Look) -> Look:
+    """Looks at as much of a text as shows its format."""
+    return look.read(is_as_it_is)
+
+
 def read_enough(look: Look) -> Look:
     """Looks at as much of a text as shows that no copy of it is made: at all of it if it has a CR, since a later From_
     line may end in CR LF."""
-    return look.read() if has_cr(look.mailbox) else look.read(is_as_it_is)
+    return look.read() if has_cr(look.mailbox) else read_begun(look)
 
 
 def has_cr(text: Mailbox) -> bool:

@@ -334,6 +334,13 @@ class SeveralTest(HomeTest):
         self.assertTrue(rows[0][3].startswith("its name is not UTF-8; run this next: "), rows[0])
         self.assertIn("readpst", rows[2][3])
 
+    def test_what_cannot_be_named_is_left_for_its_name(self) -> None:
+        """Once its format is known, no other reason is looked for: a CR in it is no reason to read on."""
+        for end in (b"\n", b"\r\n"):
+            self.file("tree/mail" + os.fsdecode(b"\xe9"), ONE + b"hi" + end + b"From me on\n\n")
+            row = self.rows(b"tree")[0]
+            self.assertTrue(row[3].startswith("its name is not UTF-8; run this next: "), row)
+
     def test_what_is_no_mail_is_in_nobodys_way(self) -> None:
         self.file("tree/twice")
         self.file("tree/twice.mbox", b"%PDF-1.4\n")
