@@ -260,7 +260,7 @@ class History:
 
     def empty(self) -> list[Entry]:
         """The last line of each folder that a mailbox of no byte has."""
-        return [several[-1] for (note, _), several in self._notes.items() if note is Note.EMPTY]
+        return [several[-1] for (note, _), several in self._notes.items() if note is Note.EMPTY and several]
 
     def noting(self, note: Note, folder: bytes, path: bytes) -> list[Entry]:
         """The lines that note this with a path, in their order."""
