@@ -153,6 +153,10 @@ class Progress:
         # by the name of what is at work
         self.paces: dict[str, Pace] = {}
 
+    def end(self, who: str) -> None:
+        """Forgets what is no longer at work."""
+        self.paces.pop(who, None)
+
     def tell(self, task: Task, doing: str, place: Optional[int] = None, size: Optional[int] = None) -> None:
         """Says how far a task is."""
         now = time.monotonic()

@@ -77,6 +77,7 @@ class Reporter(Observer):
     def rest(self, who: str) -> None:
         """Notes that one is no longer at work."""
         self.at_work.end(who)
+        self.line.end(who)
 
     def say_wait(self, who: str, doing: str) -> None:
         """Says once that one waits, and for how long, if no terminal shows it."""
@@ -102,7 +103,7 @@ class Reporter(Observer):
             self.estimate.add(row.spent)
         # the next mailbox of a user may have to wait too
         self.waiting.discard(named(row.path) if user is None else named(user))
-        self.at_work.end(label_of(row, user))
+        self.rest(label_of(row, user))
         LINE.clear()
         self.print_row(row, user)
 

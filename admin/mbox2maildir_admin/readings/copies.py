@@ -15,6 +15,7 @@ from ..terminal import named
 
 # the endings of compressed files, which may hold all of the mailbox beside them, as a copy may
 COMPRESSED = b".gz", b".bz2", b".xz", b".zst", b".lz4"
+ENDINGS = (COPY, *COMPRESSED)
 # the name of a copy until it is complete, if it must have a name
 UNFINISHED = b".%s-" % ADMIN.encode()
 
@@ -22,7 +23,10 @@ UNFINISHED = b".%s-" % ADMIN.encode()
 def stem_of(name: bytes, names: Container[bytes]) -> bytes:
     """The name of the mailbox, among these names, that a file may be a copy of; otherwise the name of the file
     itself."""
-    for ending in (COPY, *COMPRESSED):
+    # a spool may have many names, of which most have no such ending
+    if not name.endswith(ENDINGS):
+        return name
+    for ending in ENDINGS:
         stem = name[: -len(ending)]
         if name.endswith(ending) and stem in names:
             return stem_of(stem, names)

@@ -96,8 +96,13 @@ def is_no_mail(path: bytes) -> bool:
     if not stat.S_ISREG(state.st_mode) or state.st_size > LONGEST_LOCK:
         return False
     if state.st_size == 0:
-        return EMPTY_AUXILIARY.fullmatch(name) is not None
+        return is_auxiliary(name)
     return name.endswith(b".lock") and is_lock(path)
+
+
+def is_auxiliary(name: bytes) -> bool:
+    """Whether a file of this name may be known to hold no mail. One of another name never is."""
+    return EMPTY_AUXILIARY.fullmatch(name) is not None
 
 
 def is_lock(path: bytes) -> bool:

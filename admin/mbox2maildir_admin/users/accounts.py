@@ -4,6 +4,7 @@ import pwd
 import re
 import stat
 from collections.abc import Sequence
+from typing import Optional
 
 from .. import ADMIN
 from ..faults import Left, PlaceFault, Reason
@@ -60,7 +61,7 @@ def own_name(account: pwd.struct_passwd) -> bytes:
 
 def home_of(account: pwd.struct_passwd) -> bytes:
     """The home of an account."""
-    return os.path.normpath(os.fsencode(account.pw_dir))
+    return os.fsencode(os.path.normpath(account.pw_dir))
 
 
 def account_of(name: bytes) -> pwd.struct_passwd:
@@ -124,21 +125,22 @@ def is_own(home: bytes, account: pwd.struct_passwd) -> bool:
     return stat.S_ISDIR(state.st_mode) and state.st_uid == account.pw_uid
 
 
-def has_mailbox(mailbox: bytes, account: pwd.struct_passwd) -> bool:
-    """Whether the spool has this file. Raises Left if it is not a mailbox of the account."""
+def size_of_mailbox(mailbox: bytes, account: pwd.struct_passwd) -> Optional[int]:
+    """How many bytes a mailbox of the spool has; None if there is no such file. Raises Left if it is not a mailbox of
+    the account."""
     try:
         state = os.lstat(mailbox)
     except FileNotFoundError:
-        return False
+        return None
     except OSError as error:
         raise Left(error.strerror, Reason.ERROR) from error
-    if stat.S_ISLNK(state.st_mode):
-        raise Left("it is a symbolic link", Reason.LINK)
     if not stat.S_ISREG(state.st_mode):
+        if stat.S_ISLNK(state.st_mode):
+            raise Left("it is a symbolic link", Reason.LINK)
         raise Left("it is not a regular file", Reason.NO_FILE)
     if state.st_uid != account.pw_uid:
         raise Left("it belongs to %s" % name_of(state.st_uid), Reason.OTHER_OWNER)
-    return True
+    return state.st_size
 
 
 def want_home(account: pwd.struct_passwd) -> None:

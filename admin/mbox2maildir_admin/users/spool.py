@@ -2,28 +2,27 @@
 import functools
 import os
 import pwd
-from collections.abc import Callable, Collection
+from collections.abc import Callable, Collection, Iterable
 from dataclasses import replace
 from typing import AbstractSet, NamedTuple, Optional
 
 from .. import ADMIN
 from ..faults import Fault, Left, Reason
 from ..jobs.count import MOST, jobs_of
-from ..jobs.order import size_of
 from ..migration.outcomes import Fate, Observer, Row, row_left
 from ..migration.servers import locations
 from ..migration.steps import Options
 from ..nexts import run_next
 from ..program import find_program
 from ..readings.copies import stem_of
-from ..readings.plans import is_no_mail
-from ..terminal import named, operand, shown, text_of
-from .accounts import Accounts, first_uid, has_mailbox, home_of, is_users, own_name, want_entered, want_user
+from ..readings.plans import is_auxiliary, is_no_mail
+from ..terminal import named, operand, shown
+from .accounts import Accounts, first_uid, home_of, is_users, own_name, size_of_mailbox, want_entered, want_user
 from .asked import ACCOUNTS, SPOOL, Sources, Tally
 from .children import Crew
-from .homes import Home, Kind, Migrant
+from .found import Found, Queue
+from .homes import Home, Kind
 from .loading import load_for_children
-from .telling import Whose
 
 # an account, however many names it has: its number and its home
 Key = tuple[int, bytes]
@@ -59,19 +58,15 @@ def migrate_users(
     spool = spool._replace(path=os.path.abspath(spool.path), options=options.of_next(), kind=kind)
     if options.prepare:
         spool = spool._replace(home=spool.home._replace(locations=locations()))
-    names = frozenset(os.listdir(spool.path))
-    want_entered(spool.path)
     load_for_children()
     program = os.path.abspath(find_program())
-    users = users_of(spool, names, asked, reporter, tally)
-    reporter.total = len(users.found) + len(users.others)
     jobs = reporter.at_once = jobs_of(options.jobs, MOST)
+    users, others = users_of(spool, asked, reporter, tally, jobs > 1)
+    reporter.total = len(users) + len(others)
     # if there are fewer users than jobs, several folders of each user are at work
-    options = replace(options, jobs=max(1, jobs // max(1, len(users.found))))
-    # the largest mailbox begins first, lest it is alone at the end; one after the other, users keep the order of names
-    several = sorted(users.found.values(), key=Found.size, reverse=True) if jobs > 1 else users.found.values()
+    options = replace(options, jobs=max(1, jobs // max(1, len(users))))
     # only one process at a time can be at work for an account
-    for found, at_once in ((several, jobs), (users.others, 1)):
+    for found, at_once in ((users, jobs), (others, 1)):
         with Crew(at_once, reporter, functools.partial(report_ended, reporter)) as crew:
             for one in found:
                 reporter.begin()
@@ -98,18 +93,30 @@ def report_no_mail(reporter: Observer, name: bytes) -> None:
 
 
 def users_of(
-    spool: Spool, names: AbstractSet[bytes], asked: Optional[Sources], reporter: Observer, tally: Tally
-) -> "Users":
-    """The users whose mailboxes are migrated: those that were asked for, otherwise those of the spool, which has these
-    names, and all users if homes have a folder of mailboxes. Says which names are left."""
-    first = first_uid()
+    spool: Spool, asked: Optional[Sources], reporter: Observer, tally: Tally, is_by_size: bool
+) -> tuple[Queue, list[Found]]:
+    """The users whose mailboxes are migrated: those that were asked for, otherwise those of the spool, and all users if
+    homes have a folder of mailboxes; and further mailboxes of theirs. Says which names are left."""
+    names = frozenset(os.listdir(spool.path))
+    want_entered(spool.path)
+    users = Users(spool, names, functools.partial(report_left, reporter))
+    add_users(users, asked, reporter, tally)
+    if spool.kind.is_back:
+        users.join()
+    found: Iterable[Found] = users.found.values()
+    # the largest mailbox begins first, lest it is alone at the end; one after the other, users keep the order of names
+    return Queue(sorted(found, key=lambda one: one.size, reverse=True) if is_by_size else found), users.others
+
+
+def add_users(users: "Users", asked: Optional[Sources], reporter: Observer, tally: Tally) -> None:
+    """Adds the users whose mailboxes are migrated, and leaves all other names."""
+    spool, names, first = users.spool, users.names, first_uid()
     if asked is None:
         sources = names_of(spool, names, first, functools.partial(report_no_mail, reporter))
     else:
         sources, tally.not_asked = asked, len({stem_of(name, names) for name in names} - asked.keys())
     tally.expect([SPOOL, ACCOUNTS] if asked is None else asked.values())
     accounts = Accounts(len(sources))
-    users = Users(spool, names, functools.partial(report_left, reporter))
     for name, source in sources.items():
         try:
             account = user_of(name, accounts, first, asked is not None, spool)
@@ -119,9 +126,6 @@ def users_of(
         else:
             users.add(name, account, accounts)
             tally.count(source)
-    if spool.kind.is_back:
-        users.join()
-    return users
 
 
 def user_of(name: bytes, accounts: Accounts, first: int, is_named: bool, spool: Spool) -> pwd.struct_passwd:
@@ -130,37 +134,6 @@ def user_of(name: bytes, accounts: Accounts, first: int, is_named: bool, spool: 
     if not is_users(account, first):
         want_user(account, first, is_named, spool.path, [spool.kind.command, *spool.options.words()])
     return account
-
-
-class Found(NamedTuple):
-    """An account under one of its names, the mailbox that the spool has under it, whether one was left there, why it is
-    not migrated unless it was before, and the files beside the mailbox that may be copies of it."""
-
-    name: bytes
-    account: pwd.struct_passwd
-    mailbox: Optional[bytes]
-    is_left: bool
-    why_not: Optional[Left] = None
-    beside: tuple[bytes, ...] = ()
-    # where the spool would have the mailbox, and further ones of the account
-    place: bytes = b""
-    others: tuple[bytes, ...] = ()
-
-    def size(self) -> int:
-        """How many bytes the mailbox has; 0 if there is none."""
-        return size_of(self.mailbox) if self.mailbox else 0
-
-    def whose(self, kind: Kind) -> Whose:
-        """The user as root knows it."""
-        mailboxes = {b"": self.mailbox} if self.mailbox else {}
-        mailboxes.update({one: one for one in self.beside})
-        return Whose(shown(self.name), text_of(own_name(self.account)), mailboxes, kind.is_back)
-
-    def migrant(self, kind: Kind, home: Home, options: Options, program: bytes) -> Migrant:
-        """The user whose child migrates this; if there is a reason why not, only the mailbox."""
-        home = home._replace(tree=None) if self.why_not else home
-        known = self.account, self.mailbox, home, options, program, self.is_left, self.why_not, self.beside
-        return kind.migrant(*known, self.place, self.others)
 
 
 class Users:
@@ -176,20 +149,21 @@ class Users:
 
     def add(self, name: bytes, account: pwd.struct_passwd, accounts: Accounts) -> None:
         """Adds a user. If something is wrong with the mailbox, that is said, and the home is looked at all the same."""
-        key, mailbox, is_left = (account.pw_uid, home_of(account)), None, False
+        key, place = (account.pw_uid, home_of(account)), os.path.join(self.spool.path, name)
+        size, is_left = None, False
         try:
-            mailbox = self.mailbox_of(name, account)
+            size = self.size_at(place, account)
         except Left as left:
             self.leave(name, left)
             is_left = True
+        mailbox = None if size is None else place
         beside = self.beside_of(name, account) if mailbox else self.leave_beside(name)
         other = self.other_name(name, key, accounts) if mailbox else None
         if mailbox and other is not None:
             self.others.append(Found(name, account, mailbox, False, self.why_not(key, other, mailbox), beside))
             mailbox, is_left, beside = None, True, ()
         if mailbox or self.spool.is_of_homes and key not in self.found:
-            place = mailbox or os.path.join(self.spool.path, name)
-            self.found[key] = Found(name, account, mailbox, is_left, beside=beside, place=place)
+            self.found[key] = Found(name, account, mailbox, is_left, None, beside, place, (), size or 0)
 
     def join(self) -> None:
         """Gives each account all of its mailboxes."""
@@ -204,7 +178,7 @@ class Users:
         found = []
         for other in self.copies_of(name):
             try:
-                has_mailbox(os.path.join(self.spool.path, other), account)
+                size_of_mailbox(os.path.join(self.spool.path, other), account)
             except Left as left:
                 self.leave(other, left)
             else:
@@ -221,15 +195,13 @@ class Users:
         """The names of the spool that may be copies of the mailbox of this name."""
         return [one for one in self.copies.get(name, ()) if not is_passed(self.spool.path, one)]
 
-    def mailbox_of(self, name: bytes, account: pwd.struct_passwd) -> Optional[bytes]:
-        """The mailbox that the spool has under a name; None if only the home is looked at. Raises Left if it can't be
-        migrated."""
-        mailbox = os.path.join(self.spool.path, name)
-        if has_mailbox(mailbox, account):
-            return mailbox
-        if not self.spool.is_of_homes:
+    def size_at(self, place: bytes, account: pwd.struct_passwd) -> Optional[int]:
+        """How many bytes the mailbox has that the spool has at a place; None if only the home is looked at. Raises Left
+        if it can't be migrated."""
+        size = size_of_mailbox(place, account)
+        if size is None and not self.spool.is_of_homes:
             raise Left("no mailbox of that name in %s" % named(self.spool.path), Reason.NO_MAILBOX)
-        return None
+        return size
 
     def why_not(self, key: Key, other: bytes, mailbox: bytes) -> Left:
         """Why the mailbox of a further name of an account is left, and the command that migrates it."""
@@ -274,15 +246,18 @@ def names_of(spool: Spool, names: Collection[bytes], first: int, pass_over: Call
 def copies_among(names: AbstractSet[bytes]) -> dict[bytes, list[bytes]]:
     """The names of a spool that may be copies, by the names of their mailboxes. Each name is looked at once."""
     found: dict[bytes, list[bytes]] = {}
-    for name in sorted(names):
+    for name in names:
         stem = stem_of(name, names)
         if stem != name:
             found.setdefault(stem, []).append(name)
-    return found
+    return {stem: sorted(copies) for stem, copies in found.items()}
 
 
 def is_passed(spool: bytes, name: bytes) -> bool:
     """Whether a name of a spool is no mailbox, such as a lock or an empty hidden file."""
+    # of other names, no file is looked at: there may be many
+    if not is_auxiliary(name):
+        return False
     try:
         return is_no_mail(os.path.join(spool, name))
     except FileNotFoundError:

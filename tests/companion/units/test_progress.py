@@ -115,6 +115,13 @@ class MinuteTest(unittest.TestCase):
         )
         self.assertEqual(len(self.told(*((when, "reading", when) for when in range(0, 301, 10)))), 5)
 
+    def test_what_has_ended_takes_no_memory(self) -> None:
+        line = Progress()
+        line.tell(Task("box"), "reading")
+        line.end("box")
+        line.end("another")
+        self.assertEqual(line.paces, {})
+
     def test_a_wait_is_not_said_again(self) -> None:
         self.assertEqual(self.told((100, "waiting 9 seconds, because it changed a moment ago", 0)), [])
 

@@ -37,6 +37,15 @@ class ReporterTest(unittest.TestCase):
         self.assertEqual(calls[3], (Task("u12", "12/41 ", "step 3 of 5"), "converting", 1, 2))
         self.assertEqual([call[0].step[5:6] for call in calls], ["1", "1", "2", "3", "4", "5", ""])
 
+    def test_what_has_ended_takes_no_memory(self) -> None:
+        reporter = Reporter()
+        with mock.patch.object(reporting, "put"):
+            reporter.progress("a", "reading", 1, 2)
+            reporter.rest("a")
+            reporter.progress("b", "reading", 1, 2)
+            reporter.row(Row(b"b", b".b", "", 1, Fate.DONE, ""))
+        self.assertEqual((reporter.line.paces, len(reporter.at_work)), ({}, 0))
+
     def test_several_at_work_have_one_line(self) -> None:
         reporter = Reporter()
         reporter.total = 3

@@ -11,10 +11,10 @@ from mbox2maildir_admin.users.accounts import (
     Accounts,
     account_of,
     first_uid,
-    has_mailbox,
     home_of,
     is_users,
     name_of,
+    size_of_mailbox,
     want_entered,
     want_home,
     want_user,
@@ -130,17 +130,17 @@ class WantUserTest(unittest.TestCase):
                 self.assertIn("without a home of its own", self.why(account(8, here.decode())))
 
 
-class HasMailboxTest(FolderTest):
+class SizeOfMailboxTest(FolderTest):
     def left(self, uid: int = UID) -> str:
         """Why the mailbox of a user with a number is left."""
         with self.assertRaises(Left) as raised:
-            has_mailbox(self.here + b"/mia", account(uid))
+            size_of_mailbox(self.here + b"/mia", account(uid))
         return str(raised.exception)
 
     def test_a_users(self) -> None:
-        make(self.here, {"mia": b"From a\n"})
-        self.assertTrue(has_mailbox(self.here + b"/mia", account()))
-        self.assertFalse(has_mailbox(self.here + b"/tom", account()))
+        make(self.here, {"ann": b"", "mia": b"From a\n"})
+        sizes = [size_of_mailbox(self.here + name, account()) for name in (b"/ann", b"/mia", b"/tom")]
+        self.assertEqual(sizes, [0, 7, None])
 
     def test_what_is_none_of_the_user(self) -> None:
         make(self.here, {"mia": b"From a\n"})

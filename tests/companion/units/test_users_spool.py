@@ -96,16 +96,16 @@ class MigrateTest(FolderTest):
             with mock.patch.multiple(module, find_program=lambda: b"/bin/mbox2maildir", first_uid=lambda: 1000):
                 with mock.patch.multiple(
                     pwd, getpwnam=by_name, getpwuid=by_number, getpwall=lambda: list(ACCOUNTS_HERE.values())
-                ), mock.patch.object(module, "has_mailbox", lambda path, account: self.has_mailbox(path)):
+                ), mock.patch.object(module, "size_of_mailbox", lambda path, account: self.size_of_mailbox(path)):
                     migrate_users(Spool(self.here, home), asked, Options(jobs=jobs), self.reporter, self.tally, kind)
         return [(call[0][0].name, self.migrant_of(call[0][2]).mailbox) for call in self.crew.add.call_args_list]
 
     @staticmethod
-    def has_mailbox(path: bytes) -> bool:
-        """Whether a mailbox is there. A symbolic link is not one."""
+    def size_of_mailbox(path: bytes) -> Optional[int]:
+        """How many bytes a mailbox has; None if it is not there. A symbolic link is not one."""
         if os.path.islink(path):
             raise Left("it is a symbolic link", Reason.LINK)
-        return os.path.exists(path)
+        return os.path.getsize(path) if os.path.exists(path) else None
 
     @staticmethod
     def migrant_of(task: object) -> Migrant:
@@ -213,19 +213,23 @@ class MigrateTest(FolderTest):
             self.migrate(None)
         self.assertEqual([self.migrant_of(task).why_not for task in self.tasks()], [None, None])
 
-    def looks_at_names(self, count: int) -> int:
-        """How often a name is compared with the others in a spool of this many users, and as many names of nobody."""
+    def looks_at_names(self, count: int) -> tuple[int, int]:
+        """How often a name is compared with the others in a spool of this many users, and as many names of nobody; and
+        how often its file is looked at."""
         users = {"u%04d" % number: account("u%04d" % number, 2000 + number) for number in range(count)}
         make(self.here, dict.fromkeys([*users, *("x" + name for name in users)], b""))
         with mock.patch.dict(ACCOUNTS_HERE, users), mock.patch.object(module, "stem_of", wraps=stem_of) as looked:
-            self.migrate(None)
+            with mock.patch("os.lstat", wraps=os.lstat) as seen:
+                self.migrate(None)
         self.assertEqual(self.crew.add.call_count, count)
         self.crew.add.reset_mock()
-        return looked.call_count
+        return looked.call_count, seen.call_count
 
     def test_a_user_costs_as_much_in_a_spool_of_any_size(self) -> None:
-        few, many = self.looks_at_names(20), self.looks_at_names(80)
+        (few, _), (many, seen) = self.looks_at_names(20), self.looks_at_names(80)
         self.assertLessEqual(many, 4 * few)
+        # no file of a name without an account is looked at
+        self.assertEqual(seen, 80)
 
     def test_copies_go_with_their_mailbox(self) -> None:
         names = ["ann", "mia", "mia.gz", "mia.gz.mboxrd", "mia.mboxrd", "mia.lz4.gz", "tom", "tom.xz"]
