@@ -3,20 +3,29 @@
    says. FAIL has the numbers of the calls that fail, with a comma between two, counted from 1, with ERROR as their error's
    number, or for a write that takes no byte 0; a `close` or a `sleep` has no number. CLOCK is what the clocks show, in
    milliseconds since 1970, and each sleep moves it on at once. FOLDER is the path of a folder with a slash after it: its
-   first CHANGES readings see it change, and each takes READING milliseconds. OUTPUT is how many bytes standard output
-   takes. Where SHORT is set, a read and a write move one byte at most, and where it is 1 every other write is interrupted.
-   GONE is put in place of what is to be moved, PLANTED where a file is to be made, and REPLACED in place of what is opened
-   to be written and is there: by the first letter a link or a hard link to the path after it, a pipe, a socket, a directory,
-   a file, one of a single byte, one of the mode after it, one that others may read, one of the user whose number is after
-   it, another owner's, or, as 1, nothing. REPLACED may be a change of the file instead: for others to read, an owner, a
-   second name, no name at all once it was opened, or a difference of what is shown through the handle, at the byte after it
-   of what statx(2) tells. The time of modification is shown as the time of change, which no test can set. Each other
-   time is shown as MODIFIED, in milliseconds since 1970, or as 1970. It needs no headers, so that any C compiler makes it. */
+   first CHANGES readings see it change, and each takes READING milliseconds; before its own names its list has NAMES
+   numbers. OUTPUT is how many bytes standard output takes. Where SHORT is set, a read and a write move one byte at most,
+   and where it is 1 every other write is interrupted. GONE is put in place of what is to be moved, PLANTED where a file is
+   to be made, and REPLACED in place of what is opened to be written and is there: by the first letter a link or a hard
+   link to the path after it, a pipe, a socket, a directory, a file, one of a single byte, one of the mode after it, one
+   that others may read, one of the user whose number is after it, another owner's, or, as 1, nothing. REPLACED may be a
+   change of the file instead: for others to read, an owner, a second name, no name at all once it was opened, or a
+   difference of what is shown through the handle, at the byte after it of what statx(2) tells. The time of modification is
+   shown as the time of change, which no test can set. Each other time is shown as MODIFIED, in milliseconds since 1970, or
+   as 1970. It needs no headers, so that any C compiler makes it. */
 typedef unsigned long size_t;
 typedef long ssize_t;
 
 struct moment {
     long seconds, nanos;
+};
+
+/* As getdents64(2) lists a name. */
+struct entry {
+    unsigned long inode, next;
+    unsigned short size;
+    unsigned char kind;
+    char name[13];
 };
 
 char *getenv(const char *);
@@ -38,6 +47,7 @@ int openat(int, const char *, int, ...);
 
 enum { OUTPUT = 1, ERRORS = 2, CALLS = 3, OPEN = 64 };
 enum { INTERRUPTED = 4, NO_SPACE = 28, HERE = -100, WRITING = 03, CREATE = 0100, SOCKET = 0140000, NOBODY = 65534 };
+enum { REGULAR = 8 };
 
 /* The function that stands behind this one. */
 #define REAL(name) ((__typeof__(&name))dlsym((void *)-1, #name))
@@ -264,8 +274,24 @@ ssize_t write(int file, const void *bytes, size_t size) {
     return REAL(write)(file, bytes, size);
 }
 
+/* Lists the next of the numbers that stand before a folder's own names, and returns how many bytes they take. */
+static size_t list_numbers(struct entry *entries, size_t most) {
+    static long listed;
+    long wanted = number("NAMES", 0);
+    size_t count = 0;
+    for (; listed < wanted && count < most; count++) {
+        entries[count] = (struct entry){.inode = 1, .size = sizeof *entries, .kind = REGULAR};
+        snprintf(entries[count].name, sizeof entries->name, "%ld", ++listed);
+    }
+    return count * sizeof *entries;
+}
+
 ssize_t getdents64(int file, void *entries, size_t size) {
-    return is_to_fail("list", name_of(file)) ? -1 : REAL(getdents64)(file, entries, size);
+    const char *folder = getenv("FOLDER");
+    if (is_to_fail("list", name_of(file)))
+        return -1;
+    size_t taken = folder && strcmp(name_of(file), folder) == 0 ? list_numbers(entries, size / sizeof(struct entry)) : 0;
+    return taken ? (ssize_t)taken : REAL(getdents64)(file, entries, size);
 }
 
 int ftruncate(int file, long size) {
