@@ -91,7 +91,9 @@ def each_label_is_a_folder(home: Path) -> None:
     equal("what is done", sorted(line[1] for line in lines if line[0] == "done"), sorted(one or "." for one in FOLDERS))
     expect(LABELS, home, 0, "10 mailboxes: 10 done before\n")
     status, out, _ = run(["verify", "M", "t.mbox"], home)
-    equal("verify", (status, out.count("t.mbox")), (0, 10))
+    # each line begins as that of the migration does
+    heads = [line.split(": ")[0] for line in rows.splitlines()]
+    equal("verify", (status, [line.split(": ")[0] for line in out.splitlines()]), (0, heads))
     next((home / "M/.Junk/new").iterdir()).unlink()
     equal("verify of what is gone", run(["verify", "M", "t.mbox"], home)[0], 1)
 

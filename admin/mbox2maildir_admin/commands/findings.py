@@ -5,6 +5,7 @@ from typing import Any, NamedTuple, Optional, Union
 
 from ..faults import Fault, complain_of
 from ..maildir.checking import Check, State
+from ..maildir.folders import folder_named
 from ..mbox.lines import Said
 from ..migration.outcomes import Row, row_left
 from ..nexts import BELOW, NOTHING, Next, Quote, lines_below, objects_of
@@ -64,12 +65,19 @@ class Sort(NamedTuple):
 
 
 class Checked(NamedTuple):
-    """A mailbox that was compared with its folder, and how many of its messages are there without some fields."""
+    """A mailbox that was compared with its folder, and how many of its messages are there without some fields; or the
+    messages of a Takeout that went into one of its folders."""
 
     path: bytes
     folder: bytes
     check: Check
     bare: int
+    is_part: bool = False
+
+    def who(self) -> str:
+        """What its line begins with."""
+        name = named(self.path)
+        return "%s -> %s" % (name, folder_named(self.folder)) if self.is_part else name
 
     def counts(self) -> dict[str, int]:
         """How many messages, files and lines there are of each sort, by its word."""
@@ -131,7 +139,7 @@ class Findings:
             "there %(there)d, under another name %(renamed)d, other bytes %(other-bytes)d" % counts,
             "nowhere %(nowhere)d, doubles %(double)d" % counts,
         ]
-        put("%s: %s" % (named(found.path), ", ".join(says + ["without fields %d" % found.bare] * bool(found.bare))))
+        put("%s: %s" % (found.who(), ", ".join(says + ["without fields %d" % found.bare] * bool(found.bare))))
         for word, sorts in found.sorts():
             put_some((one.sentence() for one in sorts), counts[word])
         if counts["renamed"]:

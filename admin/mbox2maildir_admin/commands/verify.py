@@ -60,7 +60,7 @@ def verify_takeout(maildir: bytes, file: bytes, program: bytes, noted: Noted, te
     """Says the same of each folder of a Takeout that went into the folders of its labels."""
     look, are_right = functools.partial(check_of, program), []
     for folder, check, bare in checks_of(maildir, file, noted, Recorded(maildir).recorded, look, tell.say(file)):
-        tell.checked(Checked(file, folder, check, bare))
+        tell.checked(Checked(file, folder, check, bare, is_part=True))
         are_right.append(check.is_right())
     return all(are_right)
 
