@@ -87,6 +87,7 @@ class Todo(Phrase):
     MOVE_AWAY = "move-away", "then move {} out of here"
     COPY_AWAY = "move-copy", "if one is a copy, move it out of here"
     NAME_FOLDER = "name-folder", "run this again with --folder NAME"
+    NAME_PRINTED = "name-printed", "then run this again, with the mailboxes that it printed last in place of {}"
     MIGRATE_REST = "migrate-rest", "migrate the rest, then undo all of it"
     AS_OWNER = "as-owner", "run this as that user"
     OTHER_PLACE = "other-place", "name a Maildir below folders that belong to root and in which only root may write"

@@ -3,6 +3,7 @@ Takeout, and verify, --again and --undo, which know the folders from the record.
 that Google gives its own."""
 import os
 import shlex
+import shutil
 import subprocess
 from collections.abc import Sequence
 from pathlib import Path
@@ -264,6 +265,37 @@ def room_is_counted_first(home: Path) -> None:
         subprocess.run(["umount", str(home / "disk")], check=True)
 
 
+def the_command_for_an_archive_leads_to_its_mailbox(home: Path) -> None:
+    """An archive stays as it is: a folder in its place would be refused. The mailboxes in it are printed, and the same
+    words migrate these."""
+    if not all(map(shutil.which, ("unzip", "tar", "gzip"))):
+        raise LeftOut("unzip, tar or gzip is missing")
+    takeout(home)
+    name = "Takeout/Mail/All mail Including Spam and Trash.mbox"
+    for path, text in (
+        (home / name, (home / "t.mbox").read_bytes()),
+        (home / "Takeout/archive_browser.html", b"<p>\n"),
+    ):
+        mailbox(path, text)
+    for archive, form in (("take it.zip", "zip"), ("take.tgz", "gztar")):
+        os.rename(shutil.make_archive(str(home / "packed"), form, home, "Takeout"), home / archive)
+        words = ["migrate", "--now", "--labels", "--label", "Unread=none", "M", archive]
+        for _ in range(2):
+            status, out, _ = run(words, home)
+            row = row_in(out, archive)
+            ran = subprocess.run(["sh", "-c", row.command], cwd=home, stdout=subprocess.PIPE, text=True, check=True)
+            if row.below[-1].startswith("    then "):
+                break
+        says = f"    then run this again, with the mailboxes that it printed last in place of {archive}"
+        equal(f"{archive}: what to do with what it prints", (status, row.below[-1]), (1, says))
+        assert (home / archive).is_file(), f"{archive} is gone"
+        printed = ran.stdout.splitlines()[-1]
+        matches(f"{archive}: what is printed", printed, f"{home}/{archive}.../copy/{name}")
+        expect([*words[:-1], printed], home, 0, None)
+        equal(f"{archive}: the folders", folders_in(home / "M"), FOLDERS)
+        shutil.rmtree(home / "M")
+
+
 def words_that_do_not_go_together(home: Path) -> None:
     """They are refused before anything is made."""
     takeout(home)
@@ -294,5 +326,6 @@ if __name__ == "__main__":
         with_labels_and_without,
         the_record_knows_the_folders,
         room_is_counted_first,
+        the_command_for_an_archive_leads_to_its_mailbox,
         words_that_do_not_go_together,
     )

@@ -5,11 +5,13 @@ import re
 from collections.abc import Callable
 from typing import NamedTuple, Union
 
-from ..nexts import Answer, Command, Does, Next, Task, User, line_of
-from ..terminal import word
+from ..nexts import Answer, Command, Does, Next, Task, Todo, User, line_of, task
+from ..terminal import text_of, word
 
 # the file that a command makes, in its new folder
 COPY = '"$d/copy"'
+# prints the mailboxes in a folder, as Takeouts and `readpst -r` name them
+PRINTS = "find %s -name '*mbox' -type f" % COPY
 # how the name of a new folder begins that is among the names of a tree: trees pass it over
 ASIDE = b".mbox2maildir-original-"
 # how many bytes of a file's name go into the name of the new folder, which has an ending of its own
@@ -25,6 +27,8 @@ class Makes(NamedTuple):
     does: Does = Does.RUN
     # Debian's package, if it has another name than the program
     package: str = ""
+    # whether it makes a folder, with all that the file holds
+    is_folder: bool = False
 
 
 class Looks(NamedTuple):
@@ -67,14 +71,15 @@ def with_aside(made: Command, path: bytes) -> Command:
 
 class Where(NamedTuple):
     """The folder in which a file is put aside, whose rights the command needs, the command that migrates what is made,
-    if that can't take the file's place, whether that command makes nothing, and whether the folder is in the tree that
-    is migrated."""
+    if that can't take the file's place, whether that command makes nothing, whether the folder is in the tree that is
+    migrated, and whether only a file is migrated, so that a folder can't take the place of one."""
 
     aside: bytes
     user: User = None
     migrate: tuple[str, ...] = ()
     is_dry: bool = False
     is_in_tree: bool = False
+    wants_file: bool = False
 
     @classmethod
     def of(cls, path: bytes, top: bytes, home: bytes, may_write: Callable[[bytes], bool]) -> "Where":
@@ -87,20 +92,28 @@ class Where(NamedTuple):
     def made(self, makes: Makes, path: bytes) -> Answer:
         """The command that makes of a file what is migrated, and puts the file aside."""
         steps = [new_folder(self.aside, path, ASIDE if self.is_in_tree else b""), filled(makes.shell, path)]
-        if self.migrate:
+        only_prints = self.only_prints(makes)
+        if only_prints:
+            steps.append(PRINTS)
+        elif self.migrate:
             steps.append("%s %s" % (line_of(self.migrate), COPY))
         else:
             steps += [puts_aside(path), "mv -nT %s %s" % (COPY, word(path))]
         comment = " # package %s" % makes.package if makes.package else ""
         command = Command(shell=" && ".join(steps) + comment, user=self.user)
-        if not self.migrate or self.is_dry:
+        if not self.migrate or self.is_dry or only_prints:
             return Answer(command, makes.does)
         # the folder does not belong to the owner, so that only root can put the file aside
         return Answer(command if self.user is None else with_aside(command, path), Does.MAKE_ELSEWHERE)
 
     def next(self, recipe: Recipe, path: bytes) -> Next:
         """What is to be done with a file."""
-        return tuple(self.step(part, path) for part in recipe)
+        steps = tuple(self.step(part, path) for part in recipe)
+        return steps + (task(Todo.NAME_PRINTED, text_of(path)) if any(map(self.only_prints, recipe)) else ())
+
+    def only_prints(self, part: Union[Makes, Looks, Task]) -> bool:
+        """Whether the command of one part leaves a file where it is, and prints what may be migrated in its place."""
+        return self.wants_file and isinstance(part, Makes) and part.is_folder
 
     def step(self, part: Union[Makes, Looks, Task], path: bytes) -> Union[Answer, Task]:
         """One part of what is to be done with a file."""

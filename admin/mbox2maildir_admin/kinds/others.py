@@ -52,9 +52,16 @@ class Other(NamedTuple):
 def other(
     start: bytes, kind: str, then: str, package: str = "", check: Optional[Callable[[Mailbox], bool]] = None
 ) -> Other:
-    """A kind that may hold mail, with the command that makes a mailbox of it, or a folder of mailboxes. Debian's
-    package is named if it has another name than the program."""
+    """A kind that may hold mail, with the command that makes a mailbox of it. Debian's package is named if it has
+    another name than the program."""
     return Other(re.compile(start, re.DOTALL), kind, (Makes(then, package=package),), check=check)
+
+
+def folder(
+    start: bytes, kind: str, then: str, package: str = "", check: Optional[Callable[[Mailbox], bool]] = None
+) -> Other:
+    """A kind that holds files, with the command that makes a folder of them."""
+    return other(start, kind, "", check=check)._replace(recipe=(Makes(then, package=package, is_folder=True),))
 
 
 def packed(start: bytes, form: Form, then: str, package: str = "") -> Other:
@@ -86,9 +93,9 @@ MESSAGES = [
     # Dovecot, dbox-file.c: the version of the format, the size of a message's header, and when the file was made
     other(rb"[12] M[0-9a-f]+ C[0-9a-f]+\n", "Dovecot's dbox", "")._replace(recipe=(Task(Todo.DOVEADM),)),
     # [MS-PST] 2.2.2.6: dwMagic
-    other(rb"!BDN", "Outlook's pst", "mkdir {copy} && readpst -r -o {copy} {}", "pst-utils"),
+    folder(rb"!BDN", "Outlook's pst", "mkdir {copy} && readpst -r -o {copy} {}", "pst-utils"),
     # libdbx: the magic number, and a class: a folder of messages, or the list of the folders
-    other(rb"\xcf\xad\x12\xfe[\xc5-\xc7]", "Outlook Express's dbx", "mkdir {copy} && undbx {} {copy}"),
+    folder(rb"\xcf\xad\x12\xfe[\xc5-\xc7]", "Outlook Express's dbx", "mkdir {copy} && undbx {} {copy}"),
     # [MS-CFB] 2.2: Header Signature
     other(
         rb"\xd0\xcf\x11\xe0\xa1\xb1\x1a\xe1",
@@ -114,15 +121,15 @@ PACKED = [
     other(rb"\x02\x21\x4c\x18", "compressed by lz4, in its old format", "lz4 -dc <{} >{copy}"),
     other(rb"LZIP\x01", "compressed by lzip", "lzip -dc <{} >{copy}"),
     other(rb"\x89LZO\0\r\n\x1a\n", "compressed by lzop", "lzop -dc <{} >{copy}"),
-    other(rb"PK(?:\x03\x04|\x05\x06|\x07\x08)", "an archive of zip", "unzip {} -d {copy}"),
-    other(rb"7z\xbc\xaf\x27\x1c", "an archive of 7z", "7z x -o{copy} {}", "p7zip-full"),
-    other(rb"Rar!\x1a\x07", "an archive of rar", "unar -D -o {copy} {}"),
-    other(
+    folder(rb"PK(?:\x03\x04|\x05\x06|\x07\x08)", "an archive of zip", "unzip {} -d {copy}"),
+    folder(rb"7z\xbc\xaf\x27\x1c", "an archive of 7z", "7z x -o{copy} {}", "p7zip-full"),
+    folder(rb"Rar!\x1a\x07", "an archive of rar", "unar -D -o {copy} {}"),
+    folder(
         rb"0707(?:01|02|07)[0-7]|\xc7\x71|\x71\xc7",
         "an archive of cpio",
         "mkdir {copy} && cpio -id --no-absolute-filenames -D {copy} <{}",
     ),
-    other(rb".{148}[ 0-7]", "an archive of tar", "mkdir {copy} && tar -xC {copy} <{}", check=is_tar),
+    folder(rb".{148}[ 0-7]", "an archive of tar", "mkdir {copy} && tar -xC {copy} <{}", check=is_tar),
     other(rb"-----BEGIN PGP (?:MESSAGE|SIGNED MESSAGE)", "encrypted or signed by OpenPGP", "gpg -d {} >{copy}"),
     # RFC 4880, 4.2 and 5.1, 5.3, 5.6: a key that is encrypted for a public key or by words, or compressed data
     other(

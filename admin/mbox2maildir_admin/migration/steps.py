@@ -285,7 +285,7 @@ class How:
         """Where the next command puts a file of which it makes a mailbox for a folder of this Maildir."""
         path = opened.mailbox.path
         top = next((name for name in self.names if path != name and is_below(path, name)), b"")
-        where = Where.of(path, top, self.home, may_write)
+        where = Where.of(path, top, self.home, may_write)._replace(wants_file=self.is_labelled)
         # what a symbolic link leads to is outside of what was named
         if (top or path in self.names) and may_write(os.path.dirname(path) or b"."):
             return where

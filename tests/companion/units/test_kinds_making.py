@@ -68,6 +68,18 @@ class MakingTest(unittest.TestCase):
         whole = "d=$(mktemp -d /h/a.XXXXXX) && " + MAKES % "/spool/a" + 'migrate --dry-run M "$d/copy"'
         self.assertEqual(self.typed(dry.next((CUT,), b"/spool/a")), "runuser -u mia -- sh -c '%s'" % whole)
 
+    def test_a_folder_takes_no_place_of_a_file(self) -> None:
+        """Where only a file is migrated, the mailboxes in a folder are printed, and a human names them."""
+        cuts = CUT._replace(is_folder=True)
+        for here in (Where(b"/h"), Where(b"/h", migrate=("migrate", "M"))):
+            answer, says = here._replace(wants_file=True).next((cuts,), b"/o/a b")
+            assert isinstance(answer, Answer) and isinstance(says, Task)
+            whole = "d=$(mktemp -d '/h/a b.XXXXXX') && " + MAKES % "'/o/a b'" + "find \"$d/copy\" -name '*mbox' -type f"
+            self.assertEqual((answer.command.line(), answer.does), (whole, Does.RUN))
+            self.assertEqual(says.sentence(), Todo.NAME_PRINTED.says.format("/o/a b"))
+            self.assertEqual(len(here.next((cuts,), b"/o/a b")), 1)
+            self.assertEqual(here._replace(wants_file=True).next((CUT,), b"/o/a"), here.next((CUT,), b"/o/a"))
+
     def test_where_it_is_put(self) -> None:
         here = os.fsencode(os.getcwd())
         for path, top, closed, aside in (
