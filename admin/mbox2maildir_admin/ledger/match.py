@@ -283,7 +283,7 @@ class Serving:
         for line in self.lines:
             is_mine, one = line.path == self.match.path, line.message
             may_serve = line.state in (State.OPEN, State.DROPPED) and one.bare == bare
-            if not (may_serve or is_mine and line.state is not State.HELD):
+            if not (may_serve or is_mine):
                 continue
             word = one.word if is_mine and one.word != SHARED else word_for_others(one.word)
             if one.name in self.match.present and self.take(word, one.name):
@@ -303,7 +303,7 @@ class Serving:
         if not (self.waiting or self.unfiled):
             return
         match, files = self.match, self.unnamed(bare)
-        held = (one for one in self.lines if one[:2] == (match.path, State.HELD) and one.message.bare == bare)
+        held = (one for one in self.lines if one[:2] == (match.path, State.HELD))
         gone = missing([*unfiled(held, self.is_there), *self.unfiled], collections.Counter({bare: len(files)}))
         match.seen.gone.update(line.path for line in gone if line.path != match.path)
         claimed = claims(self.lines, bare) | collections.Counter(line.message.name for line in self.unfiled)

@@ -168,7 +168,7 @@ class Known:
                 continue
             ledger, is_same = Ledger(folder_path(self.root, folder)), line in same
             cores = cores or cores_of(inventory)
-            if is_same or line.path in ledger.paths() and ledger.is_in(line.path, cores):
+            if is_same or ledger.is_in(line.path, cores):
                 is_moved = is_gone(line) and (is_same or self.is_moved(ledger, line.path))
                 found.append(Elsewhere(line, folder, is_moved))
         return found

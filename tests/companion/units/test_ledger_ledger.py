@@ -377,10 +377,11 @@ class PathsTest(LedgerTest):
     def test_a_mailbox_that_has_no_message_any_more(self) -> None:
         """That is noted once."""
         self.bring(BOX, line_of(ONE))
+        self.bring(OTHER, line_of(ONE, SHARED))
         for _ in range(2):
             Ledger(self.folder).note_empty(BOX, (0, "c" * 64))
             ledger = Ledger(self.folder)
-            self.assertEqual((+ledger.sources[BOX].has(), ledger.last), ({}, 2))
+            self.assertEqual((ledger.sources[BOX].count(), ledger.sources[OTHER].count(), ledger.last), (0, 1, 3))
 
     def test_only_one_begins(self) -> None:
         with mock.patch("fcntl.flock") as lock:

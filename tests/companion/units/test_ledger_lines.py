@@ -258,6 +258,9 @@ class FileTest(LedgerTest):
             (LINES[0], ""),
             (LINES[0] + b"\n", "0" * 32),
             (b"other\n" + LINES[0] + b"\n", ""),
+            # a full disk, or a power cut, has torn what was before it
+            (b"mbox\t\n" + LINES[0] + b"\n", "0" * 32),
+            (b"\0\0\n" + LINES[0] + b"\n", "0" * 32),
         ):
             self.file.write_bytes(text)
             self.file.chmod(0o600)

@@ -134,6 +134,7 @@ OWN = (
     Case("quoted otherwise", has(QUOTED), TWICE, Found()),
     Case("with CRs", has(ONE), ONE.replace(b"hello\n", b"hello\r\n"), Found()),
     Case("it grew by the same", has(ONE), ONE * 3, Found((1, 2), (1, 2))),
+    Case("it grew by one whose file is gone", has(ONE, there=False), ONE * 2, Found((1,), (1,))),
     # what it no longer has is noted, and is new once it has it again
     Case("one is gone from it", has(ONE, TWO), TWO, Found(dropped=1)),
     Case("one of two equal", has(ONE, ONE), ONE, Found(dropped=1)),
@@ -194,6 +195,12 @@ OTHERS = (
         Found((0, 1), (1,), ((0, PLACED),)),
     ),
     Case(
+        "it has as many itself, in another file",
+        both(has(ONE, name="17.host"), has(ONE, path=OTHER)),
+        ONE * 2,
+        Found((1,), (1,)),
+    ),
+    Case(
         "another has one more",
         both(has(ONE), has(ONE, path=OTHER, word=SHARED), has(ONE, path=OTHER, name="17.host")),
         ONE * 2,
@@ -207,6 +214,7 @@ OTHERS = (
     ),
     # where only the cores are equal, it is placed, and counted
     Case("another form", has(QUOTED, path=OTHER), TWICE, Found((0,), (0,), other_form=1)),
+    Case("another form, which is gone", has(QUOTED, path=OTHER, there=False), TWICE, Found((0,), (0,))),
     Case("the same form", has(QUOTED, path=OTHER), QUOTED, Found((0,), (), ((0, SHARED),), 1)),
     # a file that was nobody's stays nobody's
     Case("nobody's, shared", has(ONE, path=OTHER, word=FOREIGN), ONE, Found((0,), (), ((0, FOREIGN),), 1)),
@@ -222,6 +230,12 @@ OTHERS = (
         both(has(ONE, path=OTHER, there=False), has(ONE, ONE, path=OTHER)),
         ONE * 2,
         Found((0, 1), (), ((0, SHARED), (1, SHARED)), 2),
+    ),
+    Case(
+        "a name that another one took twice, and it has",
+        both(has(ONE, path=OTHER, there=False), has(ONE, path=OTHER), has(ONE, word=SHARED)),
+        ONE * 2,
+        Found((1,), (), ((1, SHARED),), 1, 1),
     ),
     # of names that no line can have nothing is known
     Case(
@@ -256,6 +270,12 @@ OTHERS = (
         Found((0,), (), ((0, SHARED),)),
     ),
     Case(
+        "begun by another, and a third one's is gone",
+        both(has(ONE, path=THIRD, name="17.host", there=False), lambda case: case.begins(ONE, path=OTHER, there=1)),
+        ONE,
+        Found((0,), (), ((0, SHARED),), 1, 1),
+    ),
+    Case(
         "begun, as another has it",
         both(has(ONE, path=OTHER), lambda case: case.begin(BOX, line_of(ONE, SHARED))),
         ONE,
@@ -279,6 +299,19 @@ FILES = (
         lambda case: case.place(ONE, named_of(ONE, 3).decode()),
         ONE,
         Found((0,), (), ((0, FOREIGN),), foreign=1),
+    ),
+    Case(
+        "of another number, and it grew",
+        both(has(TWO, there=False), lambda case: case.place(ONE, named_of(ONE, 3).decode())),
+        TWO + ONE,
+        Found((1,), (), ((1, FOREIGN),), foreign=1),
+    ),
+    # the one that it equals has it, whatever form comes first
+    Case(
+        "in another form too, and it grew",
+        both(has(TWO, there=False), has(QUOTED, path=OTHER, there=False), lies(TWICE)),
+        TWO + TWICE.replace(b"\n\n", b"\nStatus: RO\n\n", 1) + TWICE,
+        Found((1, 2), (1,), ((2, FOREIGN),), foreign=1),
     ),
     Case("each counts once", lies(ONE), ONE * 2, Found((0, 1), (1,), ((0, FOREIGN),), foreign=1)),
     # one that was renamed stands for the message whose file is gone
@@ -455,6 +488,13 @@ class OfTest(MatchCase):
         self.has(ONE)
         self.has(ONE, name="17.host", there=False)
         self.assertEqual([one.name for one in self.match(ONE).dropped], [b"17.host"])
+        # another mailbox's line is not its own, nor one that it had before
+        self.make_folder("others")
+        self.has(ONE, name="16.host", there=False)
+        self.bring(BOX, line_of(ONE, LOST, "16.host"))
+        self.has(ONE)
+        self.has(ONE, OTHER, name="17.host", there=False)
+        self.assertEqual([one.name for one in self.match(TWO).dropped], [named_of(ONE)])
 
     def test_whether_anything_is_new(self) -> None:
         self.has(ONE)
@@ -471,6 +511,7 @@ class OfTest(MatchCase):
         match = self.match(ONE + TWO + THREE)
         self.assertEqual((list(match.mine), list(match.need), match.count_new()), ([0, 1, 0], [2], 2))
         self.assertFalse(match.is_known)
+        self.assertFalse(self.match(ONE + TWO).is_known)
         # and what such a run placed in another form is fresh too
         match = self.match(ONE + TWO.replace(b"\n\n", b"\nStatus: O\n\n", 1) + THREE)
         self.assertEqual((match.fresh, list(match.need), sum(match.mine)), ({1}, [2], 0))

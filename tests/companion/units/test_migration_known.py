@@ -89,6 +89,18 @@ class KnownTest(HomeTest):
             lacked = Known(record, Ledger(self.root), opened).lacked()
         self.assertEqual([line.path for line in lacked], [str(self.home / "first")])
 
+    def test_a_copy_of_a_mailbox(self) -> None:
+        """It is not done, and the mailbox keeps its place."""
+        self.bring("box", ONE)
+        path = str(self.box)
+        self.move_box("copy")
+        self.fill(ONE)
+        self.assertFalse(self.done_by())
+        with self.opened() as (opened, record):
+            known = Known(record, Ledger(self.root), opened)
+            known.take_place(inventory_of(ONE), True)
+            self.assertEqual(known.ledger.paths(), [path])
+
     def test_a_mailbox_that_was_begun_and_moved(self) -> None:
         """It is not done."""
         with self.assertRaises(Killed):
@@ -217,6 +229,40 @@ class KnownTest(HomeTest):
             with Record.open(self.root) as record, open_mailbox(self.path) as mailbox:
                 opened = Opened.into(self.root, folder, mailbox)
                 self.assertEqual(Known(record, Ledger(opened.folder), opened).joined(given), paths)
+
+    def test_what_went_elsewhere(self) -> None:
+        """All that a mailbox had which is gone from beside it, or which had its bytes."""
+
+        def lose(old: Path) -> None:
+            old.unlink()
+            (self.maildir / ".X" / os.fsdecode(LEDGER)).unlink()
+
+        def kill(old: Path) -> None:
+            old.unlink()
+            self.assertRaises(Killed, self.migrate, Cut(1))
+
+        cases: list[tuple[str, str, bytes, Callable[[Path], object], list[bool]]] = [
+            ("box", "X", ONE + TWO, Path.unlink, [False]),
+            ("box", "X", ONE + TWO, lambda old: old.rename(self.box), [True]),
+            ("box", "X", ONE + TWO, lose, []),
+            ("box", "X", TWO, Path.unlink, []),
+            ("old/box", "X", ONE + TWO, Path.unlink, []),
+            ("box", "X", ONE, lose, [True]),
+            ("box", "X", ONE, kill, [True]),
+            ("box", "INBOX", ONE, Path.unlink, []),
+        ]
+        for number, (name, folder, text, change, are_moved) in enumerate(cases):
+            self.make_home(f"home-{number}")
+            (self.home / "old").mkdir()
+            self.bring(name, ONE, folder)
+            old = self.box
+            self.move_box("second")
+            self.fill(text)
+            change(old)
+            self.fill(text)
+            with self.opened() as (opened, record):
+                found = Known(record, Ledger(self.root), opened).elsewhere(inventory_of(text))
+            self.assertEqual([one.is_moved for one in found], are_moved, number)
 
     def test_where_it_went_before(self) -> None:
         """Only a mailbox that is gone was moved, wherever it was. Another one may be at its place by now."""

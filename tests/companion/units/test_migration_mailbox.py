@@ -220,6 +220,25 @@ class OneMailboxTest(BecomesTest):
         self.assertEqual((parent.want_room.call_count, parent.write.call_count, program.alive), (1, 1, 7))
         self.assertEqual(self.words(), [])
 
+    def test_whether_a_quiet_minute_is_waited_for(self) -> None:
+        """Not if it is known already that nothing is migrated."""
+        self.fill(ONE)
+        whys = Left("no", Reason.NO_FOLDER)
+        for how, why, is_quiet in ((How(), None, True), (How(now=True), None, False), (How(), whys, False)):
+            opened = mock.patch("mbox2maildir_admin.migration.mailbox.open_mailbox", side_effect=OSError(errno.EIO, ""))
+            with Record.open(self.root, False) as record, opened as opens:
+                Migration(Function(), self.root, record, how).run(self.path, b".", why=why)
+            self.assertIs(opens.call_args.kwargs["quiet"], is_quiet)
+
+    def test_a_reason_why_nothing_is_prepared(self) -> None:
+        """It counts though all was prepared before."""
+        self.fill(ONE)
+        self.migrate(prepare=True)
+        with Record.open(self.root) as record:
+            for why, fate in ((None, Fate.PREPARED), (Left("no", Reason.NO_FOLDER), Fate.LEFT)):
+                migration = Migration(Function(), self.root, record, How(prepare=True))
+                self.assertIs(migration.run(self.path, b".", why=why).row.fate, fate)
+
     def test_done_before(self) -> None:
         self.fill(ONE)
         self.became(Fate.DONE, messages=1)

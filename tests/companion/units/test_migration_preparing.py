@@ -421,6 +421,13 @@ class KilledTest(PreparingTest):
         self.assertIs(self.finish(ONE).reason, Reason.PREPARED)
         self.assertEqual(self.names(), names)
 
+    def test_again_takes_nothing_back(self) -> None:
+        """What is there stays."""
+        self.prepare(ONE)
+        self.killed(ONE + TWO)
+        self.finish(again=True)
+        self.assertEqual(self.words(), ["prepared", "begun", "begun", "done"])
+
     def test_it_was_done_but_for_its_list(self) -> None:
         self.prepare(ONE)
         with mock.patch("mbox2maildir_admin.migration.converting.drop_list", side_effect=Killed):
@@ -446,7 +453,8 @@ class RestoredTest(PreparingTest):
                 if is_lost:
                     (self.maildir / "mbox2maildir-messages").unlink(missing_ok=True)
                 self.migrate(**options)
-                self.assertTrue(is_lost or self.prepared_list().exists() == ("dry" in options), options)
+                # without a ledger nothing shows that all of it is mail
+                self.assertIs(self.prepared_list().exists(), is_lost or "dry" in options, options)
                 self.fill(TWO + THREE)
                 self.migrate(**options)
                 names = {name.partition("/")[2] for name in self.names()}
