@@ -43,6 +43,12 @@ def jobs_of(asked: Optional[int], count: int) -> int:
     return jobs
 
 
+def share_of(jobs: int, count: int, place: int) -> int:
+    """How many of these jobs the one at a place has, if `count` are at work at the same time. What is left over goes to
+    the first ones, which are the largest."""
+    return jobs // count + (place < jobs % count)
+
+
 def groups_of(folders: Sequence[bytes]) -> list[Places]:
     """The mailboxes of a plan in groups, by their places. Mailboxes of one folder are in one group, since they must
     follow one another; one that goes nowhere is a group of its own."""

@@ -8,7 +8,7 @@ from typing import AbstractSet, NamedTuple, Optional
 
 from .. import ADMIN
 from ..faults import Fault, Left, Reason
-from ..jobs.count import MOST, jobs_of
+from ..jobs.count import MOST, jobs_of, share_of
 from ..migration.outcomes import Fate, Observer, Row, row_left
 from ..migration.servers import locations
 from ..migration.steps import Options
@@ -63,13 +63,13 @@ def migrate_users(
     jobs = reporter.at_once = jobs_of(options.jobs, MOST)
     users, others = users_of(spool, asked, reporter, tally, jobs > 1)
     reporter.total = len(users) + len(others)
-    # if there are fewer users than jobs, several folders of each user are at work
-    options = replace(options, jobs=max(1, jobs // max(1, len(users))))
     # only one process at a time can be at work for an account
-    for found, at_once in ((users, jobs), (others, 1)):
+    for found, at_once in ((users, min(jobs, len(users))), (others, min(1, len(others)))):
         with Crew(at_once, reporter, functools.partial(report_ended, reporter)) as crew:
-            for one in found:
+            for place, one in enumerate(found):
                 reporter.begin()
+                # if there are fewer users than jobs, several folders of a user are at work
+                options = replace(options, jobs=share_of(jobs, at_once, place))
                 crew.add(one.whose(kind), one.account, *one.migrant(kind, spool.home, options, program).of_child())
                 if crew.is_asked:
                     break

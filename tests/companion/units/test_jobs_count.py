@@ -5,7 +5,7 @@ from typing import Optional
 from unittest import mock
 
 from mbox2maildir_admin.jobs import count as module
-from mbox2maildir_admin.jobs.count import NEED, groups_of, jobs_for, jobs_of
+from mbox2maildir_admin.jobs.count import NEED, groups_of, jobs_for, jobs_of, share_of
 
 from tests.support.units import printed
 
@@ -17,6 +17,15 @@ class NumberTest(unittest.TestCase):
     def test_no_more_than_memory_allows(self) -> None:
         rows = [(8 * NEED, 8), (8 * NEED - 1, 7), (2 * NEED, 2), (NEED, 1), (0, 1)]
         self.assertEqual([jobs_for(40, free) for free, _ in rows], [jobs for _, jobs in rows])
+
+
+class ShareTest(unittest.TestCase):
+    def test_all_jobs_are_shared(self) -> None:
+        rows = [(1, [1]), (2, [2]), (8, [3, 3, 2]), (9, [3, 3, 3])]
+        for jobs, shares in rows:
+            self.assertEqual([share_of(jobs, len(shares), place) for place in range(len(shares))], shares)
+        # whoever begins later takes the place of one that has ended
+        self.assertEqual([share_of(3, 3, place) for place in range(5)], [1] * 5)
 
 
 class JobsTest(unittest.TestCase):

@@ -138,6 +138,13 @@ class MigrateTest(FolderTest):
         self.crew.add.reset_mock()
         self.assertEqual([name for name, _ in self.migrate(None, jobs=1)], ["ann", "mia"])
 
+    def test_jobs_that_no_user_needs_go_to_the_largest(self) -> None:
+        make(self.here, {"ann": b"a", "mia": b"more"})
+        for jobs, shares in ((1, [1, 1]), (2, [1, 1]), (3, [2, 1]), (5, [3, 2])):
+            self.crew.add.reset_mock()
+            self.migrate(None, jobs=jobs)
+            self.assertEqual([self.migrant_of(task).options.jobs for task in self.tasks()], shares)
+
     def test_an_account_of_the_system(self) -> None:
         make(self.here, {"daemon": b"", "mia": b""})
         self.assertEqual(self.migrate(None), [("mia", self.here + b"/mia")])
