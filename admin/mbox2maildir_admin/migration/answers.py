@@ -1,9 +1,9 @@
 """What the record notes of a mailbox besides steps: answers of a human, and files without mail."""
 from typing import Optional
 
-from ..ledger.history import Key, Note
+from ..ledger.history import Entry, Key, Note
 from ..ledger.ledger import Ledger
-from ..ledger.record import Record
+from ..ledger.record import Record, unspelled
 from ..maildir.folders import INBOX
 from ..mbox.mailbox import Mailbox
 from ..nexts import Remark
@@ -35,11 +35,18 @@ def note_answer(record: Record, opened: Opened, plan: Plan) -> None:
         record.add(Note.ANSWERED, Key(name, *mailbox.key()), plan.messages, mailbox.path, plan.answer.words())
 
 
+def answers_for(record: Record, opened: Opened) -> list[Entry]:
+    """The answers that were noted for a mailbox, first those for the path from which its folder was prepared."""
+    prepared, path = record.prepared(opened.name), opened.mailbox.path
+    paths = dict.fromkeys([unspelled(prepared.path), path] if prepared else [path])
+    return [entry for one in paths for entry in record.noting(Note.ANSWERED, opened.name, one)]
+
+
 def answer_to(record: Record, opened: Opened, question: Question) -> Optional[Reading]:
     """The last answer that was noted to what is asked about a mailbox, for its lines as they are now."""
     tie = question.tied(UNDECIDED).of
     lines = {Line(number): line for number, line in enumerate(question.doubtful, 1)}
-    for entry in reversed(record.noting(Note.ANSWERED, opened.name, opened.mailbox.path)):
+    for entry in reversed(answers_for(record, opened)):
         answer = Reading.of_words(entry.plan)
         names = answer.text | answer.begin
         is_whole = answer == answer.decided and (answer.word or answer.drop and not names)

@@ -76,3 +76,24 @@ class AnswersTest(HomeTest):
         # another such line is another question
         self.fill(DOUBTFUL + ONE + DOUBTFUL.replace(b"here on", b"there"))
         self.assertIs(self.migrate().fate, Fate.LEFT)
+
+    def test_an_answer_of_a_first_pass_holds_where_the_mailbox_is_on_the_day(self) -> None:
+        """It got mail since, and stands elsewhere."""
+        self.fill(DOUBTFUL)
+        self.assertIs(self.migrate(prepare=True).fate, Fate.LEFT)
+        self.assertIs(self.migrate(prepare=True, decision=Reading("unquoted")).fate, Fate.PREPARED)
+        self.box.unlink()
+        self.move_box("box.old")
+        self.fill(DOUBTFUL + ONE)
+        row = self.migrate()
+        self.assertEqual((row.fate, row.remarks[0].says), (Fate.DONE, "as it was answered before"))
+
+    def test_an_answer_of_the_day_holds(self) -> None:
+        self.fill(DOUBTFUL)
+        with self.opened() as (opened, record):
+            record.add(Note.PREPARED, Key(b".", *opened.mailbox.key()), 1, b"/box", "mboxrd")
+            with self.assertRaises(Question) as raised:
+                plan_of(opened.mailbox)
+            answer = raised.exception.tied(Reading("unquoted"))
+            note_answer(record, opened, Plan("", 1, answer=answer))
+            self.assertEqual(answer_to(record, opened, raised.exception), answer)
