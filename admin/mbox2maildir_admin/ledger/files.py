@@ -1,7 +1,7 @@
 """The files of a folder, as far as they may stand for the messages of a text."""
 import collections
 import os
-from collections.abc import Container, Iterator, Sequence
+from collections.abc import Callable, Container, Iterator, Sequence
 from typing import Optional
 
 from ..faults import Fault
@@ -11,7 +11,15 @@ from ..mbox.core import Core
 from ..mbox.files import BLOCK, open_file
 from ..mbox.inventory import Inventory
 from ..units import Say, silent
-from .ledger import Hides, hides_none
+
+# tells whether a file of this name, without its info, counts for nothing
+Hides = Callable[[bytes], bool]
+
+
+def hides_none(name: bytes) -> bool:
+    """Each file counts."""
+    del name
+    return False
 
 
 class Files:

@@ -12,14 +12,15 @@ was undone.
 import collections
 import copy
 import os
-from collections.abc import Callable, Container, Iterable, Iterator, Mapping
+from collections.abc import Container, Iterable, Iterator, Mapping
 from typing import Optional
 
 from ..maildir.files import names_of
-from ..maildir.making import LEDGER, sync_folder
+from ..maildir.making import LEDGER, SyncNames, sync_folder
 from ..mbox.bases import before_info
 from ..terminal import is_text
 from .batches import Batch, Line, Lines, Source, State
+from .files import Hides, hides_none
 from .lines import (
     ALL_PLACED,
     BATCH,
@@ -42,16 +43,6 @@ from .lines import (
 )
 
 
-# tells whether a file of this name, without its info, counts for nothing
-Hides = Callable[[bytes], bool]
-
-
-def hides_none(name: bytes) -> bool:
-    """Each file counts."""
-    del name
-    return False
-
-
 class Ledger:
     """What mailboxes brought into a folder, by their paths as the record spells them."""
 
@@ -59,7 +50,7 @@ class Ledger:
         """Reads the ledger of a folder, which need not exist. Batches with these numbers count as ended, with these
         sums of names: this run has verified them, and their disk is not synced yet. Raises Fault if others may have
         written to it."""
-        self.folder, self.path = folder, os.path.join(folder, LEDGER)
+        self.folder, self.is_made = folder, False
         self.number, self.size, self.last = "", 0, 0
         self.sources: dict[str, Source] = {}
         # the batches without an end, by their numbers in their order, and the one whose lines follow
@@ -288,9 +279,18 @@ class Ledger:
                 named = zip(several.words, several.names)
                 yield from (name for word, name in named if word in PLACED + SHARED and name != NAMELESS)
 
+    def make(self, sync: SyncNames = sync_folder) -> None:
+        """Makes its file, unless that has been done. `sync` syncs its name, which is on the disk before its lines."""
+        if not (self.is_made or self.ended):
+            # if it is there, a run may have been killed before its name was on the disk
+            append(self.folder, [], sync=False)
+            sync(self.folder)
+            self.is_made = True
+
     def begin(self, head: Head, messages: Iterable[Brought]) -> int:
         """Begins a batch, and returns its number. It is on the disk then. Raises Fault if that fails, or if
         another process has begun one since the ledger was read."""
+        self.make()
         number, first = self.last + 1, head.line(self.last + 1)
 
         def lines() -> Iterator[bytes]:
@@ -308,9 +308,6 @@ class Ledger:
 
         # its lines are known up to here
         self.size = append(self.folder, lines(), since=self.size)
-        if not self.ended:
-            # a run may have been killed before the name of the file was on the disk
-            sync_folder(self.folder)
         return number
 
     def note_empty(self, path: str, key: tuple[int, str]) -> None:
@@ -346,12 +343,13 @@ class Ledger:
 
     def forget_all(self) -> None:
         """Forgets all lines."""
-        self.number, self.size, self.last, self.damage = "", 0, 0, None
+        self.number, self.size, self.last, self.damage, self.is_made = "", 0, 0, None, False
         self.sources, self.open, self.ended, self.undone, self.batch = {}, {}, {}, {}, None
 
     def put_aside(self) -> None:
         """Begins anew. What is damaged stays beside it."""
-        os.rename(self.path, self.path + b".damaged")
+        path = os.path.join(self.folder, LEDGER)
+        os.rename(path, path + b".damaged")
         self.forget_all()
 
 

@@ -13,7 +13,7 @@ from collections.abc import Callable, Container, Iterator
 from typing import NamedTuple, Optional
 
 from ..faults import PlaceFault, Reason
-from ..maildir.making import RECORD, has_begun, sync_folder
+from ..maildir.making import RECORD, SyncNames, has_begun, sync_folder, synced_once
 from ..maildir.roots import make_alone
 from ..mbox.mailbox import is_still
 from ..terminal import named, spelled
@@ -103,8 +103,9 @@ class Record(History):
         """Whether its file is open."""
         return self._number is not None
 
-    def take_file(self, make: bool) -> None:
-        """Opens its file if it exists, and reads it. With `make` it also makes and locks it."""
+    def take_file(self, make: bool, sync: SyncNames = sync_folder) -> None:
+        """Opens its file if it exists, and reads it. With `make` it also makes and locks it, and `sync` syncs its
+        name."""
         self._number = open_record(self.path, make)
         if not self.is_open:
             return
@@ -113,25 +114,35 @@ class Record(History):
         if make:
             self.lock(self.maildir)
         self.read()
-        if make:
-            sync_folder(self.maildir)
+        if make and not self.size:
+            # no line is written before the name of the file is on the disk, and a run may have been killed before that
+            sync(self.maildir)
 
-    def make(self) -> None:
-        """Makes the Maildir and its file, if that has not been done, and writes the lines that waited for it. Raises
-        Fault if another `migrate` has made them meanwhile."""
-        if self.is_open:
-            return
-        make_alone(self.maildir)
+    def make(self, *more: Callable[[SyncNames], object]) -> None:
+        """Makes the Maildir and its file, if that has not been done, and more by functions that take what syncs the
+        names. All names are on the disk then, and the lines that waited for the file. Raises Fault if another `migrate`
+        has made them meanwhile."""
+        was_open = self.is_open
         try:
-            self.take_file(True)
-            if self.size:
-                raise PlaceFault(MADE_MEANWHILE % named(self.maildir), Reason.LOCKED)
+            with synced_once() as sync:
+                if not self.is_open:
+                    self.make_file(sync)
+                for make in more:
+                    make(sync)
         except BaseException:
-            self.close()
+            if not was_open:
+                self.close()
             raise
         waiting, self.waiting = self.waiting, []
         if waiting:
             self.store(*waiting)
+
+    def make_file(self, sync: SyncNames) -> None:
+        """Makes the Maildir and its file. Raises Fault if another `migrate` has made them meanwhile."""
+        make_alone(self.maildir, sync)
+        self.take_file(True, sync)
+        if self.size:
+            raise PlaceFault(MADE_MEANWHILE % named(self.maildir), Reason.LOCKED)
 
     def close(self) -> None:
         """Closes its file, if that is open."""

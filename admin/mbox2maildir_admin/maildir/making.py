@@ -1,6 +1,8 @@
 """A Maildir, or a folder of one: what may become one, and how it is made if it is missing."""
+import contextlib
 import os
 import stat
+from collections.abc import Callable, Iterator
 from typing import Optional
 
 from ..faults import PlaceFault, Reason
@@ -20,6 +22,9 @@ ENVELOPES = b"mbox2maildir-envelopes.gz"
 PREPARED = b"mbox2maildir-prepared"
 # and what is going to be appended to its mailbox
 GOES_BACK = b"mbox2maildir-back"
+
+# syncs the names in a folder to the disk, or sees to it that somebody does
+SyncNames = Callable[[bytes], object]
 
 
 def want_maildir(maildir: bytes) -> None:
@@ -64,8 +69,27 @@ def why_not_own(state: os.stat_result) -> Optional[str]:
     return None if state.st_uid == os.geteuid() else "it belongs to another user"
 
 
-def make_maildir(folder: bytes, is_root: bool) -> None:
-    """Makes a Maildir, or a folder of one with its mark, if it is missing. Its names are on the disk then."""
+def sync_folder(path: bytes) -> None:
+    """Syncs the names in a folder to the disk."""
+    number = os.open(path, os.O_RDONLY | os.O_DIRECTORY | os.O_CLOEXEC)
+    try:
+        os.fsync(number)
+    finally:
+        os.close(number)
+
+
+@contextlib.contextmanager
+def synced_once() -> Iterator[SyncNames]:
+    """Gives what takes the folders in which names are made meanwhile, and syncs each of them once in the end."""
+    folders: dict[bytes, None] = {}
+    yield lambda folder: folders.setdefault(os.path.abspath(folder))
+    for folder in folders:
+        sync_folder(folder)
+
+
+def make_maildir(folder: bytes, is_root: bool, sync: SyncNames = sync_folder) -> None:
+    """Makes a Maildir, or a folder of one with its mark, if it is missing. Its names are on the disk then, if `sync`
+    does that."""
     made = make(folder)
     for sub in SUBFOLDERS:
         made = make(os.path.join(folder, sub)) or made
@@ -77,8 +101,8 @@ def make_maildir(folder: bytes, is_root: bool) -> None:
         except FileExistsError:
             pass
     if made:
-        sync_folder(folder)
-        sync_folder(os.path.dirname(os.path.abspath(folder)))
+        sync(folder)
+        sync(os.path.dirname(os.path.abspath(folder)))
 
 
 def make(folder: bytes) -> bool:
@@ -88,12 +112,3 @@ def make(folder: bytes) -> bool:
         return True
     except FileExistsError:
         return False
-
-
-def sync_folder(path: bytes) -> None:
-    """Syncs the names in a folder to the disk."""
-    number = os.open(path, os.O_RDONLY | os.O_DIRECTORY | os.O_CLOEXEC)
-    try:
-        os.fsync(number)
-    finally:
-        os.close(number)

@@ -8,7 +8,7 @@ from .. import ADMIN
 from ..faults import PlaceFault, Reason
 from ..nexts import Answer, Command, Todo, task
 from ..terminal import named
-from .making import SUBFOLDERS, make_maildir
+from .making import SUBFOLDERS, SyncNames, make_maildir, sync_folder
 
 REPLACED = "%s: %s could replace the Maildir by a symbolic link"
 OTHERS_WRITE = stat.S_IWGRP | stat.S_IWOTH
@@ -46,13 +46,14 @@ def replaced(folder: bytes, who: str) -> PlaceFault:
     return PlaceFault(REPLACED % (named(folder), who), Reason.NOT_OWN, task(Todo.OTHER_PLACE))
 
 
-def make_alone(maildir: bytes) -> None:
-    """Makes a Maildir if it is missing. As root, raises Fault if others can put another folder in its place."""
+def make_alone(maildir: bytes, sync: SyncNames = sync_folder) -> None:
+    """Makes a Maildir if it is missing. As root, raises Fault if others can put another folder in its place. `sync`
+    syncs its names."""
     is_roots = os.geteuid() == 0
     if is_roots:
         # a mailbox was read since it was looked at, which may take long
         want_roots_alone(maildir)
-    make_maildir(maildir, True)
+    make_maildir(maildir, True, sync)
     if is_roots:
         # what others have made there first is not a folder of root's
         want_roots_alone(maildir)

@@ -19,6 +19,7 @@ from ..ledger.strangers import folders_in
 from ..maildir import files
 from ..maildir.checking import first_of
 from ..maildir.folders import INBOX, folder_path
+from ..maildir.making import LEDGER
 from ..mbox.bases import own_base_in
 from ..mbox.files import BLOCK, open_file, read_up_to
 from ..nexts import Remark
@@ -130,7 +131,7 @@ def touched_in(record: Record, one: Done) -> Iterator[bytes]:
     for name in names_in(folder):
         if name.startswith(b"dovecot") and not Dovecot(record).is_own_in(one.name, folder, name):
             yield os.path.join(folder, name)
-    noted, is_same = os.stat(one.ledger.path).st_mtime_ns, has_same_names(one.ledger)
+    noted, is_same = os.stat(os.path.join(folder, LEDGER)).st_mtime_ns, has_same_names(one.ledger)
     for name, path in files.names_of(folder):
         is_ours = placed.table.place_of(own_base_in(name)) is not None
         is_read = not is_ours and os.path.basename(os.path.dirname(path)) == b"cur"

@@ -14,8 +14,9 @@ from dataclasses import replace
 from typing import Optional
 
 from ..faults import Left, Reason
+from ..ledger.files import hides_none
 from ..ledger.history import Note
-from ..ledger.ledger import Ledger, hides_none
+from ..ledger.ledger import Ledger
 from ..ledger.match import Match
 from ..ledger.placing import Placing
 from ..ledger.prepared import Prepared

@@ -12,7 +12,7 @@ from ..flags.renaming import add_flags
 from ..kinds.making import Where, is_below
 from ..labels.choosing import Choosing
 from ..maildir.folders import INBOX, folder_path, words_of
-from ..maildir.making import make_maildir
+from ..maildir.making import SyncNames, make_maildir, sync_folder
 from ..mbox.files import LONG
 from ..mbox.inventory import Inventory
 from ..mbox.mailbox import Mailbox
@@ -39,9 +39,9 @@ class Opened(NamedTuple):
         """A mailbox that goes into the folder of this name in a Maildir."""
         return cls(mailbox, name, folder_path(root, name))
 
-    def make_folder(self) -> None:
-        """Makes the folder if it is missing."""
-        make_maildir(self.folder, self.name == INBOX)
+    def make_folder(self, sync: SyncNames = sync_folder) -> None:
+        """Makes the folder if it is missing. `sync` syncs its names."""
+        make_maildir(self.folder, self.name == INBOX, sync)
 
     def has_changed(self, text: Mailbox) -> bool:
         """Whether the mailbox, or the text that stands for it, has changed since it was looked at."""

@@ -179,7 +179,7 @@ class Transfer:
         """The same, but raises what keeps the mailbox from being done. One without mail only gets its folder."""
         if not choice.plan.messages:
             if not self.how.dry:
-                self.make_folder()
+                self.record.make(self.opened.make_folder)
                 self.remarks += note_empty(self.record, self.opened, self.ledger, self.path)
                 note_answer(self.record, self.opened, choice.plan)
             return self.row(choice.plan)
@@ -215,11 +215,6 @@ class Transfer:
         mailbox, fate = self.opened.mailbox, Fate.WOULD if self.how.dry else Fate.DONE
         row = Row(mailbox.path, self.opened.name, plan.kind, plan.messages, fate, size=mailbox.size)
         return replace(row, remarks=(*plan.remarks, *self.remarks), next=then)
-
-    def make_folder(self) -> None:
-        """Makes the Maildir of a mailbox, and its folder there, if they are missing."""
-        self.record.make()
-        self.opened.make_folder()
 
     def want_ended(self) -> None:
         """Raises Left if an undo was interrupted, or if a sync failed."""
@@ -332,7 +327,7 @@ class Transfer:
 
     def begin(self, contents: Contents, placing: Placing, back: int) -> Verified:
         """Notes in the ledger and in the record what is going to be brought."""
-        self.make_folder()
+        self.record.make(self.opened.make_folder, self.ledger.make)
         keep_new(self.how, self.opened, contents)
         opened, mailbox, match = self.opened, self.opened.mailbox, placing.match
         key, times, inode = mailbox.key(), times_of(opened.folder), mailbox.state.st_ino

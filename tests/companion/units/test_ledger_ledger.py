@@ -1,5 +1,6 @@
 """The ledger of a folder: when its lines count, what a mailbox has brought, and what damages it."""
 import fcntl
+import os
 import unittest
 from collections import Counter
 from collections.abc import Iterator
@@ -476,17 +477,16 @@ class PathsTest(LedgerTest):
         self.assertEqual(list(Ledger(self.folder).names()), [named_of(ONE), b"17.host"])
 
     def test_what_is_begun_is_on_the_disk(self) -> None:
-        """So is the name of a new ledger, also if the run that made it was killed before that."""
-        calls: list[object] = []
-        fsync = mock.patch("os.fsync", lambda _: calls.append("file"))
-        with fsync, mock.patch("mbox2maildir_admin.ledger.ledger.sync_folder", calls.append):
+        """So is the name of a new ledger, before its lines, also if the run that made it was killed before that."""
+        calls: list[bytes] = []
+        with mock.patch("os.fsync", lambda number: calls.append(os.readlink(b"/proc/self/fd/%d" % number))):
             for _ in range(2):
                 number = self.begin(BOX, line_of(ONE))
-                self.assertEqual(calls, ["file", self.folder])
+                self.assertEqual(calls, [os.path.realpath(self.folder), bytes(self.file.resolve())])
                 calls.clear()
             note_end(self.folder, number)
             self.begin(BOX, line_of(TWO))
-        self.assertEqual(calls, ["file", "file"])
+        self.assertEqual(calls, [bytes(self.file.resolve())] * 2)
 
     def test_it_is_on_the_disk_before_it_is_known(self) -> None:
         self.bring(BOX, line_of(ONE))

@@ -139,6 +139,19 @@ class RecordTest(FolderTest):
                 self.assertEqual(list(record.noted(Note.NO_MAIL, b".", b"/box")), [self.KEY])
             shutil.rmtree(self.here + b"/M", ignore_errors=True)
 
+    def test_names_that_could_not_be_synced(self) -> None:
+        """The next mailbox has them synced again."""
+        with Record.to_migrate(self.here + b"/M", False) as record:
+            with patch("os.fsync", side_effect=OSError(5, "no disk")):
+                self.assertRaises(OSError, record.make)
+            self.assertFalse(record.is_open)
+            with patch("os.fsync") as sync:
+                record.make()
+            self.assertEqual((record.is_open, sync.call_count), (True, 1))
+            # what else cannot be made closes no record that was open
+            self.assertRaises(ZeroDivisionError, record.make, lambda sync: 1 // 0)
+            self.assertTrue(record.is_open)
+
     def test_a_part_of_a_maildir_is_completed_at_once(self) -> None:
         for dry, names in ((True, ["cur"]), (False, ["cur", RECORD.decode(), "new", "tmp"])):
             os.makedirs(self.here + b"/cur", exist_ok=True)

@@ -4,7 +4,6 @@ import unittest
 from unittest import mock
 
 from mbox2maildir_admin.faults import PlaceFault
-from mbox2maildir_admin.maildir import making
 from mbox2maildir_admin.maildir.making import RECORD, make_maildir, want_maildir, want_own
 from mbox2maildir_admin.nexts import run_next
 
@@ -20,9 +19,9 @@ class MakingTest(unittest.TestCase):
 
     def synced(self, is_root: bool) -> list[bytes]:
         """The folders that are synced when a Maildir is made."""
-        with mock.patch.object(making, "sync_folder") as sync:
-            make_maildir(self.maildir, is_root)
-        return [call[0][0] for call in sync.call_args_list]
+        synced: list[bytes] = []
+        make_maildir(self.maildir, is_root, synced.append)
+        return synced
 
     def test_it_is_made_once_and_is_on_the_disk_then(self) -> None:
         self.assertEqual(self.synced(True), [self.maildir, self.here])

@@ -10,6 +10,7 @@ from mbox2maildir_admin.flags.dovecot_list import rename
 from mbox2maildir_admin.flags.renaming import add_flags
 from mbox2maildir_admin.ledger.history import Note, Step
 from mbox2maildir_admin.ledger.record import Record
+from mbox2maildir_admin.maildir import syncing
 from mbox2maildir_admin.maildir.folders import INBOX
 from mbox2maildir_admin.maildir.making import make_maildir
 from mbox2maildir_admin.mbox.inventory import Inventory
@@ -19,40 +20,81 @@ from mbox2maildir_admin.readings.copies import Copy
 from mbox2maildir_admin.units import Offset
 
 from tests.support.mail import ONE, TWO, bodies_of
-from tests.support.migrating import key_of
+from tests.support.migrating import HomeTest, key_of
 from tests.support.units import FolderTest, base_of, make, source_of
 
 
+@contextlib.contextmanager
+def told_in(folder: bytes) -> Iterator[list[str]]:
+    """What is synced, linked, renamed, removed and written meanwhile, in its order, each by its path in a folder."""
+    calls: list[str] = []
+    here = os.path.realpath(os.fsdecode(folder))
+
+    def name_of(of: Any) -> str:
+        path = os.readlink("/proc/self/fd/%d" % of) if isinstance(of, int) else os.fsdecode(of)
+        # a file without a name has a number instead
+        return os.path.relpath(path, here).split("#")[0]
+
+    def telling(what: str, does: Callable[..., Any], which: int) -> Callable[..., Any]:
+        def tell(*words: Any, **named: Any) -> Any:
+            calls.append("%s %s" % (what, name_of(words[which])))
+            return does(*words, **named)
+
+        return tell
+
+    with contextlib.ExitStack() as stack:
+        for word, of, name, which in (
+            ("sync", os, "fsync", 0),
+            ("sync the disk of", syncing, "sync_disk", 0),
+            ("link", os, "link", 1),
+            ("rename", os, "rename", 1),
+            ("remove", os, "unlink", 0),
+            ("write", os, "write", 0),
+        ):
+            stack.enter_context(mock.patch.object(of, name, telling(word, getattr(of, name), which)))
+        yield calls
+
+
+class MailboxTest(HomeTest):
+    """All syncs of a mailbox whose messages are placed by a program that syncs nothing."""
+
+    BATCH = ["write M/mbox2maildir-messages", "sync M/mbox2maildir-messages"]
+    STEP = ["write M/mbox2maildir-record", "sync M/mbox2maildir-record"]
+    PLACED = ["write M/mbox2maildir-messages", "sync the disk of M"]
+
+    def told(self, **options: Any) -> list[str]:
+        """What a run does, besides placing a message."""
+        with told_in(os.fsencode(str(self.home))) as calls:
+            self.migrate(now=True, **options)
+        return [call for call in calls if not call.startswith("rename")]
+
+    def test_a_new_maildir(self) -> None:
+        """All names are on the disk, each folder synced once, before the first line of a file is written."""
+        self.fill(ONE)
+        names = ["sync M", "sync ."]
+        self.assertEqual(self.told(), names + self.BATCH + self.STEP + self.PLACED + self.BATCH + self.STEP)
+
+    def test_what_is_done(self) -> None:
+        """Nothing is synced for a mailbox that is done, and no name for what is new in it."""
+        self.fill(ONE)
+        self.told()
+        self.assertEqual(self.told(), [])
+        self.fill(ONE + TWO)
+        self.assertEqual(self.told(), self.BATCH + self.STEP + self.PLACED + self.BATCH + self.STEP)
+
+    def test_another_folder(self) -> None:
+        """Its name is on the disk before the record has it."""
+        self.fill(ONE)
+        self.told()
+        told = [call.replace("M/.a/mbox2", "M/mbox2") for call in self.told(folder="a")]
+        placed = [call.replace("M", "M/.a") if "disk" in call else call for call in self.PLACED]
+        self.assertEqual(told, ["sync M/.a", "sync M"] + self.BATCH + self.STEP + placed + self.BATCH + self.STEP)
+
+
 class SyncsTest(FolderTest):
-    @contextlib.contextmanager
-    def told(self) -> Iterator[list[str]]:
-        """What is synced, linked, renamed, removed and written meanwhile, in its order, each by its path in the
-        folder."""
-        calls: list[str] = []
-        here = os.path.realpath(os.fsdecode(self.here))
-
-        def name_of(of: Any) -> str:
-            path = os.readlink("/proc/self/fd/%d" % of) if isinstance(of, int) else os.fsdecode(of)
-            # a file without a name has a number instead
-            return os.path.relpath(path, here).split("#")[0]
-
-        def telling(what: str, does: Callable[..., Any], which: int) -> Callable[..., Any]:
-            def tell(*words: Any, **named: Any) -> Any:
-                calls.append("%s %s" % (what, name_of(words[which])))
-                return does(*words, **named)
-
-            return tell
-
-        with contextlib.ExitStack() as stack:
-            for word, name, which in (
-                ("sync", "fsync", 0),
-                ("link", "link", 1),
-                ("rename", "rename", 1),
-                ("remove", "unlink", 0),
-                ("write", "write", 0),
-            ):
-                stack.enter_context(mock.patch.object(os, name, telling(word, getattr(os, name), which)))
-            yield calls
+    def told(self) -> "contextlib.AbstractContextManager[list[str]]":
+        """What is done meanwhile, each by its path in the folder."""
+        return told_in(self.here)
 
     def test_the_record(self) -> None:
         with self.told() as calls, Record.open(self.here) as record:
