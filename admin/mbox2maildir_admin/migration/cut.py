@@ -53,7 +53,8 @@ def names_of_no_line(ledger: Ledger, path: str, match: Match, since: int) -> set
 
 def want_none_cut(names: set[bytes], one: Bringing, match: Match) -> None:
     """Raises Left if the file of one of these names holds the beginning of a new message, whoever has rewritten it."""
-    found = (path for name, path in names_of(one.opened.folder) if before_info(name) in names)
+    listed = names_of(one.opened.folder) if names else ()
+    found = (path for name, path in listed if before_info(name) in names)
     paths = {beginning_in(path): path for path in found}
     text, inventory = one.contents.text, one.contents.inventory
     mine = (place for place, is_mine in enumerate(match.mine) if is_mine)
