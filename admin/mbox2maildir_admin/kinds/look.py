@@ -88,7 +88,7 @@ class Look:
             return False
         header = rest[: rest.find(b"\n\n") + 1].lower()
         is_odd = may_hold_mail(from_line) or GIT.match(from_line) or any(map(header.__contains__, LOOKED_AT))
-        return not is_odd and FIELD.match(header) is not None and is_dated(from_line)
+        return not is_odd and FIELD.match(header, 0, LONG) is not None and is_dated(from_line)
 
     def plain(self, mark: Part) -> None:
         """Takes such a message."""

@@ -4,6 +4,7 @@ import unittest
 from unittest import mock
 
 from mbox2maildir_admin.kinds.look import Look
+from mbox2maildir_admin.mbox.files import LONG
 from mbox2maildir_admin.mbox.headers import Header
 from mbox2maildir_admin.mbox.lines import Said
 from mbox2maildir_admin.units import Line, Offset
@@ -27,6 +28,7 @@ ODD = (
     B.replace(b"boris@", b"boris\0@", 1) + HI,
     *(B + b"\nhi%s\n\n" % rest for rest in (b"\r\nyou", b"\n>From me", b" " + A)),
     *(B.splitlines(True)[0] + rest for rest in (b"hello\n\n", HI, b"\n", b"", b"Subject: x\n")),
+    B.splitlines(True)[0] + b"X" * LONG + b": the name of a field that is too long\n" + HI,
     *(B.replace(b"\n", b"\r\n") + HI, INTERNAL),
     b"From %s Mon Sep 17 00:00:00 2001\nSubject: x\n" % (b"a" * 40) + HI,
 )
