@@ -6,6 +6,7 @@ from collections.abc import Iterable
 from mbox2maildir_admin.ledger.ledger import Ledger
 from mbox2maildir_admin.ledger.lines import LOST, PLACED, SHARED
 from mbox2maildir_admin.ledger.placing import Placing, part_of
+from mbox2maildir_admin.mbox.bases import base_in
 
 from tests.support.brought import BOX, OTHER, LedgerTest, body_of, inventory_of, line_of, named_of
 from tests.support.mail import ONE, THREE, TWO, digest_of
@@ -145,6 +146,10 @@ class PlacingTest(LedgerTest):
         whole = placing.part(placing.places())
         names = [named_of(ONE), named_of(TWO, 2), named_of(THREE)]
         self.assertEqual([whole.table.name(place) for place in range(3)], names)
+        self.assertEqual([placing.base(place) for place in range(3)], [base_in(name) for name in names])
+        # or if each has the name that it has in the text
+        part = self.placing(ONE, THREE).part([1])
+        self.assertEqual((len(part), part.table.name(0)), (1, named_of(THREE)))
 
     def test_the_whole_with_the_files_that_stand_for_it(self) -> None:
         """Files of other programs have no base that could stand there, and no base stands there twice."""
@@ -162,6 +167,15 @@ class PlacingTest(LedgerTest):
         self.place(FOUR)
         table = self.placing(FOUR, FOUR).whole().table
         self.assertEqual(len({table.name(place) for place in range(2)}), 2)
+
+    def test_the_whole_with_other_names_or_with_other_files(self) -> None:
+        self.takes(TWO, 1)
+        table = self.placing(ONE, TWO).whole().table
+        self.assertEqual([table.name(place) for place in range(2)], [named_of(ONE), named_of(TWO, 2)])
+        self.make_folder("other")
+        self.place(TWO, named_of(TWO, 3).decode())
+        table = self.placing(ONE, TWO).whole().table
+        self.assertEqual([table.name(place) for place in range(2)], [named_of(ONE), named_of(TWO, 3)])
 
     def test_the_part_that_a_killed_run_has_placed(self) -> None:
         """It has the name that its file got, though the mailbox was read since."""

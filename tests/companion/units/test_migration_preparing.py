@@ -428,6 +428,14 @@ class KilledTest(PreparingTest):
         self.finish(again=True)
         self.assertEqual(self.words(), ["prepared", "begun", "begun", "done"])
 
+    def test_where_the_ledger_is_damaged_nothing_is_taken_back(self) -> None:
+        self.prepare(ONE)
+        names = self.killed(ONE + TWO)
+        with (self.maildir / "mbox2maildir-messages").open("ab") as file:
+            file.write(b"damage\n")
+        self.assertIs(self.finish(THREE).reason, Reason.LEDGER)
+        self.assertEqual(self.names(), names)
+
     def test_it_was_done_but_for_its_list(self) -> None:
         self.prepare(ONE)
         with mock.patch("mbox2maildir_admin.migration.converting.drop_list", side_effect=Killed):

@@ -3,7 +3,7 @@ import unittest
 from collections import Counter
 
 from mbox2maildir_admin.ledger.ledger import Ledger
-from mbox2maildir_admin.ledger.lines import LOST, SHARED, Brought, note_end
+from mbox2maildir_admin.ledger.lines import FOREIGN, LOST, NAMELESS, SHARED, Brought, note_end
 from mbox2maildir_admin.undoing.shares import Shares, placings
 
 from tests.support.brought import BOX, OTHER, THIRD, LedgerTest, line_of, named_of
@@ -52,6 +52,38 @@ class SharesTest(LedgerTest):
         self.assertEqual((found.bases, found.kept, found.handed), (set(), {BOX: 2}, {BOX: [(SECOND, SECOND)]}))
         self.assertEqual((found.renamed, found.gone), (0, 1))
 
+    def test_other_files_of_a_message_that_was_deleted(self) -> None:
+        """None is that of its name: one has a line, one a name of this program, and one is a link."""
+        self.placed(THIRD, line_of(ONE, FOREIGN, "17.host"), need=0)
+        self.place(ONE, "17.host:2,S", "cur")
+        self.place(ONE, named_of(ONE, 3).decode())
+        (self.maildir / "cur" / "18.host").symlink_to("17.host:2,S")
+        found = self.shares(OTHER)
+        self.assertEqual((found.bases, found.kept, found.handed), (set(), {BOX: 2}, {BOX: [(SECOND, SECOND)]}))
+
+    def test_two_mailboxes_without_their_files(self) -> None:
+        """Each gets one, and the third one goes."""
+        self.make_folder("two")
+        for path, name in ((BOX, "17.host"), (OTHER, "18.host")):
+            self.placed(path, line_of(TWO, name=name), need=1)
+        names = [named_of(TWO, count).decode() for count in (1, 2, 3)]
+        self.placed(THIRD, *(line_of(TWO, name=name) for name in names), need=3)
+        for name in names:
+            self.place(TWO, name)
+        found = Shares(Ledger(self.folder), THIRD, Counter({line_of(TWO).core: 3}), False)
+        self.assertEqual((len(found.bases), found.kept), (1, {BOX: 1, OTHER: 1}))
+
+    def test_files_that_are_gone(self) -> None:
+        """That of nobody is not kept, and none is handed to another mailbox that lacks its own."""
+        self.placed(THIRD, line_of(TWO, FOREIGN), need=0)
+        found = Shares(Ledger(self.folder), THIRD, Counter({line_of(TWO).core: 1}), False)
+        self.assertEqual((found.foreign, found.gone), (0, 1))
+        self.make_folder("placed")
+        self.placed(OTHER, line_of(TWO, name="17.host"), need=1)
+        self.placed(THIRD, line_of(TWO), need=1)
+        found = Shares(Ledger(self.folder), THIRD, Counter({line_of(TWO).core: 1}), False)
+        self.assertEqual((len(found.bases), found.kept), (1, {}))
+
     def test_the_first_of_them(self) -> None:
         """Neither file is its own alone: one is shared, and the other one was placed since."""
         found = self.shares(BOX, 2)
@@ -80,6 +112,10 @@ class SharesTest(LedgerTest):
         self.placed(BOX, *(one._replace(word=LOST) for one in (FIRST, SECOND)), need=0)
         found = self.shares(OTHER)
         self.assertEqual((found.bases, found.former), ({self.base(2)}, 1))
+        # unless it is gone
+        (self.maildir / "new" / named_of(ONE).decode()).unlink()
+        found = self.shares(OTHER)
+        self.assertEqual((found.bases, found.former), ({self.base(1), self.base(2)}, 0))
 
     def test_what_a_killed_run_of_another_mailbox_has(self) -> None:
         self.placed(THIRD, line_of(TWO), need=1)
@@ -87,6 +123,20 @@ class SharesTest(LedgerTest):
         self.begin(OTHER, line_of(TWO, SHARED))
         found = Shares(Ledger(self.folder), THIRD, Counter({line_of(TWO).core: 1}), False)
         self.assertEqual((found.bases, found.kept), (set(), {OTHER: 1}))
+
+    def test_what_a_killed_run_of_another_mailbox_had_once(self) -> None:
+        """Its next run was done without it, so the file is nobody else's."""
+        self.begin(OTHER, line_of(TWO), need=1)
+        self.placed(OTHER, need=0)
+        self.placed(THIRD, line_of(TWO, SHARED), need=0)
+        self.place(TWO)
+        found = Shares(Ledger(self.folder), THIRD, Counter({line_of(TWO).core: 1}), False)
+        self.assertEqual((len(found.bases), found.former), (1, 0))
+
+    def test_a_file_whose_name_no_line_can_have(self) -> None:
+        self.placed(THIRD, line_of(TWO, FOREIGN, NAMELESS.decode()), need=0)
+        found = Shares(Ledger(self.folder), THIRD, Counter({line_of(TWO).core: 1}), False)
+        self.assertEqual((found.foreign, found.gone, found.renamed), (1, 0, 0))
 
     def test_a_mailbox_without_the_message(self) -> None:
         """What it no longer has stays, and what is gone is counted as that."""
