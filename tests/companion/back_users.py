@@ -135,13 +135,14 @@ def went_back(home: Path) -> None:
 def as_objects(home: Path) -> None:
     """What --json prints, and what --report wrote, follows the schema."""
     out = run([*WORDS[:2], "--json", *WORDS[2:], "m61one", "m61two"], home)[1]
-    rows = [json.loads(line) for line in out.splitlines()]
-    rows += [json.loads(line) for line in (home / "report-back").read_text(encoding="utf-8").splitlines()]
+    printed = [json.loads(line) for line in out.splitlines()]
+    rows = printed + [json.loads(line) for line in (home / "report-back").read_text(encoding="utf-8").splitlines()]
     equal("what is wrong by the schema", [wrong(row) for row in rows], [[]] * len(rows))
     sums = [row for row in rows if row["type"] == "sum"]
     equal("what is next, and for whom", [one["user"] for one in sums[0]["next"]], ["m61one", "m61two"])
     equal("what the report has", (sums[1]["verdicts"]["back"], len(sums[1]["next"])), (4, 3))
-    given = [(row["user"], row["path"], row["folder"]) for row in rows if row["type"] == "row"][:2]
+    # the rows of two users who are at work at the same time come in any order
+    given = [(row["user"], row["path"], row["folder"]) for row in printed if row["type"] == "row"]
     equal("a row", ("m61one", "", "INBOX") in given, True)
 
 
