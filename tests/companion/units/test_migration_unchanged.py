@@ -172,6 +172,16 @@ class UnchangedTest(PreparingTest):
         self.prepare(ONE + TWO)
         with mock.patch("mbox2maildir_admin.migration.mailbox.snapshot", side_effect=AssertionError("read")):
             self.assertRaises(AssertionError, self.prepare, decision=Reading("mboxo"))
+            self.assertRaises(AssertionError, self.prepare, dovecot=True)
+
+    def test_a_first_pass_reads_another_mailbox(self) -> None:
+        """Even if it is the same file."""
+        self.fill(ONE + TWO)
+        os.link(self.box, self.home / "other")
+        self.prepare()
+        self.move_box("other")
+        with mock.patch("mbox2maildir_admin.migration.mailbox.snapshot", side_effect=AssertionError("read")):
+            self.assertRaises(AssertionError, self.prepare)
 
     def test_a_first_pass_notes_the_new_state(self) -> None:
         """A mailbox whose times changed is read once more, and not parsed; the next pass does not open it."""
@@ -232,9 +242,12 @@ class ChangedTest(PreparingTest):
                 self.assertRaises(AssertionError, self.finish)
 
     def test_what_is_decided_on_the_day_counts(self) -> None:
-        self.prepare(ONE + TWO)
-        with mock.patch("mbox2maildir_admin.mbox.inventory.Inventory.of", side_effect=AssertionError("parsed")):
-            self.assertRaises(AssertionError, self.finish, decision=Reading("mboxrd"))
+        several: list[dict[str, Any]] = [{"decision": Reading("mboxrd")}, {"again": True}, {"again_rewritten": True}]
+        for options in several:
+            self.make_home("home-%s" % "".join(options))
+            self.prepare(ONE + TWO)
+            with mock.patch("mbox2maildir_admin.mbox.inventory.Inventory.of", side_effect=AssertionError("parsed")):
+                self.assertRaises(AssertionError, self.finish, **options)
 
     def test_what_a_copy_is_made_of_is_read(self) -> None:
         """Lines that have to be quoted, and an answer of a human."""

@@ -9,9 +9,10 @@ from typing import Any, NamedTuple
 from unittest import mock
 
 from mbox2maildir_admin.faults import Reason
+from mbox2maildir_admin.ledger.history import Entry, Step
 from mbox2maildir_admin.ledger.ledger import Ledger
 from mbox2maildir_admin.ledger.record import Record
-from mbox2maildir_admin.maildir.making import LEDGER
+from mbox2maildir_admin.maildir.making import LEDGER, RECORD
 from mbox2maildir_admin.migration.outcomes import Fate, Row
 from mbox2maildir_admin.migration.several import run_all
 from mbox2maildir_admin.migration.steps import Options
@@ -454,6 +455,38 @@ class RefusedTest(UndoTest):
 
 class BrokenOffTest(UndoTest):
     """An undo that ends early: the same words go on with it, and nothing else does."""
+
+    def test_killed_before_the_record_has_it(self) -> None:
+        """The ledger has it no more, and the record says that an undo has begun."""
+        add, kept = Record.add_after, self.maildir / LEDGER.decode()
+
+        def cut(record: Record, entry: Entry, step: Step, *paths: bytes) -> None:
+            if step is Step.UNDONE:
+                raise Killed
+            add(record, entry, step, *paths)
+
+        self.place_all(self.box, text=ONE)
+        with mock.patch.object(Record, "add_after", cut), self.assertRaises(Killed):
+            self.undo()
+        self.assertIs(self.undo().fate, Fate.UNDONE)
+        self.assertEqual(self.words()[-1], "undone")
+        # without that, a ledger that is gone shows no file
+        self.place_all(self.box)
+        kept.unlink()
+        self.refused(NOT_RECORDED)
+
+    def test_a_record_that_is_lost(self) -> None:
+        """The ledger suffices."""
+        self.place_all(self.box, text=ONE)
+        (self.maildir / RECORD.decode()).unlink()
+        self.assertEqual((self.undo().fate, self.mail()), (Fate.UNDONE, []))
+
+    def test_whether_a_quiet_minute_is_waited_for(self) -> None:
+        self.place_all(self.box, text=ONE)
+        for now in (False, True):
+            with mock.patch.object(undoing, "open_mailbox", side_effect=OSError(errno.EIO, "no")) as opens:
+                self.undo(now=now)
+            self.assertIs(opens.call_args.kwargs["quiet"], not now)
 
     def test_killed_at_each_removal(self) -> None:
         text = ONE + TWO + THREE + FOUR
