@@ -258,6 +258,16 @@ class BackTest(BackHome):
         self.deliver(".sent")
         self.assertEqual([self.back()[0].remarks[-1].stands for _ in range(3)], [1, 1, 1])
 
+    def test_a_mailbox_to_which_nothing_goes(self) -> None:
+        """It is opened for its numbers alone, if it is there."""
+        box = self.write_box("mail/sent", ONE)
+        self.migrate_all("mail")
+        next((self.maildir / ".sent/new").iterdir()).unlink()
+        with mock.patch.object(returning, "open_mailbox", side_effect=AssertionError):
+            self.assertEqual([row.fate for row in self.back()], [Fate.NOTHING_NEW])
+            box.unlink()
+            self.assertEqual([row.fate for row in self.back(dovecot=True)], [Fate.NOTHING_NEW])
+
     def test_what_stands_in_a_mailbox_that_was_moved(self) -> None:
         """The ledger has it by another path."""
         self.write_box("mail/sent", ONE + TWO)

@@ -481,6 +481,14 @@ class BrokenOffTest(UndoTest):
         (self.maildir / RECORD.decode()).unlink()
         self.assertEqual((self.undo().fate, self.mail()), (Fate.UNDONE, []))
 
+    def test_one_folder_of_two(self) -> None:
+        """What is known of the other one stays."""
+        self.place_all(self.box, text=ONE)
+        self.place_all(self.box, folder="X")
+        self.assertIs(self.undo(folder=b".").fate, Fate.UNDONE)
+        with Record.open(self.root) as record:
+            self.assertEqual(record.folders_of(self.path), [b".X"])
+
     def test_whether_a_quiet_minute_is_waited_for(self) -> None:
         self.place_all(self.box, text=ONE)
         for now in (False, True):
