@@ -13,6 +13,7 @@ from typing import Any
 from unittest import mock
 
 from mbox2maildir_admin.mbox.mailbox import Mailbox
+from mbox2maildir_admin.progress import of_this_run
 
 from tests.support.homes import fresh_folder
 
@@ -107,7 +108,8 @@ class Printed:
 
 @contextlib.contextmanager
 def printed() -> Iterator[Printed]:
-    """Takes what is printed."""
+    """Takes what is printed: no line of progress of tasks that earlier tests began a minute ago."""
+    of_this_run.cache_clear()
     caught = Printed()
     with mock.patch.object(sys, "stdout", caught.streams[0]), mock.patch.object(sys, "stderr", caught.streams[1]):
         yield caught

@@ -158,6 +158,12 @@ class CommandsTest(FolderTest):
             self.assertEqual({doing.rstrip("0123456789") for _, doing, *_ in told}, words)
             self.assertEqual({task for task, *_ in told}, {Task(box.decode())} if words else set())
 
+    def test_a_minute_of_earlier_tests_does_not_count(self) -> None:
+        progress.of_this_run().next_minute = 0
+        with printed() as caught:
+            progress.say_of(b"box")("reading")
+        self.assertEqual(caught.err, [])
+
 
 class BeatTest(unittest.TestCase):
     def test_what_is_passed_on(self) -> None:
