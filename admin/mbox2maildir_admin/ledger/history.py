@@ -135,8 +135,9 @@ class History:
         self._undone: collections.defaultdict[str, dict[str, int]] = collections.defaultdict(dict)
         # the mailbox that a folder was prepared from last, until something of the folder is done
         self._prepared: dict[bytes, Entry] = {}
-        # whether anything was ever prepared
+        # whether anything was ever prepared, and the paths from which folders were prepared last
         self.has_prepared = False
+        self.prepared_at: dict[bytes, str] = {}
         # by what they note and their folder, in their order
         self._notes: collections.defaultdict[tuple[Note, bytes], list[Entry]] = collections.defaultdict(list)
 
@@ -164,6 +165,7 @@ class History:
             self._notes[entry.what, folder].append(entry)
         if entry.what is Note.PREPARED:
             self._prepared[folder], self.has_prepared = entry, True
+            self.prepared_at[folder] = entry.path
         elif entry.what in (Note.UNPREPARED, Step.DONE):
             self._prepared.pop(folder, None)
         if entry.what in (Note.PREPARED, Note.UNPREPARED):

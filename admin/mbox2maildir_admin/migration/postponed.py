@@ -72,11 +72,13 @@ def done_in(root: bytes) -> Iterator[Done]:
             yield Done(name_of(root, folder), ledger, ())
 
 
-def concerned(done: Sequence[Done], went: Mapping[bytes, Sequence[bytes]], trees: Trees) -> Iterator[Done]:
+def concerned(
+    record: Record, done: Sequence[Done], went: Mapping[bytes, Sequence[bytes]], trees: Trees
+) -> Iterator[Done]:
     """Those of these folders into which mailboxes go, and those of mailboxes that were in these trees and are gone."""
     for one in done:
         paths = list(map(unspelled, one.ledger.paths()))
-        now = [path_now(path, trees) for path in paths]
+        now = [path_now(record, one.name, path, trees) for path in paths]
         if one.name in went or all(now) and not any(os.path.lexists(path) for path in [*paths, *now]):
             yield one._replace(mailboxes=went.get(one.name, ()), path=now[0])
 
@@ -93,9 +95,12 @@ def trees_of(done: Sequence[Done], went: Mapping[bytes, Sequence[bytes]], names:
     return trees
 
 
-def path_now(path: bytes, trees: Trees) -> bytes:
-    """The path that a mailbox has in its tree now; empty if it was in none."""
-    return next((now + path[len(then) :] for then, now in trees.items() if path.startswith(then + b"/")), b"")
+def path_now(record: Record, folder: bytes, path: bytes, trees: Trees) -> bytes:
+    """The path that the mailbox of a folder has in its tree now, or from which the folder was prepared; empty if it was
+    in none of these trees."""
+    paths = path, unspelled(record.prepared_at.get(folder, ""))
+    moved = ((one, then, now) for one in paths for then, now in trees.items())
+    return next((now + one[len(then) :] for one, then, now in moved if one.startswith(then + b"/")), b"")
 
 
 def want_untouched(record: Record, done: Sequence[Done]) -> None:
@@ -209,7 +214,7 @@ def postponed_rows(
         went[planned.folder].append(planned.target or planned.path)
     found = list(done_in(root))
     trees = trees_of(found, went, names)
-    done = [one for one in concerned(found, went, trees) if not has_failed(record, one.name)]
+    done = [one for one in concerned(record, found, went, trees) if not has_failed(record, one.name)]
     want_untouched(record, done)
     for one in done:
         if not one.mailboxes:
@@ -230,7 +235,7 @@ def rows_without_mail(
     Yields the rows of those whose mailboxes are gone."""
     for line in record.empty():
         name, path = line.key.folder, unspelled(line.path)
-        now = path_now(path, trees)
+        now = path_now(record, name, path, trees)
         folder, is_gone = folder_path(root, name), bool(now) and not (os.path.lexists(path) or os.path.lexists(now))
         prepared, ledger = Prepared.read(folder), Ledger(folder)
         is_used, is_there = name == INBOX or prepared.is_there or bool(ledger.paths()), os.path.lexists(folder)

@@ -228,7 +228,8 @@ def remarks_on(counts: Counts, shares: Shares, dry: bool) -> Iterator[Remark]:
     """What is said of the messages that the mailbox brought."""
     removed, left = ("would remove %s", "would keep %s ") if dry else ("removed %s", "kept %s ")
     yield Remark("removed", removed % counted(counts.removed, "message"))
-    paths = [named(unspelled(path)) for path, _ in shares.kept.most_common()]
+    # a run that was killed may have changed the order in which mailboxes were begun
+    paths = [named(unspelled(path)) for path in sorted(shares.kept, key=lambda one: (-shares.kept[one], one))]
     others = "".join(paths[:1]) + (" and %d more" % (len(paths) - 1) if len(paths) > 1 else "")
     for word, count, says in (
         ("kept-shared", sum(shares.kept.values()), "that %s %s too" % (others, "have" if len(paths) > 1 else "has")),

@@ -448,3 +448,16 @@ class GoneTest(PostponedTest):
         self.assertEqual(sorted(fate.value for fate in fates), ["prepared", "prepared", "undone"])
         self.migrate_tree("tree", now=True, gone=True)
         self.assertEqual([path.name for path in self.maildir.glob(".*")], [".a"])
+
+    def test_the_only_mailbox_of_a_tree_that_was_moved_is_renamed(self) -> None:
+        """First passes had prepared its folder from where the tree stands again."""
+        (self.home / "tree").mkdir()
+        (self.home / "tree" / "b").write_bytes(ONE)
+        self.migrate_tree("tree", prepare=True)
+        (self.home / "tree").rename(self.home / "tree.old")
+        self.migrate_tree("tree.old", now=True)
+        (self.home / "tree.old").rename(self.home / "tree")
+        (self.home / "tree" / "b").rename(self.home / "tree" / "a")
+        self.migrate_tree("tree", prepare=True, postponed=True)
+        self.migrate_tree("tree", now=True, gone=True)
+        self.assertEqual([path.name for path in self.maildir.glob(".*")], [".a"])

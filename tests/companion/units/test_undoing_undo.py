@@ -315,6 +315,14 @@ class OthersTest(UndoTest):
             self.undone("removed 0 messages; kept 1 message that %s has too" % keeps, BODIES[ONE], path=first)
             self.undone("removed 1 message", path=then)
 
+    def test_the_name_of_those_that_have_as_many(self) -> None:
+        """It is not that of the mailbox that was begun first."""
+        self.place_all(self.box, text=ONE + TWO)
+        for path, text in ((self.other, ONE), (self.home / "another", TWO)):
+            self.place_all(path, text=text)
+        says = "would remove 0 messages; would keep 2 messages that %s and 1 more have too" % (self.home / "another")
+        self.assertEqual(told(self.undo(dry=True)), says)
+
     def test_one_of_equal_ones_is_handed_over(self) -> None:
         """The other mailbox has one message, whose file was deleted: it keeps a file of this one, and its undo removes
         that."""
