@@ -103,8 +103,12 @@ class FileTest(FolderTest):
 
     def test_files_of_others(self) -> None:
         keep(self.here, ONE, "mboxrd", "/old/one", [A])
-        self.file.chmod(0o620)
-        self.assertRaisesRegex(PlaceFault, "others may write to it", has_kept, self.here, TWO)
+        for mode in (0o620, 0o602, 0o622):
+            self.file.chmod(mode)
+            self.assertRaisesRegex(PlaceFault, "others may write to it", has_kept, self.here, TWO)
+        self.file.chmod(0o600)
+        with mock.patch("os.geteuid", return_value=os.geteuid() + 7):
+            self.assertRaisesRegex(PlaceFault, "it does not belong to you", has_kept, self.here, TWO)
         self.file.unlink()
         os.mkfifo(self.file)
         self.assertRaisesRegex(PlaceFault, "it does not belong to you", has_kept, self.here, TWO)

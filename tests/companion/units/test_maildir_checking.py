@@ -54,6 +54,11 @@ class CheckTest(unittest.TestCase):
             check = self.check({**HOMES, double: ONE})
             self.assertEqual((check.count(State.THERE), len(check.doubles), check.is_right()), (3, 1, False), double)
 
+    def test_what_equal_messages_of_another_mailbox_have(self) -> None:
+        """A run placed them, so they are no second copies, whatever else is there."""
+        check = self.check({**HOMES, "cur/%s:2,F" % base_of(ONE, 3): ONE, "new/" + base_of(TWO, 2): TWO})
+        self.assertEqual((check.count(State.THERE), check.doubles, check.is_right()), (3, [], True))
+
     def test_other_mail_of_the_same_size(self) -> None:
         homes = {name: text for name, text in HOMES.items() if text == ONE}
         for other in ("cur/1.host:2,", "cur/" + base_of(b"mix\n")):
