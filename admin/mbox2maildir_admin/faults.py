@@ -48,8 +48,8 @@ class Reason(Phrase):
     )
     PACKED = (
         "packed",
-        "It is compressed or in UTF-16, and is incomplete or damaged, or holds more than 100 times its size, or the "
-        "program that unpacks it is missing.",
+        "It is compressed or in UTF-16, and cannot be unpacked: it is incomplete or damaged, it holds more than 100 "
+        "times its size, or the program that unpacks it is missing.",
     )
     COPY = "copy", "Another file stands beside it, and one of them may be a copy of the other."
     LEFT_BEHIND = "left-behind", "An interrupted command left it behind."
@@ -112,7 +112,7 @@ class Reason(Phrase):
     # what is wrong with the Maildir or its record
     NO_MAILDIR = (
         "no-maildir",
-        "The Maildir, or the folder above it, is missing or something else, or the Maildir has no record.",
+        "The Maildir, or the folder above it, is missing or is not what it should be, or the Maildir has no record.",
     )
     RECORD = "record", "The record cannot be read, written or locked, or others may write to it."
     # what is wrong with a user: the name, what the spool has under it, the home, the process
