@@ -68,7 +68,7 @@ class Does(Phrase):
         "this stores the messages that are nowhere: it brings back mail that was deleted, and doubles mail that was "
         "changed",
     )
-    ADD_KEYWORDS = "add-keywords", "once Dovecot has its old settings, run this"
+    ADD_KEYWORDS = "add-keywords", "once Dovecot runs with its old settings, run this"
     # the owner makes it and migrates it; the file itself stays where only root may write
     MAKE_ELSEWHERE = "make-elsewhere", "run this next"
 

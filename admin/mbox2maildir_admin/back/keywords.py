@@ -2,6 +2,8 @@
 the first message names it. Those that have no room there, Dovecot adds by commands, once it serves the mailbox."""
 import collections
 import itertools
+import os
+import pwd
 from collections.abc import Iterable, Sequence
 from typing import Optional
 
@@ -74,8 +76,16 @@ def commands_for(wanted: dict[bytes, list[int]], mailbox: str) -> Next:
     several = []
     for name, uids in wanted.items():
         words = [*["--"] * name.startswith(b"-"), text_of(name), "mailbox", mailbox, "uid", ranges_of(uids)]
-        several.append(Answer(Command.of("doveadm", "flags", "add", *words), Does.ADD_KEYWORDS))
+        several.append(Answer(Command.of("doveadm", "flags", "add", *of_this_user(), *words), Does.ADD_KEYWORDS))
     return tuple(several)
+
+
+def of_this_user() -> list[str]:
+    """The option by which a command of doveadm concerns whoever runs this: 2.4 looks up no user without it."""
+    try:
+        return ["-u", pwd.getpwuid(os.geteuid()).pw_name]
+    except KeyError:
+        return []
 
 
 def ranges_of(uids: Iterable[int]) -> str:

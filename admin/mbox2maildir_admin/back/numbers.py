@@ -19,7 +19,7 @@ from ..migration.steps import Opened
 from ..nexts import NOTHING, Next, Remark, run_next
 from ..units import Place
 from .base import Base
-from .keywords import NO_BASE, Keywords, commands_for
+from .keywords import NO_BASE, Keywords, commands_for, of_this_user
 from .listed import Listed
 from .mails import Mail
 from .places import name_in
@@ -117,7 +117,7 @@ class Numbering:
             more += ["--uid-validity", str(wanted.validity)]
         if more and not has_room:
             self.remarks = [Remark("uids-not-raised", NOT_RAISED)]
-            self.next = run_next("doveadm", "mailbox", "update", *more, self.name)
+            self.next = run_next("doveadm", "mailbox", "update", *of_this_user(), *more, self.name)
 
     def lack(self, mails: Sequence[Mail]) -> None:
         """Takes messages that went back, the last one last, if any of them lacks a keyword."""

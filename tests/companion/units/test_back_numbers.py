@@ -269,18 +269,24 @@ class NumberingTest(FolderTest):
         files = [Mail(b".", name, b"", core, 0) for name, core in pairs]
         found = its.uids(files, [(b"c", 2), (b"d", 3), (b"c", 4), (b"c", 5)])
         self.assertEqual(found, {b"-x": [3, 5], b"Garden": [3, 4]})
-        lines = [*lines_below((), keywords.commands_for(found, "a b"))][1::2]
+        with mock.patch("pwd.getpwuid", return_value=mock.Mock(pw_name="mia")):
+            lines = [*lines_below((), keywords.commands_for(found, "a b"))][1::2]
         self.assertEqual(lines, [
-            COMMAND + "doveadm flags add -- -x mailbox 'a b' uid 3,5",
-            COMMAND + "doveadm flags add Garden mailbox 'a b' uid 3:4",
+            COMMAND + "doveadm flags add -u mia -- -x mailbox 'a b' uid 3,5",
+            COMMAND + "doveadm flags add -u mia Garden mailbox 'a b' uid 3:4",
         ])  # fmt: skip
+
+    def test_nobody_has_this_number(self) -> None:
+        with mock.patch("pwd.getpwuid", side_effect=KeyError):
+            self.assertEqual(keywords.of_this_user(), [])
 
     def test_no_room_for_the_next_uid(self) -> None:
         text = FROM + b"X-IMAPbase: 1700000000 9\nX-UID: 9\n\nx\n"
-        numbering, now = self.prepared(text, Listed(1700000000, 12, {b"1.a": 10}, {}), True, b"1.a")
+        with mock.patch("pwd.getpwuid", return_value=mock.Mock(pw_name="mia")):
+            numbering, now = self.prepared(text, Listed(1700000000, 12, {b"1.a": 10}, {}), True, b"1.a")
         self.assertEqual((now, self.words(numbering)), (text, ["uids-not-raised"]))
         command = numbering.next[0].command  # type: ignore[union-attr]
-        self.assertEqual(command.words, ("doveadm", "mailbox", "update", "--min-next-uid", "12", "a"))
+        self.assertEqual(command.words, ("doveadm", "mailbox", "update", "-u", "mia", "--min-next-uid", "12", "a"))
         self.assertEqual(self.fields(numbering, b"1.a"), [(b"1.a", [b"X-UID: 10"])])
 
 
@@ -367,7 +373,9 @@ class WayTest(BackHome):
         self.deliver(".b", b"Subject: b\n\nb\n", name="1.b").rename(self.maildir / ".b/cur/1.b:2,a")
         self.listed(".b", b"3 V1700000000 N9\n5 :1.a\n8 :1.b\n")
         (self.maildir / ".b/dovecot-keywords").write_bytes(b"0 later\n")
-        wanted = [("doveadm", "flags", "add", "later", "mailbox", "Gr\xfc\xdfe", "uid", "5,8")]
+        wanted = [
+            ("doveadm", "flags", "add", *keywords.of_this_user(), "later", "mailbox", "Gr\xfc\xdfe", "uid", "5,8")
+        ]
         for what in ("it goes back", "it is back"):
             dry = self.back(dry=True, dovecot=True)[0]
             row = self.back(dovecot=True)[0]
