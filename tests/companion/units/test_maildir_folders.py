@@ -10,6 +10,7 @@ from mbox2maildir_admin.maildir.folders import (
     name_before,
     on_disk,
     why_no_folder,
+    without_utf7,
     words_of,
 )
 
@@ -38,6 +39,10 @@ class NamesTest(unittest.TestCase):
             ("2004.gz.mboxrd", "2004"),
         ):
             self.assertEqual(folder_of_place(path), name)
+
+    def test_names_as_a_human_writes_them(self) -> None:
+        for name in ("Entwürfe", "Отправленные", "迷惑メール", "R&D", "lists"):
+            self.assertEqual(without_utf7(folder_of_place(name)), name)
 
     def test_places_of_other_programs(self) -> None:
         profile = "abcd1234.default-release/"
