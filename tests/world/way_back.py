@@ -192,9 +192,9 @@ class Trip:
         return [words for words in map(shlex.split, commands_in(says)) if words[0] == "doveadm"]
 
     def add(self, commands: Sequence[Sequence[str]]) -> None:
-        """Runs commands for Dovecot, as those of the user."""
-        for _, noun, verb, *words in commands:
-            ran = self.server.doveadm(noun, verb, "-u", self.case.name, *words)
+        """Runs commands for Dovecot, which knows the user by another name than the system."""
+        for _, noun, verb, option, _, *words in commands:
+            ran = self.server.doveadm(noun, verb, option, self.case.name, *words)
             if ran.returncode:
                 raise Failed(f"{noun} {verb} {words}: {ran.stderr.decode()}")
 
