@@ -80,11 +80,11 @@ class Placing:
         """The lines of the batch, in the order in which messages are placed."""
         match, inventory = self.match, self.inventory
         yield from (one._replace(word=LOST) for one in match.dropped)
+        for place in sorted(match.found):
+            yield match.found[place]
         for place, is_mine in enumerate(match.mine):
             if is_mine:
                 yield Brought(PLACED, inventory.table.name(place), inventory.core(place), inventory.bare(place))
-        for place in sorted(match.found):
-            yield match.found[place]
         for place in match.need:
             yield Brought(PLACED, self.name(place), inventory.core(place), inventory.bare(place))
 

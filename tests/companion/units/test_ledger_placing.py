@@ -106,7 +106,8 @@ class PlacingTest(LedgerTest):
             self.assertEqual([name[:64].decode() for name in names], [digest_of(body_of(text[one])) for one in need])
 
     def test_the_lines_of_a_batch(self) -> None:
-        """What it no longer has comes first, then what is there, and last what is placed, in that order."""
+        """What it no longer has comes first, then what is there and what the run or a killed one places, as one run would
+        have them: of equal messages the next mailbox takes that which comes first."""
         self.bring(BOX, line_of(THREE))
         self.bring(OTHER, line_of(FOUR))
         self.begin(BOX, line_of(TWO), need=1)
@@ -114,8 +115,8 @@ class PlacingTest(LedgerTest):
         placing = self.placing(ONE, TWO, FOUR, ONE)
         wanted = [
             line_of(THREE, LOST),
-            line_of(TWO),
             line_of(FOUR, SHARED),
+            line_of(TWO),
             line_of(ONE),
             line_of(ONE, PLACED, named_of(ONE, 2).decode()),
         ]

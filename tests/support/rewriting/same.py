@@ -58,6 +58,8 @@ class Twice(Several):
         # the Maildir of the commands; and the mail that was delivered there, by its place
         self.into = self.maildir.name
         self.mail = {}  # type: dict[str, bytes]
+        # the folders of the mailboxes that are left, also by one `migrate`: what was prepared there stays so
+        self.left = set()  # type: set[str]
 
     def carry_out(self, words: Sequence[str], kill: Kill = Kill()) -> tuple[Ran, dict[str, Row]]:
         ran = self.place.run_later(["migrate", "--json", "--now", *words], kill, self.meanwhile)
@@ -119,7 +121,8 @@ class Twice(Several):
             seen.append({**deed(), **files_in(self.home / self.into)})
         for name in sorted({*seen[0], *seen[1]}):
             once, passes = (str(one.get(name)).replace("Once", "Maildir") for one in seen)
-            if once != passes:
+            stays = name not in seen[0] and name.partition("/")[0] in self.left
+            if once != passes and not stays:
                 self.wrong.append(f"{what}: {name}: once {once}; by passes {passes}")
 
     def run_rows(self, *words: str) -> list[Row]:
@@ -135,6 +138,7 @@ class Twice(Several):
             left = {row["path"]: row for row in rows if row["verdict"] == "left"}
             if not left or not self.run_next(left):
                 break
+        self.left = {f".{row['folder']}".replace("/", ".") for row in left.values() if row["folder"]}
         return {
             row["path"]: (row["folder"], row["verdict"].split()[0], row["reason"])
             for row in rows
