@@ -106,8 +106,8 @@ class PlacingTest(LedgerTest):
             self.assertEqual([name[:64].decode() for name in names], [digest_of(body_of(text[one])) for one in need])
 
     def test_the_lines_of_a_batch(self) -> None:
-        """What it no longer has comes first, then what is there and what the run or a killed one places, as one run would
-        have them: of equal messages the next mailbox takes that which comes first."""
+        """What it no longer has comes first, then what is there, and last what a killed run has placed, and this one.
+        Of equal messages the next mailbox takes that which comes first, so a killed run changes nothing."""
         self.bring(BOX, line_of(THREE))
         self.bring(OTHER, line_of(FOUR))
         self.begin(BOX, line_of(TWO), need=1)
