@@ -10,6 +10,7 @@ import ast
 import io
 import tokenize
 from collections.abc import Iterator
+from itertools import accumulate
 from pathlib import Path
 from typing import NamedTuple, Optional, TypeVar
 
@@ -229,11 +230,7 @@ def does_something(node: ast.stmt) -> bool:
 
 def functions_of(text: str) -> Iterator[tuple[str, int, int]]:
     """The functions in the text of a module: their names, and the offsets at which they begin and end."""
-    tokens = Module(text).tokens
-    for number, token in enumerate(tokens):
-        if token.text == "def":
-            depth, at = 0, number
-            while depth or tokens[at].kind != tokenize.DEDENT:
-                at += 1
-                depth += (tokens[at].kind == tokenize.INDENT) - (tokens[at].kind == tokenize.DEDENT)
-            yield tokens[number + 1].text, token.start, tokens[at].start
+    begins = [0, *accumulate(len(line) + 1 for line in text.split("\n"))]
+    for node in ast.walk(ast.parse(text)):
+        if isinstance(node, ast.FunctionDef):
+            yield node.name, begins[node.lineno - 1] + node.col_offset, begins[node.end_lineno or node.lineno]
