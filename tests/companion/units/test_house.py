@@ -84,9 +84,15 @@ def imported(name: str, nodes: Iterable[ast.AST]) -> Iterator[str]:
         yield from {".".join(filter(None, [module, one.name])) for one in node.names} & set(PATHS) or {module}
 
 
-IMPORTS = {name: sorted(set(imported(name, ast.walk(tree)))) for name, tree in trees().items()}
-# without those that a function imports, which only some runs load
-LOADS = {name: sorted(set(imported(name, tree.body))) for name, tree in trees().items()}
+@functools.lru_cache(maxsize=None)
+def imports_of_all() -> dict[str, list[str]]:
+    """What each module imports."""
+    return {name: sorted(set(imported(name, ast.walk(tree)))) for name, tree in trees().items()}
+
+
+def loads_of_all() -> dict[str, list[str]]:
+    """The same without what a function imports, which only some runs load."""
+    return {name: sorted(set(imported(name, tree.body))) for name, tree in trees().items()}
 
 
 def reached(name: str, imports: Mapping[str, Sequence[str]]) -> set[str]:
@@ -154,19 +160,20 @@ class RoomsTest(unittest.TestCase):
     def test_no_import_upwards(self) -> None:
         upwards = [
             (name, other)
-            for name, others in IMPORTS.items()
+            for name, others in imports_of_all().items()
             for other in others
             if HEIGHTS[other.split(".")[0]] > HEIGHTS[name.split(".")[0]]
         ]
         self.assertEqual(upwards, [])
 
     def test_no_cycle(self) -> None:
+        imports = imports_of_all()
         self.assertEqual(
-            [name for name in PATHS if any(name in reached(other, IMPORTS) for other in IMPORTS[name])], []
+            [name for name in PATHS if any(name in reached(other, imports) for other in imports[name])], []
         )
 
     def test_verify_loads_no_migration(self) -> None:
-        loaded = reached("commands.verify", LOADS)
+        loaded = reached("commands.verify", loads_of_all())
         self.assertIn("maildir.checking", loaded)
         self.assertEqual(loaded & {"migration.dovecot", "migration.mailbox", "migration.several"}, set())
 
