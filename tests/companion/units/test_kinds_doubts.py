@@ -33,6 +33,7 @@ class DoubtsTest(unittest.TestCase):
             (A + b"\nsee\nFrom x Mon Mar  3 09:12:44 2025\nwhere\n\n", [6]),
             (A + b"\n\nFrom x\ry Mon Mar  3 09:12:44 2025\n\n", [6]),
             (b"".join(UNDATED), [9]),
+            (UNDATED[0] + UNDATED[2].replace(b"e@f", b"e\0@f"), [6]),
             (b"".join(UNDATED).replace(b"S: y\n\n", b"S: y\n\n\n") + ONE, [6, 10, 12]),
             (with_length(A, b"hello", 7), []),
             (A + b"X-Mozilla-Status: 0009\n\nhello\n\n", []),

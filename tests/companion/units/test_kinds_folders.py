@@ -44,7 +44,7 @@ class MaildirTest(FolderTest):
             self.write(name, b"3 V1\n")
         self.write("dovecot-keywords", ONE)
         self.write("sheds", ONE)
-        os.symlink(b"nowhere", self.here + b"/dovecot.index")
+        os.symlink(b"sheds", self.here + b"/dovecot.index")
         more = [entry.name for entry in self.entries() if not is_of_maildir(entry)]
         self.assertEqual(more, [b".Sent", b"courier", b"dovecot-keywords", b"dovecot.index", b"sheds"])
 

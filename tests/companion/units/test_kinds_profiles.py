@@ -47,6 +47,9 @@ class ProfileTest(FolderTest):
             self.write(name, text)
         (self.top / "Mail/e/Inbox/tmp").mkdir()
         self.assertEqual(Profile(self.path).place(inbox), (b"", b"INBOX", False))
+        self.write("Mail/f/Inbox")
+        places = [Profile(self.path).place(path)[2] for path in (inbox, self.path + b"/Mail/c/Inbox")]
+        self.assertEqual(places, [True, False])
 
     def test_what_holds_no_mail(self) -> None:
         for name, text, is_none in (

@@ -28,6 +28,7 @@ class BreaksTest(unittest.TestCase):
             (b"\0From x", [(2, 3, 2, True)]),
             (b"\0" * (1 << 21) + FROM, [(2, 2 + (1 << 21), 2, True)]),
             (b"hel\0\0From x", [(5, 7, 2, False)]),
+            (b"\0hel\0\0From x", [(6, 8, 2, False)]),
             (b"hello" + FROM, [(7, 7, 2, False)]),
             (b"From x" + FROM, []),
             (b"a From b" + FROM, [(10, 10, 2, False)]),

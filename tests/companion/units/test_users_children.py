@@ -96,7 +96,9 @@ class ChildTest(unittest.TestCase):
         clerk = mock.Mock(spec=Clerk)
         clerk.answer.return_value = Refusal("it is full", "no-room")
         child = Child(MIA, Ends(0, 0, life), clerk)
+        child.heard = 0
         child.take_line(b'["ask", "make", 0]', Observer())
+        self.assertGreater(child.heard, 0, "it had nothing to say while it waited")
         clerk.answer.assert_called_once_with(["make", 0])
         self.assertEqual(json.loads(os.read(alive, LONGEST)), ["it is full", "no-room"])
         for _ in range(LONGEST):

@@ -41,6 +41,14 @@ class InboxesTest(FolderTest):
             self.assertEqual(file.read(), b"From a\n")
         self.assertEqual(self.names(), [b"mia"])
 
+    def test_a_power_cut_after_it_was_made(self) -> None:
+        """It is on the disk, and then its name."""
+        synced: list[int] = []
+        link = mock.patch.object(Spot, "link", lambda *_: synced.append(0))
+        with link, mock.patch("os.fsync", lambda number: synced.append(os.fstat(number).st_ino)):
+            self.clerk.answer(["make", 0])
+        self.assertEqual(synced[1:], [0, os.stat(self.here).st_ino])
+
     def test_the_mode_of_the_others(self) -> None:
         """Root's files, locks and folders are no inboxes."""
         os.mkdir(os.path.join(self.here, b"old"))

@@ -3,7 +3,7 @@ import resource
 import unittest
 from unittest import mock
 
-from mbox2maildir_admin.users.limits import KINDS, lower, lower_of, take_users_limits
+from mbox2maildir_admin.users.limits import KINDS, close_all_but, lower, lower_of, take_users_limits
 
 NO, OPEN, CORE, CPU = resource.RLIM_INFINITY, resource.RLIMIT_NOFILE, resource.RLIMIT_CORE, resource.RLIMIT_CPU
 
@@ -38,6 +38,13 @@ class LimitsTest(unittest.TestCase):
 
     def test_where_the_first_process_cannot_be_asked(self) -> None:
         self.assertEqual(self.taken(mock.Mock(side_effect=PermissionError(1, "no"))), {CORE: (0, 0)})
+
+    def test_what_stays_open(self) -> None:
+        with mock.patch("os.listdir", return_value=["0", "1", "2", "4", "7", "9", "12"]):
+            with mock.patch("os.closerange") as close:
+                close_all_but((9, 4))
+        closed = {number for call in close.call_args_list for number in range(*call[0])}
+        self.assertEqual(closed, {3, 5, 6, 7, 8, 10, 11, 12})
 
 
 if __name__ == "__main__":
