@@ -12,7 +12,7 @@ from unittest import mock
 
 from mbox2maildir_admin.faults import Left, PlaceFault, Reason
 from mbox2maildir_admin.jobs.parent import Parent
-from mbox2maildir_admin.jobs.words import At, Line
+from mbox2maildir_admin.jobs.words import At, Became, Line
 from mbox2maildir_admin.jobs.workers import Orders, Worker, Workers
 from mbox2maildir_admin.maildir import space
 from mbox2maildir_admin.maildir.space import Need
@@ -255,6 +255,12 @@ class RoomTest(FolderTest):
         ]
         for free, wanted, others, has_room in rows:
             self.assertEqual(self.has_room(free, wanted, *others), has_room, (free, wanted, others))
+
+    def test_one_that_is_done_counts_on_none(self) -> None:
+        workers, worker = Workers(8, [], mock.Mock(spec=Orders)), Worker(0, mock.Mock())
+        worker.places, worker.has = [0, 1], Need(self.here, 1, 40, 1)
+        workers.take(worker, Became(0, "done"))
+        self.assertIsNone(worker.has)
 
     def test_it_waits_until_the_others_are_done(self) -> None:
         """Two that need more together than there is are done one after the other."""
