@@ -2,16 +2,17 @@
 import errno
 import gzip
 import os
+from contextlib import AbstractContextManager
 from pathlib import Path
 from typing import Any
 from unittest import mock
 
+from mbox2maildir_admin.back import keeping, reading, returning, several
 from mbox2maildir_admin.back import places as mailboxes
-from mbox2maildir_admin.back import reading, returning, several
 from mbox2maildir_admin.back.beside import Beside
 from mbox2maildir_admin.back.dialect import Dialect, Letter
 from mbox2maildir_admin.back.mails import sorted_mail
-from mbox2maildir_admin.back.keeping import make_mailbox
+from mbox2maildir_admin.back.keeping import Keeper, make_mailbox
 from mbox2maildir_admin.back.places import Names, Places
 from mbox2maildir_admin.back.reading import Forms, Held, are_at, messages_by, reading_now, takes_mail
 from mbox2maildir_admin.back.steps import How, Target
@@ -23,6 +24,7 @@ from mbox2maildir_admin.ledger.record import Record
 from mbox2maildir_admin.mbox.inventory import Inventory
 from mbox2maildir_admin.mbox.lock_file import content_for
 from mbox2maildir_admin.mbox.locks import open_mailbox
+from mbox2maildir_admin.mbox.mailbox import Mailbox
 from mbox2maildir_admin.migration.outcomes import Fate, Row
 from mbox2maildir_admin.migration.rows import Reporter
 from mbox2maildir_admin.migration.several import run_all
@@ -194,6 +196,22 @@ class BackTest(BackHome):
         lock.write_bytes(content_for(self.root))
         self.assertEqual(self.fates(self.back("spool/mia")), {"spool/mia": (Fate.NOTHING_NEW, 0)})
         self.assertFalse(lock.exists())
+
+    def test_a_delivery_just_before_the_lock_beside_it(self) -> None:
+        """It is mail of the mailbox, after which the other one goes."""
+        box = self.write_box("mail/sent", ONE)
+        self.migrate_all("mail")
+        self.deliver(".sent")
+
+        class Late(Keeper):
+            """Gets the lock after a delivery that knows no other one."""
+
+            def locked(self, mailbox: Mailbox, owner: bytes) -> "AbstractContextManager[None]":
+                box.write_bytes(ONE + TWO)
+                return super().locked(mailbox, owner)
+
+        self.assertEqual(self.fates(self.back(keeper=Late())), {"mail/sent": (Fate.BACK, 1)})
+        self.assertTrue(box.read_bytes().startswith(ONE + TWO + b"From MAILER-DAEMON "))
 
     def test_what_was_deleted_since_stays_so(self) -> None:
         box = self.write_box("mail/sent", ONE)
@@ -514,8 +532,11 @@ class PlacesTest(BackHome):
 
 class PartsTest(HomeTest):
     def test_a_mailbox_is_made_once(self) -> None:
-        path = os.fsencode(str(self.home / "a/b/c"))
-        make_mailbox(path)
+        """A power cut takes neither it nor a folder above it."""
+        path, synced = os.fsencode(str(self.home / "a/b/c")), []
+        with mock.patch.object(keeping, "sync_folder", lambda folder: synced.append(os.fsdecode(folder))):
+            make_mailbox(path)
+        self.assertEqual(synced, [str(self.home / name) for name in ("", "a", "a/b")])
         Path(os.fsdecode(path)).write_bytes(ONE)
         make_mailbox(path)
         self.assertEqual(Path(os.fsdecode(path)).read_bytes(), ONE)

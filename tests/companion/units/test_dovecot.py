@@ -418,6 +418,7 @@ class ListTest(unittest.TestCase):
         for text, wanted in (
             (b"3 V222 N10 Gab\n5 :a\n", b"3 V222 N13 Gab\n5 :a\n"),
             (b"3 Gab V222 N10\n", b"3 Gab V222 N13\n"),
+            (b"3 V222 N12\n", b"3 V222 N13\n"),
             (b"3 V222 N13\n", b"3 V222 N13\n"),
             (b"3 V223 N10\n", b"3 V223 N10\n"),
             (b"1 222 10\n", b"1 222 10\n"),
@@ -442,3 +443,12 @@ class ListTest(unittest.TestCase):
             os.utime(str(lock), (1, 1))
             replace(path, b"b", b"c")
             self.assertEqual((text.read_bytes(), os.listdir(here)), (b"c", [b"list"]))
+
+    def test_it_is_on_the_disk_before_it_is_replaced(self) -> None:
+        with folder() as here:
+            path, synced = os.path.join(here, b"list"), []
+            text = Path(os.fsdecode(path))
+            text.write_bytes(b"a")
+            with mock.patch("os.fsync", lambda number: synced.append((os.fstat(number).st_ino, text.read_bytes()))):
+                replace(path, b"a", b"b")
+            self.assertEqual(synced, [(text.stat().st_ino, b"a"), (os.stat(here).st_ino, b"b")])

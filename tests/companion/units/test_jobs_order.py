@@ -1,4 +1,5 @@
 """In which order groups of mailboxes begin, and in which their rows are told."""
+import os
 import unittest
 
 from mbox2maildir_admin.jobs.order import InOrder, largest_first
@@ -13,6 +14,9 @@ class GroupsTest(FolderTest):
         paths = [self.here + b"/" + name for name in (b"a", b"b", b"c", b"d", b"missing")]
         self.assertEqual(largest_first([[0], [1], [2], [3], [4]], paths), [[1], [0], [3], [2], [4]])
         self.assertEqual(largest_first([[1], [2, 4], [0, 3]], paths), [[0, 3], [1], [2, 4]])
+        os.symlink("large", self.here + b"/e")
+        make(self.here, {"large": b"1234567"})
+        self.assertEqual(largest_first([[0], [1]], [self.here + b"/e", self.here + b"/large"]), [[1], [0]])
 
 
 class RowsTest(unittest.TestCase):

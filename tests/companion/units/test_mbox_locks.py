@@ -195,6 +195,17 @@ class QuietTest(unittest.TestCase):
                 self.assertEqual(mailbox.size, len(A + B + B) + 3)
                 self.assertTrue(90.5 <= clock.slept <= 91.5, clock.slept)
 
+    def test_a_delivery_just_before_the_lock_that_is_not_waited_for(self) -> None:
+        with self.box(0) as (path, clock):
+            take = locks.lock
+
+            def lock(number: int, kind: locks.Kind) -> None:
+                clock.change(0)
+                take(number, kind)
+
+            with mock.patch.object(locks, "lock", lock), open_mailbox(path, quiet=False) as mailbox:
+                self.assertEqual((mailbox.size, mailbox.has_changed()), (len(A + B) + 2, False))
+
     def test_it_is_waited_for_five_minutes_in_all(self) -> None:
         with self.box(0, [30 * count for count in range(1, 20)]) as (path, clock):
             with self.assertRaisesRegex(
