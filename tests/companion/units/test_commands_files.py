@@ -113,6 +113,17 @@ class FilesTest(unittest.TestCase):
         self.assertEqual(found, [[root + b"/.A"], [root + b"/.A"], [root + b"/.B"]])
         self.assertEqual(self.places_of(root, b"/other"), [root])
 
+    def test_a_folder_that_is_missed(self) -> None:
+        """Only one that is no Maildir says that nothing was migrated: what else is missing says so itself."""
+        make(self.here, {"box": MAIL, "M/new/": b""})
+
+        def task(maildir: bytes, file: bytes) -> bool:
+            raise FileNotFoundError(2, "No such file or directory", (maildir + b"/cur", file))
+
+        self.assertRaises(FileNotFoundError, for_mailboxes, self.here + b"/M", self.here + b"/box", task)
+        with self.assertRaisesRegex(Fault, "it was not migrated: .*/none is no Maildir"):
+            for_mailboxes(self.here + b"/none", self.here + b"/box", task)
+
     def test_what_is_left_out_though_it_may_be_mail(self) -> None:
         make(self.here, {"old/box": MAIL})
         os.symlink("box", self.here + b"/old/link")

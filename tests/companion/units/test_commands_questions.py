@@ -11,13 +11,17 @@ from mbox2maildir_admin.commands import questions as module
 from mbox2maildir_admin.commands.command_line import WrongOptions
 from mbox2maildir_admin.commands.questions import (
     MOST_ALIKE,
+    TIMES,
     Asker,
     answers_of,
+    letter_for,
     letter_typed,
     line_typed,
     lines_of,
+    put_question,
 )
 from mbox2maildir_admin.faults import Fault, Reason
+from mbox2maildir_admin.mbox.lines import AROUND
 from mbox2maildir_admin.migration.outcomes import Fate, Row
 from mbox2maildir_admin.nexts import Answer, Command, Does, Quote, in_shell, run_next
 from mbox2maildir_admin.terminal import has_terminal
@@ -218,6 +222,27 @@ class TerminalTest(unittest.TestCase):
 
 
 class LinesTest(FolderTest):
+    def test_more_lines_each_time(self) -> None:
+        letters = ["m", "m", "m", "l"]
+        with printed(), mock.patch.object(module, "letter_typed", side_effect=letters), mock.patch.object(
+            module, "lines_of", return_value=LEFT.quotes
+        ) as asked:
+            self.assertEqual(letter_for([LEFT], "question"), "l")
+        self.assertEqual(
+            [call.args[2] for call in asked.call_args_list], [AROUND * TIMES**more for more in (1, 2, 3)]
+        )
+
+    def test_how_many_messages_all_have(self) -> None:
+        """Nothing is said if it is not known of one."""
+        other = replace(LEFT, next=(ANSWERS[0]._replace(messages=None), ANSWERS[1]))
+        for row, wanted in (
+            (LEFT, "    a: this belongs to the mail above: 2 messages:"),
+            (other, "    a: this belongs to the mail above:"),
+        ):
+            with printed() as caught:
+                put_question([LEFT, row], "question", [(), ()])
+            self.assertIn(wanted, caught.out)
+
     def test_more_lines(self) -> None:
         path = self.write("box", b"a\nb\nc\nd\n")
         command = Command.of("mbox2maildir-admin", "migrate", "M", os.fsdecode(path))

@@ -80,6 +80,10 @@ class CopyTest(FolderTest):
         self.assertEqual(lines[3], "    > 5 | From me")
         self.assertEqual(lines[5:7], ["    this belongs to the mail above: 1 message:", "        " + command])
         self.assertEqual(os.listdir(self.here), [b"box"])
+        # standard output is no file of that name
+        with self.assertRaises(Fault) as raised:
+            quote_file(UNDECIDED, box, b"-")
+        self.assertIn(" -o - ", list(lines_below((), raised.exception.next))[1])
 
 
 class OptionsTest(unittest.TestCase):

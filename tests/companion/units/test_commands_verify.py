@@ -68,6 +68,13 @@ class VerifyTest(unittest.TestCase):
             right, lines = self.verify(its, b"From a\n" + full + b"\n")
             self.assertEqual((right, lines[0]), wanted)
 
+    def test_a_file_of_another_program_is_there_for_one(self) -> None:
+        """The other message differs in a field that mail programs write for themselves."""
+        both = b"From a\nSubject: x\n\none\n\nFrom b\nSubject: x\nStatus: RO\n\none\n\n"
+        right, lines = self.verify({"M/cur/1.host:2,": b"Subject: x\n\none\n"}, both)
+        self.assertFalse(right)
+        self.assertTrue(lines[0].endswith("there 0, under another name 1, other bytes 0, nowhere 1, doubles 0"))
+
     def test_nowhere(self) -> None:
         _, lines = self.verify({})
         self.assertEqual(lines[1].rstrip(), "    message 1 (line 1): nowhere")

@@ -7,9 +7,11 @@ from mbox2maildir_admin.faults import Fault
 from mbox2maildir_admin.ledger.prepared import Prepared
 from mbox2maildir_admin.ledger.prepared_lines import (
     Origin,
+    aside_of,
     finish_list,
     has_list,
     home_of,
+    make_listed,
     note_failed,
     origin_in,
     remove_list,
@@ -84,6 +86,16 @@ class ListTest(FolderTest):
             self.assertEqual(sync.call_count, 1)
             finish_list(self.here)
             self.assertEqual(sync.call_count, 2)
+
+    def test_a_folder_has_its_list_before_its_name(self) -> None:
+        folder = self.here + b"/.made"
+        synced: list[tuple[bytes, bool]] = []
+        with mock.patch(
+            "mbox2maildir_admin.ledger.prepared_lines.sync_folder",
+            lambda path: synced.append((path, os.path.lexists(folder))),
+        ):
+            make_listed(folder)
+        self.assertEqual(synced, [(aside_of(folder), False), (self.here, True)])
 
     def test_states(self) -> None:
         prepared = self.wanted()

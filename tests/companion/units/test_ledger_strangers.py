@@ -73,6 +73,9 @@ class StrangersTest(LedgerTest):
         self.folder_has(".Old", line_of(ONE)).chmod(0o622)
         os.mkdir(self.folder + b"/.empty")
         self.assertEqual(self.strangers(), {named_of(ONE)})
+        # it comes first, and another one explains the file
+        self.folder_has(".Other", line_of(ONE))
+        self.assertEqual(self.strangers(), set())
 
     def test_what_this_mailbox_has_brought(self) -> None:
         self.place(ONE)

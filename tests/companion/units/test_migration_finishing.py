@@ -55,6 +55,7 @@ class FinishTest(HomeTest):
             (ONE, {}, "nowhere 1"),
             (ONE + TWO, {name: b"other\n"}, "other bytes 1"),
             (ONE + TWO, {name + ":2,S": next(bodies_of(ONE))}, "a second copy of a message"),
+            (TWO, {name + info: next(bodies_of(ONE)) for info in (":2,R", ":2,S")}, "a second copy of a message"),
         )
         for text, more, why in rows:
             self.make_home("home-%d" % len(os.listdir(self.here)))

@@ -2,6 +2,8 @@
 import os
 from collections.abc import Callable
 from pathlib import Path
+from typing import Any
+from unittest import mock
 
 from mbox2maildir_admin.ledger.history import Entry, Note, Step
 from mbox2maildir_admin.ledger.ledger import Ledger
@@ -123,6 +125,21 @@ class KnownTest(HomeTest):
             with self.opened() as (opened, record):
                 self.assertIsNotNone(Known(record, Ledger(self.root), opened).done_by(dry))
             self.assertEqual(Ledger(self.root).paths(), [str(path)])
+
+    def test_a_kill_while_it_is_noted_that_it_was_moved(self) -> None:
+        """The record has the mailbox by one of its paths."""
+        self.bring("box", ONE)
+        self.move("moved")
+        add, several = Record.add_after, iter((True, False))
+
+        def add_first(*words: Any) -> None:
+            if not next(several):
+                raise Killed
+            add(*words)
+
+        with mock.patch.object(Record, "add_after", add_first):
+            self.assertRaises(Killed, self.done_by)
+        self.assertTrue(self.done_by())
 
     def test_a_mailbox_that_was_moved_twice(self) -> None:
         """The record knows nothing of that, and has its first path."""

@@ -131,9 +131,13 @@ class NeverTwiceTest(TransferTest):
         """It is looked at twice, and each thing is said once."""
         self.bring("box", ONE * 11)
         says = Remark("power-cut", "on this disk")
-        with mock.patch("mbox2maildir_admin.migration.transfer.want_syncs", return_value=[says]):
+        with mock.patch("mbox2maildir_admin.migration.transfer.want_syncs", return_value=[says]), mock.patch(
+            "mbox2maildir_admin.migration.transfer.want_same_reading"
+        ) as reading:
             row = self.bring("box", b"".join(OTHERS[:11]), again_rewritten=True)
         self.assertEqual((row.fate, row.remarks.count(says)), (Fate.DONE, 1))
+        # what is to be run says --again then
+        self.assertEqual([call.args[0].again for call in reading.call_args_list], [False, True])
 
     def test_few_of_few(self) -> None:
         """Three of three are gone, and as many new: nobody asks for that."""

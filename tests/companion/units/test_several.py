@@ -318,6 +318,7 @@ class SeveralTest(HomeTest):
             ((b"x.junk",), (b"tree",), b"tree/a/x.junk", False),
             ((b"tree/*",), (b"/home/mia",), b"/home/mia/tree/x", True),
             ((b"mia",), (b"/home/mia",), b"/var/mail/mia", True),
+            ((b"a/x",), (b"tree", b"tree2"), b"tree2/a/x", True),
             ((b"x.JUNK",), (), b"x.junk", False),
             ((b"caf?",), (), "caf\u00e9".encode(), True),
             ((b"caf\xe9",), (), b"caf\xe9", True),
