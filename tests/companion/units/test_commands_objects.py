@@ -5,6 +5,7 @@ import os
 import socket
 import unittest
 from dataclasses import replace
+from pathlib import Path
 from typing import Any, Optional
 from unittest import mock
 
@@ -223,6 +224,13 @@ class ReportTest(FolderTest):
             self.assertEqual(caught.err, [says])
             # one without a row goes
             self.assertEqual(os.path.exists(path), written > 0)
+
+    def test_a_disk_that_takes_some_bytes_at_a_time(self) -> None:
+        path, write = self.here + b"/r", os.write
+        with contextlib.closing(Report(path)) as report, mock.patch("os.write", lambda to, data: write(to, data[:7])):
+            report.row(row(Fate.DONE))
+        lines = Path(os.fsdecode(path)).read_text(encoding="ascii").splitlines()
+        self.assertEqual([json.loads(line)["verdict"] for line in lines], ["done"])
 
     def test_it_is_synced(self) -> None:
         reporter, synced = Reporter(), []

@@ -16,6 +16,7 @@ from mbox2maildir_admin.mbox.inventory import Inventory
 from mbox2maildir_admin.migration.converting import CHANGED_MEANWHILE, LATER, ONCE, SYNC_FAILED, Conversion
 from mbox2maildir_admin.migration.outcomes import Ended, Fate, Row
 from mbox2maildir_admin.migration.steps import Contents, Opened
+from mbox2maildir_admin.nexts import Remark
 from mbox2maildir_admin.program import Converted, Failed, Program
 from mbox2maildir_admin.terminal import spelled
 from mbox2maildir_admin.units import Offset
@@ -287,11 +288,12 @@ class ConversionTest(ConversionCase):
             self.make_home("home-%d" % len(words))
             self.fill(ONE)
             with self.begun() as (conversion, opened, _, _, verified):
-                done = Ended(Row(opened.mailbox.path, opened.name, "", 1, Fate.DONE), verified)
+                grew = Remark("grew", "it grew by 1 message")
+                done = Ended(Row(opened.mailbox.path, opened.name, "", 1, Fate.DONE, remarks=(grew,)), verified)
                 if not fault:
                     os.utime(str(self.box), (1, 1))
                 row = conversion.settled(done, fault)
-                self.assertEqual((row.fate, row.why, self.ends(row)), (Fate.LEFT, why, []))
+                self.assertEqual((row.fate, row.says, self.ends(row)), (Fate.LEFT, why, []))
             self.assertEqual(self.words(), words)
 
     def test_the_end_of_a_batch_that_cannot_be_noted(self) -> None:

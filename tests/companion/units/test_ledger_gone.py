@@ -148,6 +148,12 @@ class KilledTest(LedgerTest):
             self.assertEqual(left_by_killed(self.match(text)), count)
         self.bring(OTHER, line_of(TWO))
         self.assertEqual(left_by_killed(self.match(THREE)), 0)
+        # what was there before the mailbox was read the last time was said then
+        self.begin(BOX, line_of(FOUR), need=1)
+        self.bring(BOX, line_of(THREE))
+        self.place(FOUR)
+        self.begin(BOX, line_of(ONE), need=1)
+        self.assertEqual(left_by_killed(self.match(THREE)), 1)
 
     def test_the_names_without_what_it_placed(self) -> None:
         """What an earlier killed run placed was there when the mailbox was done since."""

@@ -267,7 +267,11 @@ class CountsTest(LedgerTest):
             file.write(HEAD.line(9))
         one.end(number)
         self.assertEqual(one.begin(HEAD, []), number + 1)
-        self.assertEqual(self.ledger().begin(HEAD, []), number + 2)
+        last = self.ledger()
+        self.assertEqual(last.begin(HEAD, []), number + 2)
+        # an older one has taken its place, in which nothing was begun
+        self.file.write_bytes(before)
+        self.assertEqual(last.begin(HEAD, []), number + 3)
 
     def test_what_is_damaged_is_put_aside(self) -> None:
         self.bring(BOX, line_of(ONE))
@@ -337,7 +341,8 @@ class PathsTest(LedgerTest):
             ledger.take_undone(BOX)
             if moves:
                 ledger.move(OTHER, THIRD)
-            ledger.begin(HEAD, ())
+            for _ in range(2):
+                ledger.begin(HEAD, ())
             self.assertNotIn(BOX, Ledger(self.folder).sources)
             self.assertEqual(self.file.read_bytes().count(b"-\t"), 1)
 

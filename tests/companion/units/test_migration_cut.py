@@ -7,6 +7,7 @@ from mbox2maildir_admin.faults import Reason
 from mbox2maildir_admin.ledger.ledger import Ledger
 from mbox2maildir_admin.ledger.lines import LOST
 from mbox2maildir_admin.mbox.core import Core
+from mbox2maildir_admin.mbox.files import BLOCK
 from mbox2maildir_admin.mbox.mailbox import Mailbox
 from mbox2maildir_admin.migration.cut import beginning_in, body_of, names_of_no_line, names_that_may_be_cut
 from mbox2maildir_admin.migration.outcomes import Fate, Row
@@ -165,6 +166,10 @@ class BytesTest(LedgerTest):
             self.assertEqual(beginning_in(self.write("a", body + end)), wanted, end)
         for text in (body.replace(b"\n", b"\r\n"), body.replace(b"\n\n", b"\nX-UID: 7\n\n")):
             self.assertEqual(beginning_in(self.write("a", text)), wanted, text)
+        # the last line ends where a block does
+        last = body + b"x" * (BLOCK - len(body) - 1)
+        for end in (b"", b"\n", b"\n\n", b"\n\nFr"):
+            self.assertEqual(beginning_in(self.write("a", last + end)), (len(last), digest_of(last)), end)
         # a whole one is the core of the message without its line end
         whole, core = its_body(ONE), Core()
         core.update(whole)

@@ -109,6 +109,15 @@ class PairsTest(HomeTest):
         says = "1 message there already, from spool/a"
         self.assertEqual(self.rows("spool/a.mboxrd", home=home), {"spool/a.mboxrd": ("done", says)})
 
+    def test_the_mailbox_of_a_spool_may_be_named_as_a_folder(self) -> None:
+        """It is its user's inbox, also if INBOX has other mail."""
+        self.make("box", TWO)
+        self.rows("box")
+        (self.home / "mia").mkdir()
+        self.make("spool/sent", ONE)
+        rows = self.rows("spool/sent", home=UserHome(bytes(self.home / "mia"), True))
+        self.assertEqual(rows["spool/sent"][0], "done")
+
     def test_a_folder_that_is_named_decides(self) -> None:
         self.make("a", ONE)
         self.make("a.mboxrd", TWO)

@@ -35,6 +35,7 @@ class FoundTest(FolderTest):
             ("maildir:%h/Maildir/:LAYOUT=fs", True),
             ("maildir:/home/mia/Maildir", True),
             ("maildir:/home/%u/Maildir", True),
+            ("maildir:/home/%u/Maildir/", True),
             ("maildir:/var/vmail/%d/%n", True),
             ("maildir:~/Mail", False),
             ("maildir:/var/vmail/%d/mail", False),

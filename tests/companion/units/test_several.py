@@ -103,6 +103,15 @@ class SeveralTest(HomeTest):
         self.assertEqual((box, fate), ([b".", Fate.DONE, ""], Fate.LEFT))
         self.assertTrue(why.startswith("another mailbox goes into INBOX too"))
 
+    def test_one_that_is_named_as_a_folder(self) -> None:
+        """Alone it goes into INBOX, if that has no mail; beside another one nobody knows."""
+        self.file("box")
+        self.file("sent", TWO)
+        self.assertEqual([row[2] for row in self.rows(b"box", b"sent")], [Fate.DONE, Fate.LEFT])
+        self.make_home("alone")
+        self.file("sent", TWO)
+        self.assertEqual([row[2] for row in self.rows(b"sent")], [Fate.DONE])
+
     def test_an_inbox_beside_the_one_of_the_spool(self) -> None:
         """The user's own comes from the spool, even if that one is left."""
         self.file("tree/Inbox")

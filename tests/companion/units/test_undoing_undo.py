@@ -558,6 +558,16 @@ class BrokenOffTest(UndoTest):
         # the text that it had before it grew is forgotten too
         self.assertEqual(self.place_all(self.box, text=ONE).fate, Fate.DONE)
 
+    def test_what_was_undone_after_the_ledger_was_saved(self) -> None:
+        """The record knows it, so that it may be migrated as ever."""
+        self.place_all(self.box, text=ONE)
+        ledger = self.maildir / LEDGER.decode()
+        kept = ledger.read_bytes()
+        self.undone("removed 1 message")
+        ledger.write_bytes(kept)
+        self.assertIs(self.place_all(self.box).fate, Fate.DONE)
+        self.assertEqual(self.mail(), [BODIES[ONE]])
+
     def test_killed_before_the_ledger_knows_it(self) -> None:
         """All files are gone then, and the same words go on."""
         self.place_all(self.box, text=ONE + TWO)
