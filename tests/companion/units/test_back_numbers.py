@@ -100,11 +100,13 @@ class BaseTest(FolderTest):
             assert base
             header = base.header_with(1700000000, 12, [b"Other"])
             assert header
-            base.write(mailbox, header)
+            synced: list[bytes] = []
+            with mock.patch("os.fsync", lambda _: synced.append(path.read_bytes())):
+                base.write(mailbox, header)
             # what follows is appended again
             os.write(mailbox.number, b"end")
         wanted = KEPT.replace(b"0000000003 Garden\nX-UID: 1          \n", b"0000000012 Garden Other\nX-UID: 1    \n")
-        self.assertEqual(path.read_bytes(), wanted + b"end")
+        self.assertEqual((synced, path.read_bytes()), ([wanted], wanted + b"end"))
 
     def test_a_mailbox_that_dovecot_keeps_empty(self) -> None:
         """Its only message is Dovecot's own. Once mail follows, nothing may move."""
@@ -205,6 +207,11 @@ class NumberingTest(FolderTest):
         self.assertEqual(self.fields(numbering, b"1.b:2,"), [(b"1.b:2,", [b"X-UID: 4"])])
         numbering, again = self.prepared(wanted, its, True)
         self.assertEqual((again, self.words(numbering)), (wanted, []))
+
+    def test_several_new_keywords(self) -> None:
+        its = Listed(1700000000, 4, {}, {"a": b"Ab", "b": b"Cd"})
+        _, text = self.prepared(KEPT, its, True, b"1.a:2,ab")
+        self.assertEqual(text, KEPT.replace(b"Garden\nX-UID: 1          \n", b"Garden Ab Cd\nX-UID: 1    \n"))
 
     def test_a_mailbox_that_has_given_more_uids(self) -> None:
         """Its last one stays, since it was another message's."""
@@ -515,6 +522,13 @@ class SubscriptionsTest(BackHome):
         subscriptions.write(path, b"b\n")
         self.assertEqual((Path(os.fsdecode(path)).read_bytes(), os.stat(path).st_mode & 0o777), (b"b\n", 0o640))
         self.assertFalse(os.path.lexists(path + subscriptions.PART))
+
+    def test_a_power_cut_takes_no_list(self) -> None:
+        """The new one is on the disk, and then its name."""
+        path, synced = self.write_box("mail/list", b"a\n"), []
+        with mock.patch("os.fsync", lambda number: synced.append((os.fstat(number).st_ino, path.read_bytes()))):
+            subscriptions.write(os.fsencode(str(path)), b"b\n")
+        self.assertEqual(synced, [(path.stat().st_ino, b"a\n"), (self.tree.stat().st_ino, b"b\n")])
 
 
 class NotesTest(FolderTest):

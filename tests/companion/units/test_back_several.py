@@ -20,6 +20,7 @@ from mbox2maildir_admin.back.several import Several
 from mbox2maildir_admin.commands import back as command
 from mbox2maildir_admin.commands.words import add_back
 from mbox2maildir_admin.faults import Fault, Left, Reason, Status
+from mbox2maildir_admin.ledger.history import Step
 from mbox2maildir_admin.ledger.record import Record
 from mbox2maildir_admin.mbox.inventory import Inventory
 from mbox2maildir_admin.mbox.lock_file import content_for
@@ -230,9 +231,17 @@ class BackTest(BackHome):
         self.deliver(".sent")
         text = box.read_bytes() + b"From a@b Mon Mar  3 09:12:44 2025\nSubject: new\nStatus: O\n\n>From me\n\n"
         box.write_bytes(text)
-        row = self.back()[0]
+        synced: list[int] = []
+        with mock.patch("os.fsync", lambda number: synced.append(os.fstat(number).st_ino)):
+            row = self.back()[0]
         self.assertEqual((row.fate, row.messages, [one.word for one in row.remarks]), (Fate.BACK, 1, ["there-already"]))
         self.assertEqual(box.read_bytes(), text)
+        # it is on the disk before anything says that it is back, and then the mailbox is done
+        ledger = (self.maildir / ".sent/mbox2maildir-messages").stat().st_ino
+        self.assertLess(synced.index(box.stat().st_ino), synced.index(ledger))
+        with Record.open(self.root, False) as record:
+            *_, last = record.lines()
+        self.assertEqual((last.what, last.key.size), (Step.DONE, len(text)))
 
     def test_moved(self) -> None:
         self.write_box("mail/sent", ONE)

@@ -41,8 +41,9 @@ class FilesTest(unittest.TestCase):
         """What cannot be looked at may have mail."""
         with folder() as here:
             make(here, {"empty": b"", "box": b"text"})
-            found = [is_empty(here + name) for name in (b"/empty", b"/box", b"/missing")]
-        self.assertEqual(found, [True, False, False])
+            os.symlink("empty", here + b"/link")
+            found = [is_empty(here + name) for name in (b"/empty", b"/link", b"/box", b"/missing")]
+        self.assertEqual(found, [True, True, False, False])
 
     def test_paths_without_links(self) -> None:
         """What a symbolic link leads to, which may be missing, but not what can't be looked at."""

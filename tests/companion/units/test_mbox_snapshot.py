@@ -33,6 +33,12 @@ class SnapshotTest(FolderTest):
                     self.assertEqual(copy.key(), (len(ONE), hashlib.sha256(ONE).hexdigest()))
                 self.assertEqual(copy.took, 3.5)
 
+    def test_what_is_said_of_the_mailbox(self) -> None:
+        lock = self.write("box.lock", b"17\n")
+        os.utime(lock, (1e9, 1e9))
+        with copying.snapshot(os.fsencode(str(self.box)), lambda size: tempfile.TemporaryFile()) as copy:
+            self.assertEqual([one.word for one in copy.remarks], ["old-lock"])
+
     def test_a_mailbox_at_rest(self) -> None:
         self.assertEqual(self.copy(), ONE)
         with open(self.box, "ab") as file:

@@ -135,10 +135,15 @@ class TakeoutTest(HomeTest):
 
     def test_whether_each_is_there(self) -> None:
         self.bring()
-        look = mock.Mock(side_effect=lambda folder, text, say: (SimpleNamespace(count=len(text.messages())), 0))
+        doubt = SimpleNamespace(count=1)
+        look = mock.Mock(
+            side_effect=lambda folder, text, say: (SimpleNamespace(count=len(text.messages()), doubts=doubt), 0)
+        )
         noted = Noted(self.choosing, tuple(FOLDERS))
-        found = checks_of(self.root, self.path, noted, lambda mailbox, text: None, look, lambda *_: None)
+        found = list(checks_of(self.root, self.path, noted, lambda mailbox, text: None, look, lambda *_: None))
         self.assertEqual({folder: check.count for folder, check, _ in found}, FOLDERS)
+        # whether mail is in a From_ line was decided when it was migrated
+        self.assertEqual([check.doubts.count for _, check, _ in found], [0] * len(FOLDERS))
         self.assertTrue(has_labels(self.root, self.path))
 
     def test_it_goes_on_after_a_kill(self) -> None:

@@ -160,7 +160,9 @@ class CrewTest(unittest.TestCase):
 
         wanted = [("1", "its process was interrupted"), ("2", "its process ended early")]
         for jobs in (1, 9):
+            opened = os.listdir("/proc/self/fd")
             self.assertEqual(self.left(well, broken_off, early, jobs=jobs), wanted)
+            self.assertEqual(os.listdir("/proc/self/fd"), opened)
 
     def test_one_that_ends_before_it_is_heard(self) -> None:
         def well(teller: Teller, _: int) -> int:

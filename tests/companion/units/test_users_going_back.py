@@ -8,6 +8,7 @@ from unittest import mock
 
 from mbox2maildir_admin.back.places import Names
 from mbox2maildir_admin.faults import Left, PlaceFault, Reason
+from mbox2maildir_admin.mbox import lock_file
 from mbox2maildir_admin.migration.steps import Options
 from mbox2maildir_admin.nexts import NOTHING
 from mbox2maildir_admin.users import going_back
@@ -100,6 +101,22 @@ class AskingTest(FolderTest):
             with self.keeper.locked(mailbox, b"M"):
                 self.assertEqual(os.listdir(self.here), [b"sent.lock"])
         self.assertEqual(len(self.asked()), 2)
+
+    def test_a_lock_whose_maker_is_killed(self) -> None:
+        """It is held for as long as the child is at work."""
+        spot = lock_file.Spot(self.here + b"/info.lock")
+
+        def ask(_: int, what: str, __: int) -> tuple[str, str]:
+            if what == "lock":
+                os.close(lock_file.make_lock(spot, b"M"))
+            return "", ""
+
+        self.teller.ask.side_effect = ask
+        with source_of(b"") as mailbox:
+            mailbox.path = self.here + b"/info"
+            with self.keeper.locked(mailbox, b"M"):
+                self.assertFalse(lock_file.is_left(spot))
+        self.assertTrue(lock_file.is_left(spot))
 
     def test_a_lock_of_others(self) -> None:
         """An old one counts for nothing."""

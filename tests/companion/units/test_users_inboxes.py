@@ -96,6 +96,14 @@ class InboxesTest(FolderTest):
         self.clerk.end()
         self.assertEqual(self.names(), [])
 
+    def test_one_that_cannot_be_released(self) -> None:
+        """The others are."""
+        for place in (0, 1):
+            self.clerk.answer(["lock", place])
+        with mock.patch.object(Spot, "is_open_as", side_effect=[OSError(errno.EIO, "no"), True]):
+            self.clerk.end()
+        self.assertEqual(self.names(), [b"mia.lock"])
+
     def test_another_program_has_it(self) -> None:
         self.write("mia.lock", b"17\n")
         self.assertEqual(self.clerk.answer(["lock", 0]).word, "locked")
@@ -110,7 +118,7 @@ class InboxesTest(FolderTest):
         self.assertEqual(self.names(), [b"mia.lock"])
 
     def test_what_a_killed_run_left(self) -> None:
-        os.close(make_lock(Spot(b"alva.lock", self.inboxes.number), b"N"))
+        os.close(make_lock(Spot(b"\xe4lva.lock", self.inboxes.number), b"N"))
         held = make_lock(Spot(b"mia.lock", self.inboxes.number), b"M")
         self.addCleanup(os.close, held)
         with Inboxes.open(self.here):
