@@ -171,7 +171,7 @@ class Prepared:
         look has found them, and no other ones; otherwise None."""
         if not self.origin or not self.is_whole or not self.origin.messages == len(self.table) > 0:
             return None
-        has_all = all(self.files) and not self.edited and sum(1 for _ in names_of(self.folder)) == len(self.files)
+        has_all = all(self.files) and sum(1 for _ in names_of(self.folder)) == len(self.files)
         return self.noted.inventory(self.facts[1::3], end) if has_all else None
 
     def hides(self, name: bytes) -> bool:

@@ -71,7 +71,7 @@ def text_of(how: How, choice: Choice, contents: Contents) -> Optional[Text]:
     """What is noted of a text that was read; None for one that is read again: it was unpacked or quoted, or somebody
     decided how it is read."""
     plan = choice.plan
-    if choice.packed or plan.is_copied or plan.answer or how.decision != UNDECIDED:
+    if choice.packed or plan.is_copied or how.decision != UNDECIDED:
         return None
     as_read = AsRead(plan.start, plan.messages, plan.kind, plan.remarks)
     return Text(as_read, contents.inventory, contents.full.offsets)
