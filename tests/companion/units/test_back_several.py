@@ -322,6 +322,18 @@ class BackTest(BackHome):
         with mock.patch("time.sleep", side_effect=AssertionError):
             self.assertEqual(self.fates(self.back(now=False))["mail/new"], (Fate.BACK, 1))
 
+    def test_a_mailbox_that_an_earlier_run_made_is_waited_for(self) -> None:
+        """A program may write to it by now."""
+        self.write_box("mail/sent.gz", gzip.compress(ONE))
+        self.migrate_all("mail")
+        for number, are_quiet in enumerate(([True, False], [True, True])):
+            self.deliver(".sent", b"Subject: %d\n\n" % number, "%d.M1.host" % number)
+            with mock.patch.object(returning, "open_mailbox", wraps=open_mailbox) as opens:
+                fates = self.fates(self.back("mail/sent.gz", now=False))
+            self.assertEqual(fates, {"mail/sent-back": (Fate.BACK, 1)})
+            self.assertEqual([one.args[3] for one in opens.call_args_list], are_quiet)
+            os.utime(self.tree / "sent-back", (1e9, 1e9))
+
     def test_nobody_stays_at_work(self) -> None:
         self.write_box("mail/sent.gz", gzip.compress(ONE))
         self.migrate_all("mail")
@@ -420,6 +432,15 @@ class PlacesTest(BackHome):
         self.deliver(".sent")
         box.unlink()
         self.assertEqual(self.back()[0].reason, Reason.MISSING)
+        self.assertFalse(box.exists())
+
+    def test_a_mailbox_that_goes_meanwhile(self) -> None:
+        box = self.write_box("mail/sent", ONE)
+        self.migrate_all("mail")
+        self.deliver(".sent")
+        place = mailboxes.Place(os.fsencode(box))
+        with mock.patch.object(Places, "of", side_effect=lambda folder: [box.unlink() or place]):
+            self.assertEqual(self.back()[0].reason, Reason.MISSING)
         self.assertFalse(box.exists())
 
     def test_a_file_that_changes_meanwhile(self) -> None:

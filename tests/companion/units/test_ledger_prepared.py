@@ -63,6 +63,11 @@ class ListTest(FolderTest):
         prepared.look()
         self.assertEqual(list(prepared.names()), [b"p\t%s\n" % OTHER_NAME])
 
+    def test_its_first_line_is_written_once(self) -> None:
+        for lines in ((), (LINE,), (LINE,)):
+            Prepared.read(self.here).append(*lines)
+        self.assertEqual(self.path.read_bytes(), b"mbox2maildir-prepared\t1\n" + LINE + LINE)
+
     def test_a_whole_list(self) -> None:
         path, prepared = self.place(NAME, BODY), self.wanted(NAME)
         prepared.note_facts()
@@ -240,7 +245,7 @@ class ListTest(FolderTest):
             self.assertTrue(has_list(folder))
         prepared = Prepared.read(self.here)
         prepared.make_folder()
-        self.assertFalse(prepared.is_made)
+        self.assertEqual((prepared.is_made, Prepared.read(self.here).is_made), (False, False))
 
     def test_where_a_file_is(self) -> None:
         self.assertEqual(home_of(NAME + b":2,S", b"M/cur/" + NAME + b":2,S"), b"cur:2,S")

@@ -1,5 +1,6 @@
 """What the record and the ledger know of a mailbox before it is read, where one of them is older, or another one's."""
 import os
+import shutil
 from collections.abc import Callable
 from pathlib import Path
 from typing import Any
@@ -60,9 +61,17 @@ class KnownTest(HomeTest):
                 (line, False),
                 (line._replace(size=size), False),
                 (line._replace(size=size + 1), True),
+                (line._replace(size=size + 1, ledger="0" * 32), False),
                 (line._replace(key=key_of(TWO)), True),
             ):
                 self.assertIs(known.lacks(one, *known.names), is_so, one)
+
+    def test_a_ledger_that_is_lost_is_not_older(self) -> None:
+        self.bring("box", ONE)
+        self.ledger.unlink()
+        with self.opened() as (opened, record):
+            known = Known(record, Ledger(self.root), opened)
+            self.assertEqual((known.is_at_home, known.is_older), (False, False))
 
     def test_other_mailboxes_of_an_older_record(self) -> None:
         """What was undone since lacks nothing."""
@@ -189,6 +198,18 @@ class KnownTest(HomeTest):
         self.move_box("link/box")
         with self.opened() as (opened, record):
             self.assertEqual(Known(record, Ledger(self.root), opened).path, path)
+
+    def test_another_path_of_a_mailbox_in_a_folder_that_is_gone(self) -> None:
+        """Its folder has the name of that one now, and the ledger of its own path."""
+        (self.home / "old").mkdir()
+        (self.home / "link").symlink_to("old")
+        self.bring("old/box", ONE, "Y")
+        shutil.rmtree(self.maildir / ".Y")
+        self.bring("link/box", ONE, "X")
+        (self.maildir / ".X").rename(self.maildir / ".Y")
+        with Record.open(self.root) as record, open_mailbox(self.path) as mailbox:
+            opened = Opened.into(self.root, b".Y", mailbox)
+            self.assertTrue(Known(record, Ledger(opened.folder), opened).is_at_home)
 
     def test_a_mailbox_whose_undo_was_killed_is_leaving(self) -> None:
         self.bring("other", ONE)

@@ -1,5 +1,6 @@
 """Mailboxes that were read otherwise when they were begun or done."""
 import os
+import re
 from typing import Any
 from unittest import mock
 
@@ -13,7 +14,7 @@ from mbox2maildir_admin.readings.texts import choice_of
 from mbox2maildir_admin.undoing.undo import Undo
 from mbox2maildir_admin.units import Line
 
-from tests.support.mail import A, ONE, TWO
+from tests.support.mail import A, ONE, TWO, with_length
 from tests.support.migrating import Cut, HomeTest, Killed
 from tests.support.nexts import told
 
@@ -78,7 +79,39 @@ class OtherwiseTest(HomeTest):
         """Mail must not be placed beside that of the other reading."""
         row = self.done(DOUBTFUL, DOUBTFUL + ONE, "unquoted", decision=Reading("mboxrd"))
         self.assertEqual((row.fate, row.reason, len(self.mail())), (Fate.LEFT, Reason.ANOTHER_READING, 2))
+        self.assertIn("it was read as unquoted when it was migrated, and 1 message of", told(row))
         self.assertIn("--as unquoted ", told(row))
+
+    def test_it_grew_and_its_lines_are_read_otherwise(self) -> None:
+        """By the same word. A line of the old mail has lost a `>`."""
+        text = DOUBTFUL.replace(b"hello", b">>From x")
+        self.fill(text)
+        line = Line(text[: text.index(b"From here")].count(b"\n") + 1)
+        self.migrate(decision=Reading("mboxrd", text=frozenset([line])))
+        self.fill(text + ONE)
+        row = self.migrate(decision=Reading("mboxrd"))
+        self.assertEqual((row.reason, len(self.mail())), (Reason.ANOTHER_READING, 2), told(row))
+
+    def test_again_of_what_is_read_otherwise(self) -> None:
+        """What a human says now holds once it is undone; if nobody says anything, it is read as it was."""
+        row = self.done(QUOTED, QUOTED, "mboxo", again=True)
+        self.assertEqual((row.reason, len(self.mail())), (Reason.ANOTHER_READING, 2))
+        self.assertIn("--as mboxo ", told(row))
+        row = self.done(QUOTED, QUOTED, "mboxrd", again=True, decision=Reading("mboxo"))
+        self.assertEqual((row.reason, len(self.mail())), (Reason.ANOTHER_READING, 2))
+        self.assertIn("migrate --undo ", told(row))
+
+    def test_what_was_read_by_words_of_another_version(self) -> None:
+        """They say nothing of what is new, or asked."""
+        for text, then in ((ONE, ONE + TWO), (MEASURED, MEASURED + TWO + DOUBTFUL)):
+            self.make_home("home-%d" % len(text))
+            self.fill(text)
+            self.migrate()
+            ledger = self.maildir / "mbox2maildir-messages"
+            ledger.write_bytes(re.sub(rb"\tmbox(rd|cl2)\t", rb"\tnone\1\t", ledger.read_bytes()))
+            self.fill(then)
+            row = self.migrate()
+            self.assertEqual(row.reason, Reason.UNCLEAR if text == MEASURED else None, told(row))
 
     def test_it_grew_and_nobody_says_the_word(self) -> None:
         """The word counts for each `>`, which those that know the messages overlook."""
@@ -111,6 +144,41 @@ class OtherwiseTest(HomeTest):
         """If nothing is new in it as it was read, nobody is asked."""
         row = self.done(DOUBTFUL, DOUBTFUL.replace(b"\n\n", b"\nStatus: RO\n\n", 1), "unquoted")
         self.assertIs(row.fate, Fate.BEFORE)
+
+    def test_a_question_about_what_is_done_and_the_record_is_lost(self) -> None:
+        """The ledger knows how it was read. No line of it is in question, so what it brought does not answer."""
+        self.fill(ONE + with_length(A, b"yes", 7))
+        self.assertIs(self.migrate().reason, Reason.UNCLEAR)
+        self.assertIs(self.migrate(decision=Reading("mboxrd")).fate, Fate.DONE)
+        (self.maildir / "mbox2maildir-record").unlink()
+        row = self.migrate()
+        self.assertEqual((row.fate, told(row)), (Fate.BEFORE, ""))
+
+    def test_what_was_begun_with_dovecot_or_without(self) -> None:
+        """It goes on so, unless nothing of it is there, or all that is nowhere is stored."""
+        for is_first in (True, False):
+            for count, name, again, is_left in (
+                (1, "", False, True),
+                (1, "", True, False),
+                (0, "", False, False),
+                (0, "dovecot-uidlist", False, True),
+            ):
+                self.make_home("home-%d" % len(list(self.home.parent.iterdir())))
+                self.fill(ONE + TWO)
+                self.assertRaises(Killed, self.migrate, Cut(count), dovecot=is_first)
+                if name:
+                    (self.maildir / name).touch()
+                row = self.migrate(dovecot=not is_first, again=again)
+                self.assertIs(row.reason, Reason.ANOTHER_READING if is_left else None, told(row))
+                says = "its conversion was begun %s --dovecot" % ("with" if is_first else "without")
+                self.assertIs(says in told(row), is_left)
+
+    def test_it_grew_and_was_done_with_dovecot(self) -> None:
+        self.fill(ONE)
+        self.migrate(dovecot=True)
+        self.fill(ONE + TWO)
+        row = self.migrate()
+        self.assertEqual((row.fate, len(self.mail())), (Fate.DONE, 2), told(row))
 
     def test_what_was_begun_by_another_word(self) -> None:
         self.fill(DOUBTFUL)

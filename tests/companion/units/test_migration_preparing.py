@@ -260,11 +260,38 @@ class RefusedTest(PreparingTest):
         self.assertEqual(len(self.names()), 2)
 
     def test_a_list_that_is_lost(self) -> None:
+        """Also where somebody reads."""
         self.prepare(ONE)
         self.prepared_list().unlink()
         self.left(self.finish(ONE + TWO), "the list of what was prepared", Reason.LEDGER)
+        (self.maildir / "dovecot.index.log").touch()
+        self.left(self.finish(ONE + TWO), "the list of what was prepared", Reason.LEDGER)
         self.has(ONE)
         self.assertIs(self.finish(again=True).fate, Fate.DONE)
+
+    def test_a_record_that_is_lost(self) -> None:
+        """The list suffices, also where somebody reads."""
+        self.prepare(ONE + TWO)
+        reader = self.maildir / "dovecot.index.log"
+        for change in (reader.touch, reader.unlink):
+            (self.maildir / "mbox2maildir-record").unlink(missing_ok=True)
+            change()
+            row = self.finish(TWO)
+            if reader.exists():
+                self.left(row, "somebody reads in its folder")
+        self.assertIs(row.fate, Fate.DONE)
+        self.has(TWO)
+
+    def test_a_record_of_before_the_day(self) -> None:
+        """The ledger shows that the folder is done, so whoever reads there may do so."""
+        self.prepare(ONE)
+        record = self.maildir / "mbox2maildir-record"
+        kept = record.read_bytes()
+        self.finish()
+        record.write_bytes(kept)
+        (self.maildir / "dovecot.index.log").touch()
+        self.assertIs(self.finish(ONE + TWO).fate, Fate.DONE)
+        self.has(ONE, TWO)
 
     def test_a_list_that_is_damaged(self) -> None:
         self.prepare(ONE)
@@ -325,6 +352,15 @@ class KilledTest(PreparingTest):
         self.finish(ONE + TWO)
         self.has(ONE, TWO)
         self.assertEqual(list(Ledger(self.root).sources), [str(self.box)])
+
+    def test_a_last_pass_of_another_mailbox(self) -> None:
+        """One that was not prepared, in a Maildir where others were: it can be prepared afterwards."""
+        self.prepare(ONE, folder="x")
+        self.move_box("second")
+        self.fill(TWO)
+        self.assertRaises(Killed, self.migrate, Cut(1))
+        self.assertIs(self.prepare(TWO + THREE).fate, Fate.PREPARED)
+        self.has(TWO, THREE)
 
     def test_flags_of_a_last_pass(self) -> None:
         """A pass that is killed once it has given flags leaves none of them."""

@@ -194,6 +194,12 @@ class UnchangedTest(PreparingTest):
         with self.parsed():
             self.assertIs(self.finish().fate, Fate.DONE)
 
+    def test_a_first_pass_of_what_is_read_again(self) -> None:
+        """It is unpacked, so nothing is noted of its text; nor is its new state."""
+        self.prepare(gzip.compress(ONE + TWO))
+        os.utime(self.box, (1.1e9, 1.1e9))
+        self.assertEqual(told(self.prepare()), "2 prepared before")
+
 
 class ReadingTest(PreparingTest):
     def test_a_word_alone_reads_a_text_as_it_is(self) -> None:
@@ -240,6 +246,13 @@ class ChangedTest(PreparingTest):
             change(next((self.maildir / "new").iterdir()))
             with mock.patch("mbox2maildir_admin.mbox.inventory.Inventory.of", side_effect=AssertionError("parsed")):
                 self.assertRaises(AssertionError, self.finish)
+
+    def test_a_list_by_words_of_another_version(self) -> None:
+        self.prepare(ONE + TWO)
+        path = self.prepared_list()
+        path.write_bytes(path.read_bytes().replace(b"\tmboxrd\t", b"\tmboxy\t", 1))
+        self.assertIs(self.finish().fate, Fate.DONE)
+        self.has(ONE, TWO)
 
     def test_what_is_decided_on_the_day_counts(self) -> None:
         several: list[dict[str, Any]] = [{"decision": Reading("mboxrd")}, {"again": True}, {"again_rewritten": True}]

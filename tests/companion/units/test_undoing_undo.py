@@ -8,7 +8,7 @@ from pathlib import Path
 from typing import Any, NamedTuple
 from unittest import mock
 
-from mbox2maildir_admin.faults import Reason
+from mbox2maildir_admin.faults import PlaceFault, Reason
 from mbox2maildir_admin.ledger.history import Entry, Step
 from mbox2maildir_admin.ledger.ledger import Ledger
 from mbox2maildir_admin.ledger.record import Record
@@ -460,6 +460,26 @@ class RefusedTest(UndoTest):
         self.assertEqual(os.WEXITSTATUS(os.waitpid(number, 0)[1]), 1)
         return Reason.LOCKED
 
+    def test_a_maildir_without_a_record(self) -> None:
+        """Before that is seen, root alone looks where links above it lead."""
+        self.make_folders()
+        self.write_box(self.box, ONE)
+        with self.assertRaises(PlaceFault) as raised:
+            undoing.undo_own(self.root, self.path, How(), Listener())
+        self.assertIn("it has no record", str(raised.exception))
+        for user, error in ((0, Killed), (1000, PlaceFault)):
+            with mock.patch("os.geteuid", return_value=user), mock.patch.object(
+                undoing, "real_place", side_effect=Killed
+            ):
+                self.assertRaises(error, undoing.undo_own, self.root, self.path, How(), Listener())
+
+    def test_another_order(self) -> None:
+        """The command that names the Maildir first names the folder too."""
+        self.place_all(self.box, text=ONE)
+        with mock.patch("os.geteuid", return_value=1000), self.assertRaises(PlaceFault) as raised:
+            undoing.undo_own(self.path, self.root, How(folder=b".X"), Listener())
+        self.assertIn("'--folder', 'X'", repr(raised.exception.next))
+
 
 class BrokenOffTest(UndoTest):
     """An undo that ends early: the same words go on with it, and nothing else does."""
@@ -577,6 +597,20 @@ class BrokenOffTest(UndoTest):
         self.assertEqual(self.place_all(self.box, again=True).reason, Reason.UNDO)
         self.undone("removed 0 messages; 2 messages already gone")
         self.assertEqual((self.place_all(self.box).fate, len(self.mail())), (Fate.DONE, 2))
+
+    def test_one_of_equal_ones_that_is_gone(self) -> None:
+        """The mailbox has the message once. If a killed undo may have removed its file, no other one is its own."""
+        says = "kept 1 message that it no longer has; 1 message already gone"
+        for is_killed, why, left in ((False, "removed 1 message; 1 message already gone", []), (True, says, [ONE])):
+            self.setUp()
+            self.place_all(self.box, text=ONE + ONE)
+            self.write_box(self.box, ONE)
+            if is_killed:
+                with mock.patch.object(Ledger, "undo", side_effect=KeyboardInterrupt):
+                    self.assertRaises(KeyboardInterrupt, self.undo)
+            else:
+                self.file(ONE).unlink()
+            self.undone("removed 0 messages; " * is_killed + why, *(BODIES[text] for text in left))
 
     def test_what_another_mailbox_brings_meanwhile(self) -> None:
         """What is left of a mailbox whose undo was killed belongs to whoever brings it: the undo keeps it then."""
