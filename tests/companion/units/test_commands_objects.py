@@ -232,6 +232,15 @@ class ReportTest(FolderTest):
         lines = Path(os.fsdecode(path)).read_text(encoding="ascii").splitlines()
         self.assertEqual([json.loads(line)["verdict"] for line in lines], ["done"])
 
+    def test_what_is_to_be_done_once_all_is_done(self) -> None:
+        reporter, path = Reporter(), self.here + b"/r"
+        with printed(), contextlib.closing(Report(path)) as report:
+            reporter.report, reporter.then = report, task(Todo.LEAVE)
+            reporter.row(row(Fate.DONE))
+            reporter.end()
+        *_, last = Path(os.fsdecode(path)).read_text(encoding="ascii").splitlines()
+        self.assertEqual(len(json.loads(last)["next"]), 1)
+
     def test_it_is_synced(self) -> None:
         reporter, synced = Reporter(), []
         with printed(), contextlib.closing(Report(self.here + b"/r")) as report:

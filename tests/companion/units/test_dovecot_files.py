@@ -2,7 +2,9 @@
 import os
 from typing import Any
 
+from mbox2maildir_admin.faults import Reason
 from mbox2maildir_admin.ledger.record import Record
+from mbox2maildir_admin.migration.dovecot import Dovecot
 from mbox2maildir_admin.migration.outcomes import Fate
 from mbox2maildir_admin.readings.reading import Reading
 
@@ -89,6 +91,29 @@ class DovecotTest(DovecotCase):
         self.fill(NUMBERED.replace(b"222 9", b"223 99") + other + other.replace(b"three", b"five"))
         self.migrate(dovecot=True)
         self.assertEqual(path.read_text(), before.replace("N10", "N13"))
+
+    def test_a_list_that_dovecot_has_changed(self) -> None:
+        """It is not this program's after that either: an undo leaves it there."""
+        self.fill(NUMBERED)
+        self.became(Fate.DONE)
+        path = self.maildir / "dovecot-uidlist"
+        path.write_text(path.read_text() + "11 :1.host\n")
+        self.fill(NUMBERED.replace(b"222 9", b"222 12") + DATED + b"X-UID: 12\nSubject: three\n\nhello\n\n")
+        self.became(Fate.DONE, "it grew by 1 message; " + NEW)
+        self.assertIn(" N13", path.read_text())
+        with Record.open(self.root, False) as record:
+            self.assertFalse(Dovecot(record).is_own_in(b".", self.root, os.fsencode(path.name)))
+
+    def test_what_stores_all_where_dovecot_has_looked(self) -> None:
+        """It does not ask again for what cannot be done."""
+        self.fill(NUMBERED)
+        self.became(Fate.DONE)
+        for name, text in (("dovecot-uidlist", "3 V1 N1\n"), ("mbox2maildir-messages", "hello\n")):
+            (self.maildir / name).write_text(text)
+        self.fill(NUMBERED + ONE)
+        row = self.migrate(dovecot=True)
+        self.assertEqual((row.fate, row.reason), (Fate.LEFT, Reason.LEDGER))
+        self.assertRegex(told(row), "Dovecot has looked at this folder .*: mbox2maildir-admin migrate --again /")
 
     def test_it_goes_on_and_writes_the_same(self) -> None:
         self.fill(NUMBERED)

@@ -136,7 +136,8 @@ class RecordTest(FolderTest):
                 with self.assertRaisesRegex(Fault, "another migrate is at work"), Record.open(maildir):
                     self.fail("it was opened")
             with Record.open(maildir, False) as record:
-                self.assertEqual(list(record.noted(Note.NO_MAIL, b".", b"/box")), [self.KEY])
+                noted = [entry.key for entry in record.noting(Note.NO_MAIL, b".", b"/box")]
+                self.assertEqual(noted, [self.KEY])
             shutil.rmtree(self.here + b"/M", ignore_errors=True)
 
     def test_names_that_could_not_be_synced(self) -> None:

@@ -243,6 +243,8 @@ class KnownTest(HomeTest):
                 record.add(Note.NUMBERED, key_of(ONE), 1, os.fsencode(self.home / name))
                 Known(record, Ledger(self.root), opened).take_place(inventory_of(ONE), False)
                 numbered = record.numbered(b".")
+                # another one at the path that it had has no folder yet
+                self.assertEqual(record.folders_of(bytes(self.home / "box")), [])
             self.assertEqual(numbered and numbered.path, str(self.box if is_its else self.home / name))
 
     def test_beside_which_mailboxes_it_goes(self) -> None:

@@ -410,7 +410,8 @@ class KilledTest(PreparingTest):
         with mock.patch("mbox2maildir_admin.migration.dovecot.place_file", side_effect=Killed):
             with self.assertRaises(Killed):
                 run_all(Options(dovecot=True), self.root, names, Listener(), Function())
-        (self.maildir / ".a/tmp/mbox2maildir-admin-dovecot-uidlist").write_bytes(b"3 V1")
+        for name in ("uidlist", "keywords"):
+            (self.maildir / ".a/tmp" / ("mbox2maildir-admin-dovecot-" + name)).write_bytes(b"3 V1")
         self.box.unlink()
         listener = Listener()
         run_all(Options(gone=True), self.root, names, listener, Function())

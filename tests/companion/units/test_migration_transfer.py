@@ -10,8 +10,9 @@ from unittest import mock
 from mbox2maildir_admin.faults import Reason
 from mbox2maildir_admin.ledger.ledger import Ledger
 from mbox2maildir_admin.maildir.making import LEDGER
+from mbox2maildir_admin.maildir.space import Need
 from mbox2maildir_admin.migration.outcomes import Fate, Row
-from mbox2maildir_admin.migration.transfer import FEW, TENTH
+from mbox2maildir_admin.migration.transfer import FEW, LONGEST_LINE, TENTH
 from mbox2maildir_admin.nexts import Remark
 from mbox2maildir_admin.readings.reading import UNDECIDED, Reading
 
@@ -107,6 +108,11 @@ class NeverTwiceTest(TransferTest):
                 self.bring("box", text, dovecot=dovecot)
             sizes.append(room.call_args_list[0].args[0].size)
         self.assertEqual(sizes[1] - sizes[0], len(text))
+
+    def test_room_for_the_lines_of_the_ledger(self) -> None:
+        with mock.patch("mbox2maildir_admin.migration.transfer.Need.of", wraps=Need.of) as need:
+            self.bring("box", b"".join(MANY))
+        self.assertEqual(need.call_args.args[1][-1], LONGEST_LINE * 100)
 
     def test_edited_as_a_whole(self) -> None:
         """If more than a tenth, and more than three, are gone, while as many are new."""
