@@ -354,6 +354,14 @@ class WayTest(BackHome):
         """Dovecot writes the list of a folder."""
         (self.maildir / folder / "dovecot-uidlist").write_bytes(text)
 
+    def test_a_folder_that_never_got_the_numbers(self) -> None:
+        """The mailbox goes on with its own."""
+        box = self.write_box("mail/sent", KEPT)
+        self.migrate_all("mail")
+        self.deliver(".sent")
+        self.back(dovecot=True)
+        self.assertTrue(box.read_bytes().startswith(KEPT + FROM[:5]))
+
     def test_uids(self) -> None:
         box = self.numbered()
         self.deliver(".sent", name="1.a")

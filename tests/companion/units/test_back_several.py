@@ -256,6 +256,15 @@ class BackTest(BackHome):
         self.assertEqual(self.fates(rows), {"mail/sent": (Fate.NOTHING_NEW, 0), "mail/work": (Fate.BACK, 1)})
         self.assertEqual(self.fates(self.back(copies=True))["mail/work"], (Fate.NOTHING_NEW, 0))
 
+    def test_moved_to_a_folder_without_a_mailbox(self) -> None:
+        self.write_box("mail/sent", ONE)
+        self.migrate_all("mail")
+        self.deliver(".new").unlink()
+        file = next((self.maildir / ".sent/new").iterdir())
+        file.rename(self.maildir / ".new/cur" / file.name)
+        words = {row.folder: [one.word for one in row.remarks] for row in self.back()}
+        self.assertEqual(words, {b".sent": [], b".new": ["moved"]})
+
     def test_deleted_and_changed(self) -> None:
         self.write_box("mail/sent", ONE + TWO)
         self.migrate_all("mail")

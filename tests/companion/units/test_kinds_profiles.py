@@ -40,6 +40,17 @@ class ProfileTest(FolderTest):
             for path in paths:
                 os.unlink(path)
 
+    def test_profiles_in_a_folder_beside_their_list(self) -> None:
+        """As on Windows and macOS, if the folder of both is named."""
+        self.write("Mail/c/Inbox")
+        folder = os.path.join(self.here, b"Profiles", b"x.default")
+        os.mkdir(os.path.dirname(folder))
+        os.rename(self.path, folder)
+        profiles = Profiles(self.here)
+        with os.scandir(folder) as found:
+            profiles.parted(folder, list(found))
+        self.assertEqual([one.path for one in profiles.found], [folder])
+
     def test_mailboxes_without_mail_do_not_count(self) -> None:
         """Neither do files of other kinds, and messages that have files of their own."""
         inbox = self.write("ImapMail/a.b/INBOX")

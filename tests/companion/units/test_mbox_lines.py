@@ -48,6 +48,8 @@ class LinesTest(unittest.TestCase):
             found = texts_of(mailbox, range(0, 9))
             self.assertEqual({**found, 3: found[3][:9]}, {1: b"a", 2: b"", 3: b"y" * 9, 4: b"", 5: b"b"})
             self.assertLess(len(found[3]), 300)
+        with source_of(b"a\rb\nc\r\n") as mailbox:
+            self.assertEqual(texts_of(mailbox, range(0, 9)), {1: b"a\rb", 2: b"c\r"})
         for text in (b"a\n\n" + long, b"x" * (BLOCK - 1) + b"\nb"):
             with source_of(text) as mailbox:
                 last = text.count(b"\n") + 1

@@ -79,6 +79,8 @@ class StreamsTest(unittest.TestCase):
             one, two = pack(ONE), pack(TWO)
             for rest in (b"x", b"garbage", b"\0x", b"\0\0\0\0garbage", ONE, bytes(5) + two):
                 self.assertRegex(self.left(one + rest, form), "stream 1, from byte %d on|stream 2" % (len(one) + 1))
+            with mock.patch.object(streams, "BLOCK", 7):
+                self.left(one + bytes(32) + b"garbage", form)
 
     def test_filled_up(self) -> None:
         """gzip ignores NUL bytes at the end; xz has them in fours, also between streams; bzip2 has none."""
