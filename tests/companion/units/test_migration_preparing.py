@@ -418,6 +418,14 @@ class KilledTest(PreparingTest):
         self.assertEqual([row.fate for row in listener.rows], [Fate.UNDONE])
         self.assertFalse((self.maildir / ".a").exists())
 
+    def test_a_ledger_that_is_gone(self) -> None:
+        """What is prepared is no mail, so that nothing shows that all is there."""
+        self.prepare(ONE + TWO)
+        self.killed(ONE + TWO)
+        (self.maildir / "mbox2maildir-messages").unlink()
+        row = self.finish(ONE)
+        self.assertEqual((row.fate, row.reason), (Fate.LEFT, Reason.LEDGER))
+
     def test_a_dry_run_takes_nothing_back(self) -> None:
         self.prepare(ONE)
         names, kept = self.killed(READ + TWO), self.prepared_list().read_bytes()
