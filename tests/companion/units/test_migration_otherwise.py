@@ -53,6 +53,9 @@ class OtherwiseTest(HomeTest):
             by = bytes(self.home), Extra()
             for decision, is_so in ((UNDECIDED, False), (Reading("mboxrd"), False), (Reading("mboxo"), True)):
                 self.assertIs(contradicts(opened.mailbox, line, decision, by), is_so, decision)
+            # by the same word nothing is read twice
+            with mock.patch("mbox2maildir_admin.migration.otherwise.messages_then", side_effect=AssertionError("read")):
+                self.assertFalse(contradicts(opened.mailbox, line, Reading("mboxrd"), by))
             # what can be read by no such words any more contradicts nothing
             self.assertFalse(contradicts(opened.mailbox, line._replace(plan="mboxy"), Reading("mboxo"), by))
 
@@ -83,14 +86,16 @@ class OtherwiseTest(HomeTest):
         self.assertIn("--as unquoted ", told(row))
 
     def test_it_grew_and_its_lines_are_read_otherwise(self) -> None:
-        """By the same word. A line of the old mail has lost a `>`."""
-        text = DOUBTFUL.replace(b"hello", b">>From x")
-        self.fill(text)
-        line = Line(text[: text.index(b"From here")].count(b"\n") + 1)
-        self.migrate(decision=Reading("mboxrd", text=frozenset([line])))
-        self.fill(text + ONE)
-        row = self.migrate(decision=Reading("mboxrd"))
-        self.assertEqual((row.reason, len(self.mail())), (Reason.ANOTHER_READING, 2), told(row))
+        """By the same word. A line of the old mail has lost a `>`, and may have one less by now."""
+        for then in (b">>From x", b">From x"):
+            self.make_home("home-%d" % len(then))
+            text = DOUBTFUL.replace(b"hello", b">>From x")
+            self.fill(text)
+            line = Line(text[: text.index(b"From here")].count(b"\n") + 1)
+            self.migrate(decision=Reading("mboxrd", text=frozenset([line])))
+            self.fill(DOUBTFUL.replace(b"hello", then) + ONE)
+            row = self.migrate(decision=Reading("mboxrd"))
+            self.assertEqual((row.reason, len(self.mail())), (Reason.ANOTHER_READING, 2), told(row))
 
     def test_again_of_what_is_read_otherwise(self) -> None:
         """What a human says now holds once it is undone; if nobody says anything, it is read as it was."""

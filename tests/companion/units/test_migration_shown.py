@@ -1,8 +1,11 @@
 """Questions that are answered by what a mailbox has brought."""
+from unittest import mock
+
 from mbox2maildir_admin.faults import Reason
 from mbox2maildir_admin.ledger.match import cores_of
 from mbox2maildir_admin.ledger.record import Record
 from mbox2maildir_admin.mbox.inventory import Inventory
+from mbox2maildir_admin.migration import shown
 from mbox2maildir_admin.migration.outcomes import Fate
 from mbox2maildir_admin.migration.shown import are_brought
 from mbox2maildir_admin.readings.reading import Reading
@@ -103,6 +106,12 @@ class ShownTest(HomeTest):
         with Record.open(self.root, True) as record:
             self.assertIs(Undo(self.root, record).run(self.path).fate, Fate.UNDONE)
         self.assertIs(self.migrate().reason, Reason.UNCLEAR)
+
+    def test_a_new_mailbox(self) -> None:
+        """It is not read once for each answer before a human is asked."""
+        self.fill(MEASURED + NEW)
+        with mock.patch.object(shown, "given_by", side_effect=AssertionError("read")):
+            self.assertIs(self.migrate().reason, Reason.UNCLEAR)
 
     def test_all_that_is_nowhere(self) -> None:
         self.grown(MEASURED, MEASURED + NEW)

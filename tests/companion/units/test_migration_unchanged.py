@@ -10,8 +10,10 @@ from typing import Any, Callable
 from unittest import mock
 
 from mbox2maildir_admin.ledger.prepared import Prepared
+from mbox2maildir_admin.mbox.mailbox import Mailbox
 from mbox2maildir_admin.migration.outcomes import Fate, Row
-from mbox2maildir_admin.migration.unchanged import is_as_it_is
+from mbox2maildir_admin.migration.steps import How
+from mbox2maildir_admin.migration.unchanged import is_as_it_is, same_as_prepared
 from mbox2maildir_admin.readings.reading import UNDECIDED, Reading
 
 from tests.support.mail import INTERNAL, MAY, ONE, THREE, TWO, A, bodies_of, with_length
@@ -226,6 +228,12 @@ class ChangedTest(PreparingTest):
         self.assertEqual(self.box.stat().st_size, before.st_size)
         self.assertEqual(told(self.finish()), "1 prepared before, 1 message removed")
         self.has(TWO, ONE.replace(b"one", b"eno"))
+
+    def test_one_that_has_grown_is_not_read_to_see_that(self) -> None:
+        self.prepare(ONE)
+        self.fill(ONE + TWO)
+        with self.opened() as (opened, _), mock.patch.object(Mailbox, "key", side_effect=AssertionError("read")):
+            self.assertIsNone(same_as_prepared(Prepared.read(self.root), How(), opened))
 
     def test_whatever_else_is_in_the_folder(self) -> None:
         """A file that was removed, edited, delivered, or renamed: then the text is read."""
