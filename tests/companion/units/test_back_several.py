@@ -18,6 +18,7 @@ from mbox2maildir_admin.back.reading import Forms, Held, are_at, messages_by, re
 from mbox2maildir_admin.back.steps import How, Target
 from mbox2maildir_admin.back.several import Several
 from mbox2maildir_admin.commands import back as command
+from mbox2maildir_admin.commands.command_line import CommandLine
 from mbox2maildir_admin.commands.words import add_back
 from mbox2maildir_admin.faults import Fault, Left, Reason, Status
 from mbox2maildir_admin.ledger.history import Step
@@ -640,3 +641,11 @@ class PartsTest(HomeTest):
         with self.assertRaises(Fault) as raised:
             several.bring_back(self.root, [], How(), False, Listener())
         self.assertEqual(raised.exception.reason, Reason.NO_MAILDIR)
+
+    def test_the_options_for_users(self) -> None:
+        """A command that is printed for one of them has these too."""
+        line, words = CommandLine("admin", "", ""), ["--dovecot", "--dry-run", "--now"]
+        add_back(line)
+        with printed(), mock.patch.object(command, "back_users") as users, mock.patch("os.geteuid", return_value=0):
+            line.commands["back"].run(["--users", *words, "spool"])
+        self.assertEqual(users.call_args.args[2].words(), words)
