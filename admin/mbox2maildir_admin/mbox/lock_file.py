@@ -161,6 +161,17 @@ def make_lock(spot: Spot, owner: bytes) -> int:
     return number
 
 
+def release_lock(spot: Spot, number: int) -> None:
+    """Removes a lock by its descriptor, which is closed. One that is gone, or is another program's by now, is left
+    alone."""
+    try:
+        with contextlib.suppress(FileNotFoundError):
+            if spot.is_open_as(number):
+                spot.unlink()
+    finally:
+        os.close(number)
+
+
 def look_for_lock_file(mailbox: Mailbox) -> None:
     """Looks for the lock file of another program. Raises Left if there is one; an old one, and one that a killed run
     left, is only mentioned."""
@@ -194,8 +205,7 @@ def lock_file_of(mailbox: Mailbox, owner: bytes) -> Iterator[None]:
         yield
     finally:
         if number is not None:
-            spot.unlink()
-            os.close(number)
+            release_lock(spot, number)
 
 
 def spot_of(mailbox: bytes) -> Spot:

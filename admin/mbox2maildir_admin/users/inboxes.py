@@ -9,7 +9,7 @@ from collections.abc import Iterator, Sequence
 from typing import Any, Optional
 
 from ..faults import Left, Reason
-from ..mbox.lock_file import LOCK, Spot, drop_lock, taken
+from ..mbox.lock_file import LOCK, Spot, drop_lock, release_lock, taken
 from ..terminal import named
 from .clerks import Clerk, Refusal
 from .telling import number_of
@@ -133,12 +133,7 @@ class InboxClerk(Clerk):
         """Releases the lock of an inbox, if it is held."""
         number = self.held.pop(place, None)
         if number is not None:
-            try:
-                spot = self.inboxes.spot(name + LOCK)
-                if spot.is_open_as(number):
-                    spot.unlink()
-            finally:
-                os.close(number)
+            release_lock(self.inboxes.spot(name + LOCK), number)
 
     def end(self) -> None:
         """Releases all locks, since the child has ended."""

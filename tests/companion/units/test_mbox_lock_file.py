@@ -121,6 +121,35 @@ class LockFileTest(FolderTest):
                 self.fail("it is locked")
         self.assertEqual((raised.exception.reason, os.listdir(self.here)), (Reason.LOCKED, [b"box"]))
 
+    def test_another_program_takes_it_for_an_old_one(self) -> None:
+        """It removes the lock while mail is appended, and may make its own. Another one may do so at the end."""
+        is_open_as = Spot.is_open_as
+
+        def late(spot: Spot, number: int) -> bool:
+            is_its = is_open_as(spot, number)
+            self.lock.unlink()
+            return is_its
+
+        before = os.listdir("/proc/self/fd")
+        for text in (None, b"17\n"):
+            with lock_file_of(self.mailbox, b"M"):
+                self.lock.unlink()
+                if text:
+                    self.lock.write_bytes(text)
+            self.assertEqual(self.lock.read_bytes() if self.lock.exists() else None, text)
+        self.lock.unlink()
+        with mock.patch.object(Spot, "is_open_as", late), lock_file_of(self.mailbox, b"M"):
+            pass
+        self.assertEqual((os.listdir(self.here), os.listdir("/proc/self/fd")), ([b"box"], before))
+
+    def test_one_that_cannot_be_removed(self) -> None:
+        """Its descriptor is closed."""
+        before = os.listdir("/proc/self/fd")
+        with mock.patch.object(Spot, "is_open_as", side_effect=OSError(errno.EIO, "no")):
+            with self.assertRaises(OSError), lock_file_of(self.mailbox, b"M"):
+                pass
+        self.assertEqual(os.listdir("/proc/self/fd"), before)
+
     def test_where_no_file_can_be_made(self) -> None:
         for error in (errno.EACCES, errno.EROFS, errno.ENAMETOOLONG):
             with mock.patch("os.open", side_effect=OSError(error, "no")):
