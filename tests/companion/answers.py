@@ -278,6 +278,18 @@ def after_an_undo(home: Path) -> None:
     equal(f"with other numbers: {out}", (status, len(list(mail_in(home / "M")))), (0, count + 1))
 
 
+def that_leaves_no_message(home: Path) -> None:
+    """A mailbox all of whose mail an answer leaves out is done, and is looked at as it was answered, until it grows."""
+    box, deleted = home / "Trash", A + b"X-Mozilla-Status: 0009\n\nhello\n\n"
+    mailbox(box, deleted)
+    expect(["migrate", "--drop-deleted", "--folder", "Trash", "M", "Trash"], home, 0, None)
+    for text, count, status in ((deleted, 0, 0), (deleted + B + b"\n", 2, 1)):
+        mailbox(box, text)
+        sums = f"Trash: messages {count}, bytes ..., there 0, under another name 0, other bytes 0, nowhere {count}, ..."
+        expect(["verify", "M", "Trash"], home, status, sums + "\n..." * count + "\n")
+        expect(["dates", "M", "Trash"], home, status, f"Trash: messages {count}, dated 0\n", None)
+
+
 def by_what_it_brought(home: Path) -> None:
     """A line is not asked about that is in a message which the mailbox brought without a question, and no run notes an
     answer. If new mail has such a line too, a human is asked."""
@@ -400,6 +412,7 @@ if __name__ == "__main__":
         of_numbers,
         without_asking_again,
         after_an_undo,
+        that_leaves_no_message,
         by_what_it_brought,
         of_words_that_were_typed,
         of_lengths,

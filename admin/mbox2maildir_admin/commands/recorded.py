@@ -3,12 +3,13 @@ import os
 from typing import Optional
 
 from ..faults import Fault
-from ..ledger.history import History
+from ..kinds.look import Look
+from ..ledger.history import History, Step
 from ..ledger.record import Record
 from ..maildir.making import RECORD
 from ..mbox.mailbox import Mailbox
 from ..readings.earlier import plan_then
-from ..readings.plans import Plan
+from ..readings.plans import Plan, plan_of
 from ..readings.reading import Reading
 
 
@@ -25,7 +26,8 @@ class Recorded:
         self.plan, record = None, record_of(self.folder)
         done = record.done(*mailbox.key()) if mailbox.size in record.sizes_done() else None
         if done:
-            self.plan = plan_then(text, Reading.of_words(done.plan))
+            reading = Reading.of_words(done.plan)
+            self.plan = plan_then(text, reading) if done.what is Step.DONE else plan_of(text, Look.read, reading)
         return self.plan
 
 

@@ -222,8 +222,11 @@ class History:
         return list(self._texts.get((size, digest), {}).values())
 
     def done(self, size: int, digest: str) -> Optional[Entry]:
-        """The last line of a text of this size and SHA-256 that is done, in any folder."""
-        return next((one for one in reversed(self.lines_of(size, digest)) if one.what is Step.DONE), None)
+        """The last line of a text of this size and SHA-256 that is done, in any folder; if none is, that of an answer
+        that leaves it no message."""
+        lines = [one for one in self.lines_of(size, digest) if one.what is Step.DONE]
+        found = lines or [one for one in self.without_mail() if one.key[1:] == (size, digest)]
+        return found[-1] if found else None
 
     def has_done(self, key: tuple[int, str], count: int) -> bool:
         """Whether a text of this size and SHA-256 is done that has so many messages."""
@@ -231,7 +234,13 @@ class History:
 
     def sizes_done(self) -> set[int]:
         """The sizes of the texts that are done."""
-        return {entry.key.size for entry in self.lines() if entry.what is Step.DONE}
+        lines = (entry for entry in self.lines() if entry.what is Step.DONE)
+        return {entry.key.size for entry in (*lines, *self.without_mail())}
+
+    def without_mail(self) -> Iterator[Entry]:
+        """The answers that leave no message of a text."""
+        notes = (several for (note, _), several in self._notes.items() if note is Note.ANSWERED)
+        return (one for several in notes for one in several if not one.messages)
 
     def begun_at(self, folder: bytes, path: bytes) -> Optional[int]:
         """When a mailbox was begun first in a folder, in seconds since 1970; None if it was not begun."""
