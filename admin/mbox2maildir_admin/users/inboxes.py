@@ -56,12 +56,18 @@ class Inboxes:
         """The mode of a new inbox: its user's alone, unless all inboxes belong to the group of the folder, which may
         write to each."""
         if self.mode is None:
-            group, names = os.fstat(self.number).st_gid, map(os.fsencode, os.listdir(self.number))
-            states = [os.lstat(self.spot_path(name)) for name in names if not name.endswith(LOCK)]
-            boxes = [one for one in states if stat.S_ISREG(one.st_mode) and one.st_uid != 0]
+            group = os.fstat(self.number).st_gid
+            boxes = [one for one in self.states() if stat.S_ISREG(one.st_mode) and one.st_uid != 0]
             are_shared = all(stat.S_IMODE(one.st_mode) == SHARED and one.st_gid == group for one in boxes)
             self.mode = SHARED if boxes and are_shared else OWN
         return self.mode
+
+    def states(self) -> Iterator[os.stat_result]:
+        """The state of each name that is no lock. One that is gone by now, such as that of a delivery, has none."""
+        for name in map(os.fsencode, os.listdir(self.number)):
+            if not name.endswith(LOCK):
+                with contextlib.suppress(FileNotFoundError):
+                    yield os.lstat(self.spot_path(name))
 
     def spot_path(self, name: bytes) -> bytes:
         """The path of a name of the folder."""

@@ -69,6 +69,12 @@ class InboxesTest(FolderTest):
                 self.assertEqual(self.inboxes.mode_of_new(), wanted, name)
         self.assertEqual(self.inboxes.mode_of_new(), 0o600)
 
+    def test_a_delivery_whose_name_is_gone(self) -> None:
+        """The inbox is made all the same."""
+        with mock.patch("os.listdir", return_value=["gone"]):
+            self.assertEqual(self.clerk.answer(["make", 0]), Refusal())
+        self.assertEqual(self.names(), [b"mia"])
+
     def test_another_group(self) -> None:
         os.chmod(self.write("a", b""), 0o660)
         with mock.patch("os.lstat") as lstat:
