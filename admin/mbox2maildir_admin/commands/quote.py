@@ -37,7 +37,7 @@ def quote_file(decision: Reading, file: bytes, output: bytes, is_bare: bool = Fa
         # the copy may go to a terminal
         say = silent
     with Mailbox.open(file, say) as mailbox:
-        plan = plan_to_quote(mailbox, decision, output)
+        plan = plan_to_quote(mailbox, decision, output, is_bare)
         how, start, messages = plan.reading if plan.is_copied else PLAIN, plan.start, plan.messages
         if is_bare:
             head, end = internal_head(mailbox, start)
@@ -52,7 +52,7 @@ def quote_file(decision: Reading, file: bytes, output: bytes, is_bare: bool = Fa
     return True
 
 
-def plan_to_quote(mailbox: Mailbox, decision: Reading, output: bytes) -> Plan:
+def plan_to_quote(mailbox: Mailbox, decision: Reading, output: bytes, is_bare: bool) -> Plan:
     """How a file is read. Raises Fault if a human must decide that, with the commands that do."""
     try:
         return plan_of(mailbox, decision=decision)
@@ -60,7 +60,7 @@ def plan_to_quote(mailbox: Mailbox, decision: Reading, output: bytes) -> Plan:
         names = "-" if output == STANDARD_OUTPUT else operand(output), operand(mailbox.path)
 
         def command(decision: Reading) -> Command:
-            return Command.of(ADMIN, "quote", *decision.options(), "-o", *names)
+            return Command.of(ADMIN, "quote", *["--dovecot"] * is_bare, *decision.options(), "-o", *names)
 
         then = answers_to(question.answers, command)
         raise Fault(str(question), question.reason, then, question.quotes) from question

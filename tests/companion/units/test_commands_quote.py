@@ -80,10 +80,11 @@ class CopyTest(FolderTest):
         self.assertEqual(lines[3], "    > 5 | From me")
         self.assertEqual(lines[5:7], ["    this belongs to the mail above: 1 message:", "        " + command])
         self.assertEqual(os.listdir(self.here), [b"box"])
-        # standard output is no file of that name
-        with self.assertRaises(Fault) as raised:
-            quote_file(UNDECIDED, box, b"-")
-        self.assertIn(" -o - ", list(lines_below((), raised.exception.next))[1])
+        # standard output is no file of that name, and a copy for Dovecot stays one
+        for is_bare, words in ((False, "quote --as unquoted"), (True, "quote --dovecot --as unquoted")):
+            with self.assertRaises(Fault) as raised:
+                quote_file(UNDECIDED, box, b"-", is_bare)
+            self.assertIn(f" {words} --of {tie} -o - ", list(lines_below((), raised.exception.next))[1])
 
 
 class OptionsTest(unittest.TestCase):
