@@ -9,6 +9,7 @@ from typing import AbstractSet, NamedTuple, Optional
 from .. import ADMIN
 from ..faults import Fault, Left, Reason
 from ..jobs.count import MOST, jobs_of, share_of
+from ..maildir.folders import folder_path, on_disk
 from ..migration.outcomes import Fate, Observer, Row, row_left
 from ..migration.servers import locations
 from ..migration.steps import Options
@@ -204,9 +205,13 @@ class Users:
         return size
 
     def why_not(self, key: Key, other: bytes, mailbox: bytes) -> Left:
-        """Why the mailbox of a further name of an account is left, and the command that migrates it."""
-        paths = operand(os.path.join(key[1], self.spool.home.maildir)), operand(mailbox)
-        then = run_next(ADMIN, self.spool.kind.command, *self.spool.options.words(), "--folder", "NAME", *paths)
+        """Why the mailbox of a further name of an account is left, and the command that migrates it, or checks it."""
+        root, kind = os.path.join(key[1], self.spool.home.maildir), self.spool.kind
+        if kind.command == "verify":
+            words = [operand(folder_path(root, on_disk("NAME")))]
+        else:
+            words = [*self.spool.options.words(), "--folder", "NAME", operand(root)]
+        then = run_next(ADMIN, kind.command, *words, operand(mailbox))
         says = "%s is the same user, and its mailbox goes into INBOX" % named(other)
         return Left(says, Reason.SAME_USER, then)
 

@@ -188,6 +188,19 @@ class MigrateTest(FolderTest):
         self.assertEqual([call[0][0] for call in self.crews.call_args_list], [2, 1])
         self.assertEqual(self.tally.words(), ["4 users: 3 from the spool, 1 from the accounts"])
 
+    def test_the_command_for_a_further_name(self) -> None:
+        """To check a mailbox, the folder itself is named."""
+        make(self.here, {"info": b"", "mia": b""})
+        for kind, words in (
+            (Kind(), "migrate --folder NAME /home/mia/Maildir"),
+            (Kind(command="verify"), "verify /home/mia/Maildir/.NAME"),
+        ):
+            self.crew.add.reset_mock()
+            self.migrate(None, kind=kind)
+            why = self.migrant_of(self.tasks()[-1]).why_not
+            assert why
+            self.assertTrue(told(why).endswith(f"-admin {words} {self.here.decode()}/info"), told(why))
+
     def test_the_first_of_an_account_where_its_own_name_has_no_mailbox(self) -> None:
         make(self.here, {"info": b"", "sales": b""})
         wanted = [("sales", self.here + b"/sales"), ("info", self.here + b"/info")]
