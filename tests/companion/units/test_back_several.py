@@ -448,8 +448,12 @@ class PlacesTest(BackHome):
         box = self.write_box("mail/sent", ONE)
         self.migrate_all("mail")
         self.deliver(".sent")
-        place = mailboxes.Place(os.fsencode(box))
-        with mock.patch.object(Places, "of", side_effect=lambda folder: [box.unlink() or place]):
+
+        def places_of(_: bytes) -> list[mailboxes.Place]:
+            box.unlink()
+            return [mailboxes.Place(os.fsencode(box))]
+
+        with mock.patch.object(Places, "of", side_effect=places_of):
             self.assertEqual(self.back()[0].reason, Reason.MISSING)
         self.assertFalse(box.exists())
 

@@ -273,9 +273,10 @@ class RefusedTest(PreparingTest):
         """The list suffices, also where somebody reads."""
         self.prepare(ONE + TWO)
         reader = self.maildir / "dovecot.index.log"
-        for change in (reader.touch, reader.unlink):
+        changes: tuple[Callable[[Path], object], ...] = (Path.touch, Path.unlink)
+        for change in changes:
             (self.maildir / "mbox2maildir-record").unlink(missing_ok=True)
-            change()
+            change(reader)
             row = self.finish(TWO)
             if reader.exists():
                 self.left(row, "somebody reads in its folder")
