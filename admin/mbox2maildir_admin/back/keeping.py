@@ -1,4 +1,5 @@
 """Who makes a mailbox that is not there, and FILE.lock beside one."""
+import contextlib
 import os
 from collections.abc import Iterable
 from contextlib import AbstractContextManager
@@ -33,10 +34,9 @@ def make_mailbox(path: bytes) -> None:
     above = os.path.dirname(os.path.abspath(path))
     if not os.path.isdir(above):
         make_folders(above)
-    try:
+    with contextlib.suppress(FileExistsError):
         os.close(os.open(path, os.O_WRONLY | os.O_CREAT | os.O_EXCL | os.O_NOFOLLOW | os.O_CLOEXEC, 0o600))
-    except FileExistsError:
-        return
+    # a run that was killed may have made it, and not synced
     sync_folder(above)
 
 

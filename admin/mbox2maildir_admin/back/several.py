@@ -16,6 +16,7 @@ from ..ledger.strangers import folders_in
 from ..maildir.folders import INBOX, folder_named, folder_path
 from ..maildir.making import GOES_BACK, RECORD
 from ..maildir.roots import real_place, want_roots_alone
+from ..mbox.files import is_empty
 from ..migration.outcomes import Fate, Observer, Row, row_left
 from ..nexts import NOTHING, Next, Remark, run_next
 from ..program import Program, find_program
@@ -195,10 +196,12 @@ class Several:
         nothing."""
         how = self.how
         try:
-            if place.is_new and not how.dry and not os.path.lexists(place.path):
+            is_missing = place.is_new and not os.path.lexists(place.path)
+            # the name of an empty one may not be on the disk yet
+            if not how.dry and (is_missing or is_empty(place.path)):
                 how.keeper.make(place.path)
-                # nobody else knows of it
-                how = replace(how, now=True)
+                # nobody else knows of a new one
+                how = replace(how, now=how.now or is_missing)
             say = Beat(functools.partial(self.observer.progress, named(target.path)))
             return Returning(self.program, self.root, self.record, how, say).run(target)
         except TakesNothing:

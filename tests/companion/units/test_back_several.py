@@ -102,6 +102,29 @@ class BackTest(BackHome):
         again = self.fates(self.back())
         self.assertEqual(again, {name: (Fate.NOTHING_NEW, 0) for name in would})
 
+    def test_a_run_that_is_killed_before_a_new_mailbox_is_on_the_disk(self) -> None:
+        """The next one sees to that before it appends."""
+        self.write_box("mail/sent", ONE)
+        self.migrate_all("mail")
+        self.deliver(".sheds")
+        with mock.patch.object(keeping, "sync_folder", side_effect=KeyboardInterrupt):
+            with self.assertRaises(KeyboardInterrupt):
+                self.back()
+        box, synced = self.tree / "sheds", []
+        self.assertEqual(box.read_bytes(), b"")
+        with mock.patch("os.fsync", lambda number: synced.append(os.fstat(number).st_ino)):
+            self.assertEqual(self.fates(self.back())["mail/sheds"], (Fate.BACK, 1))
+        self.assertIn(self.tree.stat().st_ino, synced[: synced.index(box.stat().st_ino)])
+
+    def test_an_empty_mailbox_that_others_have_made_is_waited_for(self) -> None:
+        self.write_box("mail/sent", ONE)
+        self.migrate_all("mail")
+        self.deliver(".sheds")
+        self.write_box("mail/sheds", b"")
+        with mock.patch.object(returning, "open_mailbox", wraps=open_mailbox) as opens:
+            self.assertEqual(self.fates(self.back(now=False))["mail/sheds"], (Fate.BACK, 1))
+        self.assertEqual([one.args[3] for one in opens.call_args_list], [True])
+
     def test_mail_that_is_deleted_after_a_run_was_killed(self) -> None:
         """What is left of what was appended looks like a part of it."""
         box = self.write_box("mail/sent", ONE)
@@ -582,7 +605,9 @@ class PartsTest(HomeTest):
             make_mailbox(path)
         self.assertEqual(synced, [str(self.home / name) for name in ("", "a", "a/b")])
         Path(os.fsdecode(path)).write_bytes(ONE)
-        make_mailbox(path)
+        with mock.patch.object(keeping, "sync_folder") as sync:
+            make_mailbox(path)
+        sync.assert_called_once_with(os.path.dirname(path))
         self.assertEqual(Path(os.fsdecode(path)).read_bytes(), ONE)
 
     def test_which_errors_say_that_no_room_is_left(self) -> None:
