@@ -163,10 +163,11 @@ class Known:
         same, found = [line for line in self.same() if is_gone(line) or is_replaced(line)], self.in_others()
         others = (one for one in self.record.gone() if os.path.dirname(one.path) == beside and one not in same)
         for line in itertools.chain(same, others):
-            folder = where_it_is(self.root, line.key.folder, line.ledger)
-            if folder == self.opened.name or line.messages > len(inventory):
+            folder, is_same = where_it_is(self.root, line.key.folder, line.ledger), line in same
+            # the same bytes may have fewer messages as they are read now
+            if folder == self.opened.name or not is_same and line.messages > len(inventory):
                 continue
-            ledger, is_same = Ledger(folder_path(self.root, folder)), line in same
+            ledger = Ledger(folder_path(self.root, folder))
             cores = cores or cores_of(inventory)
             if is_same or ledger.is_in(line.path, cores):
                 is_moved = is_gone(line) and (is_same or self.is_moved(ledger, line.path))

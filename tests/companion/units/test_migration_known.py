@@ -320,5 +320,8 @@ class KnownTest(HomeTest):
             self.fill(ONE + THREE)
             change(self.home / name)
             with self.opened() as (opened, record):
-                found = Known(record, Ledger(self.root), opened).elsewhere(inventory_of(ONE + THREE))
-            self.assertEqual([one.is_moved for one in found], are_moved, number)
+                known = Known(record, Ledger(self.root), opened)
+                # it may be read otherwise now, and have fewer messages
+                for text in (ONE + THREE, ONE):
+                    found = known.elsewhere(inventory_of(text))
+                    self.assertEqual([one.is_moved for one in found], are_moved, (number, text))
