@@ -53,13 +53,17 @@ class Spot(NamedTuple):
         """Removes it."""
         os.unlink(self.name, dir_fd=self.folder)
 
+    def state(self) -> Optional[os.stat_result]:
+        """The state of what has this name, which may be a symbolic link; None if nothing has it."""
+        try:
+            return os.stat(self.name, dir_fd=self.folder, follow_symlinks=False)
+        except FileNotFoundError:
+            return None
+
     def is_open_as(self, number: int) -> bool:
         """Whether a descriptor is of it."""
-        try:
-            state = os.stat(self.name, dir_fd=self.folder, follow_symlinks=False)
-        except FileNotFoundError:
-            return False
-        return os.path.samestat(state, os.fstat(number))
+        state = self.state()
+        return state is not None and os.path.samestat(state, os.fstat(number))
 
     def beside(self) -> "Spot":
         """The name that it has until it is whole."""

@@ -74,10 +74,16 @@ class Inboxes:
         return os.path.join(self.path, name)
 
     def make(self, name: bytes, account: pwd.struct_passwd) -> None:
-        """Makes the inbox of an account, unless something has its name. It gets the name once it belongs to its user
-        and to the group of the folder. It is on the disk then."""
-        mode, spot = self.mode_of_new(), self.spot(name)
-        beside = spot.beside()
+        """Makes the inbox of an account, unless something has its name. It is on the disk then."""
+        spot = self.spot(name)
+        if not spot.state():
+            self.make_new(spot, account)
+        os.fsync(self.number)
+
+    def make_new(self, spot: Spot, account: pwd.struct_passwd) -> None:
+        """Makes the inbox of an account. It gets its name, if that is free, once it belongs to its user and to the
+        group of the folder."""
+        mode, beside = self.mode_of_new(), spot.beside()
         with contextlib.suppress(FileNotFoundError):
             beside.unlink()
         number = beside.open(MADE, OWN)
@@ -90,7 +96,6 @@ class Inboxes:
         finally:
             os.close(number)
             beside.unlink()
-        os.fsync(self.number)
 
     def clerk(self, account: pwd.struct_passwd, names: Sequence[bytes], owner: bytes) -> "InboxClerk":
         """What root does for the child of an account whose inboxes have these names. No other run is at work for the

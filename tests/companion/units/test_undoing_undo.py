@@ -601,7 +601,7 @@ class BrokenOffTest(UndoTest):
     def test_one_of_equal_ones_that_is_gone(self) -> None:
         """The mailbox has the message once. If a killed undo may have removed its file, no other one is its own."""
         says = "kept 1 message that it no longer has; 1 message already gone"
-        for is_killed, why, left in ((False, "removed 1 message; 1 message already gone", []), (True, says, [ONE])):
+        for is_killed, why, left in ((False, "removed 1 message; 1 message already gone", ()), (True, says, (ONE,))):
             self.setUp()
             self.place_all(self.box, text=ONE + ONE)
             self.write_box(self.box, ONE)

@@ -49,6 +49,14 @@ class InboxesTest(FolderTest):
             self.clerk.answer(["make", 0])
         self.assertEqual(synced[1:], [0, os.stat(self.here).st_ino])
 
+    def test_one_that_is_there_where_root_may_make_none(self) -> None:
+        """Its name may not be on the disk yet, and no other file is wanted for that."""
+        self.write("mia", b"")
+        may_not = mock.patch.object(Spot, "open", side_effect=PermissionError)
+        with may_not, mock.patch("os.fsync", wraps=os.fsync) as fsync:
+            self.assertEqual(self.clerk.answer(["make", 0]), Refusal())
+        self.assertEqual(fsync.mock_calls, [mock.call(self.inboxes.number)])
+
     def test_the_mode_of_the_others(self) -> None:
         """Root's files, locks and folders are no inboxes."""
         os.mkdir(os.path.join(self.here, b"old"))
