@@ -14,12 +14,13 @@ from ..mbox.bases import before_info
 from ..mbox.inventory import Inventory
 from ..mbox.mailbox import Mailbox
 from ..nexts import NOTHING, Answer, Does, Next, Remark
-from ..readings.earlier import decision_by, messages_then, plan_then
+from ..readings.earlier import decision_by, messages_then, plan_then, text_then
 from ..readings.reading import MBOXO, UNDECIDED, UNQUOTED, Reading
 from ..readings.texts import Choice, choice_of, content_of, disk_of
 from ..units import counted
 from .dovecot import names_in
 from .known import Known
+from .remarks import remarks_on_flags, remarks_on_lost
 from .steps import Contents, Extra, How, Opened
 
 CONTRADICTED = "it was read as %s, and %s gives other messages"
@@ -35,9 +36,9 @@ BEGUN_OTHERWISE = (
 By = tuple[bytes, Extra]
 
 
-def as_before(opened: Opened, ledger: Ledger, path: str, by: By) -> Optional[str]:
-    """The words by which a mailbox was read, if nothing is new in it as it is read so; None if something is, or if it
-    cannot be read so any more."""
+def as_before(opened: Opened, ledger: Ledger, path: str, by: By) -> Optional[tuple[str, list[Remark]]]:
+    """The words by which a mailbox was read, and what is to be said of it, if nothing is new in it as it is read so;
+    None if something is, or if it cannot be read so any more."""
     source = ledger.sources.get(path)
     if not source or ledger.pending(path) is not None:
         return None
@@ -45,9 +46,13 @@ def as_before(opened: Opened, ledger: Ledger, path: str, by: By) -> Optional[str
         plan = plan_then(text, Reading.of_words(source.words))
         if not plan:
             return None
-        match = Match(ledger, path, messages_then(text, plan, by[0], by[1].start_of), lambda place: False)
-        match.compare()
-    return None if match.count_new() else source.words
+        with text_then(text, plan, by[0], by[1].start_of) as then:
+            contents = Contents(then.mailbox, then.start, then.messages(), plan.reading, then)
+            match = Match(ledger, path, contents.inventory, lambda place: False)
+            match.compare()
+            if match.count_new():
+                return None
+            return contents.words, [*remarks_on_lost(match), *remarks_on_flags(ledger, path, contents)]
 
 
 def contradicted(how: How, root: bytes, opened: Opened, line: Entry) -> tuple[list[Remark], Next]:

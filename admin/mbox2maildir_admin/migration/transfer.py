@@ -130,10 +130,11 @@ class Transfer:
         """The row of a mailbox about which there is a question, if it was done before as it was read then, or was
         answered before, or if what it has brought answers; None if a human must."""
         if not self.again:
-            words = as_before(self.opened, self.ledger, self.path, (self.disk, self.how.extra))
-            if words is not None:
+            before = as_before(self.opened, self.ledger, self.path, (self.disk, self.how.extra))
+            if before:
+                words, more = before
                 keep_done(self.how, self.root, self.opened, words)
-                return self.row_before(words, self.known.last.messages if self.known.last else None, [])
+                return self.row_before(words, self.known.last.messages if self.known.last else None, more)
         if self.how.decision != UNDECIDED:
             return None
         answer = answer_to(self.record, self.opened, question)

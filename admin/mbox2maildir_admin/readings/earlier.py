@@ -1,5 +1,6 @@
 """How mailboxes were read before."""
-from collections.abc import Callable
+import contextlib
+from collections.abc import Callable, Iterator
 from typing import Optional
 
 from ..faults import Fault
@@ -9,8 +10,11 @@ from ..units import Offset
 from .plans import Plan, wants_copy
 from .quoting import measured
 from .reading import UNDECIDED, Reading
-from .texts import Choice
+from .texts import Choice, Text
 from .verdict import look_at
+
+# where the messages of a text begin that are converted
+StartOf = Callable[[Mailbox, Offset], Offset]
 
 
 def plan_then(text: Mailbox, reading: Reading) -> Optional[Plan]:
@@ -27,16 +31,18 @@ def plan_then(text: Mailbox, reading: Reading) -> Optional[Plan]:
     return Plan("", counts.messages, verdict.start, reading, wants_copy(reading, counts))
 
 
-def messages_then(
-    mailbox: Mailbox,
-    plan: Plan,
-    folder: bytes,
-    start_of: Callable[[Mailbox, Offset], Offset] = lambda _, start: start,
-) -> Inventory:
-    """The messages of a mailbox as it was read, from the place on at which it is converted. A copy is on the disk of
+@contextlib.contextmanager
+def text_then(mailbox: Mailbox, plan: Plan, folder: bytes, start_of: StartOf) -> Iterator[Text]:
+    """The text of a mailbox as it was read, from the place on at which it is converted. A copy is on the disk of
     `folder`."""
     with Choice(mailbox, plan).text(folder) as text:
-        return text.begun_at(start_of(*text.whole())).messages()
+        yield text.begun_at(start_of(*text.whole()))
+
+
+def messages_then(mailbox: Mailbox, plan: Plan, folder: bytes, start_of: StartOf = lambda _, start: start) -> Inventory:
+    """The messages of that text."""
+    with text_then(mailbox, plan, folder, start_of) as text:
+        return text.messages()
 
 
 def decision_by(mailbox: Mailbox, plan: Plan, given: Reading = UNDECIDED) -> Reading:

@@ -146,9 +146,14 @@ class OtherwiseTest(HomeTest):
         self.assertEqual((row.fate, told(row)), (Fate.DONE, "it grew by 1 message"))
 
     def test_a_question_about_what_is_done(self) -> None:
-        """If nothing is new in it as it was read, nobody is asked."""
-        row = self.done(DOUBTFUL, DOUBTFUL.replace(b"\n\n", b"\nStatus: RO\n\n", 1), "unquoted")
-        self.assertIs(row.fate, Fate.BEFORE)
+        """If nothing is new in it as it was read, nobody is asked. The row says what changed."""
+        flags = "flags of 1 message changed in it since then and are not carried over"
+        for text, then, says in (
+            (DOUBTFUL, DOUBTFUL.replace(b"\n\n", b"\nStatus: RO\n\n", 1), flags),
+            (DOUBTFUL + ONE, DOUBTFUL, "1 message gone from it that it had brought"),
+        ):
+            row = self.done(text, then, "unquoted")
+            self.assertEqual((row.fate, told(row)), (Fate.BEFORE, says))
 
     def test_a_question_about_what_is_done_and_the_record_is_lost(self) -> None:
         """The ledger knows how it was read. No line of it is in question, so what it brought does not answer."""
