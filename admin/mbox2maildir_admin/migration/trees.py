@@ -100,10 +100,10 @@ class Tree:
             os.stat(os.path.join(folder, b"."))
             with os.scandir(folder) as found:
                 entries = self.without_messages(folder, sorted(found, key=lambda entry: entry.name))
+            entries, rest = self.profiles.parted(folder, entries)
         except OSError as error:
             self.leave(folder, Left(error.strerror, Reason.ERROR))
             return []
-        entries, rest = self.profiles.parted(folder, entries)
         for entry in rest:
             self.pass_over(entry.path, NO_MAIL)
         return [entry.path for entry in entries if self.take(entry)]

@@ -1,6 +1,9 @@
 """Thunderbird's profiles. More is in trees.py."""
+import errno
 import os
 from pathlib import Path
+from typing import Any
+from unittest import mock
 
 from mbox2maildir_admin.kinds.profiles import Place, Profile, Profiles, is_profile
 
@@ -87,3 +90,18 @@ class ProfileTest(FolderTest):
             self.assertEqual(sorted(os.fsdecode(one.name) for one in entries), wanted)
             self.assertEqual(len(rest), 2 if folder == self.path else 0)
         self.assertEqual([is_profile(path) for path in (self.path, self.here)], [True, False])
+
+    def test_one_that_cannot_be_looked_at(self) -> None:
+        """Beside a list of profiles it may be one, so that it does not count as a folder without mail."""
+        for name in ("../profiles.ini", "../y/prefs.js", "../y/Mail/c/Inbox", "Mail/c/Inbox"):
+            self.write(name)
+
+        def stale(path: bytes, *words: Any, **options: Any) -> os.stat_result:
+            if b"x.default" in path:
+                raise OSError(errno.ESTALE, "stale")
+            return look(path, *words, **options)
+
+        look = os.lstat
+        with os.scandir(self.here) as found, mock.patch("os.stat", stale), mock.patch("os.lstat", stale):
+            entries, _ = Profiles(self.here).parted(self.here, list(found))
+        self.assertEqual(sorted(one.name for one in entries), [b"x.default", b"y"])
