@@ -102,6 +102,8 @@ class Attempt:
         shutil.rmtree(str(self.home), ignore_errors=True)
         self.home.mkdir()
         world = self.make(Random(9), self.home)
+        # several at a time make other calls in each run, and in another order
+        world.options += ["--jobs", "1"]
         world.finish((NOBODY, NOBODY) if is_root() and not world.is_for_users else None)
         return world
 
