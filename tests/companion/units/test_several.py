@@ -128,12 +128,6 @@ class SeveralTest(HomeTest):
         self.file("old/inbox", b"")
         self.assertEqual([row[2] for row in self.rows(b"old", own=False)], [Fate.NO_MAIL])
 
-    def test_an_empty_file_is_in_nobodys_way(self) -> None:
-        self.file("tree/box", b"")
-        self.file("tree/box.mbox")
-        wanted = [(b"tree/box", b"", Fate.NO_MAIL), (b"tree/box.mbox", b".box", Fate.DONE)]
-        self.assertEqual([row[:3] for row in self.rows(b"tree")], wanted)
-
     def test_what_is_named_and_met_in_a_tree(self) -> None:
         """A name has one fate, whatever else names it: a word comes before a tree, and a tree before a later one."""
         self.file("tree/lists/sheds")
@@ -352,9 +346,10 @@ class SeveralTest(HomeTest):
             self.assertTrue(row[3].startswith("its name is not UTF-8; run this next: "), row)
 
     def test_what_is_no_mail_is_in_nobodys_way(self) -> None:
-        self.file("tree/twice")
-        self.file("tree/twice.mbox", b"%PDF-1.4\n")
-        self.assertEqual([row[1:3] for row in self.rows(b"tree")], [(b".twice", Fate.DONE), (b"", Fate.NO_MAIL)])
+        for name, text in (("box", b""), ("box.mbox", ONE), ("twice", ONE), ("twice.mbox", b"%PDF-1.4\n")):
+            self.file("tree/" + name, text)
+        none, done = (b"", Fate.NO_MAIL), Fate.DONE
+        self.assertEqual([row[1:3] for row in self.rows(b"tree")], [none, (b".box", done), (b".twice", done), none])
 
     def test_a_maildir_in_a_tree(self) -> None:
         for sub in ("cur", "new", "tmp"):
