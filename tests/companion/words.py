@@ -360,7 +360,7 @@ def verified(home: Path) -> None:
             (3, "1700000000_0.1.host,U=3,FMD5=...:2,"),
         )
     )
-    again = "    another program renamed files: to convert this mailbox again would deliver their messages twice\n"
+    again = "    another program named these files: `mbox2maildir convert` would deliver their messages again\n"
     expect(["verify", "M", "box"], home, 0, counts(7, 3, 0, 0) + said + again)
 
     # moved away; cut, grown and changed; and no regular file

@@ -143,10 +143,7 @@ class Findings:
         for word, sorts in found.sorts():
             put_some((one.sentence() for one in sorts), counts[word])
         if counts["renamed"]:
-            put(
-                BELOW
-                + "another program renamed files: to convert this mailbox again would deliver their messages twice"
-            )
+            put(BELOW + "another program named these files: `mbox2maildir convert` would deliver their messages again")
 
     def left_out(self, row: Row) -> None:
         """Takes a file that was not looked at."""

@@ -51,7 +51,7 @@ class VerifyTest(unittest.TestCase):
         self.assertEqual(lines[1], "    message 1 (line 1): other bytes in /M/new/" + base_of(ONE))
         self.assertRegex(lines[2], r"\A    message 2 \(line 4\): under another name, /M/cur/[12].host:2,\Z")
         self.assertRegex(lines[3], r"\A    a second copy of a message: /M/cur/[12].host:2,\Z")
-        self.assertRegex(lines[4], "another program renamed files")
+        self.assertRegex(lines[4], "another program named these files")
 
     def test_without_fields(self) -> None:
         """A message may have a file with the fields that mail programs hide, or one without them; both are one too
