@@ -4,8 +4,8 @@
 Words: the Maildir, a folder to file mail in, a file with the bases of the messages that may be meddled with, one per
 line, and how many deeds to do per second. To other messages it does what a mail reader does: it moves them from `new`
 to `cur`, and flags them. Of the messages that may be meddled with it deletes some, files some, gives some another base,
-marks some as new, gives some a second name for a moment, and writes into some. It says when it has begun and, at its
-end, how often it did each.
+marks some as new, gives some a second name for a moment, and writes into some. It says when it does each for the first
+time and, at its end, how often it did each.
 """
 import collections
 import os
@@ -82,8 +82,8 @@ def main() -> None:
                 mark(maildir, sub, name, base, filed)
         except FileExistsError:
             continue
-        if not done:
-            print("begun", flush=True)
+        if not done[deed.__name__]:
+            print("first", deed.__name__, flush=True)
         done[deed.__name__] += 1
     print(*(f"{deed.__name__} {done[deed.__name__]}" for deed in [mark, *DEEDS]))
 
