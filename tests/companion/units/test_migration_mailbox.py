@@ -143,7 +143,7 @@ class SyncTest(BecomesTest):
 
         def full(number: int, piece: bytes) -> None:
             put(number, piece[:-1] if faults else piece)
-            if faults:
+            if piece and faults:
                 raise faults.pop()
 
         listener = Listener()
