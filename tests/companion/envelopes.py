@@ -130,7 +130,8 @@ def decided_and_cut(home: Path) -> None:
     mailbox(home / "box", text_of(CRLF, ODD) + b"From Tuesday on\n\nhi\n\n" + text_of(PLAIN))
     answer(home)
     mailbox(home / "box", text_of(CRLF, ODD) + b"From Tuesday on\n\nhi\n")
-    equal("done before", keep(home, ["box"]), "1 mailbox: 1 done before\n")
+    row = "box -> INBOX: done before, 1 message gone from it that it had brought\n"
+    equal("done before", keep(home, ["box"]), row + "1 mailbox: 1 done before\n")
     letters = AS_LF, (ODD[0], b"", ODD[2] + b"\nFrom Tuesday on\n\nhi\n")
     equal("its lines", kept(home / "M"), lines_of(*letters))
 
