@@ -10,7 +10,7 @@ use Rattle.maildir_commands.specs.Machines.{GivesTexts, HeldMaildir, Rests}
 use Rattle.maildir_commands.specs.Seen.{SeenMachine, SeenProgram, seen_with}
 use Rattle.maildir_commands.specs.Words.{convert_words}
 
--- What happens to a Maildir. It happens one after the other, so it is assumed that no two commands are at work at a time.
+-- What happens to a Maildir. It happens one after the other, so it is assumed that no two commands are at work in it at a time.
 pub data Episode : Type 0 where
   -- A command that was to deliver these texts ended with this status; one that was killed counts as one with status 1. Standard output had `before` as it
   -- began, and `after` at its end.

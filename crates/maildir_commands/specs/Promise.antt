@@ -84,7 +84,7 @@ pub record AnyCommands {M : Type 0} (spared : Spared) (at : M → SeenMachine) (
   pub fit : AreFit texts
   -- At first the Maildir is sound for the texts, as one is that is new to them.
   pub sound : IsSoundFor spared texts ((at old).maildir_at path)
-  -- Each episode leads from one moment to the next. One command at a time is at work; other programs may act at any time.
+  -- Each episode leads from one moment to the next. One command at a time is at work in this Maildir; other programs may act at any time.
   pub history : IsHistory spared at path texts episodes old new
 
 -- The Maildir has none of the messages of the texts. If a power cut may bring some back that were deleted, it brings them back whole. `AnyCommands` has no
