@@ -310,6 +310,45 @@ KINDS = [
         1,
         ["line 6: a line `From ` with a date, but no header after it: From x Mon Mar  3 09:12:44 2025"],
     ),
+    # however many line ends follow it: it has no body only if another From_ line or nothing follows these
+    *(
+        (
+            A + b"\nhello\n\nFrom x Mon Mar  3 09:12:44 2025" + b"\n" * count + b"where it ends\n\n",
+            "mboxrd or mboxo, messages 1 to 2",
+            asks("7", ("--as mboxrd --text 7", 1), ("--as mboxrd", 2)),
+            1,
+            ["line 7: a line `From ` with a date, but no header after it: From x Mon Mar  3 09:12:44 2025"],
+        )
+        for count in (9, 10, 3000)
+    ),
+    (
+        A + b"\nhello\n\nFrom x Mon Mar  3 09:12:44 2025" + b"\n" * 9 + B + b"\nyes\n\n",
+        "mboxrd or mboxo, messages 3",
+        "migrate",
+        0,
+        [],
+    ),
+    (
+        A + b"\nhello\n\nFrom x Mon Mar  3 09:12:44 2025" + b"\n" * 3000,
+        "mboxrd or mboxo, messages 2",
+        "migrate",
+        0,
+        [],
+    ),
+    # the header follows the whole line, however long that is
+    *(
+        (
+            A + b"\nhello\n\nFrom " + b"x" * (size - 5) + b"\nSubject: two\n\nyes\n\n",
+            "mboxrd or mboxo, messages 1 to 2",
+            asks("7", ("--as unquoted", 1), ("--as mboxrd", 2)),
+            1,
+            [
+                *(["line 7: a From_ line with a CR, a NUL byte or more than 998 bytes ..."] if size > 998 else []),
+                "line 7: a line `From ` without a date at its end, which may begin a message: From xxx...",
+            ],
+        )
+        for size in (998, 999, 1000, 3 << 20)
+    ),
     (
         b"From d876a811688d6b7212093ba5a8b1a171c4fcdedd Mon Sep 17 00:00:00 2001\nFrom: a\n\n" + MAY,
         "git's patches, messages 1",

@@ -7,7 +7,8 @@ from typing import Optional
 from ..flags.dovecot_headers import internal_head
 from ..mbox.dates import is_dated
 from ..mbox.files import LONG
-from ..mbox.headers import LENGTH, Header
+from ..mbox.headers import LENGTH, Header, header_offset
+from ..mbox.hidden import FROM
 from ..mbox.lines import Lines, Reasons, Said
 from ..mbox.mailbox import Mailbox
 from ..mbox.messages import may_hold_mail
@@ -17,7 +18,8 @@ from ..units import Line, Offset
 from .deleted import Deleted, deleted_in
 from .doubts import CUT, DELETED, Doubts
 from .joins import Joins
-from .starts import FIELD
+from .sorts import AGAINST, KEEPING, SAID
+from .starts import FIELD, end_of_row
 from .undated import ending_of, shape_of
 
 GIT = re.compile(rb"From [0-9a-f]{40,64} Mon Sep 17 00:00:00 2001\r?\Z")
@@ -135,7 +137,7 @@ class Look:
         """Notes which words a line `From ` after the first contradicts, among the words that say how a text was
         written. No header was read for a line within a message."""
         inside = header is None
-        begins = header.begins if header else self.mailbox.at(mark.offset + len(mark.piece) + 1, LONG)
+        begins = header.begins if header else self.mailbox.at(header_offset(self.mailbox, mark), LONG)
         has_header, by = FIELD.match(begins) is not None, self.claimed_by if inside else Line(0)
         if dated and has_header and not inside:
             return
@@ -166,7 +168,9 @@ class Look:
 
     def is_alone(self, header: Header) -> bool:
         """Whether neither a header nor text follows a From_ line."""
-        return header.is_empty() and self.mailbox.at(header.end, 8).strip(b"\r\n")[:5] in (b"", b"From ")
+        if not header.is_empty():
+            return False
+        return self.mailbox.at(end_of_row(self.mailbox, header.end, b"\r\n"), len(FROM)) in (b"", FROM)
 
     def from_line(self, mark: Part) -> None:
         """Looks at a From_ line itself."""
@@ -280,42 +284,6 @@ class Look:
         return Reasons(found, self.count(AGAINST[word]))
 
 
-# what is said of the lines of a sort, in this order; {} stands for the number of another line
-SAID = [
-    ("holds mail", "a From_ line with a CR, a NUL byte or more than %d bytes may contain mail" % LONG),
-    ("inside, dated", "a From_ line with a date, but within the message of line {}, by its length"),
-    ("inside", "within the message of line {}, by its length"),
-    ("wrong", "a Content-Length that does not lead to a From_ line"),
-    ("text", "a line `From ` without a date at its end"),
-    ("odd", "a line `From ` with a date, but no header after it"),
-    ("doubtful", "a line `From ` without a date at its end, which may begin a message"),
-    ("joined", "a message may begin in the middle of this line"),
-    ("undated", "a From_ line without a date"),
-    ("deleted", "this message is marked as deleted"),
-    ("CR LF", "a From_ line that ends in CR LF"),
-    ("CR in text", "the first message line that ends in CR LF; these line ends are kept"),
-    ("quoted twice", "it loses a `>`, which is wrong if this is mboxo (`--as mboxo`)"),
-    ("quoted, by length", "it loses its `>`, which is wrong if nothing is escaped (`--as mboxcl2`)"),
-    ("internal", "a note that an IMAP server wrote for itself; it is delivered as mail"),
-    ("no end", "the last line has no line end: check that the file is complete"),
-    ("cut", "the last line has no line end, and the length of its message says that more is missing"),
-]
-# the sorts because of which a text is not converted as it is, in the order in which they are to be looked at
-KEEPING = (
-    ("inside, dated", "odd", "doubtful", "joined"),
-    ("inside", "text"),
-    ("holds mail",),
-    ("cut",),
-    ("deleted",),
-)
-# the sorts that contradict a word
-AGAINST = {
-    "mboxrd": "against each line",
-    "mboxo": "against each line",
-    "mboxcl": "against lengths",
-    "mboxcl2": "against lengths",
-    "unquoted": "against dates",
-}
 # whether a look at the beginning of a text is enough, and what looks at as much of a text as is wanted
 Enough = Callable[[Look], bool]
 Read = Callable[[Look], Look]

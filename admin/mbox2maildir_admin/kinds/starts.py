@@ -3,7 +3,7 @@ import re
 from typing import Optional
 
 from ..mbox.dates import is_dated
-from ..mbox.files import BLOCK, Reader
+from ..mbox.files import BLOCK, LONG
 from ..mbox.mailbox import Mailbox
 from ..units import Offset
 from .shapes import is_tar
@@ -51,9 +51,16 @@ def parted(text: bytes) -> tuple[bytes, bytes]:
 
 def nulls_of(mailbox: Mailbox, offset: Offset = Offset(0)) -> Offset:
     """The offset at which the NUL bytes end that a file has at its beginning, or at an offset."""
-    reader = Reader(mailbox.number, offset, mailbox.size)
+    return end_of_row(mailbox, offset, b"\0")
+
+
+def end_of_row(mailbox: Mailbox, offset: Offset, row: bytes) -> Offset:
+    """The offset of the first byte from an offset on that is none of these; the end of the file if there is none."""
+    # most rows are short, and their bytes were read just now
+    count = LONG
     while True:
-        block = reader.read(BLOCK)
-        rest = block.lstrip(b"\0")
+        block = mailbox.at(offset, count)
+        rest = block.lstrip(row)
+        offset, count = Offset(offset + len(block) - len(rest)), BLOCK
         if rest or not block:
-            return Offset(reader.offset - len(rest))
+            return offset

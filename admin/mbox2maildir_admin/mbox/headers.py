@@ -28,6 +28,11 @@ def bounds_of(text: bytes) -> Optional[tuple[int, int]]:
     return found
 
 
+def header_offset(mailbox: Mailbox, mark: Part) -> Offset:
+    """The offset at which the line of a mark has ended, of which a mark has only the first bytes."""
+    return mailbox.next_line(mark.offset + len(mark.piece))
+
+
 class Header:
     """The header of a message: its text, the offset of the text, and the number of its first line."""
 
@@ -41,7 +46,7 @@ class Header:
     @classmethod
     def read(cls, mailbox: Mailbox, mark: Part) -> "Header":
         """Reads the header of the message whose From_ line is this mark."""
-        offset = Offset(mark.offset + len(mark.piece) + 1)
+        offset = header_offset(mailbox, mark)
         for count in (1 << 13, 1 << 16, 1 << 22):
             text = mailbox.at(offset, count)
             found = bounds_of(text)

@@ -87,6 +87,15 @@ class Mailbox:
         """The From_ line that begins at an offset, as far as anything reads it, without its end."""
         return self.at(offset, LONG + 1).split(b"\n")[0]
 
+    def next_line(self, offset: int) -> Offset:
+        """The offset at which the line ends that has this offset, after its line end; or the end of the text."""
+        count, found = 1, -1
+        while found < 0 and offset < self.size:
+            block = self.at(offset, count)
+            found = block.find(b"\n")
+            offset, count = offset + (found + 1 or len(block)), BLOCK
+        return Offset(offset)
+
     def line_at(self, offset: Offset) -> Line:
         """The number of the line that begins at an offset."""
         return next(self.lines_at([offset]))

@@ -37,11 +37,10 @@ HEIGHTS = {room: height for height, rooms in enumerate(ORDER) for room in rooms}
 # what looks for a pattern in a text
 SEARCHES = ("search", "match", "fullmatch", "findall", "finditer", "split", "sub")
 MOST_LINES, MOST_MODULES = 300, 15
-# where less would only cut one thought in two: what each line of a text shows; what the lines of a ledger say, which
-# are read and written side by side; which files stand for a message, rule after rule; the way of one mailbox, step
-# after step, and of several; and those steps, those of the way back, and the commands, each a module
+# where less would only cut one thought in two: what the lines of a ledger say, which are read and written side by side;
+# which files stand for a message, rule after rule; the way of one mailbox, step after step, and of several; and those
+# steps, those of the way back, and the commands, each a module
 LONGER = {
-    "kinds.look": 321,
     "ledger.ledger": 360,
     "ledger.match": 352,
     "migration.several": 312,

@@ -4,6 +4,7 @@ import unittest
 from unittest import mock
 
 from mbox2maildir_admin.kinds.look import Look
+from mbox2maildir_admin.kinds.sorts import AGAINST, KEEPING, SAID
 from mbox2maildir_admin.mbox.files import LONG
 from mbox2maildir_admin.mbox.headers import Header
 from mbox2maildir_admin.mbox.lines import Said
@@ -107,6 +108,10 @@ class LookTest(unittest.TestCase):
             look.keeping().said,
             [Said(Line(7), "a line `From ` without a date at its end, which may begin a message", "From me to you")],
         )
+
+    def test_something_is_said_of_each_sort_that_keeps_a_text(self) -> None:
+        self.assertLessEqual({sort for sorts in KEEPING for sort in sorts}, set(dict(SAID)))
+        self.assertEqual([word for word, sort in AGAINST.items() if sort in dict(SAID)], [])
 
     def test_lines_of_two_sorts_that_become_one(self) -> None:
         """They stand in their order."""

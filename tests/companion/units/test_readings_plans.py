@@ -224,12 +224,12 @@ class PlanTest(unittest.TestCase):
         self.assertEqual(left.answers, wanted)
 
     def test_a_first_line_that_is_too_long_for_a_date(self) -> None:
-        """No message begins by what is seen of it. The one answer is that one does."""
+        """A header follows it. It may contain mail, and the one answer is that a message begins."""
         text = b"From a@x%s%s\nSubject: one\n\nhi\n" % (b" " * LONG, DATED[-24:])
         with self.assertRaises(Question) as raised:
             self.plan(text)
         left, answer = raised.exception, tied_to(text, Reading("mboxrd"))
-        self.assertEqual(left.messages, 0)
+        self.assertEqual(left.messages, 1)
         self.assertEqual(left.answers, [(answer, 1, Does.RUN)])
         self.assertEqual(replace(self.plan(text, answer), answer=None), Plan("mboxrd by --as", 1))
 
