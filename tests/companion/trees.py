@@ -431,6 +431,22 @@ def in_two_commands(home: Path) -> None:
     expect(["migrate", "O", "tree"], home, 0, out)
 
 
+def in_question(home: Path) -> None:
+    """What lacks its folder is left for that first, whatever is to be asked about it. Its command gives it a folder,
+    and asks."""
+    deleted = TWO.replace(b"\n\n", b"\nX-Mozilla-Status: 0009\n\n", 1)
+    for name, text in (("twice", ONE), ("twice.mbox", deleted)):
+        mailbox(home / "tree" / name, text)
+    status, out, _ = run(["migrate", "M", "tree"], home)
+    left = "left (no-folder): another mailbox goes into twice too"
+    lines = ["2 mailboxes: 2 left", f"tree/twice.mbox: {left}", f"tree/twice: {left}"]
+    equal(f"what lacks its folder: {out}", (status, sorted(row.line for row in rows_in(out))), (1, lines))
+    command = row_in(out, "tree/twice.mbox").command
+    equal("its command", command, "mbox2maildir-admin migrate --folder NAME M tree/twice.mbox")
+    status, out, _ = run(command.replace("NAME", "Once").split()[1:], home)
+    equal(f"by its command: {out}", (status, len(row_in(out, "tree/twice.mbox").answers())), (1, 2))
+
+
 def into_another_folder(home: Path) -> None:
     """A mailbox that is done, and gets another folder: its mail is in both, which the row says once, with the command
     that removes the first. Nothing is said of a folder that no longer has it."""
@@ -461,5 +477,6 @@ if __name__ == "__main__":
         profile,
         two_names,
         in_two_commands,
+        in_question,
         into_another_folder,
     )

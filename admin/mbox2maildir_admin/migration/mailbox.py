@@ -1,5 +1,6 @@
 """The migration of mailboxes into the folders of a Maildir."""
 import collections
+import contextlib
 from collections.abc import Callable, Container
 from dataclasses import replace
 from typing import IO, Optional
@@ -18,7 +19,7 @@ from ..mbox.mailbox import Mailbox
 from ..mbox.snapshot import snapshot
 from ..nexts import Answer
 from ..program import Program
-from ..readings.plans import NoMail, NotKnown, OtherKind, is_no_mail, read_begun
+from ..readings.plans import NoMail, NotKnown, OtherKind, Question, is_no_mail, read_begun
 from ..readings.texts import choice_of, disk_of
 from ..readings.unnamed import unnamed
 from ..units import Say, silent
@@ -98,10 +99,12 @@ class Migration:
         return snapshot(path, make, say, follow)
 
     def judge(self, opened: Opened, why: Left) -> Row:
-        """The row of a mailbox that is left for this reason, unless its text gives another reason."""
+        """The row of a mailbox that is left for this reason, unless it is no mbox text. What may be asked about one is
+        asked once this reason is gone."""
         mailbox = opened.mailbox
-        with choice_of(mailbox, disk_of(self.root, self.how.dry), read_begun):
-            return row_left(mailbox.path, b"", why, None, mailbox.size)
+        with contextlib.suppress(Question), choice_of(mailbox, disk_of(self.root, self.how.dry), read_begun):
+            pass
+        return row_left(mailbox.path, b"", why, None, mailbox.size)
 
     def spare(self, opened: Opened, kind: str) -> Row:
         """Notes that a file that is not mbox text holds no mail by the command line, and returns its row."""
