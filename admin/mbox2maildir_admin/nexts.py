@@ -52,6 +52,7 @@ class Does(Phrase):
     KEEP_BOTH = "keep-both", "if none is a copy, run this next"
     UNDO = "undo", "if these are right, run this next"
     UNDO_THERE = "undo-there", "this removes what it placed there"
+    UNDO_PREPARED = "undo-prepared", "if it is not wanted any more, this removes what is prepared"
     OWN_FOLDER = "own-folder", "it becomes this folder"
     JOINS_INBOX = "joins-inbox", "its mail joins that of INBOX"
     # what a label of Gmail's gives
@@ -85,6 +86,7 @@ class Todo(Phrase):
     MOVE_FILES = "move-files", "move the files in its new and cur into those of {}"
     MOVE_OTHERS = "move-others", "move out of it what is not part of a Maildir, and run this again"
     MOVE_AWAY = "move-away", "then move {} out of here"
+    BRING_BACK = "bring-back", "mount or bring back {}, and run this again"
     COPY_AWAY = "move-copy", "if one is a copy, move it out of here"
     NAME_FOLDER = "name-folder", "run this again with --folder NAME"
     NAME_PRINTED = "name-printed", "then run this again, with the mailboxes that it printed last in place of {}"

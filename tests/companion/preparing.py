@@ -14,7 +14,7 @@ from tests.support import accounts
 from tests.support.checks import LATER, equal, matches
 from tests.support.homes import ADMIN, check_all, expect, mailbox, run, script, subjects, want_users
 from tests.support.mail import ONE, THREE, TWO
-from tests.support.printed import rows_in
+from tests.support.printed import row_in, rows_in
 from tests.support.schema import wrong
 
 USERS = ["m91one", "m91two"]
@@ -109,6 +109,36 @@ def one_at_work(home: Path) -> None:
     expect(["migrate", "--now", "M", "box"], home, 0, "box -> INBOX: ...: done, 1 prepared before\n...\n")
 
 
+def left_over(home: Path) -> None:
+    """What stays only prepared on the day is left: of a tree that is not mounted, and of a mailbox that no command
+    names. Each has what ends that: its mailbox again, its command, or its undo."""
+    doveconf(home, MBOX)
+    for name in "abc":
+        mailbox(home / "old" / name, ONE + TWO)
+    expect(["migrate", "--prepare", "M", "old"], home, 0, None)
+    (home / "old").rename(home / "disk")
+    (home / "old").mkdir()
+    out = "".join(
+        f"{home}/old/{name} -> {name}: left (prepared): its mailbox is gone, as are 3 of the 3 of its tree ...\n"
+        f"    mount or bring back {home}/old/{name}, and run this again\n"
+        "    if it is not wanted any more, this removes what is prepared:\n"
+        f"        mbox2maildir-admin migrate --undo --now --folder {name} M {home}/old/{name}\n"
+        for name in "abc"
+    )
+    expect(["migrate", "--now", "M", "old"], home, 1, f"{out}  3 left (prepared): ...\n3 mailboxes: 3 left\n")
+    (home / "old").rmdir()
+    (home / "disk").rename(home / "old")
+    status, out, _ = run(["migrate", "--now", "--folder", "a", "M", "old/a"], home)
+    lines = [row.line.replace("mboxrd or mboxo, messages 2: ", "") for row in rows_in(out)[:-1]]
+    says = "left (prepared): it is only prepared, and no mailbox of this command goes there"
+    wanted = ["old/a -> a: done, 2 prepared before", *(f"{home}/old/{name} -> {name}: {says}" for name in "bc")]
+    equal(f"another command: {out}", (status, lines), (1, wanted))
+    rest, undo = (row_in(out, f"{home}/old/{name}").commands[at] for name, at in (("b", 0), ("c", 1)))
+    expect(undo.split()[1:], home, 0, f"{home}/old/c -> c: messages 2: undone, removed 2 messages\n...\n")
+    expect(rest.split()[1:], home, 0, f"{home}/old/b -> b: ...: done, 2 prepared before\n...\n")
+    equal("lists", list((home / "M").rglob("mbox2maildir-prepared")), [])
+
+
 def theirs(path: Path, name: str) -> None:
     """Gives a file to a user, and its folder."""
     account = pwd.getpwnam(name)
@@ -158,4 +188,4 @@ def of_users(home: Path) -> None:
 
 
 if __name__ == "__main__":
-    check_all(printed, refused, one_at_work, of_users)
+    check_all(printed, refused, one_at_work, left_over, of_users)

@@ -322,6 +322,21 @@ def a_folder_is_asked_for(home: Path) -> None:
     )
 
 
+def each_has_one_row(home: Path) -> None:
+    """An answer says nothing of what is only prepared in the folders of other mailboxes: these have rows of their
+    own."""
+    boxes(home)
+    box = mailbox(home / "old/box", ONE)
+    run(["migrate", "--prepare", "--unread", "--no-questions", "M", "old"], home)
+    mailbox(box, b"a note, no mail\n")
+    with terminal_of(home, "migrate", "--now", "M", "old") as terminal:
+        for _ in range(2):
+            terminal.until(PROMPT)
+            terminal.type("a\n")
+        status, rest = terminal.end()
+    equal("status and sums", (status, without_work(rest).split("\n")[-2]), (1, "4 mailboxes: 3 done, 1 left"))
+
+
 if __name__ == "__main__":
     check_all(
         an_answer_is_its_command,
@@ -334,4 +349,5 @@ if __name__ == "__main__":
         several_at_a_time,
         one_letter_for_all,
         a_folder_is_asked_for,
+        each_has_one_row,
     )

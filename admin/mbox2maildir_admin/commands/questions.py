@@ -41,10 +41,16 @@ class Asker(Reporter):
         super().__init__(clock)
         self.asked: list[Row] = []
         self.is_asking = False
+        # the path of the mailbox whose answer is at work
+        self.answered: Optional[bytes] = None
 
     def row(self, row: Row, user: Optional[str] = None) -> None:
-        """Prints what became of a mailbox, unless it is to be asked about."""
-        if self.is_asking or not answers_of(row):
+        """Prints what became of a mailbox, unless it is to be asked about. All others have rows once an answer is at
+        work for one."""
+        if self.is_asking:
+            if row.path == self.answered:
+                super().row(row, user)
+        elif not answers_of(row):
             super().row(row, user)
         else:
             self.rest(label_of(row, user))
@@ -78,7 +84,7 @@ class Asker(Reporter):
 
     def run_answer(self, row: Row, answer: Answer, run: Run) -> None:
         """Runs the command of an answer. If it can't even begin, the mailbox has the row that it had."""
-        self.begun, self.total = self.begun - 1, self.total - 1
+        self.begun, self.total, self.answered = self.begun - 1, self.total - 1, row.path
         try:
             run([os.fsdecode(bytes_of(word)) for word in answer.command.words[len(MIGRATE) :]])
         except (Fault, OSError) as fault:

@@ -1,9 +1,9 @@
 """Folders that are only prepared, though trees were migrated: the mailbox was renamed or removed since, or another
 command migrates it."""
+import collections
 import contextlib
 import os
 from collections.abc import Container, Iterable, Iterator, Sequence
-from dataclasses import replace
 from typing import NamedTuple
 
 from .. import ADMIN
@@ -13,9 +13,9 @@ from ..ledger.prepared import Prepared
 from ..ledger.prepared_lines import ASIDE, has_list, origin_in, remove_aside
 from ..ledger.record import Record, unspelled
 from ..ledger.strangers import folders_in
-from ..maildir.folders import INBOX, folder_path
-from ..nexts import Next, Remark, run_next
-from ..terminal import operand, spelled
+from ..maildir.folders import INBOX, folder_path, words_of
+from ..nexts import Does, Remark, Todo, run_next, task
+from ..terminal import operand, spelled, text_of
 from ..units import counted
 from .dovecot import names_in
 from .outcomes import Fate, Row, row_left
@@ -25,8 +25,8 @@ from .steps import Options
 from .transfer import TENTH
 
 MAILBOX_GONE = "its mailbox is gone"
-MANY_GONE = "its mailbox is gone, as are %d of the %d of its tree that were prepared: say by --gone that this is right"
-NOT_MET = Remark("only-prepared", "no mailbox of this command goes there")
+MANY_GONE = "its mailbox is gone, as are %d of the %d of its tree that were prepared"
+NOT_MET = "it is only prepared, and no mailbox of this command goes there"
 
 
 class Listed(NamedTuple):
@@ -78,14 +78,9 @@ class Leftovers:
         """Whether nothing is removed."""
         return self.options.dry
 
-    def with_gone(self) -> Next:
-        """The command that empties folders whose mailboxes are gone."""
-        words = replace(self.options, gone=True).words()
-        return run_next(ADMIN, "migrate", *words, *map(operand, [self.root, *self.names]))
-
     def rows(self, plan: Iterable[Planned]) -> Iterator[Row]:
-        """The rows of these folders. Where the mailbox is gone, everything that was prepared is removed; if more than a
-        tenth of a tree is gone, only if the options say so."""
+        """The rows of these folders. Where the mailbox is gone, everything that was prepared is removed if no more than
+        a tenth of its tree is gone, or if the options say so. All others are left: nobody is to read there."""
         gone = self.options.gone
         went = {one.folder: os.path.realpath(one.path) for one in plan if one.folder}
         self.clear_unused(went)
@@ -95,22 +90,33 @@ class Leftovers:
                 left += [one] * (one.name not in went and self.is_open(one))
             except (Fault, OSError) as fault:
                 yield row_left(unspelled(one.path), one.name, fault)
-        now = {one.tree: self.tree_of(went[one.name]) for one in self.listed if one.tree and one.name in went}
+        now = {tree: unspelled(tree) for tree in map(spelled, self.trees)}
+        now.update({one.tree: self.tree_of(went[one.name]) for one in self.listed if one.tree and one.name in went})
         if gone and len(self.trees) == 1:
             # a tree that is still there has a command of its own
             moved = [one.tree for one in left if one.tree and not os.path.isdir(unspelled(one.tree))]
-            now = {**dict.fromkeys([spelled(self.trees[0]), *moved], self.trees[0]), **now}
-        counts = {tree: sum(one.tree == tree for one in self.listed) for tree in now}
+            now = {**dict.fromkeys(moved, self.trees[0]), **now}
         absent = [one for one in left if now.get(one.tree) and not os.path.lexists(one.path_in(now[one.tree]))]
+        many, all_of = (collections.Counter(one.tree for one in several) for several in (absent, self.listed))
         for one in left:
-            many = sum(other.tree == one.tree for other in absent)
             if one not in absent:
-                yield Row(unspelled(one.path), one.name, "", None, Fate.PREPARED, remarks=(NOT_MET,))
-            elif gone or many * TENTH <= counts[one.tree]:
+                yield self.left(one, NOT_MET, unspelled(one.path))
+            elif gone or many[one.tree] * TENTH <= all_of[one.tree]:
                 yield self.emptied(one)
             else:
-                why = Left(MANY_GONE % (many, counts[one.tree]), Reason.PREPARED, self.with_gone())
-                yield row_left(unspelled(one.path), one.name, why)
+                yield self.left(one, MANY_GONE % (many[one.tree], all_of[one.tree]), one.path_in(now[one.tree]))
+
+    def left(self, one: Listed, why: str, place: bytes) -> Row:
+        """The row of a folder that stays only prepared, whose mailbox is to be at this place: that is migrated or, if
+        it is not there, brought back first. What is not wanted any more is undone."""
+        path, options = unspelled(one.path), self.options.of_next()
+        folder = [*([] if one.name == INBOX else words_of(one.name)), operand(self.root)]
+        then = task(Todo.BRING_BACK, text_of(place))
+        if os.path.lexists(place):
+            then = run_next(ADMIN, "migrate", *options.words(), *folder, operand(place))
+        undo = [*Options(dry=options.dry, now=options.now, undo=True).words(), *folder, operand(path)]
+        then += run_next(ADMIN, "migrate", *undo, does=Does.UNDO_PREPARED)
+        return row_left(path, one.name, Left(why, Reason.PREPARED, then))
 
     def clear_unused(self, went: Container[bytes]) -> None:
         """Removes the lists that passes have left that were killed before they placed anything, and the folders that

@@ -5,7 +5,7 @@ from pathlib import Path
 from typing import Any
 from unittest import mock
 
-from mbox2maildir_admin.migration.leftovers import Listed, listed_in
+from mbox2maildir_admin.migration.leftovers import NOT_MET, Listed, listed_in
 from mbox2maildir_admin.migration.outcomes import Fate, Row
 from mbox2maildir_admin.migration.replica import tree_above
 from mbox2maildir_admin.migration.several import run_all
@@ -77,7 +77,7 @@ class LeftoversTest(HomeTest):
         shutil.rmtree(self.tree)
         self.tree.mkdir()
         rows = self.run_tree()
-        self.assertEqual({row.fate for row in rows.values()}, {Fate.PREPARED})
+        self.assertEqual({row.fate for row in rows.values()}, {Fate.LEFT})
         self.assertEqual(len(self.folders()), TENTH)
         self.assertTrue(all(len(list((self.maildir / name / "new").iterdir())) == 2 for name in self.folders()))
 
@@ -89,10 +89,10 @@ class LeftoversTest(HomeTest):
         self.make("c")
         self.run_tree(prepare=True)
         rows = self.run_tree()
-        self.assertEqual([rows[name].fate for name in (".a", ".b", ".c")], [Fate.PREPARED, Fate.PREPARED, Fate.DONE])
+        self.assertEqual([rows[name].fate for name in (".a", ".b", ".c")], [Fate.LEFT, Fate.LEFT, Fate.DONE])
         (self.tree / "c").unlink()
         rows = self.run_tree(gone=True)
-        self.assertEqual([rows[name].fate for name in (".a", ".b")], [Fate.PREPARED, Fate.PREPARED])
+        self.assertEqual([rows[name].fate for name in (".a", ".b")], [Fate.LEFT, Fate.LEFT])
         self.assertIs(self.run_tree(other)[".a"].fate, Fate.DONE)
 
     def test_a_command_without_a_tree(self) -> None:
@@ -103,7 +103,7 @@ class LeftoversTest(HomeTest):
         run_all(Options(folder="a"), self.root, [os.fsencode(self.tree / "a")], listener, Function())
         says = [(row.folder, row.fate, row.says) for row in listener.rows]
         self.assertEqual(says[0][:2], (b".a", Fate.DONE))
-        self.assertEqual(says[1:], [(b".b", Fate.PREPARED, "no mailbox of this command goes there")])
+        self.assertEqual(says[1:], [(b".b", Fate.LEFT, NOT_MET)])
         self.assertEqual(self.folders(), [".a", ".b"])
 
     def test_a_file_that_holds_no_mail_any_more(self) -> None:
@@ -114,7 +114,7 @@ class LeftoversTest(HomeTest):
         os.utime(self.tree / "a", (1e9, 1e9))
         rows = self.run_tree(no_mail=(b"a",))
         says = {name: (row.fate, row.says) for name, row in rows.items() if name == ".a"}
-        self.assertEqual(says, {".a": (Fate.PREPARED, "no mailbox of this command goes there")})
+        self.assertEqual(says, {".a": (Fate.LEFT, NOT_MET)})
         self.assertEqual(len(list((self.maildir / ".a" / "new").iterdir())), 2)
 
     def test_a_pass_that_placed_nothing(self) -> None:
