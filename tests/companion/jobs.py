@@ -9,6 +9,7 @@ import re
 import shutil
 import signal
 import subprocess
+import sys
 import time
 from collections import Counter
 from collections.abc import Iterator
@@ -21,6 +22,7 @@ from tests.support.homes import ADMIN, check_all, mail_in, mailbox, run, script,
 from tests.support.ledgers import LEDGER, RECORD, wait_for_lock, without_chance
 from tests.support.mail import ONE, TWO, bodies_of, digest_of
 from tests.support.processes import wait_for
+from tests.support.terminals import Terminal
 
 FOLDERS, MESSAGES = 6, 60
 # the messages, and the lines of the record before the last one
@@ -29,6 +31,11 @@ ALL = FOLDERS * (MESSAGES + 2) - 1
 QUIET = 0.03
 # what a row says of mail that people removed, and that came back
 CAME_BACK = re.compile(r"^(.*?) -> .*\bup to (\d+) messages? that had been deleted or moved came back", re.M)
+
+# runs a file whose children are killed as soon as they are there, but not the programs that it starts
+CHILDLESS = """import os, runpy, sys
+os.register_at_fork(after_in_child=lambda: os.kill(os.getpid(), 9))
+runpy.run_path(sys.argv.pop(1), run_name="__main__")"""
 
 
 def text_of(folder: int, count: int = MESSAGES) -> bytes:
@@ -203,6 +210,35 @@ def without_their_parent(home: Path) -> None:
         equal(name, sorted(map(digest_of, bodies_of(text))), sorted(bases(folder_of(home / "M", name))))
 
 
+def killed_at_once(home: Path) -> None:
+    """Workers that are killed before they take a mailbox leave the mailboxes that are theirs, and none is started for
+    these again. The next run goes on."""
+    texts, words = tree(home), ["migrate", "--jobs", "3", "M", "old"]
+    status, out, _ = run([sys.executable, "-I", "-S", "-B", "-c", CHILDLESS, ADMIN, *words], home)
+    rows = [line for line in out.splitlines() if ": left (process): its process was killed by signal 9" in line]
+    equal("status, and how many are left", (status, len(rows)), (1, FOLDERS + 1))
+    equal("the last line", out.splitlines()[-1], "7 mailboxes: 7 left; 1 other file: no mail")
+    equal("the next run", run(words, home)[0], 1)
+    for name, text in texts.items():
+        equal(name, sorted(map(digest_of, bodies_of(text))), sorted(bases(folder_of(home / "M", name))))
+
+
+def one_at_work(home: Path) -> None:
+    """With one job, the line of a terminal is about the mailbox that is at work. Those that are done are no longer at
+    work, though their rows wait for a sync."""
+    for number in range(3 * FOLDERS):
+        mailbox(home / f"old/f{number}", text_of(number))
+    words = [str(ADMIN), "migrate", "--jobs", "1", "M", "old"]
+    with Terminal(words, home, PATH=f"{home}/bin:{os.environ['PATH']}") as terminal:
+        while terminal.reads_more(time.monotonic() + PATIENCE):
+            pass
+        said = terminal.printed.decode()
+        status, _ = terminal.end()
+    shown = re.findall(r"\d+/\d+ (\S+(?: at work)?): ", said)
+    equal("status, and whether a mailbox was shown", (status, bool(shown)), (0, True))
+    equal("what else was shown", [name for name in shown if not re.fullmatch(r"old/f\d+", name)], [])
+
+
 def bases(folder: Path) -> list[str]:
     """The digests of the mail of a folder, as its bytes have them."""
     return [digest_of(path.read_bytes()) for path in mail_in(folder)]
@@ -329,6 +365,8 @@ if __name__ == "__main__":
         largest_first,
         ended_by_a_signal,
         without_their_parent,
+        killed_at_once,
+        one_at_work,
         killed,
         killed_on_a_full_disk,
         full_disk,

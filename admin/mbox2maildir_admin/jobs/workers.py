@@ -44,10 +44,10 @@ class Orders(NamedTuple):
 class Worker:
     """A process at work, as its parent sees it."""
 
-    def __init__(self, pid: int, connection: "Connection") -> None:
+    def __init__(self, pid: int, connection: "Connection", places: Places) -> None:
         self.pid, self.connection = pid, connection
         # the mailboxes that it has told no row of yet
-        self.places: list[int] = []
+        self.places = list(places)
         # how far it is, the space that it counts on, and the space that it waits for
         self.at: Optional[At] = None
         self.has: Optional[Need] = None
@@ -109,14 +109,15 @@ class Workers:
             yield
 
     def start(self) -> None:
-        """Starts a worker."""
+        """Starts a worker for the next mailboxes. They are its own even if it ends before it asks for them, lest one
+        after the other is started for them."""
         ours, theirs = Pipe()
         with blocked() as mask:
             pid = os.fork()
             if not pid:
                 # it must see only its own parent's end of a connection
                 self.work(Parent(theirs), [ours, *(worker.connection for worker in self.workers)], mask)
-            self.workers.append(Worker(pid, ours))
+            self.workers.append(Worker(pid, ours, self.groups.popleft()))
         close(theirs)
 
     def work(self, parent: Parent, of_others: Sequence["Connection"], mask: Mask) -> NoReturn:
@@ -159,7 +160,8 @@ class Workers:
     def take(self, worker: Worker, word: Word) -> None:
         """Takes what a worker tells or asks."""
         if isinstance(word, Next):
-            worker.places += self.groups.popleft() if self.groups else ()
+            if self.groups and not worker.places:
+                worker.places += self.groups.popleft()
             self.answer(worker, tuple(worker.places))
         elif isinstance(word, Begins):
             self.orders.begin()

@@ -147,7 +147,9 @@ class Several:
             else:
                 for one in plan:
                     self.observer.begin()
-                    self.report(self.run_named(one))
+                    ended = self.run_named(one)
+                    self.observer.rest(named(one.path))
+                    self.report(ended)
         finally:
             # what was verified is done, even if a signal ends this
             self.syncs.sync()

@@ -237,7 +237,7 @@ class RoomTest(FolderTest):
         it counts on, if this many bytes are free."""
         workers = Workers(8, [], mock.Mock(spec=Orders))
         for disk, size in others:
-            worker = Worker(0, mock.Mock())
+            worker = Worker(0, mock.Mock(), [])
             worker.has = Need(self.here, disk, size, 1)
             workers.workers.append(worker)
         with mock.patch.object(space, "room_of", return_value=free):
@@ -257,8 +257,8 @@ class RoomTest(FolderTest):
             self.assertEqual(self.has_room(free, wanted, *others), has_room, (free, wanted, others))
 
     def test_one_that_is_done_counts_on_none(self) -> None:
-        workers, worker = Workers(8, [], mock.Mock(spec=Orders)), Worker(0, mock.Mock())
-        worker.places, worker.has = [0, 1], Need(self.here, 1, 40, 1)
+        workers, worker = Workers(8, [], mock.Mock(spec=Orders)), Worker(0, mock.Mock(), [0, 1])
+        worker.has = Need(self.here, 1, 40, 1)
         workers.take(worker, Became(0, "done"))
         self.assertIsNone(worker.has)
 
