@@ -431,6 +431,25 @@ def in_two_commands(home: Path) -> None:
     expect(["migrate", "O", "tree"], home, 0, out)
 
 
+def exported(home: Path) -> None:
+    """A mailbox that Apple Mail exported becomes the folder of its name, also if it is named itself. If nothing else is
+    named, it goes into INBOX, as a file does; beside other mail only if a human says so."""
+    work, sent = "export/Work.mbox", "export/Sent.Messages.mbox"
+    for name, text in ((work, ONE), (sent, TWO)):
+        mailbox(home / name / "mbox", text)
+    done = "mboxrd or mboxo, messages 1: done"
+    rows = f"{work}/mbox -> Work: {done}\n{sent}/mbox -> Sent-Messages: {done}, its name was Sent.Messages\n"
+    expect(["migrate", "M", work, sent], home, 0, rows + "2 mailboxes: 2 done\n")
+    expect(["migrate", "M", "export"], home, 0, "2 mailboxes: 2 done before\n")
+    expect(["migrate", "N", work], home, 0, f"{work}/mbox -> INBOX: {done}\n1 mailbox: 1 done\n")
+    expect(["verify", "N", work], home, 0, f"{work}/mbox: messages 1, ...\n")
+    expect(["migrate", "N", "export"], home, 0, "...\n2 mailboxes: 1 done, 1 done before\n")
+    equal("the folders", [subjects(home / "N" / name) for name in ("", ".Sent-Messages")], [["one"], ["two"]])
+    mailbox(home / "Other.mbox/mbox", THREE)
+    row = row_in(run(["migrate", "N", "Other.mbox"], home)[1], "Other.mbox")
+    equal("what joins no other mail unasked", row.commands[0].split()[2:4], ["--folder", "Other"])
+
+
 def in_question(home: Path) -> None:
     """What lacks its folder is left for that first, whatever is to be asked about it. Its command gives it a folder,
     and asks."""
@@ -477,6 +496,7 @@ if __name__ == "__main__":
         profile,
         two_names,
         in_two_commands,
+        exported,
         in_question,
         into_another_folder,
     )

@@ -27,6 +27,8 @@ OF_MAILDIR = re.compile(
     re.DOTALL,
 )
 KEYWORDS_OF_COURIER = b"courierimapkeywords"
+# Apple Mail exports the mailbox NAME as a folder NAME.mbox, in which a file of this name has the mail
+MBOX = b"mbox"
 # the names of MH's messages, and the file in which MH keeps lists of them
 NUMBER, SEQUENCES = re.compile(rb"[0-9]+"), b".mh_sequences"
 # how many bytes of a message show how it begins
@@ -59,6 +61,12 @@ def is_of_maildir(entry: Entry) -> bool:
     if not entry.is_file(follow_symlinks=False) or not OF_MAILDIR.fullmatch(entry.name):
         return False
     return not head_of(entry.path).startswith(FROM)
+
+
+def is_export(path: bytes, entries: list[Entry]) -> bool:
+    """Whether a folder with these entries is a mailbox as Apple Mail exports it."""
+    is_named = os.path.basename(os.path.abspath(path)).endswith(b"." + MBOX)
+    return is_named and any(entry.name == MBOX and entry.is_file(follow_symlinks=False) for entry in entries)
 
 
 def messages_of_mh(entries: list[Entry]) -> list[Entry]:

@@ -105,10 +105,10 @@ class Profiles:
         """The profile in which a file is."""
         return next((one for one in self.found if is_below(os.path.abspath(path), one.path)), None)
 
-    def place(self, path: bytes) -> Place:
-        """The place of a mailbox of the tree."""
+    def place(self, path: bytes, top: bytes) -> Place:
+        """The place of a mailbox of the tree, which is that below a folder if it is in no profile."""
         profile = self.profile_of(path)
-        return profile.place(os.path.abspath(path)) if profile else Place(b"", os.path.relpath(path, self.old))
+        return profile.place(os.path.abspath(path)) if profile else Place(b"", os.path.relpath(path, top))
 
     def is_no_mail(self, path: bytes) -> bool:
         """Whether a file of a profile stands beside mailboxes, or is an empty mailbox of an account without mail."""

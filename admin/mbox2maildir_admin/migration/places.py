@@ -26,7 +26,7 @@ from ..readings.copies import COMPRESSED
 from ..readings.plans import is_no_mail
 from ..readings.reading import UNDECIDED, Reading
 from ..readings.texts import Text, after_internal, is_mbox, open_text
-from ..terminal import named, operand
+from ..terminal import named, operand, option
 from .outcomes import Ended
 from .steps import How, Options
 
@@ -211,7 +211,8 @@ class Pairs(NamedTuple):
         if one.why or one.folder != INBOX or not name or self.record.folders_of(one.path):
             return one
         words, paths = self.options.words(), [operand(self.root), operand(one.path)]
-        folder, inbox = (Command.of(ADMIN, "migrate", *words, "--folder", its, *paths) for its in (name, "INBOX"))
+        folders = (option("--folder", its.encode()) for its in (name, "INBOX"))
+        folder, inbox = (Command.of(ADMIN, "migrate", *words, *its, *paths) for its in folders)
         then = Answer(folder, Does.OWN_FOLDER), Answer(inbox, Does.JOINS_INBOX)
         return one.left(NAMED_AS_FOLDER % named(name), Reason.NO_FOLDER, then)
 

@@ -13,6 +13,7 @@ from ..jobs.parent import Parent
 from ..jobs.words import Places
 from ..kinds.folders import is_maildir
 from ..kinds.making import is_below
+from ..kinds.named import is_spared
 from ..ledger.record import Record
 from ..maildir.folders import INBOX, folder_of, on_disk
 from ..maildir.making import want_maildir, want_own
@@ -31,7 +32,7 @@ from .places import Pairs, Planned, UserHome, has_record, into_inbox, recorded, 
 from .postponed import postponed_rows
 from .servers import Place, locations, want_unread
 from .steps import Extra, How, Options
-from .trees import NamesMet, Tree, also_named, identity_if_known, is_spared, link_left, other_names
+from .trees import NamesMet, Tree, also_named, identity_if_known, link_left, other_names
 
 
 def migrate_own(root: bytes, names: Sequence[bytes], options: Options, observer: Observer) -> None:
@@ -128,6 +129,7 @@ class Several:
         # a name that is given has its fate by that name, even if a tree has the same file; the other names of files
         self.met: NamesMet = {}
         self.others: dict[bytes, list[bytes]] = {}
+        self.trees: dict[bytes, Tree] = {}
 
     def migrate(self, folder: Optional[str]) -> Sequence[Planned]:
         """Migrates each mailbox; those that are files go into this folder. Returns which hold mail."""
@@ -215,9 +217,11 @@ class Several:
         return os.path.isdir(name) and not (self.own and os.path.islink(name))
 
     def files_given(self) -> list[bytes]:
-        """The names that are files. The mailbox of a spool is its user's inbox, whatever its name is."""
-        home = self.migration.how.home
-        return [one for one in self.names if os.path.isfile(one) and (not self.own or is_below(one, home))]
+        """The names that are files, or mailboxes that were exported. The mailbox of a spool is its user's inbox,
+        whatever its name is."""
+        home, exports = self.migration.how.home, [tree.export for tree in self.trees.values() if tree.export]
+        files = [one for one in self.names if os.path.isfile(one) and (not self.own or is_below(one, home))]
+        return files + exports
 
     def plan(self, folder: Optional[str]) -> Iterator[Planned]:
         """The mailboxes in their order, with their folders. Reports the rows of what is not migrated."""
@@ -228,11 +232,13 @@ class Several:
                 self.met.setdefault(key, {}).setdefault(os.path.abspath(name), name)
         record, root, options, _ = self.pairs
         # before a file has its folder, all of its names are known
-        trees = {name: Tree(name, root, self.met, options).read() for name in names if self.is_tree(name)}
+        is_alone = len(names) == 1 and not self.own
+        trees = filter(self.is_tree, names)
+        self.trees = {name: Tree(name, root, self.met, options, is_alone).read() for name in trees}
         self.others = other_names(self.met)
         for name in names:
-            if name in trees:
-                yield from self.plan_of_tree(trees[name])
+            if name in self.trees:
+                yield from self.plan_of_tree(self.trees[name])
             elif self.own and os.path.islink(name):
                 self.observer.row(row_left(name, b"", link_left(name)))
             else:

@@ -1,12 +1,22 @@
 """The names below a folder of mailboxes, and the mailboxes among them."""
-import fnmatch
 import os
 import stat
 from collections.abc import Callable, Container, Sequence
 from typing import NamedTuple, Optional, Union
 
 from ..faults import Fault, Left, Reason
-from ..kinds.folders import MAILDIR, MH, SEQUENCES, Entry, has_maildir, is_of_maildir, messages_of_mh, next_of_mh
+from ..kinds.folders import (
+    MAILDIR,
+    MBOX,
+    MH,
+    SEQUENCES,
+    Entry,
+    has_maildir,
+    is_export,
+    is_of_maildir,
+    messages_of_mh,
+    next_of_mh,
+)
 from ..kinds.making import ASIDE
 from ..kinds.profiles import Profiles
 from ..ledger.history import History
@@ -61,10 +71,14 @@ class Tree:
         maildir: Optional[bytes] = None,
         met: Optional[NamesMet] = None,
         options: Options = Options(),
+        is_alone: bool = False,
     ) -> None:
         """Takes the folder, the Maildir into which all goes, which may be below the folder and is left out, what was
-        met before elsewhere, and the options of the next commands."""
-        self.old, self.options = old.rstrip(b"/") or b"/", options
+        met before elsewhere, the options of the next commands, and whether nothing else is named."""
+        self.old, self.options, self.is_alone = old.rstrip(b"/") or b"/", options, is_alone
+        # the folder below which the path of a mailbox is its place; and the mailbox that the folder itself is, if
+        # Apple Mail exported it
+        self.top, self.export = self.old, b""
         self.without = identity(maildir) if maildir else None
         # of the command for a mailbox that needs a folder
         self.words_by_hand = [*options.words(), "--folder", "NAME", operand(maildir) if maildir else "MAILDIR"]
@@ -100,6 +114,8 @@ class Tree:
             os.stat(os.path.join(folder, b"."))
             with os.scandir(folder) as found:
                 entries = self.without_messages(folder, sorted(found, key=lambda entry: entry.name))
+            if folder == self.old and is_export(folder, entries):
+                self.top, self.export = os.path.dirname(os.path.abspath(folder)), os.path.join(folder, MBOX)
             entries, rest = self.profiles.parted(folder, entries)
         except OSError as error:
             self.leave(folder, Left(error.strerror, Reason.ERROR))
@@ -129,8 +145,8 @@ class Tree:
         name = os.path.basename(path)
         if above and above.folder and name.startswith(b"."):
             return name if above.folder == INBOX else above.folder + name
-        below = os.path.relpath(path, self.old)
-        return folder_on_disk(below) if path != self.old and is_text(path) else b""
+        below = os.path.relpath(path, self.top)
+        return folder_on_disk(below) if path != self.old and is_text(below) else b""
 
     def take(self, entry: Entry) -> bool:
         """Takes a name, and returns whether it is a folder to be entered."""
@@ -189,10 +205,12 @@ class Tree:
 
     def planned(self, path: bytes) -> Planned:
         """A mailbox with its folder, or why its folder can't have that name."""
-        place, one = self.profiles.place(path), Planned(path, b"")
+        place, one = self.profiles.place(path, self.top), Planned(path, b"")
         if os.path.basename(path).startswith(UNFINISHED):
             return one.left("an interrupted `quote` left it behind: remove it", Reason.LEFT_BEHIND)
-        if not is_text(path):
+        if self.is_alone and path == self.export:
+            return Planned(path, INBOX)
+        if not (is_text(path) and is_text(place.name)):
             return one.left_to_human("its name is not UTF-8", self.words_by_hand)
         folder = folder_on_disk(place.account + place.name)
         if len(folder) > LONGEST:
@@ -283,17 +301,3 @@ def link_left(path: bytes) -> Left:
     """Why a symbolic link is left."""
     then = task(Todo.FOLLOW if os.path.isdir(path) else Todo.FOLLOW_INTO)
     return Left("it is a symbolic link", Reason.LINK, then)
-
-
-def is_spared(words: Sequence[bytes], tops: Sequence[bytes], path: bytes, is_known: bool) -> bool:
-    """Whether a file that is not mbox text is to be passed over: one of the words is its whole path or, if its kind is
-    not known, a pattern for it."""
-    whole = os.path.abspath(path)
-    return any(os.path.abspath(word) == whole for word in words) or not is_known and is_named(words, tops, path)
-
-
-def is_named(patterns: Sequence[bytes], tops: Sequence[bytes], path: bytes) -> bool:
-    """Whether a pattern matches a file, by its path below one of these folders, or by its name."""
-    above = next((top for top in tops if path.startswith(top.rstrip(b"/") + b"/")), os.path.dirname(path))
-    below = text_of(os.path.relpath(path, above or b"."))
-    return any(fnmatch.fnmatchcase(below, text_of(pattern)) for pattern in patterns)

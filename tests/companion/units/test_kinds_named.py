@@ -12,9 +12,20 @@ class NameTest(unittest.TestCase):
             (b"Sent Items.mbox", "Sent Items"),
             (b"Archive.gz", "Archive"),
             (b"Drafts.mbox.xz.mboxrd", "Drafts"),
+            (b"a.b.mbox/mbox", "a-b"),
         ):
             self.assertEqual(name_of_folder(path), name)
 
     def test_other_names(self) -> None:
-        for path in (b"mia", b"sent/mia", b"sent2019", b"sent.old", b"inbox", b".mbox", b"\xe4", b"mboxrd"):
+        for path in (
+            b"mia",
+            b"sent/mia",
+            b"sent2019",
+            b"sent.old",
+            b"inbox",
+            b".mbox",
+            b"\xe4",
+            b"mboxrd",
+            b"Inbox.mbox/mbox",
+        ):
             self.assertEqual(name_of_folder(path), "", path)

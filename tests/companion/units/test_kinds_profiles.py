@@ -27,7 +27,8 @@ class ProfileTest(FolderTest):
 
     def place(self, path: bytes) -> tuple[bytes, bytes, bool]:
         """The place of a mailbox, whichever folder is named."""
-        places = {Profiles(one).place(path) for one in (self.path, self.path + b"/ImapMail", os.path.dirname(path))}
+        tops = self.path, self.path + b"/ImapMail", os.path.dirname(path)
+        places = {Profiles(one).place(path, one) for one in tops}
         (place,) = {Place(*place) for place in places}
         return place
 

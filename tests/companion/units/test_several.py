@@ -4,6 +4,7 @@ from typing import Any, Optional
 from unittest import mock
 
 from mbox2maildir_admin.faults import PlaceFault
+from mbox2maildir_admin.kinds.named import is_named
 from mbox2maildir_admin.ledger.record import Record
 from mbox2maildir_admin.maildir.making import RECORD
 from mbox2maildir_admin.migration.mailbox import Migration
@@ -11,7 +12,6 @@ from mbox2maildir_admin.migration.outcomes import Fate
 from mbox2maildir_admin.migration.places import UserHome
 from mbox2maildir_admin.migration.several import migrate_own, refuse, run_all
 from mbox2maildir_admin.migration.steps import How, Options
-from mbox2maildir_admin.migration.trees import is_named
 from mbox2maildir_admin.program import Program
 
 from tests.support.mail import ONE, THREE, TWO, digest_of
