@@ -31,7 +31,6 @@ pub use Rattle.mbox_text.specs.Private.Lines.{FirstQuotable, IsLine, NoneQuotabl
 pub use Rattle.mbox_text.specs.Private.Moved.{Gives, Moves, Refuses, Stops, chopped}
 unfoldable pub use Rattle.mbox_text.specs.Private.Moved.{chopped_from}
 pub use Rattle.mbox_text.specs.Private.Prefixes.{Stay}
-pub use Rattle.mbox_text.specs.Private.Split.{IsFirstBlock, IsFirstBody}
 pub use Rattle.mbox_text.specs.Quoting.{begins_with, from_bytes}
 unfoldable pub use Rattle.mbox_text.specs.Quoting.{begins_from, quotable, quoted, unquoted}
 pub use Rattle.mbox_text.specs.Spelling.{FromLines}

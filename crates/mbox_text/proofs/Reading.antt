@@ -4,8 +4,8 @@
 pub mod Chopped
 -- The last message of a text.
 pub mod Last
--- A text that is read block by block.
-pub mod Blocks
+-- Texts that are read as a whole: one that is no mbox text, and one that is.
+pub mod WholeTexts
 -- A text is in `Mbox` with one list of entries.
 pub mod OneReading
 -- A text that begins with `From ` has messages: what a splitter holds of it, byte by byte.

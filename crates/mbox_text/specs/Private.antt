@@ -6,5 +6,3 @@ pub mod Lines
 pub mod Prefixes
 -- How a splitter changes with a part of the text: it moves on, or refuses the part.
 pub mod Moved
--- What the steps of `split_all` leave.
-pub mod Split
