@@ -10,3 +10,5 @@ pub mod WrittenBody
 pub mod WrittenEntry
 -- What is written is read again.
 pub mod ReadAgain
+-- Texts one after the other.
+pub mod Joined

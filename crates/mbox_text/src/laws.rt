@@ -5,6 +5,7 @@ ghost use Rattle.std.specs.List.{flat_map};
 ghost use Rattle.mbox_text.specs.FromLine.{built, cleaned, past_spaces, rest, sender};
 ghost use Rattle.mbox_text.specs.Quoting.{begins_from, quoted, unquoted};
 ghost use Rattle.mbox_text.specs.Prefixes.{IsProperPrefix};
+ghost use Rattle.mbox_text.specs.Lines.{Ended};
 ghost use Rattle.mbox_text.specs.Mbox.{IsMboxText, Mbox};
 ghost use Rattle.mbox_text.specs.Spelling.{FromLines, completed, spelling};
 ghost use Rattle.mbox_text.specs.declared.entry.Entry.{Entry};
@@ -45,4 +46,18 @@ pub fn spelled_again()
         → Mbox (flat_map spelling entries) (map completed entries) }
     ensures same { (entries : List Entry)
         → flat_map spelling (map completed entries) ≡ flat_map spelling entries }
+{}
+
+/// Where one text ends with `\n` or is empty, another may be appended: the messages of both, one
+/// after the other, are those of the whole. So mailboxes may be joined, and what is appended to one
+/// changes no message that was there. What is appended in its regular spelling reads as the same
+/// messages, if their bodies are complete.
+pub fn joined_texts()
+    ensures joined { (one other : List ℕ) (these those : List Entry) → Ended one
+        → Mbox one these → Mbox other those → Mbox (one ++ other) (these ++ those) }
+    ensures appended { (text : List ℕ) (these those : List Entry) → Ended text → Mbox text these
+        → FromLines those → Mbox (text ++ flat_map spelling those) (these ++ map completed those) }
+    ensures grown { (text more : List ℕ) (these all : List Entry) → Ended text → Mbox text these
+        → IsMboxText more → Mbox (text ++ more) all
+        → (rest : List Entry) × (all ≡ these ++ rest) }
 {}
