@@ -1,5 +1,5 @@
 """Runs what README.md and the pages of docs for users show: each command, in the order of its page, on small files of
-the formats that the pages speak of.
+the formats that the pages speak of. README.md shows all that is printed.
 
 A block is some indented lines, the first of which begins with `$ `, or with `# ` if it is for root. If a command ends
 in `<<'END'`, it goes on to the line `END`. The lines below a command are what it prints; `...` stands for anything in a
@@ -24,7 +24,7 @@ from itertools import takewhile
 from pathlib import Path
 
 from tests.support.cases import run_cases
-from tests.support.checks import PATIENCE, TOP, WORK, differ, match_in, matches, text_of
+from tests.support.checks import PATIENCE, TOP, WORK, differ, equal, match_in, matches, text_of
 from tests.support.homes import (
     OWNER,
     as_owner,
@@ -40,8 +40,8 @@ from tests.support.homes import (
 from tests.support.mail import A, B, MAY, with_length
 from tests.support.printed import rows_in
 
-BACK = "docs/BACK.md"
-PAGES = ["README.md", *(f"docs/{name}.md" for name in ("OWN-MAIL", "SERVER", "FORMATS", "LEFT", "LEDGER")), BACK]
+README, BACK = "README.md", "docs/BACK.md"
+PAGES = [README, *(f"docs/{name}.md" for name in ("OWN-MAIL", "SERVER", "FORMATS", "LEFT", "LEDGER")), BACK]
 BLOCK = re.compile(r"^ {4}[$#] .*\n(?: {4}.*\n)*", re.MULTILINE)
 TOOLS = ["doveadm", "runuser", "strace"]
 # the folder of the mailboxes that the page names, which is below the home here
@@ -371,6 +371,8 @@ def follow(page: str) -> None:
         guide = Guide(home)
         text = text_of(TOP / page)
         guide.kinds(text)
+        if page == README:
+            equal("what its examples leave out", [block[0] for block in BLOCK.finditer(text) if "..." in block[0]], [])
         if page == BACK:
             deliver_since(guide)
         for block in BLOCK.finditer(text):
