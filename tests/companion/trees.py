@@ -196,6 +196,18 @@ def by_hand(home: Path) -> None:
     expect(["migrate", "O", "hand"], home, 0, f"{out}3 mailboxes: 1 done, 2 done before\n")
 
 
+def links_that_are_named(home: Path) -> None:
+    """A symbolic link that is named is followed, and none below a folder is."""
+    mailbox(home / "else/box", ONE)
+    mailbox(home / "tree/work", TWO)
+    os.symlink("else/box", home / "box")
+    os.symlink("../else/box", home / "tree/below")
+    os.symlink("tree", home / "folder")
+    expect(["migrate", "M", "box"], home, 0, "box -> INBOX: mboxrd or mboxo, messages 1: done\n1 mailbox: 1 done\n")
+    out = "folder/below: left (link): it is a symbolic link\n    ...\nfolder/work -> work: ..., messages 1: done\n"
+    expect(["migrate", "N", "folder"], home, 1, f"{out}2 mailboxes: 1 done, 1 left\n")
+
+
 def passed_over(home: Path) -> None:
     """--no-mail is only for files of unknown kinds, and only for one run."""
     for name, text in (
@@ -489,6 +501,7 @@ if __name__ == "__main__":
         trees,
         folders_of_messages,
         stays,
+        links_that_are_named,
         passed_over,
         passed_over_by_path,
         nothing_outside,
