@@ -13,7 +13,7 @@ from typing import Optional
 
 from tests.support.checks import equal, match_in
 from tests.support.homes import ADMIN, check_all, expect, files_of, mailbox, run, want_root
-from tests.support.mail import A, ONE
+from tests.support.mail import A, B, ONE
 from tests.support.printed import in_quotes, unquoted
 
 MANY = 40_000
@@ -131,6 +131,12 @@ def dates(home: Path) -> None:
         {path.stat().st_mtime for path in files_of(home / "One").values()},
         {by_header},
     )
+    # which the option takes if all From_ lines have one date, and only then, as the help says
+    (home / "two").write_bytes((A + b"Date: 4 Mar 2025 10:00 Z\n\n") + B + b"Date: 4 Mar 2025 10:00 Z\n\n")
+    run(["mbox2maildir", "convert", "Two", "two"], home)
+    expect(["dates", "--header", "Two", "two"], home, 0, "two: messages 2, dated 2\n")
+    told = " ".join(run(["dates", "--help"], home)[1].split())
+    equal("its help", told.endswith(" take the dates of the headers Date if all From_ lines have the same date"), True)
     says = "mbox2maildir-admin: one: it was not migrated: None is no Maildir\n...\n...migrate None one\n"
     expect(["dates", "None", "one"], home, 1, "", says)
     print(f"admin: dates: {len(forms)} messages have the dates of their From_ lines")

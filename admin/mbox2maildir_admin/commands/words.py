@@ -102,7 +102,7 @@ def add_dates(command_line: CommandLine) -> None:
     command.add_argument(
         "--header",
         action="store_true",
-        help="take the dates of the headers Date even if all From_ lines have the same date",
+        help="take the dates of the headers Date if all From_ lines have the same date",
     )
 
 
