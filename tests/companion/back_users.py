@@ -13,7 +13,7 @@ from pathlib import Path
 
 from tests.companion.spool import theirs, users
 from tests.support import accounts
-from tests.support.checks import PATIENCE, equal, matches, text_of
+from tests.support.checks import PATIENCE, TOP, equal, match_in, matches, text_of
 from tests.support.homes import ADMIN, check_all, expect, mailbox, run, script, want_users
 from tests.support.mail import ONE, THREE, TWO
 from tests.support.schema import wrong
@@ -130,6 +130,17 @@ def went_back(home: Path) -> None:
         expect(WORDS, home, 0, "7 mailboxes: 7 nothing new; 3 users: ...\n" + moves(home, *NAMES))
         equal("what a second run wrote", state_of(home), before)
         as_objects(home)
+        moved_at_once(home)
+
+
+def moved_at_once(home: Path) -> None:
+    """By the page's command all Maildirs are moved aside, each with its user's rights, and none replaces another."""
+    line = match_in(r"(?m)^    (mbox2maildir-admin back --users .* python3 .*)$", text_of(TOP / "docs/BACK.md"))[1]
+    theirs(mailbox(home / "homes/m61two/Maildir.back/before", b""), "m61two")
+    run(["/bin/sh", "-c", line.replace("--dovecot", "--now").replace("/var/mail.old", "spool")], home)
+    found = {name: sorted(one for one in os.listdir(home / "homes" / name) if "Maildir" in one) for name in NAMES}
+    wanted = {name: ["Maildir.back"] for name in NAMES}
+    equal("the Maildirs", found, {**wanted, "m61two": ["Maildir.back", "Maildir.back-2"]})
 
 
 def as_objects(home: Path) -> None:

@@ -13,7 +13,7 @@ from collections.abc import Iterator
 from pathlib import Path
 
 from tests.support import accounts
-from tests.support.checks import TOP, equal, matches, text_of
+from tests.support.checks import TOP, equal, match_in, matches, text_of
 from tests.support.homes import ADMIN, check_all, expect, mailbox, run, script, subjects, want_users
 from tests.support.ledgers import RECORD
 from tests.support.mail import ONE, THREE, TWO, numbered
@@ -498,6 +498,37 @@ def hostile_homes(home: Path) -> None:
     attempt("a mailbox of root's", r"m61one: left \(other-owner\): it belongs to root")
 
 
+def nobodys(home: Path) -> None:
+    """A mailbox of nobody, a missing home, and a link that leads nowhere are left by each run. By the page's commands
+    nothing is left any more, nor on the way back."""
+    want_users()
+    page = match_in(r'<a id="nobodys"></a>.*', text_of(TOP / "docs/SERVER.md"))[0]
+    lines = "\n".join(re.findall(r"`((?:mkdir|mv|install) [^`]*)`", page)).replace("boris", "m61two")
+    for path, here in (("/var/mail.nobody", "nobody"), ("/var/mail.old", "spool"), ("/home", "homes")):
+        lines = lines.replace(path, here)
+    with users(home):
+        for name, text in (("m61one", ONE), ("m61two", THREE), ("tom", TWO)):
+            mailbox(home / "spool" / name, text)
+        theirs(mailbox(home / "homes/m61one/mail/sent", TWO), "m61one")
+        for name in USERS[:2]:
+            shutil.chown(home / "spool" / name, name)
+        dead = home / "homes/m61one/mail/dead"
+        dead.symlink_to("nowhere")
+        (home / "homes/m61two").rmdir()
+        several = [[word, "--users", "--now", "--tree", "mail", "spool"] for word in ("migrate", "verify", "back")]
+        several[1].remove("--now")
+        for words in several:
+            status, out, _ = run(words, home)
+            reasons = set(re.findall(r"(?m)^  1 left \(([a-z-]+)\)", out)) - {"link"}
+            equal(f"{words}: what is left", (status, reasons), (1, {"home", "no-user"}))
+        equal("the commands", run(["/bin/sh", "-ec", lines], home), (0, "", ""))
+        equal("where the link leads", run(["/usr/bin/readlink", "-e", dead], home)[1], "")
+        dead.unlink()
+        for words in several:
+            equal(f"{words}: status", run(words, home)[0], 0)
+        equal("what was moved away", os.listdir(home / "nobody"), ["tom"])
+
+
 # a test that migrates the mail of all people, as one might by mistake
 OF_ALL = """
 from pathlib import Path
@@ -527,4 +558,4 @@ def people_of_the_machine(home: Path) -> None:
 
 
 if __name__ == "__main__":
-    check_all(spool, people_of_the_machine)
+    check_all(spool, nobodys, people_of_the_machine)
