@@ -1,5 +1,6 @@
 """mbox2maildir-admin migrate of folders of mailboxes: which folder each mailbox becomes, what of a tree is left, what
 stays in the folder that the record has, and what is passed over, then and later."""
+import json
 import os
 import shutil
 import subprocess
@@ -208,8 +209,26 @@ def links_that_are_named(home: Path) -> None:
     expect(["migrate", "N", "folder"], home, 1, f"{out}2 mailboxes: 1 done, 1 left\n")
 
 
+def prepared_by_hand(home: Path) -> None:
+    """A symbolic link is not left by passes over its tree, nor on the day, if it or what it leads to was prepared with
+    --folder."""
+    mailbox(home / "tree/box", ONE)
+    mailbox(home / "else/old", TWO)
+    os.symlink("../else/old", home / "tree/link")
+    for maildir, name in (("M", "else/old"), ("N", "tree/link")):
+        passes, day = ["migrate", "--prepare", "--unread", maildir, "tree"], ["migrate", maildir, "tree"]
+        before = run(passes, home)[1].splitlines()[-1]
+        equal("before it is prepared by hand", before.startswith("2 mailboxes: 1 prepared, 1 left; "), True)
+        expect([*passes[:3], "--folder", "linked", maildir, name], home, 0, None)
+        for words, fate in ((passes, "prepared"), (["migrate", "--dry-run", *day[1:]], "would be done"), (day, "done")):
+            status, out, _ = run(words, home)
+            equal(f"{words}", (status, f": {fate}" in row_in(out, "tree/link -> linked: ").line), (0, True))
+        expect(day, home, 0, "2 mailboxes: 2 done before\n")
+        equal("what is there", subjects(home / maildir / ".linked"), ["two"])
+
+
 def passed_over(home: Path) -> None:
-    """--no-mail is only for files of unknown kinds, and only for one run."""
+    """--no-mail is only for files of unknown kinds. Later runs pass over them without it, until their bytes change."""
     for name, text in (
         ("a.junk", b"hello\n"),
         ("x/b.junk", b"\0\1"),
@@ -242,8 +261,16 @@ def passed_over(home: Path) -> None:
         ),
     )
     equal("the record", sorted(steps(home / "M")), ["no-mail"] * 2)
-    last = run(["migrate", "M", "tree"], home)[1].splitlines()[-1]
-    equal("without it", last, "5 mailboxes: 1 done before, 4 left")
+    without = ["migrate", "M", "tree"]
+    last = "3 mailboxes: 1 done before, 2 left; 2 other files: no mail"
+    equal("without it", run(without, home)[1].splitlines()[-1], last)
+    rows = [json.loads(line) for line in run([*without, "--json"], home)[1].splitlines()]
+    said = [(row["path"], row["remarks"]) for row in rows if row.get("verdict") == "no mail"]
+    remark = [{"remark": "no-mail-noted", "says": "by migrate --no-mail"}]
+    equal("its rows for programs", said, [(f"tree/{name}", remark) for name in ("a.junk", "x/b.junk")])
+    mailbox(home / "tree/a.junk", b"hello once more\n")
+    last = "4 mailboxes: 1 done before, 3 left; 1 other file: no mail"
+    equal("with other bytes", run(without, home)[1].splitlines()[-1], last)
 
 
 def passed_over_by_path(home: Path) -> None:
@@ -502,6 +529,7 @@ if __name__ == "__main__":
         folders_of_messages,
         stays,
         links_that_are_named,
+        prepared_by_hand,
         passed_over,
         passed_over_by_path,
         nothing_outside,

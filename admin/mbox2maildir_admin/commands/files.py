@@ -9,11 +9,12 @@ from .. import ADMIN
 from ..faults import Fault, Reason
 from ..kinds.folders import is_maildir
 from ..kinds.others import Holds
-from ..ledger.history import History, Key, Note
+from ..ledger.history import History, Note
 from ..ledger.record import Record
 from ..maildir.folders import INBOX
 from ..mbox.mailbox import Mailbox
-from ..migration.outcomes import Fate, Row
+from ..migration.answers import is_passed_over
+from ..migration.outcomes import BY_RECORD, Fate, Row
 from ..migration.places import Planned, recorded
 from ..migration.trees import Tree
 from ..nexts import Remark, Task, Todo, run_next
@@ -25,7 +26,7 @@ from .recorded import record_of, root_of
 
 # what is said of files without mail: of those of a known kind, and of those that `migrate --no-mail` noted
 NO_MAIL = Remark("no-mail", "no mail")
-NOTED = Remark("no-mail-noted", "no mail, by migrate --no-mail")
+NOTED = Remark(BY_RECORD.word, "no mail, %s" % BY_RECORD.says)
 
 
 def each(files: Iterable[bytes], task: Callable[[bytes], bool], tell: Findings = LINES) -> bool:
@@ -137,8 +138,7 @@ def left_out(path: bytes, maildir: bytes, record: History, tell: Findings = LINE
     with Mailbox.open(path, tell.say(path)) as mailbox, content_of(mailbox, disk_of(maildir)) as text:
         verdict = look_at(text, lambda look: look.read(lambda _: True)) if text.size else None
         holds = verdict.holds if verdict else Holds.NO_MAIL
-        keys = record.noted(Note.NO_MAIL, INBOX, path) if verdict and verdict.recipe else ()
-        is_noted = bool(keys) and Key(INBOX, *mailbox.key()) in keys
+        is_noted = bool(verdict and verdict.recipe) and is_passed_over(record, mailbox)
     if holds != Holds.NO_MAIL and not is_noted:
         return None
     return Row(path, b"", "", None, Fate.NO_MAIL, remarks=(NOTED if is_noted else NO_MAIL,))

@@ -11,7 +11,7 @@ from .. import ADMIN
 from ..faults import Fault, Status
 from ..ledger.record import Record
 from ..maildir.folders import INBOX, folder_named
-from ..migration.outcomes import Fate, Observer, Row
+from ..migration.outcomes import BY_RECORD, Fate, Observer, Row
 from ..migration.places import Pairs, Planned, recorded
 from ..migration.rows import Reporter
 from ..migration.steps import Options
@@ -41,8 +41,6 @@ SAYS = {
     "other-owner": "of another owner %d",
     "doubtful-line": "doubtful lines %d",
 }
-# what is said of a file that was passed over
-BY_RECORD = Remark(NOTED.word, "by migrate --no-mail")
 # the fates of mailboxes that have a place in the line of their user
 WRONG = Fate.LEFT, Fate.NOT_WHOLE
 

@@ -175,6 +175,10 @@ class History:
         """The mailbox that a folder was prepared from last, if nothing of the folder is done since."""
         return self._prepared.get(folder)
 
+    def prepared_from(self, names: Container[str]) -> list[bytes]:
+        """The folders that were prepared last from one of some paths, and of which nothing is done since."""
+        return [folder for folder, entry in self._prepared.items() if entry.path in names]
+
     def forget(self, folder: bytes, path: str) -> None:
         """Forgets a mailbox in a folder, all of which was undone."""
         steps = self._steps[folder]

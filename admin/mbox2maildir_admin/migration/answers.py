@@ -1,7 +1,7 @@
 """What the record notes of a mailbox besides steps: answers of a human, and files without mail."""
 from typing import Optional
 
-from ..ledger.history import Entry, Key, Note
+from ..ledger.history import Entry, History, Key, Note
 from ..ledger.ledger import Ledger
 from ..ledger.record import Record, unspelled
 from ..maildir.folders import INBOX
@@ -57,6 +57,11 @@ def answer_to(record: Record, opened: Opened, question: Question) -> Optional[Re
 
 def note_no_mail(record: Record, mailbox: Mailbox) -> None:
     """Notes that a file that is not mbox text holds no mail by the command line."""
-    key = Key(INBOX, *mailbox.key())
-    if key not in record.noted(Note.NO_MAIL, INBOX, mailbox.path):
-        record.add(Note.NO_MAIL, key, 0, mailbox.path)
+    if not is_passed_over(record, mailbox):
+        record.add(Note.NO_MAIL, Key(INBOX, *mailbox.key()), 0, mailbox.path)
+
+
+def is_passed_over(record: History, mailbox: Mailbox) -> bool:
+    """Whether it is noted that a file holds no mail, as long as it has its path and its bytes."""
+    keys = record.noted(Note.NO_MAIL, INBOX, mailbox.path)
+    return bool(keys) and Key(INBOX, *mailbox.key()) in keys

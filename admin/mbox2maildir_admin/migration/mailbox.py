@@ -23,9 +23,9 @@ from ..readings.plans import NoMail, NotKnown, OtherKind, Question, is_no_mail, 
 from ..readings.texts import choice_of, disk_of
 from ..readings.unnamed import unnamed
 from ..units import Say, silent
-from .answers import note_no_mail
+from .answers import is_passed_over, note_no_mail
 from .converting import Conversion
-from .outcomes import BY_NO_MAIL, Ended, Fate, Row, row_left
+from .outcomes import BY_NO_MAIL, BY_RECORD, Ended, Fate, Row, row_left
 from .postponed import prepared_in
 from .preparing import FirstPass, LastPass
 from .replica import has_failed, is_free, is_prepared, note_begun, reader_in, take_back
@@ -75,6 +75,8 @@ class Migration:
                 except OtherKind as left:
                     if self.how.is_spared(path, not isinstance(left, NotKnown)):
                         return Ended(self.spare(opened, left.kind))
+                    if is_passed_over(self.record, mailbox):
+                        return Ended(Row(path, b"", left.kind, None, Fate.NO_MAIL, remarks=(BY_RECORD,)))
                     left.put(self.how.where(self.root, opened))
                     raise
         except NoMail as found:

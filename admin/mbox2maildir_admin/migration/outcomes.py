@@ -10,8 +10,9 @@ from ..progress import Spent
 from ..readings.plans import Plan
 from ..terminal import named
 
-# what is said of a file that holds no mail by a pattern of the command line
+# what is said of a file that holds no mail by a pattern of the command line, and by that of an earlier run
 BY_NO_MAIL = Remark("by-no-mail", "by --no-mail")
+BY_RECORD = Remark("no-mail-noted", "by migrate --no-mail")
 
 
 class Fate(enum.Enum):

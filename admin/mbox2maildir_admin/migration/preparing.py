@@ -15,7 +15,7 @@ from typing import Optional
 
 from ..faults import Left, Reason
 from ..ledger.files import hides_none
-from ..ledger.history import Note
+from ..ledger.history import Note, names_of
 from ..ledger.ledger import Ledger
 from ..ledger.match import Match
 from ..ledger.placing import Placing
@@ -224,7 +224,8 @@ class FirstPass(LastPass):
         prepared, name = self.prepared, self.opened.name
         if prepared.is_there:
             other = unspelled(prepared.origin.path) if prepared.origin else self.opened.mailbox.path
-            if prepared.origin and prepared.origin.path not in self.known.names and os.path.lexists(other):
+            # a symbolic link may lead from one to the other
+            if not {*names_of(other)} & {*self.known.names} and os.path.lexists(other):
                 raise Left(ANOTHER % named(other), Reason.PREPARED)
         elif self.ledger.paths() or self.record.last_steps(name):
             raise Left(NOT_FREE, Reason.PREPARED)

@@ -19,7 +19,7 @@ from ..kinds.folders import (
 )
 from ..kinds.making import ASIDE
 from ..kinds.profiles import Profiles
-from ..ledger.history import History
+from ..ledger.history import History, names_of
 from ..maildir.folders import INBOX, LONGEST, folder_on_disk, folder_path, name_before
 from ..mbox.files import real_path
 from ..nexts import Remark, Todo, run_next, task
@@ -235,7 +235,7 @@ class Tree:
         has_no_mail: Callable[[Planned], bool] = lambda one: False,
     ) -> list[Planned]:
         """The mailboxes with their folders in a Maildir, which are taken then. What the record has stays where it is,
-        whatever else would go there; symbolic links are left unless the record has them."""
+        whatever else would go there; symbolic links are left unless they were migrated or prepared by themselves."""
         found = Pairs(record, root, self.options).without_copies(
             [recorded(one, record, root) for one in self.mailboxes()],
             self.pass_over,
@@ -243,14 +243,15 @@ class Tree:
         links = []
         for path in self.links:
             try:
-                target = real_path(path) if record.folders_of(path) else None
+                folders = record.folders_of(path) or record.prepared_from(names_of(path))
+                target = real_path(path) if folders else None
             except OSError:
                 # if this user may not look at what it leads to, it is not in this user's record
                 target = None
             if target is None:
                 self.leave(path, link_left(path))
             else:
-                links.append(recorded(Planned(path, b"", target=target), record, root))
+                links.append(recorded(Planned(path, folders[-1], target=target), record, root))
         stay = [one for one in found if not one.why and record.folders_of(one.path)]
         taken.update(one.folder for one in [*stay, *links] if not one.why)
         moving = settled([one for one in found if one not in stay], taken, has_no_mail, self.words_by_hand)

@@ -299,7 +299,7 @@ class SeveralTest(HomeTest):
         self.assertEqual(self.rows(b"tree")[1][1:3], (b".Linked", Fate.DONE))
 
     def test_no_mail_by_a_pattern(self) -> None:
-        """Files of unknown kinds, and nothing else. The pattern counts for this run."""
+        """Files of unknown kinds, and nothing else."""
         self.file("tree/x.junk", b"hello\n")
         self.file("tree/mail.junk")
         self.file("tree/pst.junk", b"!BDN")
@@ -312,7 +312,6 @@ class SeveralTest(HomeTest):
         line = "no-mail\t.\t6\t%s\t0\t" % digest_of(b"hello\n")
         record = (self.maildir / "mbox2maildir-record").read_text()
         self.assertEqual([one.endswith("/tree/x.junk") for one in record.splitlines() if one.startswith(line)], [True])
-        self.assertEqual({row[2] for row in self.rows(b"tree") if row[0] == b"tree/x.junk"}, {Fate.LEFT})
 
     def test_patterns(self) -> None:
         for patterns, tops, path, is_so in (
