@@ -280,12 +280,9 @@ def the_command_for_an_archive_leads_to_its_mailbox(home: Path) -> None:
     for archive, form in (("take it.zip", "zip"), ("take.tgz", "gztar")):
         os.rename(shutil.make_archive(str(home / "packed"), form, home, "Takeout"), home / archive)
         words = ["migrate", "--now", "--labels", "--label", "Unread=none", "M", archive]
-        for _ in range(2):
-            status, out, _ = run(words, home)
-            row = row_in(out, archive)
-            ran = subprocess.run(["sh", "-c", row.command], cwd=home, stdout=subprocess.PIPE, text=True, check=True)
-            if row.below[-1].startswith("    then "):
-                break
+        status, out, _ = run(words, home)
+        row = row_in(out, archive)
+        ran = subprocess.run(["sh", "-c", row.command], cwd=home, stdout=subprocess.PIPE, text=True, check=True)
         says = f"    then run this again, with the mailboxes that it printed last in place of {archive}"
         equal(f"{archive}: what to do with what it prints", (status, row.below[-1]), (1, says))
         assert (home / archive).is_file(), f"{archive} is gone"

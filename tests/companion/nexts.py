@@ -9,6 +9,7 @@ import subprocess
 import tarfile
 import zipfile
 from collections.abc import Callable
+from functools import partial
 from pathlib import Path
 
 from tests.companion.spool import USERS, theirs, users
@@ -68,13 +69,21 @@ def cpio_of_one() -> bytes:
     return b"".join(part + bytes(-len(part) % 4) for part in parts)
 
 
+def piped_in(text: bytes, *words: str) -> bytes:
+    """What a program writes when it reads a text."""
+    return subprocess.run(words, input=text, stdout=subprocess.PIPE, check=True).stdout
+
+
 # A kind of file: what makes one, by which programs it is made and read, and the subjects of its messages
 KINDS = {
     "tar": (tar_of_two, ("tar",), ["one", "two"]),
     "zip": (zip_of_two, ("unzip",), ["one", "two"]),
     "7z": (seven_zip, ("7z",), ["one"]),
     "cpio": (cpio_of_one, ("cpio",), ["one"]),
-    "tar in gzip": (lambda: piped_in(tar_of_two(), "gzip", "-c"), ("tar", "gzip"), ["one", "two"]),
+    **{
+        f"tar in {program}": (partial(piped_in, tar_of_two(), program, "-c"), ("tar", program), ["one", "two"])
+        for program in ("gzip", "bzip2", "xz", "zstd", "lz4")
+    },
     "lzma": (lambda: lzma.compress(ONE, lzma.FORMAT_ALONE), ("xz",), ["one"]),
     "lzip": (piped("lzip", "-c"), ("lzip",), ["one"]),
     "lzop": (piped("lzop", "-c"), ("lzop",), ["one"]),
@@ -85,11 +94,6 @@ KINDS = {
     "a cut From_ line": (lambda: A[1:] + b"\nhello\n\n" + TWO, ("cat",), ["one", "two"]),
     "NULs": (lambda: b"\0\0 \n" + ONE, ("tail",), ["one"]),
 }  # type: dict[str, tuple[Callable[[], bytes], tuple[str, ...], list[str]]]
-
-
-def piped_in(text: bytes, *words: str) -> bytes:
-    """What a program writes when it reads a text."""
-    return subprocess.run(words, input=text, stdout=subprocess.PIPE, check=True).stdout
 
 
 def kinds_here() -> dict[str, tuple[bytes, list[str]]]:
@@ -112,14 +116,10 @@ def nexts_in(out: str) -> dict[str, str]:
 
 
 def migrate_and_do(words: list[str], home: Path) -> tuple[int, str]:
-    """Migrates, and runs each command that is printed, until none is. A file that is packed twice needs two rounds."""
-    for _ in range(3):
-        status, out, _ = run(["migrate", "--now", *words], home)
-        if status == 0:
-            break
-        for command in nexts_in(out).values():
-            run_printed(command, home)
-    return status, out
+    """Migrates, runs each command that is printed, and migrates again."""
+    for command in nexts_in(run(["migrate", "--now", *words], home)[1]).values():
+        run_printed(command, home)
+    return run(["migrate", "--now", *words], home)[:2]
 
 
 def subjects_below(maildir: Path) -> list[str]:

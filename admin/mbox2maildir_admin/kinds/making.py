@@ -29,6 +29,8 @@ class Makes(NamedTuple):
     package: str = ""
     # whether it makes a folder, with all that the file holds
     is_folder: bool = False
+    # the same text for a file that is packed, with %s for the program that unpacks it; empty if that is done first
+    if_packed: str = ""
 
 
 class Looks(NamedTuple):

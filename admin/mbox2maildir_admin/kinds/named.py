@@ -1,5 +1,5 @@
-"""What names tell: mail programs give some to mailboxes of folders, and such a file is nobody's inbox; and a human gives
-names of files that hold no mail."""
+"""What names tell: mail programs give some to mailboxes of folders, and such a file is nobody's inbox. A human names
+files that hold no mail."""
 import fnmatch
 import os
 import re

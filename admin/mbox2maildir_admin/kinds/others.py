@@ -57,11 +57,9 @@ def other(
     return Other(re.compile(start, re.DOTALL), kind, (Makes(then, package=package),), check=check)
 
 
-def folder(
-    start: bytes, kind: str, then: str, package: str = "", check: Optional[Callable[[Mailbox], bool]] = None
-) -> Other:
-    """A kind that holds files, with the command that makes a folder of them."""
-    return other(start, kind, "", check=check)._replace(recipe=(Makes(then, package=package, is_folder=True),))
+def folder(start: bytes, kind: str, then: str, package: str = "", if_packed: str = "") -> Other:
+    """A kind that holds files, with the command that makes a folder of them, also if it is packed."""
+    return other(start, kind, "")._replace(recipe=(Makes(then, package=package, is_folder=True, if_packed=if_packed),))
 
 
 def packed(start: bytes, form: Form, then: str, package: str = "") -> Other:
@@ -106,6 +104,7 @@ MESSAGES = [
     packed(rb"\xff\xfe\x00\x00|\x00\x00\xfe\xff", Form.UTF_32, "iconv -f UTF-32 -t UTF-8 <{} >{copy}"),
     packed(rb"\xff\xfe|\xfe\xff", Form.UTF_16, "iconv -f UTF-16 -t UTF-8 <{} >{copy}"),
 ]
+TAR = "mkdir {copy} && tar %s-xC {copy} <{}"
 PACKED = [
     packed(rb"\x1f\x8b", Form.GZIP, "gzip -dc <{} >{copy}"),
     other(rb"\x1f[\x1e\x9d]", "compressed by compress or pack", "gzip -dc <{} >{copy}"),
@@ -129,7 +128,8 @@ PACKED = [
         "an archive of cpio",
         "mkdir {copy} && cpio -id --no-absolute-filenames -D {copy} <{}",
     ),
-    folder(rb".{148}[ 0-7]", "an archive of tar", "mkdir {copy} && tar -xC {copy} <{}", check=is_tar),
+    # GNU tar fails if the program that unpacks fails
+    folder(rb".{148}[ 0-7]", "an archive of tar", TAR % "", if_packed=TAR % "-I %s ")._replace(check=is_tar),
     other(rb"-----BEGIN PGP (?:MESSAGE|SIGNED MESSAGE)", "encrypted or signed by OpenPGP", "gpg -d {} >{copy}"),
     # RFC 4880, 4.2 and 5.1, 5.3, 5.6: a key that is encrypted for a public key or by words, or compressed data
     other(

@@ -157,9 +157,6 @@ def choice_of(
 
 def plan_of_packed(text: Mailbox, form: Form, read: Read, decision: Reading) -> Plan:
     """The plan of what a mailbox holds. It is looked at like a file."""
-    from .unpacking import BY_HAND
-
-    by_hand = "%s <{}" % BY_HAND[form]
     try:
         plan = plan_of(text, read, decision)
     except NoMail:
@@ -169,16 +166,23 @@ def plan_of_packed(text: Mailbox, form: Form, read: Read, decision: Reading) -> 
         raise
     except Left as left:
         why = Said(Line(0), "its content is left: %s" % (left.kind or left))
-        recipe = recipe_for(left, by_hand)
+        recipe = recipe_for(left, form)
         kind = NotKnown if isinstance(left, NotKnown) else OtherKind
         raise kind(text.path, why, recipe, left.reason, joined(left.kind, form)) from left
     return replace(plan, kind=joined(plan.kind, form))
 
 
-def recipe_for(left: Left, by_hand: str) -> Recipe:
-    """What is to be done with a packed file: it is unpacked, or a human finds out first what it holds."""
-    if isinstance(left, NotKnown) and left.recipe == NOT_KNOWN:
+def recipe_for(left: Left, form: Form) -> Recipe:
+    """What is to be done with a packed file: what is to be done with its content, if that takes one command; else it is
+    unpacked, or a human finds out first what it holds."""
+    from .unpacking import BY_HAND, UNPACKERS
+
+    by_hand, recipe = "%s <{}" % BY_HAND[form], left.recipe if isinstance(left, OtherKind) else ()
+    if recipe == NOT_KNOWN:
         return Looks(by_hand + " | file -"), PASS_OVER
+    makes = recipe[0] if recipe else None
+    if isinstance(makes, Makes) and makes.if_packed and form in UNPACKERS:
+        return (makes._replace(shell=makes.if_packed % UNPACKERS[form]),)
     return (Makes(by_hand + " >{copy}"),)
 
 

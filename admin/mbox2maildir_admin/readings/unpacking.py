@@ -21,13 +21,10 @@ from .unnamed import text_in, unnamed
 
 # the programs that unpack the forms that the library does not know; their status is not 0 if a part of a file is wrong
 PROGRAMS: dict[Form, str] = {Form.ZSTD: "zstd", Form.LZ4: "lz4"}
-# how each form is unpacked by hand
+# the programs by which a human unpacks, and how each form is unpacked
+UNPACKERS: dict[Form, str] = {Form.GZIP: "gzip", Form.BZIP2: "bzip2", Form.XZ: "xz", **PROGRAMS}
 BY_HAND: dict[Form, str] = {
-    Form.GZIP: "gzip -dc",
-    Form.BZIP2: "bzip2 -dc",
-    Form.XZ: "xz -dc",
-    Form.ZSTD: "zstd -dc",
-    Form.LZ4: "lz4 -dc",
+    **{form: "%s -dc" % program for form, program in UNPACKERS.items()},
     Form.UTF_16: "iconv -f UTF-16 -t UTF-8",
     Form.UTF_32: "iconv -f UTF-32 -t UTF-8",
 }
