@@ -209,6 +209,29 @@ def without_mailboxes(home: Path) -> None:
         equal("an old mailbox", (home / "spool/m61wait").read_bytes(), ONE)
 
 
+def in_nobodys_way(home: Path) -> None:
+    """An account without a mailbox and a Maildir, such as that of virtual users, is on no list, and no run leaves it, not
+    even after Dovecot has made its folder of mailboxes."""
+    own, words = home / "homes/m61vmail", ["migrate", "--users", "--tree", "mail", "spool"]
+    several = [[*words, "--now"], ["verify", *words[1:]], WORDS]
+
+    def is_listed() -> bool:
+        return "m61vmail\tfrom the accounts\t0\n" in run([*words, "--list"], home)[1]
+
+    with migrated(home), accounts.users({"m61vmail": own}):
+        # the home may be on a disk that is not mounted
+        equal("whether it is listed without a home", is_listed(), True)
+        for there in ("", "mail/.imap/INBOX"):
+            (own / there).mkdir(parents=True)
+            subprocess.run(["chown", "-R", "m61vmail", own], check=True)
+            equal(f"whether it is listed with {there}", is_listed(), bool(there))
+            for each in several:
+                equal(f"{each} with {there}", run(each, home)[::2], (0, ""))
+        theirs(mailbox(own / "mail/sent", ONE), "m61vmail")
+        status, out, _ = run([*WORDS, "m61vmail"], home)
+        equal("with a mailbox", (status, "m61vmail mail: left (no-maildir): " in out), (1, True))
+
+
 def tree_elsewhere(home: Path) -> None:
     """If the mailboxes of a user's folders are not in the home's folder of mailboxes any more, no second one is made,
     which would be in their way."""
@@ -419,6 +442,7 @@ if __name__ == "__main__":
         went_back,
         new_inboxes,
         without_mailboxes,
+        in_nobodys_way,
         tree_elsewhere,
         second_mailbox,
         rights,

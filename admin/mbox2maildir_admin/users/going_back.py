@@ -17,8 +17,9 @@ from ..maildir.files import names_of
 from ..mbox.bases import BASE
 from ..mbox.lock_file import hold, look_for_lock_file, spot_of
 from ..mbox.mailbox import Mailbox
-from ..migration.outcomes import Observer
+from ..migration.outcomes import Fate, Observer
 from ..migration.steps import Options
+from ..migration.trees import Tree
 from ..program import Program
 from .accounts import home_of
 from .asked import Sources, Tally
@@ -77,9 +78,9 @@ class Returner(Migrant):
 
     def run(self, root: bytes, names: list[bytes], relay: Relay, program: Program) -> None:
         """Brings the mail of a Maildir back into the mailboxes at these paths."""
-        has_none = not self.mailbox and names == [self.place]
-        if has_none and not os.path.lexists(root):
+        if not os.path.lexists(root) and all(map(is_bare, names)):
             return
+        has_none = not self.mailbox and names == [self.place]
         # what is there came from no old mailbox if its user has none
         if not has_none or has_own_names(root):
             want_migrated(root)
@@ -88,6 +89,17 @@ class Returner(Migrant):
         how = replace(self.way.how, keeper=keeper)
         names_back = Names(paths, self.tree, NO_INBOX)
         relay.teller.next(bring_all(program, root, names_back, how, self.way.copies, relay))
+
+
+def is_bare(path: bytes) -> bool:
+    """Whether nothing that may be a mailbox is at a path or below it."""
+    if not os.path.lexists(path):
+        return True
+    if os.path.islink(path) or not os.path.isdir(path):
+        return False
+    tree = Tree(path).read()
+    is_left = tree.mailboxes() or tree.links or tree.maildirs
+    return not is_left and all(row.fate is Fate.NO_MAIL for row in tree.rows)
 
 
 def has_own_names(root: bytes) -> bool:
