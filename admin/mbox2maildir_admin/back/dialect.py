@@ -3,6 +3,7 @@ import re
 import time
 from typing import NamedTuple, Optional
 
+from ..kinds.starts import FIELD
 from ..mbox.core import EMPTY_LINE, LongHeader
 from ..mbox.dates import TOO_LATE
 from ..readings.reading import BY_LENGTHS, CR, CRLF, MBOXCL2, MBOXO, MBOXRD, UNQUOTED, Reading
@@ -52,12 +53,18 @@ class Dialect(NamedTuple):
         """A message as the mailbox has it: the From_ line, the message, and the line that ends it."""
         header, gap, body = parted(letter.text)
         from_line = b"From %s %s\n" % (sender_in(header), date_of(letter.time))
-        header, body = self.quoted(header), self.ended(self.quoted(body))
-        fields = fields_of(letter, b"\r\n" if header.endswith(b"\r\n") else b"\n")
+        header, body = self.ended(self.quoted(header)), self.ended(self.quoted(body))
+        end = b"\r\n" if header.endswith(b"\r\n") else b"\n"
+        fields = fields_of(letter, end)
         if self.word in BY_LENGTHS:
             size = len(body) + body.count(b"\n") * self.crlf
-            fields += b"Content-Length: %d%s" % (size, b"\r\n" if header.endswith(b"\r\n") else b"\n")
-        text = b"".join([from_line, self.ended(header), fields, gap, body, b"\n"])
+            fields += b"Content-Length: %d%s" % (size, end)
+        # what no field follows is not certainly a From_ line; a line that begins with a blank would go on with a field
+        if FIELD.match(header) or header.startswith((b" ", b"\t")):
+            header += fields
+        else:
+            header = (fields or b"Status:" + end) + header
+        text = b"".join([from_line, header, gap, body, b"\n"])
         return text.replace(b"\n", b"\r\n") if self.crlf else text
 
     def quoted(self, text: bytes) -> bytes:

@@ -118,18 +118,18 @@ class Places:
             return Place(nested, True)
         return self.first_free(os.path.join(tree, b"-".join(parts)), paths)
 
-    def beside(self, path: bytes, folder: bytes) -> Place:
-        """The new mailbox beside one that takes nothing. That of an inbox outside of the first tree is in the tree: its
-        owner may make none in a spool, and would not see it there."""
+    def beside(self, path: bytes, folder: bytes, tried: Sequence[bytes] = ()) -> Place:
+        """The new mailbox beside one that takes nothing, and beside further ones that were tried. That of an inbox
+        outside of the first tree is in the tree: its owner may make none in a spool, and would not see it there."""
         if folder == INBOX and self.trees and os.path.relpath(path, self.trees[0]).startswith(b"../"):
             path = os.path.join(self.trees[0], b"inbox")
         path = next((path[: -len(end)] for end in COMPRESSED if path.endswith(end)), path)
-        return self.first_free(path + BESIDE, Ledger(folder_path(self.root, folder)).paths())
+        return self.first_free(path + BESIDE, Ledger(folder_path(self.root, folder)).paths(), tried)
 
-    def first_free(self, path: bytes, paths: Sequence[str]) -> Place:
-        """The first of the names for a new mailbox that is free."""
+    def first_free(self, path: bytes, paths: Sequence[str], tried: Sequence[bytes] = ()) -> Place:
+        """The first of the names for a new mailbox that is free, and was not tried."""
         names = [path, *(b"%s-%d" % (path, number) for number in range(2, NAMES))]
-        found = next((one for one in names if self.is_free(one, paths)), None)
+        found = next((one for one in names if one not in tried and self.is_free(one, paths)), None)
         if found is None:
             raise Left("no name is free for a new mailbox: %s" % named(path), Reason.NO_MAILBOX)
         return Place(found, True)

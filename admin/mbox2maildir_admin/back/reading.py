@@ -17,13 +17,15 @@ from ..readings.plans import plan_of
 from ..readings.reading import MBOXRD, Reading
 from ..readings.texts import Choice, form_of
 from ..readings.unnamed import unnamed
-from .dialect import Dialect
+from .dialect import Dialect, Letter
 
 NO_LONGER = "it can no longer be read as it was read when it was migrated (%s)"
 # takes a text, and its messages
 Look = Callable[[Mailbox, Inventory], object]
 # begins what stands for the reading of a mailbox that would be left
 ASKED = "?"
+# the first message of a text is never in question, so others are tried behind this one
+ANOTHER = b"Subject: another\n\nyes\n"
 
 
 class Forms(NamedTuple):
@@ -117,17 +119,18 @@ def are_at(forms: Sequence[Forms], inventory: Inventory, first: int = 0) -> bool
 
 
 class Held(NamedTuple):
-    """Tells whether a mailbox gives messages back: by which words it is read, whether something is asked about it
-    anyhow, and a folder on whose disk copies are made."""
+    """Tells whether a mailbox gives messages back: by which words it is read, in which dialect it is written, whether
+    something is asked about it anyhow, and a folder on whose disk copies are made."""
 
     words: str
+    dialect: Dialect
     is_asked: bool
     disk: bytes
 
     @classmethod
-    def by(cls, mailbox: Mailbox, words: str, disk: bytes) -> "Held":
+    def by(cls, mailbox: Mailbox, words: str, dialect: Dialect, disk: bytes) -> "Held":
         """That of a mailbox as it is now."""
-        return cls(words, reading_now(mailbox).startswith(ASKED), disk)
+        return cls(words, dialect, reading_now(mailbox).startswith(ASKED), disk)
 
     def are(self, forms: Sequence[Forms], text: Mailbox) -> bool:
         """Whether a text has exactly these messages, and nobody would be asked how it is read."""
@@ -137,10 +140,11 @@ class Held(NamedTuple):
         except Fault:
             return False
 
-    def has(self, form: Forms, text: bytes) -> bool:
-        """The same for one message alone."""
+    def has(self, form: Forms, text: bytes, is_first: bool = False) -> bool:
+        """The same for one message, behind another one unless it is the first."""
+        before = () if is_first else (ANOTHER,)
         with unnamed(self.disk) as file:
-            file.write(text)
+            file.write(b"".join([*(self.dialect.spelled(Letter(one)) for one in before), text]))
             file.flush()
             with Mailbox(b"", os.dup(file.fileno())) as mailbox:
-                return self.are([form], mailbox)
+                return self.are([*map(Forms.of, before), form], mailbox)

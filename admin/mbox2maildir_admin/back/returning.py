@@ -31,7 +31,7 @@ from .mails import Mail
 from .notes import Notes
 from .numbers import Numbering, numbering_of
 from .reading import Forms, Held, are_at, messages_by, reading_now, ways_to_read
-from .steps import How, NotAsItIs, Outcome, TakesNothing, Target
+from .steps import How, NotAsItIs, Outcome, TakesNothing, Target, left_unheld
 
 FILE_CHANGED = "%s was changed meanwhile: stop the program that did it, and run this again"
 MISREAD = "what was appended is not read back as it is, so it was taken back"
@@ -174,7 +174,11 @@ class Appending:
             if not self.returning.how.dry:
                 self.bring(draft, entries)
             numbering.end(self.returning.how.dry)
-        return Outcome(self.row(entries, size), self.refused)
+        row = self.row(entries, size)
+        if self.refused and not entries and not self.mailbox.size:
+            # what goes into none of the same form either
+            return Outcome(left_unheld(row, self.refused), ())
+        return Outcome(row, self.refused)
 
     def draft(self) -> Draft:
         """The draft, which a dry run has where nobody looks."""
@@ -184,13 +188,15 @@ class Appending:
 
     def drafted(self, draft: Draft, mails: Sequence[Mail]) -> list[Entry]:
         """Writes messages as the mailbox has them. What it cannot hold is left out."""
-        entries = self.spelled(draft, mails)
-        held = Held.by(self.mailbox, self.words, self.returning.disk)
+        entries, is_new = self.spelled(draft, mails), not self.mailbox.size
+        held = Held.by(self.mailbox, self.words, self.dialect, self.returning.disk)
         with draft.text() as text:
-            if not entries or held.are([one.forms for one in entries], text):
-                return entries
-            texts = ((one, os.pread(draft.number, one.size, one.start)) for one in entries)
-            bad = [one for one, its in texts if not held.has(one.forms, its)]
+            are_held = not entries or held.are([one.forms for one in entries], text)
+            tried = entries[: not is_new] if are_held else entries
+            texts = ((one, os.pread(draft.number, one.size, one.start)) for one in tried)
+            bad = [one for one, its in texts if not held.has(one.forms, its, is_new and one is entries[0])]
+        if not bad and are_held:
+            return entries
         if not bad:
             raise NotAsItIs(MISREAD, Reason.MISREAD)
         self.refused += [one.mail for one in bad]

@@ -29,13 +29,13 @@ from .mails import Mail, Sorted, copied, sorted_mail
 from .places import Names, Place, Places
 from .returning import Returning
 from .subscriptions import rows_of
-from .steps import How, Outcome, TakesNothing, Target, left_unheld
+from .steps import How, Outcome, TakesNothing, Target, files_of
 
 NO_RECORD = "%s: it has no record, so nothing shows which mail came from the old mailboxes"
 TORN = "the message that begins in line %d is cut: a run was killed there, and another program has written after it"
 NOT_READ_BACK = "what would be appended to it would not be read back as it is"
 DISK_FULL = "no room is left on its disk, or on that of the Maildir"
-CANNOT_HOLD, TAKES_NOTHING = "%s cannot hold this", "%s takes nothing"
+CANNOT_HOLD, TAKES_NOTHING = "%(path)s cannot hold %(files)s", "%(path)s takes nothing"
 Remarks = tuple[Remark, ...]
 # what became of a message in the Maildir, and what is said of those that a mailbox has
 DELETED, EDITED = "deleted", "changed"
@@ -128,7 +128,7 @@ class Several:
                 yield folder
 
     def rows(self, target: Target, places: Places) -> Iterator[Row]:
-        """The row of the mailbox to which the mail of a folder goes back; and that of a mailbox beside it, which gets
+        """The row of the mailbox to which the mail of a folder goes back; and those of mailboxes beside it, which get
         what it cannot hold."""
         folder, mails = target.folder, target.mails
         path = folder_path(self.root, folder)
@@ -174,35 +174,44 @@ class Several:
             if os.path.lexists(beside.path):
                 beside.remove()
 
-    def rows_beside(self, target: Target, places: Places, why: str) -> Iterator[Row]:
-        """The row of the mailbox beside one that does not get this mail, if there is some."""
+    def rows_beside(self, target: Target, places: Places, why: str, tried: Sequence[bytes] = ()) -> Iterator[Row]:
+        """The rows of the mailboxes beside one that does not get this mail, if there is some. What one of them cannot
+        hold goes into the next one."""
         path, folder, mails, remarks, _ = target
         if not mails:
             return
         try:
-            other = places.beside(path, folder)
+            other = places.beside(path, folder, tried)
         except Fault as fault:
             yield left(path, folder, fault, len(mails), remarks)
             return
-        says = Remark("beside", why % named(path))
-        found = self.brought(other, Target(other.path, folder, mails, (says, *remarks)))
-        if found:
-            yield left_unheld(found.row, found.refused) if found.refused else found.row
-        else:
+        found = self.brought(other, Target(other.path, folder, mails, remarks))
+        if not found:
             yield left(other.path, folder, Left(NOT_READ_BACK, Reason.NOT_HELD), len(mails))
+            return
+        its = [one for one in mails if one not in found.refused]
+        if its:
+            says = Remark("beside", why % {"path": named(path), "files": files_of(its)})
+            yield replace(found.row, remarks=(says, *found.row.remarks))
+        yield from self.rows_beside(target._replace(mails=found.refused), places, why, (*tried, other.path))
 
     def brought(self, place: Place, target: Target) -> Optional[Outcome]:
         """What became of a mailbox to which mail goes back, and which is made if it is missing; None if it takes
         nothing."""
         how = self.how
         try:
+            say = Beat(functools.partial(self.observer.progress, named(target.path)))
             is_missing = place.is_new and not os.path.lexists(place.path)
+            if is_missing and not how.dry:
+                # none is made that would stay empty
+                would = Returning(self.program, self.root, self.record, replace(how, dry=True), say).run(target)
+                if would.row.left_for:
+                    return would
             # the name of an empty one may not be on the disk yet
             if not how.dry and (is_missing or is_empty(place.path)):
                 how.keeper.make(place.path)
                 # nobody else knows of a new one
                 how = replace(how, now=how.now or is_missing)
-            say = Beat(functools.partial(self.observer.progress, named(target.path)))
             return Returning(self.program, self.root, self.record, how, say).run(target)
         except TakesNothing:
             self.observer.rest(named(target.path))

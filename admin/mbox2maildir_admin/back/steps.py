@@ -51,12 +51,16 @@ class Outcome(NamedTuple):
     refused: Sequence[Mail]
 
 
+def files_of(mails: Sequence[Mail]) -> str:
+    """The files of mail, as a row names them."""
+    more = " and %d more" % (len(mails) - NAMED) if mails[NAMED:] else ""
+    return ", ".join(named(one.path) for one in mails[:NAMED]) + more
+
+
 def left_unheld(row: Row, refused: Sequence[Mail]) -> Row:
     """The row of a mailbox that cannot hold some of the mail, which no other one takes."""
-    names = ", ".join(named(one.path) for one in refused[:NAMED])
-    more = " and %d more" % (len(refused) - NAMED) if len(refused) > NAMED else ""
     stay = "stays" if len(refused) == 1 else "stay"
-    why = NOT_HELD % (counted(len(refused), "message"), stay, names + more)
+    why = NOT_HELD % (counted(len(refused), "message"), stay, files_of(refused))
     return replace(
         row, fate=Fate.LEFT, reason=row.reason or Reason.NOT_HELD, why="; ".join(filter(None, [row.why, why]))
     )

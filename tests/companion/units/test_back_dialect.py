@@ -63,7 +63,19 @@ class DialectTest(unittest.TestCase):
         self.assertEqual(self.written("mboxrd", b"A: b\n\nx"), b"A: b\n\nx\n\n")
         self.assertEqual(self.written("mboxcl2", b"A: b\n\nx"), b"A: b\nContent-Length: 2\n\nx\n\n")
         self.assertEqual(self.written("mboxrd", b"A: b"), b"A: b\n\n")
-        self.assertEqual(self.written("mboxrd", b""), b"\n")
+        self.assertEqual(self.written("mboxrd", b""), b"Status:\n\n")
+
+    def test_a_first_line_that_is_no_header(self) -> None:
+        """A field precedes it, unless that would go on in it."""
+        for word, text, wanted in (
+            ("mboxrd", b"hello\n", b"Status:\nhello\n\n"),
+            ("mboxrd", b"\nx\n", b"Status:\n\nx\n\n"),
+            ("mboxcl2", b"hello\n", b"Content-Length: 0\nhello\n\n"),
+            ("mboxrd", b" a: b\n\nx\n", b" a: b\n\nx\n\n"),
+        ):
+            with self.subTest(text=text):
+                self.assertEqual(self.written(word, text), wanted)
+        self.assertEqual(self.written("mboxrd", b"hello\r\n", "S", True), b"Status: RO\r\nhello\r\n\n")
 
     def test_the_parts_of_a_message(self) -> None:
         for text, wanted in (

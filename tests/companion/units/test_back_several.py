@@ -507,7 +507,8 @@ class PlacesTest(BackHome):
         box = self.write_box("mail/sent", ONE)
         self.migrate_all("mail")
         self.deliver(".sent")
-        found = [inventory_of(ONE), inventory_of(TWO), Inventory(), Inventory()]
+        # the first two are of the mailbox, and the others of the one beside it: in a rehearsal, and before and after
+        found = [inventory_of(ONE), inventory_of(TWO), Inventory(), Inventory(), Inventory()]
         with mock.patch.object(returning, "messages_by", side_effect=found):
             with mock.patch.object(returning, "are_at", lambda *_: True):
                 self.assertEqual(self.fates(self.back()), {"mail/sent-back": (Fate.BACK, 1)})
@@ -657,8 +658,8 @@ class PartsTest(HomeTest):
         mail = b"Subject: a\n\n>From me\n"
         for word, is_held in (("mboxrd", True), ("mboxo", False), ("mboxcl", True), ("mboxcl2", True)):
             text = Dialect(word).spelled(Letter(mail))
-            self.assertEqual(Held(word, True, self.here).has(Forms.of(mail), text), is_held, word)
-        self.assertFalse(Held("mboxrd", True, self.here).has(Forms.of(mail), b"no mailbox\n"))
+            self.assertEqual(Held(word, Dialect(word), True, self.here).has(Forms.of(mail), text), is_held, word)
+        self.assertFalse(Held("mboxrd", Dialect(), True, self.here).has(Forms.of(mail), b"no mailbox\n"))
         self.assertEqual(len(reading.Forms.of(b"a").bares), 2)
 
     def test_the_command(self) -> None:

@@ -1,0 +1,186 @@
+"""mbox2maildir-admin back: messages of odd forms at the beginning, in the middle and at the end of what is new. Each
+goes into its mailbox or beside it, a rehearsal says the same, and nothing empty is left behind."""
+import os
+import re
+from collections.abc import Iterable, Iterator
+from pathlib import Path
+from typing import NamedTuple
+
+from tests.support.archives import Home, Row, letters, run_rules, texts_of
+from tests.support.checks import equal
+from tests.support.rewriting.runs import Ran
+from tests.support.wayback.dialects import DIALECTS, bare
+from tests.support.wayback.histories import rows_of
+
+# first lines that are no header
+ODD = {
+    "text": b"hello world\nmore\n",
+    "text alone": b"hello world",
+    "an empty line": b"\n\nbody\n",
+    "an empty line in CR LF": b"\r\nbody\r\n",
+    "a mark": b">From x\nSubject: quoted\n\nbody\n",
+    "a name in 8 bits": b"S\xfcbject: x\nTo: me\n\nbody\n",
+    "a byte order mark": b"\xef\xbb\xbfSubject: x\n\nbody\n",
+    "NULs": b"\0\0\0\0Subject: x\n\nbody\n",
+    "a length alone": b"Content-Length: 5\n\nbody\n",
+    "nothing": b"",
+}
+# one that no field of a program can precede
+BLANK = b" Subject: blank\n\nbody\n"
+# mail within a line, about which each mailbox is asked
+JOINED = b"Subject: joined\n\nthe endFrom a@b Mon Mar  3 09:12:44 2025\nFrom: x\nSubject: y\n\nbody\n"
+PLAIN = [b"Subject: plain %d\n\nFrom me\n" % number for number in range(3)]
+OLD = letters(1, 2)
+# the mailboxes by their folders, each with the place that an odd message has among plain ones
+PLACES = {"": ("spool", 0), ".middle": ("mail/middle", 1), ".end": ("mail/end", 3)}
+PATHS = [path for path, _ in PLACES.values()]
+DAY = 86400
+
+
+class Told(NamedTuple):
+    """What a row says: the mailbox, why it is left, how many messages go back, and which files it names."""
+
+    path: str
+    reason: str = ""
+    messages: int = 0
+    files: tuple[str, ...] = ()
+
+
+class House:
+    """A home whose mailboxes were migrated, and in whose Maildir mail came since."""
+
+    def __init__(self, home: Home, old: bytes = OLD) -> None:
+        self.home, self.old = home, old
+        home.begin("--jobs", "1")
+        for path in PATHS:
+            home.write(path, old)
+        home.place.own(home.path / "mail")
+        home.done("spool", "mail")
+
+    def deliver(self, mails: Iterable[bytes], folder: str = "", first: int = 0) -> None:
+        """Mail comes, one after the other."""
+        place = self.home.maildir / folder
+        for number, text in enumerate(mails, first):
+            path = place / f"new/{number}.M1.host"
+            path.parent.mkdir(parents=True, exist_ok=True)
+            path.write_bytes(text)
+            os.utime(path, ((number + 1) * DAY,) * 2)
+        for sub in ("tmp", "cur"):
+            (place / sub).mkdir(exist_ok=True)
+        self.home.place.own(place, *place.rglob("*"))
+
+    def deliver_among(self, odd: bytes) -> None:
+        """A message comes among plain ones, at another place in each folder."""
+        for folder, (_, at) in PLACES.items():
+            self.deliver([*PLAIN[:at], odd, *PLAIN[at:]], folder)
+
+    def texts(self) -> dict[str, bytes]:
+        """The mailboxes, and what is in them."""
+        top = self.home.path
+        paths = [top / "spool", *sorted(path for path in (top / "mail").rglob("*") if path.is_file())]
+        return {str(path.relative_to(top)): path.read_bytes() for path in paths}
+
+    def back(self, status: int = 0) -> list[Told]:
+        """Goes back. A rehearsal writes nothing, and says the same; a second run has nothing to do; no mailbox is
+        empty."""
+        before = self.texts()
+        dry, texts = self.run("--dry-run"), self.texts()
+        equal("what a rehearsal writes", texts, before)
+        ran, texts = self.run(), self.texts()
+        equal("the statuses", (dry.status, ran.status), (status, status))
+        equal("what the rehearsal says", told(dry), told(ran))
+        equal("a second run", (self.run().status, self.texts()), (status, texts))
+        equal("what is empty", [path for path, text in texts.items() if not text], [])
+        return told(ran)
+
+    def run(self, *words: str) -> Ran:
+        """Runs the way back."""
+        return self.home.place.run(["back", "--json", "--now", *words, "M", "spool", "mail"])
+
+    def has(self, wanted: dict[str, list[bytes]]) -> None:
+        """The mail that was appended to each mailbox, in its order, and a new Maildir gets all of it unasked."""
+        found = {path: text.replace(self.old, b"") for path, text in self.texts().items()}
+        mails = {path: [bare(one) for _, one in DIALECTS["mboxrd"].read(text)] for path, text in found.items()}
+        equal("the mail", mails, {path: [*map(bare, several)] for path, several in wanted.items()})
+        ran = self.home.place.run(["migrate", "--json", "--now", "N", "spool", "mail"])
+        equal("a new Maildir", (ran.status, [row["reason"] for row in rows_of(ran) if row["reason"]]), (0, []))
+
+
+def told(ran: Ran) -> list[Told]:
+    """What the rows of a run say about which there is something to say."""
+    rows = [Told(row["path"], row["reason"] or "", row["messages"], files_in(row)) for row in rows_of(ran)]
+    return sorted(row for row in rows if row.reason or row.messages)
+
+
+def files_in(row: Row) -> tuple[str, ...]:
+    """The files that a row names."""
+    return tuple(sorted({*re.findall(r"M/\S*new/[^\s,;]+", texts_of(row))}))
+
+
+def first_lines(home: Home) -> None:
+    """Each goes into its mailbox, between the others: a field of its own precedes it there."""
+    for odd in ODD.values():
+        house = House(home)
+        house.deliver_among(odd)
+        equal(f"{odd!r}: rows", house.back(), sorted(Told(path, messages=4) for path in PATHS))
+        house.has({path: [*PLAIN[:at], odd, *PLAIN[at:]] for path, at in PLACES.values()})
+
+
+def a_blank(home: Home) -> None:
+    """What begins with a blank goes beside, into a mailbox of its own, by the name of its file, and all else into the
+    mailbox."""
+    house = House(home)
+    house.deliver_among(BLANK)
+    boxes = list(beside())
+    wanted = [Told(path, messages=3) for path, _, _ in boxes]
+    others = [Told(other, messages=1, files=(file,)) for _, other, file in boxes]
+    equal("rows", house.back(), sorted(wanted + others))
+    house.has({name: mails for path, other, _ in boxes for name, mails in ((path, PLAIN), (other, [BLANK]))})
+
+
+def beside() -> Iterator[tuple[str, str, str]]:
+    """Each mailbox, the one beside it, and the file of the odd message."""
+    for folder, (path, at) in PLACES.items():
+        other = f"{path}-back" if folder else "mail/inbox-back"
+        yield path, other, str(Path("M", folder, f"new/{at}.M1.host"))
+
+
+def several_blanks(home: Home) -> None:
+    """Each has a mailbox of its own, also if one came later."""
+    house = House(home)
+    one, two, three = (b" Subject: %s\n\nbody\n" % name for name in (b"one", b"two", b"three"))
+    house.deliver([one, *PLAIN, two])
+    boxes = ["mail/inbox-back", "mail/inbox-back-2", "mail/inbox-back-3"]
+    files = [f"M/new/{number}.M1.host" for number in (0, 4, 9)]
+    rows = [Told(path, messages=1, files=(file,)) for path, file in zip(boxes, files)]
+    equal("rows", house.back(), [*rows[:2], Told("spool", messages=3)])
+    house.deliver([three], first=9)
+    equal("rows later", house.back(), rows[2:])
+    house.has({"spool": PLAIN, "mail/middle": [], "mail/end": [], **dict(zip(boxes, ([one], [two], [three])))})
+
+
+def an_empty_mailbox(home: Home) -> None:
+    """The first message of a text may have any first line."""
+    house = House(home, b"")
+    house.deliver_among(BLANK)
+    house.deliver([BLANK], ".lists.one")
+    equal("rows", {row.path: row.messages for row in house.back()}["mail/lists/one"], 1)
+    texts = house.texts()
+    equal("the first ones", [b"\n Subject: blank\n" in texts[path] for path in ("spool", "mail/lists/one")], [True] * 2)
+
+
+def held_by_none(home: Home) -> None:
+    """What no mailbox holds stays in the Maildir, by the name of its file; all else goes back. No mailbox is made for
+    it."""
+    house = House(home)
+    house.deliver_among(JOINED)
+    house.deliver([JOINED], ".new")
+    stay = [*((other, file) for _, other, file in beside()), ("mail/new", "M/.new/new/0.M1.host")]
+    wanted = [Told(path, messages=3) for path in PATHS]
+    equal("rows", house.back(1), sorted([*wanted, *(Told(path, "not-held", 0, (file,)) for path, file in stay)]))
+    house.has({path: PLAIN for path in PATHS})
+
+
+if __name__ == "__main__":
+    cases = first_lines, a_blank, several_blanks, an_empty_mailbox, held_by_none
+    run_rules({case.__name__: case for case in cases})
