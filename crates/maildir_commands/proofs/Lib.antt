@@ -34,6 +34,8 @@ pub mod Ending
 pub mod AnyCommands
 -- What any commands over one text leave of a Maildir into which no other text goes.
 pub mod OneText
+-- Texts that fit into one Maildir, as a mailbox that grew and what it was.
+pub mod Fitting
 -- What is said of a history where more messages are spared holds where fewer are.
 pub mod Fewer
 -- Which files a conversion touched.

@@ -24,7 +24,7 @@ use Rattle.maildir_commands.specs.Sources.{KeepsText, StoresText}
 abbrev base_of : Message → List ℕ
 base_of m = m.target.base
 
-abbrev body_of : Message → List ℕ
+abbrev pub body_of : Message → List ℕ
 body_of m = m.body
 
 abbrev no_message : Message
@@ -138,7 +138,7 @@ have_bodies : (bodies : List (List ℕ)) → map body_of (messages_of bodies) �
 have_bodies bodies = ap (map body_of) (sym (all_messages bodies)) ∙ bodies_after [] bodies
 
 -- numbered messages with the same bodies have the same bases
-bases_same : (ms ns : List Message) → map body_of ms ≡ map body_of ns → AreNumbered ms → AreNumbered ns → map base_of ms ≡ map base_of ns
+pub bases_same : (ms ns : List Message) → map body_of ms ≡ map body_of ns → AreNumbered ms → AreNumbered ns → map base_of ms ≡ map base_of ns
 bases_same ms ns same one other =
     same_lists _ _ (length-map ms base_of ∙ (as_many body_of ms ns same ∙ sym (length-map ns base_of))) (λ k d below.
     let inside : k < length ms = omega (arith, below, length-map ms base_of) in

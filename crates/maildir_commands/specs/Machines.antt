@@ -1,8 +1,9 @@
 -- What a machine has at a path, and when several texts fit into it, and are safe there.
-use Rattle.std.specs.Prelude.{◌≡◌, ◌⊎◌, ℕ, ◌+◌, ◌<◌, ◌^◌, List, [], ◌∷◌, length, get_or, take, All, Option, map, count_by, ◌||◌, IsTrue}
+use Rattle.std.specs.Prelude.{◌≡◌, ◌⊎◌, ℕ, ◌+◌, ◌<◌, ◌^◌, List, [], ◌∷◌, ◌++◌, length, get_or, take, All, Option, map, count_by, ◌||◌, IsTrue}
 use Rattle.mbox_text.specs.declared.entry.Entry.{Entry}
-use Rattle.mbox_text.specs.Mbox.{IsUnreadable, Mbox}
-use Rattle.maildir_name.specs.Targets.{numbered, same_digest}
+use Rattle.mbox_text.specs.Lines.{Ended}
+use Rattle.mbox_text.specs.Mbox.{IsMboxText, IsUnreadable, Mbox}
+use Rattle.maildir_name.specs.Targets.{digest_text, numbered, same_digest}
 use Rattle.maildir_run.specs.Cuts.{Follows}
 use Rattle.maildir_run.specs.Delivery.{Message, AllSpared, AreNamed, IsSoundAt, has_home, is_base_of}
 use Rattle.maildir_run.specs.Files.{Files, Action, all_acted, Spared, is_spared}
@@ -55,6 +56,18 @@ pub record HasItsMessages (text : Mailbox) : Type 0 where
 pub record AreFit (texts : List Mailbox) : Type 0 where
   pub are : All HasItsMessages texts
   pub alike : All (λ text. All (λ other. AreAlike text.messages other.messages) texts) texts
+
+-- different messages of the two texts have different digests
+abbrev pub DifferInDigests : Mailbox → Mailbox → Type 0
+DifferInDigests one other = All (λ m. All (λ n. digest_text m.body ≡ digest_text n.body → m.body ≡ n.body) other.messages) one.messages
+
+-- The text is an earlier one with mail appended: that was empty or ended with `\n`, and what follows begins with `From `, or is nothing.
+abbrev pub HasGrown : Mailbox → Mailbox → Type 0
+HasGrown earlier text = (more : List ℕ) × Ended earlier.bytes × (text.bytes ≡ earlier.bytes ++ more) × IsMboxText more
+
+-- of the two texts one is the other with mail appended, or different messages of them have different digests
+abbrev pub FitTogether : Mailbox → Mailbox → Type 0
+FitTogether one other = HasGrown one other ⊎ (HasGrown other one ⊎ DifferInDigests one other)
 
 -- For the messages of the texts that are spared, a Maildir is sound, and what a power cut may leave of it is intact.
 pub record IsSoundFor (spared : Spared) (texts : List Mailbox) (maildir : HeldMaildir) : Type 0 where

@@ -80,7 +80,7 @@ pub record AnyCommands {M : Type 0} (spared : Spared) (at : M → SeenMachine) (
     (old new : M) : Type 0 where
   -- At first the machine does as assumed, and other programs spare these messages. For later moments the episodes say so.
   pub as_assumed : (at old).honest spared
-  -- Each text has its messages, and no two messages of the texts have the same base but different bodies.
+  -- Each text has its messages, and no two messages of the texts have the same base but different bodies. The law `texts_fit` says when this is so.
   pub fit : AreFit texts
   -- At first the Maildir is sound for the texts, as one is that is new to them.
   pub sound : IsSoundFor spared texts ((at old).maildir_at path)

@@ -1,11 +1,12 @@
 //! Laws over the contracts of the program alone. Each function's contract is a law; its body is
 //! empty.
-ghost use Rattle.std.specs.Prelude.{◌≡◌, ℕ, List, [], ◌∷◌, Contains, IsTrue};
+ghost use Rattle.std.specs.Prelude.{◌≡◌, ℕ, List, [], ◌∷◌, All, AllPairs, Contains, IsTrue};
 ghost use Rattle.maildir_name.specs.Names.{is_converter_name};
 ghost use Rattle.maildir_run.specs.Files.{AreFewer, Spared};
 ghost use Rattle.maildir_run.specs.Several.{Mailbox};
 ghost use Rattle.maildir_run.specs.Touched.{FileName};
-ghost use Rattle.maildir_commands.specs.Machines.{HasItsMessages, IsSoundFor, OthersStay};
+ghost use Rattle.maildir_commands.specs.Machines.{AreFit, FitTogether, HasItsMessages};
+ghost use Rattle.maildir_commands.specs.Machines.{IsSoundFor, OthersStay};
 ghost use Rattle.maildir_commands.specs.Episodes.{Cut, Episode, IsHistory, LeftByPowerCut};
 ghost use Rattle.maildir_commands.specs.Promise.{AnyCommands, IsNewTo, OncePromised, Promised};
 ghost use Rattle.maildir_commands.specs.Program.{RanOn};
@@ -52,6 +53,15 @@ pub fn after_commands_over_one_text<M: Machine>()
         IsNewTo all_whole (text ∷ []) ((M.at old).maildir_at path) →
         IsHistory all_whole M.at path (text ∷ []) episodes old new →
         OncePromised text episodes ((M.at new).maildir_at path) }
+{}
+
+/// Texts fit into one Maildir if of each two of them one is the other with mail appended, or
+/// different messages of them have different digests. So a mailbox that grew between two commands
+/// fits with what it was, whatever SHA-256 does.
+pub fn texts_fit()
+    ensures { (texts : List Mailbox) → All HasItsMessages texts →
+        AllPairs FitTogether texts →
+        AreFit texts }
 {}
 
 /// If no file of the Maildir into which a command converts had been touched as the command began,
