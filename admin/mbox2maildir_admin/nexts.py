@@ -1,6 +1,9 @@
 """What is to be done next, as a value: commands with what each is an answer to, and tasks for a human. It is printed in
 lines of its own, and as JSON. Nobody reads a sentence back."""
 import enum
+import functools
+import os
+import pwd
 from collections.abc import Iterable, Iterator, Sequence
 from typing import Any, NamedTuple, Optional, TypeVar, Union
 
@@ -191,8 +194,9 @@ class Quote(NamedTuple):
     is_around: bool = False
 
 
+Step = Union[Answer, Task]
 # one after the other, or the answers to one question
-Next = tuple[Union[Answer, Task], ...]
+Next = tuple[Step, ...]
 NOTHING: Next = ()
 
 
@@ -216,6 +220,29 @@ def task(todo: Todo, *names: str) -> Next:
     return (Task(todo, names),)
 
 
+@functools.lru_cache(maxsize=None)
+def user_of_runuser() -> Optional[str]:
+    """The account with whose rights root runs this by `runuser`, which waits for the end: then root types what is
+    printed. None if nobody does so."""
+    above = "/proc/%d" % os.getppid()
+    try:
+        with open(above + "/comm", "rb") as file:
+            is_there = file.read() == AS_USER[0].encode() + b"\n" and os.stat(above).st_uid == 0
+        return pwd.getpwuid(os.geteuid()).pw_name if is_there and os.geteuid() else None
+    except (OSError, KeyError):
+        return None
+
+
+def typed(step: Step) -> Step:
+    """What is to be done, as whoever sees it printed does it."""
+    user = user_of_runuser()
+    if user is None:
+        return step
+    if isinstance(step, Task):
+        return step._replace(user=step.user or user) if step.todo in WITH_FILES else step
+    return step._replace(command=step.command._replace(user=step.command.user or user))
+
+
 def lines_below(quotes: Sequence[Quote], then: Next, is_once: bool = False) -> Iterator[str]:
     """What stands below a row or a fault: lines of mail behind their numbers, of which those are marked that others
     stand around; and what is to be done, each command by itself. A sentence that several commands have, one after the
@@ -224,7 +251,7 @@ def lines_below(quotes: Sequence[Quote], then: Next, is_once: bool = False) -> I
     for quote in quotes:
         yield ("%s%s%d | %s" % (BELOW, marks[quote.is_around], quote.line, quote.text)).rstrip()
     before = ""
-    for step in then:
+    for step in map(typed, then):
         if isinstance(step, Task):
             yield BELOW + step.sentence()
             continue
@@ -239,7 +266,7 @@ def objects_of(then: Next, user: Optional[str] = None) -> list[dict[str, Any]]:
     return [object_of(step, user) for step in then]
 
 
-def object_of(step: Union[Answer, Task], user: Optional[str]) -> dict[str, Any]:
+def object_of(step: Step, user: Optional[str]) -> dict[str, Any]:
     """The object of one command or task."""
     if isinstance(step, Task):
         return {"task": step.sentence()}

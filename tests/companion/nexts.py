@@ -203,5 +203,23 @@ def where_none_may_write(home: Path) -> None:
             equal(f"{name}: its owner", owners, {name})
 
 
+def as_root_types_them(home: Path) -> None:
+    """What is printed behind `runuser`, as for virtual users, is typed by root. It has the rights of that user."""
+    want_users()
+    with users(home):
+        own, name = home / "homes" / USERS[0], USERS[0]
+        for path, text in (("mail/letter", MAIL), ("mail/one", ONE), ("mail/a.txt", b"hello\n")):
+            theirs(mailbox(own / path, text), name)
+        command = f"exec runuser -u {name} -- mbox2maildir-admin migrate --now {own}/Maildir {own}/mail"
+        status, out, _ = run(["/bin/sh", "-c", command], home)
+        commands = {row.name: row.command for row in rows_in(out) if row.below}
+        equal("what is left", (status, sorted(commands)), (1, [f"{own}/mail/{one}" for one in ("a.txt", "letter")]))
+        matches("a look", commands[f"{own}/mail/a.txt"], f"runuser -u {name} -- sh -c 'file ...'")
+        run_printed(commands[f"{own}/mail/letter"], home)
+        equal("whose it is", {path.owner() for path in (own / "mail").iterdir()}, {name})
+        last = run(["/bin/sh", "-c", command], home)[1].splitlines()[-1]
+        equal("the next run", last, "3 mailboxes: 1 done, 1 done before, 1 left")
+
+
 if __name__ == "__main__":
-    check_all(of_a_tree, of_names, nothing_is_replaced, where_none_may_write)
+    check_all(of_a_tree, of_names, nothing_is_replaced, where_none_may_write, as_root_types_them)

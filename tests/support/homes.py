@@ -94,7 +94,9 @@ def expect(
 
 def as_owner(words: Sequence[Word], settings: Mapping[str, object], as_root: bool = False) -> list[str]:
     """The command that runs another one as the owner of the mail, with these settings alone."""
-    owner = ["runuser", "-u", OWNER, "--"] if is_root() and not as_root else []
+    # behind `runuser` the companion prints what root types
+    rights = ["--reuid", OWNER, "--regid", str(pwd.getpwnam(OWNER).pw_gid), "--init-groups"]
+    owner = ["setpriv", *rights] if is_root() and not as_root else []
     return [*owner, "env", "-i", *(f"{name}={value}" for name, value in settings.items()), *map(str, words)]
 
 
