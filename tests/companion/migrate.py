@@ -3,6 +3,7 @@ grew, are locked, or were begun; mail that people moved meanwhile; and records o
 out without it."""
 import contextlib
 import fcntl
+import gzip
 import hashlib
 import os
 import shlex
@@ -24,7 +25,7 @@ from tests.support.checks import (
     without_progress,
     without_work,
 )
-from tests.support.homes import ADMIN, Word, check_all, expect, files_of, mailbox, run, run_whole, subjects
+from tests.support.homes import ADMIN, Word, check_all, expect, files_of, mail_in, mailbox, run, run_whole, subjects
 from tests.support.ledgers import LEDGER, RECORD
 from tests.support.mail import A, B, C, MAY, ONE, THREE, TWO, numbered, with_length
 from tests.support.printed import commands_in, row_in
@@ -348,24 +349,29 @@ def waits(home: Path) -> None:
 
 
 def copies_beside(home: Path) -> None:
-    """A copy beside a mailbox is taken for nothing: both are left until a human decides."""
+    """A copy beside a mailbox is taken for nothing: both are left until a human decides. The printed command is for the
+    mailbox alone, and what may be its copy stays left, until it is moved away or gets a folder by name."""
     text = A + b"\nFrom here on.\n\nFrom there on.\n\n"
     mailbox(home / "box", text)
     equal("its copy", run(["quote", "--as", "unquoted", "-o", "box.mboxrd", "box"], home)[0], 0)
     mailbox(home / "box.mboxrd", (home / "box.mboxrd").read_bytes())
-    says = (
-        "beside it\n    if one is a copy, move it out of here\n    if none is a copy, run this next:\n"
-        "        mbox2maildir-admin migrate"
-    )
+    mailbox(home / "box.gz", gzip.compress(text))
+    words, move = ["migrate", "M", "box", "box.gz", "box.mboxrd"], "    if one is a copy, move it out of here\n"
+    copies = [f"{name}: left (copy): box stands beside it\n{move}" for name in ("box.gz", "box.mboxrd")]
+    last = "  {0} left (copy): Another file stands beside it, and one of them may be a copy of the other.\n"
+    command = "mbox2maildir-admin migrate --folder INBOX M box"
+    row = f"box: left (copy): box.mboxrd and box.gz stand beside it\n{move}"
+    row += f"    if none is a copy, run this next:\n        {command}\n"
+    expect(words, home, 1, "".join([row, *copies, last.format(3), "3 mailboxes: 3 left\n"]))
+    expect([*command.split()[1:2], "--as", "unquoted", *command.split()[2:]], home, 0, None)
+    expect(words, home, 1, "".join([*copies, last.format(2), "3 mailboxes: 1 done before, 2 left\n"]))
+    equal("what is there", len(list(mail_in(home / "M"))), 1)
     expect(
-        ["migrate", "M", "box", "box.mboxrd"],
-        home,
-        1,
-        f"box: left (copy): box.mboxrd stands {says} --folder INBOX M box\n"
-        f"box.mboxrd: left (copy): box stands {says} --folder NAME M box.mboxrd\n"
-        "  2 left (copy): Another file stands beside it, and one of them may be a copy of the other.\n"
-        "2 mailboxes: 2 left\n",
+        ["migrate", "--folder", "Other", "M", "box.mboxrd"], home, 0, "box.mboxrd -> Other: ...: done\n1 mailbox: ...\n"
     )
+    (home / "box.gz").unlink()
+    expect(words, home, 1, None)
+    expect([*words[:3], words[4]], home, 0, "2 mailboxes: 2 done before\n")
 
 
 def grown(home: Path) -> None:

@@ -11,7 +11,7 @@ from .. import ADMIN
 from ..faults import Fault, Status
 from ..ledger.record import Record
 from ..maildir.folders import INBOX, folder_named
-from ..migration.outcomes import BY_RECORD, Fate, Observer, Row
+from ..migration.outcomes import BY_RECORD, Fate, Row
 from ..migration.places import Pairs, Planned, recorded
 from ..migration.rows import Reporter
 from ..migration.steps import Options
@@ -80,26 +80,20 @@ class Verifier(Migrant):
 
     @staticmethod
     def planned(name: bytes, pairs: Pairs, relay: Relay) -> Iterator[Planned]:
-        """A file with its folder, unless it is left, or is the copy of another one that is done."""
+        """A file with its folder, unless it is left."""
         if os.path.islink(name):
             relay.leave(name, link_left(name))
             return
-        inbox = recorded(Planned(name, INBOX), pairs.record, pairs.root)
-        for one in pairs.without_copies([inbox], functools.partial(found_copy, relay)):
-            if one.why:
-                relay.leave(name, one.why)
-            else:
-                yield one
+        one = pairs.judged(recorded(Planned(name, INBOX), pairs.record, pairs.root))
+        if one.why:
+            relay.leave(name, one.why)
+        else:
+            yield one
 
 
 def is_tree(name: bytes) -> bool:
     """Whether a name is that of a folder of mailboxes."""
     return os.path.isdir(name) and not os.path.islink(name)
-
-
-def found_copy(observer: Observer, path: bytes, remark: Remark) -> None:
-    """Tells the copy of a mailbox that is done."""
-    observer.row(Row(path, b"", "", None, Fate.NO_MAIL, remarks=(remark,)))
 
 
 class Told(Findings):

@@ -10,22 +10,18 @@ from typing import NamedTuple, Optional
 from .. import ADMIN
 from ..faults import Fault, Left, Reason, reason_of_fault, why_left
 from ..kinds.named import name_of_folder
-from ..kinds.starts import text_start
 from ..ledger.history import History, Step
-from ..ledger.ledger import Ledger
 from ..ledger.lines import number_in
-from ..ledger.match import cores_of
 from ..ledger.record import Record, unspelled
 from ..ledger.strangers import folders_in
 from ..maildir.files import names_of
 from ..maildir.folders import COPY, INBOX, folder_named, folder_path, words_of
 from ..maildir.syncing import SyncOne
-from ..mbox.mailbox import Mailbox
-from ..nexts import NOTHING, Answer, Command, Does, Next, Remark, Todo, in_shell, line_of, run_next, task
+from ..nexts import NOTHING, Answer, Command, Does, Next, Todo, in_shell, line_of, run_next, task
 from ..readings.copies import COMPRESSED
 from ..readings.plans import is_no_mail
 from ..readings.reading import UNDECIDED, Reading
-from ..readings.texts import Text, after_internal, is_mbox, open_text
+from ..readings.texts import is_mbox
 from ..terminal import named, operand, option
 from .outcomes import Ended
 from .steps import How, Options
@@ -134,19 +130,6 @@ def beside(path: bytes) -> list[bytes]:
     return [name for name in names if may_be_mailbox(name)]
 
 
-class Seen(NamedTuple):
-    """How many messages a text has, and how many of these a folder got, by its ledger."""
-
-    messages: int
-    brought: int
-
-    @classmethod
-    def of(cls, folder: bytes, text: Text) -> "Seen":
-        """Looks for the messages of a text."""
-        cores = cores_of(text.messages())
-        return cls(sum(cores.values()), sum((cores & Ledger(folder).brought()).values()))
-
-
 def may_be_mailbox(path: bytes) -> bool:
     """Whether there is a file that is not known to hold no mail, by its name and size."""
     try:
@@ -177,22 +160,6 @@ class Pairs(NamedTuple):
         there = beside(path)
         own = there if self.own is None else self.own
         return [other for other in there if other in own]
-
-    def without_copies(self, several: Iterable[Planned], tell: Callable[[bytes, Remark], object]) -> list[Planned]:
-        """Mailboxes without those that are copies of what is done; `tell` gets these. Files that may be copies, or that
-        others may be copies of, are left."""
-        found = []
-        for one in several:
-            try:
-                original = self.original(one)
-            except (Fault, OSError):
-                # if it is there, it is left for that reason later
-                original = None
-            if original is None:
-                found.append(self.judged(one))
-            else:
-                tell(one.path, Remark("copy", "the copy of %s" % named(original)))
-        return found
 
     def without_folders_in_inbox(self, several: Sequence[Planned], given: Container[bytes]) -> list[Planned]:
         """Mailboxes, of which those are left that are named as a folder and would join other mail in INBOX, if these
@@ -225,27 +192,6 @@ class Pairs(NamedTuple):
                 return name
         return None
 
-    def original(self, one: Planned) -> Optional[bytes]:
-        """The mailbox that is done and that a file is a copy of: each message of the file is in the folder of the
-        mailbox."""
-        mailbox = one.path[: -len(COPY)]
-        if not one.path.endswith(COPY) or mailbox not in self.beside(one.path):
-            return None
-        folder = self.done_in(mailbox, one.folder)
-        if folder is None:
-            return None
-        seen = self.seen_as_it_is(one.path, folder)
-        return mailbox if seen and seen.messages and seen.brought == seen.messages else None
-
-    def seen_as_it_is(self, path: bytes, folder: bytes) -> Optional[Seen]:
-        """Which messages of a file, read as mboxrd, a folder got; None if no mbox text begins it."""
-        place = Planned(path, folder).folder_in(self.root)
-        with Mailbox.open(path) as mailbox:
-            start = text_start(mailbox)
-            if start is None:
-                return None
-            return Seen.of(place, Text(mailbox, after_internal(Text(mailbox, start), place)))
-
     def judged(self, one: Planned) -> Planned:
         """A mailbox as it was planned; or left, since another is beside it and it is not done."""
         try:
@@ -264,27 +210,15 @@ class Pairs(NamedTuple):
         return self.left(one, others) if others else one
 
     def left(self, one: Planned, others: list[bytes]) -> Planned:
-        """The mailbox, which is left, with the command that migrates it all the same."""
-        is_first = all(other.startswith(one.path) for other in others)
+        """The mailbox, which is left. Unless it may be a copy itself, the command that migrates it all the same is
+        told."""
+        then = task(Todo.COPY_AWAY)
+        if all(other.startswith(one.path) for other in others):
+            folder = words_of(one.folder) if one.folder else ["--folder", "NAME"]
+            words = [*self.options.words(), *folder, operand(self.root) if self.root else "MAILDIR", operand(one.path)]
+            then += run_next(ADMIN, "migrate", *words, does=Does.KEEP_BOTH)
         names = " and ".join(map(named, others)) + (" stands" if len(others) == 1 else " stand")
-        folder = words_of(one.folder) if is_first and one.folder else ["--folder", "NAME"]
-        words = [*self.options.words(), *folder, operand(self.root) if self.root else "MAILDIR", operand(one.path)]
-        then = task(Todo.COPY_AWAY) + run_next(ADMIN, "migrate", *words, does=Does.KEEP_BOTH)
-        return one.left("%s beside it%s" % (names, self.counts(one, others)), Reason.COPY, then)
-
-    def counts(self, one: Planned, others: list[bytes]) -> str:
-        """How many messages of each file are in the folder, if a conversion of the mailbox began."""
-        copies = [other for other in others if other == one.path + COPY]
-        last = self.record.last_at(one.folder, one.path)
-        if not copies or not last or last.what is not Step.BEGUN:
-            return ""
-        place = one.folder_in(self.root)
-        with open_text(one.path, self.root) as text:
-            mine = Seen.of(place, text)
-        seen = self.seen_as_it_is(copies[0], one.folder)
-        says = ["%d of %d of its messages are there" % (mine.brought, mine.messages)]
-        says += ["%d of %d of %s" % (seen.brought, seen.messages, named(copies[0]))] if seen else []
-        return " (%s)" % ", ".join(says)
+        return one.left("%s beside it" % names, Reason.COPY, then)
 
 
 def into_inbox(one: Planned, ended: Ended, how: How, root: bytes) -> Next:

@@ -20,7 +20,7 @@ from ..maildir.making import want_maildir, want_own
 from ..maildir.roots import real_place, want_roots, want_roots_alone
 from ..maildir.syncing import Syncs
 from ..mbox.files import is_empty
-from ..nexts import NOTHING, Remark, Todo, in_shell, line_of, run_next, task
+from ..nexts import NOTHING, Todo, in_shell, line_of, run_next, task
 from ..program import Program, find_program
 from ..progress import Beat
 from ..terminal import named, operand, text_of, word
@@ -242,14 +242,13 @@ class Several:
             elif self.own and os.path.islink(name):
                 self.observer.row(row_left(name, b"", link_left(name)))
             else:
-                plan = [Planned(name, INBOX if folder is None else on_disk(folder_of(text_of(folder))))]
-                if folder is not None:
-                    plan = [one._replace(folder=where_it_went(record, root, one)) for one in plan]
+                one = Planned(name, INBOX if folder is None else on_disk(folder_of(text_of(folder))))
                 if folder is None:
-                    plan = self.pairs.without_copies([recorded(plan[0], record, root)], self.found_copy)
-                for one in plan:
-                    self.taken.add(one.folder)
-                    yield one
+                    one = self.pairs.judged(recorded(one, record, root))
+                else:
+                    one = one._replace(folder=where_it_went(record, root, one))
+                self.taken.add(one.folder)
+                yield one
 
     def plan_of_tree(self, tree: Tree) -> list[Planned]:
         """The mailboxes of a tree. Reports the rows of what else is in it."""
@@ -258,10 +257,6 @@ class Several:
         for row in [*tree.rows, *maildirs]:
             self.report(Ended(row))
         return plan
-
-    def found_copy(self, path: bytes, remark: Remark) -> None:
-        """Reports the copy of a mailbox that is done."""
-        self.observer.row(Row(path, b"", "", None, Fate.NO_MAIL, remarks=(remark,)))
 
     def is_no_mail(self, one: Planned) -> bool:
         """Whether a file that would go into the folder of another one holds no mail."""

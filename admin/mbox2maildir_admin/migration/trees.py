@@ -236,10 +236,8 @@ class Tree:
     ) -> list[Planned]:
         """The mailboxes with their folders in a Maildir, which are taken then. What the record has stays where it is,
         whatever else would go there; symbolic links are left unless they were migrated or prepared by themselves."""
-        found = Pairs(record, root, self.options).without_copies(
-            [recorded(one, record, root) for one in self.mailboxes()],
-            self.pass_over,
-        )
+        pairs = Pairs(record, root, self.options)
+        found = [pairs.judged(recorded(one, record, root)) for one in self.mailboxes()]
         links = []
         for path in self.links:
             try:

@@ -75,7 +75,7 @@ class KindTest(unittest.TestCase):
     def test_a_copy_is_taken_for_no_other(self) -> None:
         make(self.here, {"old/box": MAIL, "old/box.mboxrd": MAIL})
         right, lines = self.kind(b"/old")
-        self.assertEqual((right, len(lines)), (False, 8))
+        self.assertEqual((right, len(lines)), (False, 6))
         self.assertTrue(lines[0].endswith("/old/box: left out: /old/box.mboxrd stands beside it"), lines[0])
         self.assertEqual(lines[1], "    if one is a copy, move it out of here")
 

@@ -1,7 +1,6 @@
 """Mailboxes beside each other, one of which may be a copy of the other: neither is taken for the other."""
 import gzip
 import os
-from pathlib import Path
 from typing import Any, Optional
 
 from mbox2maildir_admin.faults import Reason
@@ -9,17 +8,15 @@ from mbox2maildir_admin.migration.outcomes import Fate
 from mbox2maildir_admin.migration.places import UserHome, beside
 from mbox2maildir_admin.migration.several import run_all
 from mbox2maildir_admin.migration.steps import Options
-from mbox2maildir_admin.readings.reading import Reading
 
-from tests.support.mail import ONE, THREE, TWO, bodies_of
-from tests.support.migrating import Cut, Function, HomeTest, Killed, Listener
+from tests.support.mail import ONE, TWO
+from tests.support.migrating import Function, HomeTest, Listener
 from tests.support.nexts import told
 from tests.support.units import FolderTest
 
-MOVE = (
-    "beside it; next: if one is a copy, move it out of here; if none is a copy, run this next: "
-    "mbox2maildir-admin migrate "
-)
+# what is said of what may be a copy, and of what others may be copies of
+MAY_BE = "%s stands beside it; next: if one is a copy, move it out of here"
+MOVE = MAY_BE + "; if none is a copy, run this next: mbox2maildir-admin migrate "
 
 
 class NamesTest(FolderTest):
@@ -89,8 +86,8 @@ class PairsTest(HomeTest):
             self.make("tree/a", ONE)
             self.make(other, text)
             wanted = {
-                "tree/a": ("left", other + " stands " + MOVE + "--folder a M tree/a"),
-                other: ("left", "tree/a stands " + MOVE + "--folder NAME M " + other),
+                "tree/a": ("left", MOVE % other + "--folder a M tree/a"),
+                other: ("left", MAY_BE % "tree/a"),
             }
             self.assertEqual(self.rows("tree"), wanted)
             wanted["tree/a"] = "left", wanted["tree/a"][1].replace("--folder a", "--folder INBOX")
@@ -133,52 +130,6 @@ class PairsTest(HomeTest):
         self.make("sent", ONE + TWO)
         self.assertEqual(self.rows("sent"), {"sent": ("done", "it grew by 1 message")})
 
-    def test_the_copy_of_what_is_done(self) -> None:
-        """As `quote` makes one."""
-        self.make("box", ONE + b"From here on\n\n")
-        self.assertEqual(self.rows("box", decision=Reading("unquoted")), {"box": ("done", "")})
-        self.make("box.mboxrd", ONE + b">From here on\n\n")
-        copy = "the copy of box"
-        self.assertEqual(self.rows("box", "box.mboxrd"), {"box": ("done before", ""), "box.mboxrd": ("no mail", copy)})
-        self.make("box.mboxrd", ONE + b">From here on\n\n" + TWO)
-        rows = self.rows("box", "box.mboxrd")
-        self.assertEqual((rows["box"][0], rows["box.mboxrd"][0]), ("done before", "left"))
-        # what somebody deleted since was brought
-        next(Path(str(self.maildir), "new").iterdir()).unlink()
-        self.make("box.mboxrd", ONE + b">From here on\n\n")
-        self.assertEqual(self.rows("box.mboxrd"), {"box.mboxrd": ("no mail", copy)})
-
-    def test_what_was_only_begun_makes_no_copy(self) -> None:
-        """A file was begun with the folder that a human named, and killed: what has no file yet is no other's copy."""
-        self.make("box", ONE)
-        self.rows("box")
-        self.move_box("box.mboxrd")
-        self.fill(ONE + TWO)
-        self.assertRaises(Killed, self.migrate, Cut(0), folder="INBOX")
-        self.assertEqual(self.rows("box", "box.mboxrd")["box.mboxrd"][0], "left")
-
-    def test_the_copy_of_what_is_done_and_was_looked_at(self) -> None:
-        """Dovecot has written its fields into the mailbox since."""
-        text = ONE + TWO
-        self.make("tree/a", text)
-        self.assertEqual(self.rows("tree"), {"tree/a": ("done", "")})
-        self.make("tree/a", text.replace(b"\n\nhello", b"\nX-UID: 7\nStatus: RO\n\nhello"))
-        self.make("tree/a.mboxrd", text)
-        flags = "flags of 2 messages changed in it since then and are not carried over"
-        wanted = {"tree/a": ("done before", flags), "tree/a.mboxrd": ("no mail", "the copy of tree/a")}
-        self.assertEqual(self.rows("tree"), wanted)
-        # one that grew is known by its path
-        self.make("tree/a", text + THREE)
-        wanted["tree/a"] = "done", "it grew by 1 message"
-        self.assertEqual(self.rows("tree"), wanted)
-
-    def test_what_is_compressed_is_no_copy_of_what_is_done(self) -> None:
-        self.make("tree/a", ONE)
-        self.assertEqual(self.rows("tree"), {"tree/a": ("done", "")})
-        self.make("tree/a.gz", gzip.compress(ONE))
-        wanted = "left", "tree/a stands " + MOVE + "--folder NAME M tree/a.gz"
-        self.assertEqual(self.rows("tree"), {"tree/a": ("done before", ""), "tree/a.gz": wanted})
-
     def test_the_copy_of_what_is_compressed(self) -> None:
         """It is no compressed file itself, though it is named like one, and its mail is in the file beside it."""
         self.make("tree/a.gz.mboxrd", ONE)
@@ -194,20 +145,3 @@ class PairsTest(HomeTest):
         self.note("begun", ONE, str(self.box))
         rows = self.rows("box", "box.mboxrd")
         self.assertEqual({name: fate for name, (fate, _) in rows.items()}, {"box": "left", "box.mboxrd": "left"})
-
-    def test_a_conversion_that_began(self) -> None:
-        """Nobody knows which of the two it was: it is said how many messages of each are there."""
-        text, copy = ONE + TWO + THREE, ONE + TWO
-        self.fill(text)
-        self.assertRaises(Killed, self.migrate, Cut(2))
-        self.make("box.mboxrd", copy)
-        self.assertEqual(
-            self.rows("box")["box"],
-            (
-                "left",
-                "box.mboxrd stands beside it (2 of 3 of its messages are there, 2 of 2 of box.mboxrd); "
-                "next: if one is a copy, move it out of here; if none is a copy, run this next: "
-                "mbox2maildir-admin migrate --folder INBOX M box",
-            ),
-        )
-        self.assertEqual(self.mail(), sorted(bodies_of(copy)))
