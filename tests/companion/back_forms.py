@@ -2,15 +2,16 @@
 goes into its mailbox or beside it, a rehearsal says the same, and nothing empty is left behind."""
 import os
 import re
-from collections.abc import Iterable, Iterator
+from collections.abc import Iterable, Iterator, Mapping
 from pathlib import Path
-from typing import NamedTuple
+from typing import NamedTuple, Optional
 
-from tests.support.archives import Home, Row, letters, run_rules, texts_of
+from tests.support.archives import Home, Row, letter, letters, run_rules, texts_of
 from tests.support.checks import equal
 from tests.support.rewriting.runs import Ran
 from tests.support.wayback.dialects import DIALECTS, bare
 from tests.support.wayback.histories import rows_of
+from tests.support.wayback.programs import KEEPERS, Keeper
 
 # first lines that are no header
 ODD = {
@@ -34,26 +35,38 @@ OLD = letters(1, 2)
 # the mailboxes by their folders, each with the place that an odd message has among plain ones
 PLACES = {"": ("spool", 0), ".middle": ("mail/middle", 1), ".end": ("mail/end", 3)}
 PATHS = [path for path, _ in PLACES.values()]
+BOXES = dict.fromkeys(PATHS, OLD)
+# the fields in which programs note what they know of a message: those of any mailbox, and those of single programs
+ANY = "any"
+FIELDS = {
+    ANY: b"Content-Length: 9\nStatus: RO\nX-Status: A\nX-UID: 7\nX-Keywords: a\n b\nX-IMAPbase: 1 2\nX-IMAP: 1 2\n",
+    "Thunderbird": b"X-Mozilla-Status: 0001\nX-Mozilla-Status2: 00000000\nX-Mozilla-Keys: work\n",
+    "Evolution": b"X-Evolution: 00000001-0010\n",
+    "Gmail": b"X-GM-THRID: 1785134556187161\nX-Gmail-Labels: Inbox,\n Opened\n",
+    "mutt": b"Lines: 1\n",
+}
 DAY = 86400
 
 
 class Told(NamedTuple):
-    """What a row says: the mailbox, why it is left, how many messages go back, and which files it names."""
+    """What a row says: the mailbox, why it is left, how many messages go back, which files it names, and which fields
+    it says that they lack."""
 
     path: str
     reason: str = ""
     messages: int = 0
     files: tuple[str, ...] = ()
+    fields: str = ""
 
 
 class House:
     """A home whose mailboxes were migrated, and in whose Maildir mail came since."""
 
-    def __init__(self, home: Home, old: bytes = OLD) -> None:
-        self.home, self.old = home, old
+    def __init__(self, home: Home, boxes: Optional[Mapping[str, bytes]] = None) -> None:
+        self.home, self.boxes = home, boxes or BOXES
         home.begin("--jobs", "1")
-        for path in PATHS:
-            home.write(path, old)
+        for path, text in self.boxes.items():
+            home.write(path, text)
         home.place.own(home.path / "mail")
         home.done("spool", "mail")
 
@@ -99,7 +112,7 @@ class House:
 
     def has(self, wanted: dict[str, list[bytes]]) -> None:
         """The mail that was appended to each mailbox, in its order, and a new Maildir gets all of it unasked."""
-        found = {path: text.replace(self.old, b"") for path, text in self.texts().items()}
+        found = {path: text.replace(self.boxes.get(path, b""), b"") for path, text in self.texts().items()}
         mails = {path: [bare(one) for _, one in DIALECTS["mboxrd"].read(text)] for path, text in found.items()}
         equal("the mail", mails, {path: [*map(bare, several)] for path, several in wanted.items()})
         ran = self.home.place.run(["migrate", "--json", "--now", "N", "spool", "mail"])
@@ -108,8 +121,16 @@ class House:
 
 def told(ran: Ran) -> list[Told]:
     """What the rows of a run say about which there is something to say."""
-    rows = [Told(row["path"], row["reason"] or "", row["messages"], files_in(row)) for row in rows_of(ran)]
+    rows = [
+        Told(row["path"], row["reason"] or "", row["messages"], files_in(row), fields_in(row)) for row in rows_of(ran)
+    ]
     return sorted(row for row in rows if row.reason or row.messages)
+
+
+def fields_in(row: Row) -> str:
+    """The fields that a row says were left out."""
+    found = re.search(r"fields left out of 1 message: ([^;]*)", texts_of(row))
+    return found[1] if found else ""
 
 
 def files_in(row: Row) -> tuple[str, ...]:
@@ -122,7 +143,8 @@ def first_lines(home: Home) -> None:
     for odd in ODD.values():
         house = House(home)
         house.deliver_among(odd)
-        equal(f"{odd!r}: rows", house.back(), sorted(Told(path, messages=4) for path in PATHS))
+        rows = [row._replace(fields="") for row in house.back()]
+        equal(f"{odd!r}: rows", rows, sorted(Told(path, messages=4) for path in PATHS))
         house.has({path: [*PLAIN[:at], odd, *PLAIN[at:]] for path, at in PLACES.values()})
 
 
@@ -161,7 +183,7 @@ def several_blanks(home: Home) -> None:
 
 def an_empty_mailbox(home: Home) -> None:
     """The first message of a text may have any first line."""
-    house = House(home, b"")
+    house = House(home, dict.fromkeys(PATHS, b""))
     house.deliver_among(BLANK)
     house.deliver([BLANK], ".lists.one")
     equal("rows", {row.path: row.messages for row in house.back()}["mail/lists/one"], 1)
@@ -181,6 +203,38 @@ def held_by_none(home: Home) -> None:
     house.has({path: PLAIN for path in PATHS})
 
 
+def fields_of_programs(home: Home) -> None:
+    """Fields stay in mail, but those by which any mailbox is read, and those of a program that has its own in each
+    message of the mailbox. The row names what is left out."""
+    head, end = b"Subject: new\n", b"\nnew\n"
+    boxes = {f"mail/{name}": numbered(keeper, 1, 2) for name, keeper in KEEPERS.items()}
+    boxes.update({"spool": OLD, "mail/doubt": numbered(KEEPERS["Thunderbird"], 1) + letters(2)})
+    house = House(home, boxes)
+    for path in (*boxes, "mail/new"):
+        house.deliver([head + b"".join(FIELDS.values()) + end], "" if path == "spool" else f".{Path(path).name}")
+    rows = {row.path: row for row in house.back()}
+    for path, text in house.texts().items():
+        name = Path(path).name
+        ((_, message),) = DIALECTS["mboxrd"].read(text.replace(boxes.get(path, b""), b""))
+        own = KEEPERS[name].names if name in KEEPERS else ()
+        there = [one for one in names_in(message) if one.lower().encode() in own]
+        equal(f"{path}: the program's own", len(there), len({*there}))
+        kept = b"".join(fields for program, fields in FIELDS.items() if program not in (ANY, name))
+        equal(f"{path}: what stays", bare(message, own), head + kept + end)
+        gone = [names_in(fields) for program, fields in FIELDS.items() if program in (ANY, name)]
+        equal(f"{path}: left out", rows[path], Told(path, messages=1, fields=", ".join(sum(gone, []))))
+
+
+def numbered(keeper: Keeper, *numbers: int) -> bytes:
+    """Messages in which a program keeps flags."""
+    return b"".join(letter(number, keeper.fields(number, "")) for number in numbers)
+
+
+def names_in(header: bytes) -> list[str]:
+    """The names of the fields of a header."""
+    return re.findall(r"(?m)^([\w-]+):", header.decode())
+
+
 if __name__ == "__main__":
-    cases = first_lines, a_blank, several_blanks, an_empty_mailbox, held_by_none
+    cases = first_lines, a_blank, several_blanks, an_empty_mailbox, held_by_none, fields_of_programs
     run_rules({case.__name__: case for case in cases})

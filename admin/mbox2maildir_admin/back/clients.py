@@ -1,16 +1,18 @@
 """The fields in which a mail program keeps the flags of a message that goes back into its mailbox. `migrate` reads them
-only if each message has them."""
+only if each message has them. Those that a message has already are taken out only there: elsewhere they may be its
+sender's."""
 import re
 from collections.abc import Callable
 from typing import NamedTuple
 
 from ..flags.clients import CLIENTS, EVOLUTION, THUNDERBIRD, kept_in
 from ..flags.dovecot_headers import header_at
-from ..mbox.core import Core
+from ..mbox.core import Core, whole_field
+from ..mbox.hidden import HIDDEN
 from ..mbox.inventory import Inventory
 from ..mbox.mailbox import Mailbox
 from ..units import Place
-from .dialect import Letter
+from .dialect import Letter, parted
 
 # the number that Evolution gave a message, which no other one of the mailbox has
 EVOLUTION_NUMBER = re.compile(rb"^X-Evolution:[ \t]*([0-9a-f]{8})-", re.I | re.M)
@@ -33,6 +35,13 @@ class Client(NamedTuple):
         headers = (header_at(mailbox, inventory.offset(Place(place))) for place in range(len(inventory)))
         found = filter(None, map(EVOLUTION_NUMBER.search, headers))
         return cls(kept.program, max((int(one[1], 16) for one in found), default=0))
+
+    def bare(self, letter: Letter) -> Letter:
+        """A message without the fields of this program, and without those by which mailboxes are read everywhere."""
+        header, gap, body = parted(letter.text)
+        fields = whole_field((*HIDDEN, *KEPT.get(self.program, ())))
+        taken = tuple(found[0].split(b":")[0].strip() for found in fields.finditer(b"\n" + header))
+        return letter._replace(text=fields.sub(b"", b"\n" + header)[1:] + gap + body, taken=taken) if taken else letter
 
     def fields(self, letter: Letter, number: int) -> list[bytes]:
         """The fields for a message, which is the one of this number that goes back."""
@@ -65,4 +74,15 @@ def for_takeout(letter: Letter, _: int) -> list[bytes]:
 
 WRITERS: dict[str, Callable[[Letter, int], list[bytes]]] = dict(
     zip(CLIENTS, (for_thunderbird, for_evolution, for_takeout))
+)
+# the names of the fields of each, in lower case
+KEPT = dict(
+    zip(
+        CLIENTS,
+        (
+            (b"x-mozilla-keys", b"x-mozilla-status", b"x-mozilla-status2"),
+            (b"x-evolution",),
+            (b"x-gm-thrid", b"x-gmail-labels"),
+        ),
+    )
 )

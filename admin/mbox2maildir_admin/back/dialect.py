@@ -4,7 +4,7 @@ import time
 from typing import NamedTuple, Optional
 
 from ..kinds.starts import FIELD
-from ..mbox.core import EMPTY_LINE, LongHeader
+from ..mbox.core import EMPTY_LINE
 from ..mbox.dates import TOO_LATE
 from ..readings.reading import BY_LENGTHS, CR, CRLF, MBOXCL2, MBOXO, MBOXRD, UNQUOTED, Reading
 
@@ -19,14 +19,15 @@ X_STATUS = {"R": b"A", "F": b"F", "D": b"T", "T": b"D"}
 
 
 class Letter(NamedTuple):
-    """A message for a mailbox: its bytes, its flags, whether a reader has met it, its time in seconds, and further
-    fields in which programs note what they know of it."""
+    """A message for a mailbox: its bytes, its flags, whether a reader has met it, its time in seconds, further fields
+    in which programs note what they know of it, and the names of those that were taken out of it."""
 
     text: bytes
     flags: str = ""
     is_old: bool = False
     time: int = FIRST_TIME
     notes: tuple[bytes, ...] = ()
+    taken: tuple[bytes, ...] = ()
 
 
 class Dialect(NamedTuple):
@@ -92,10 +93,7 @@ class Dialect(NamedTuple):
 
 
 def parted(text: bytes) -> tuple[bytes, bytes, bytes]:
-    """The header of a message without the fields that mail programs write for themselves, the empty line after it, and
-    the body."""
-    stripper = LongHeader()
-    text = stripper.of(text) + stripper.end()
+    """The header of a message, the empty line after it, and the body."""
     found = EMPTY_LINE.search(b"\n" + text)
     if not found:
         return text, b"", b""

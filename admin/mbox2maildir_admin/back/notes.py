@@ -1,7 +1,8 @@
 """The messages that go back into one mailbox, with what mail programs note of them in fields of their headers."""
 import contextlib
+import itertools
 import os
-from collections.abc import Iterator, Sequence
+from collections.abc import Iterable, Iterator, Sequence
 from typing import Optional
 
 from ..maildir.files import names_of
@@ -9,7 +10,9 @@ from ..mbox.bases import before_info
 from ..mbox.files import open_file
 from ..mbox.inventory import Inventory
 from ..mbox.mailbox import Mailbox
-from ..units import Say
+from ..nexts import Remark
+from ..terminal import named
+from ..units import Say, counted
 from .clients import Client
 from .dialect import Letter
 from .mails import Mail
@@ -35,7 +38,16 @@ class Notes:
             say("reading file %d of %d" % (number, len(mails)))
             letter = letter_of(folder, mail)
             if letter:
+                letter = self.client.bare(letter)
                 yield mail, letter._replace(notes=(*fields, *self.client.fields(letter, number)))
+
+
+def remarks_on_taken(several: Iterable[Sequence[bytes]]) -> list[Remark]:
+    """What is said of the fields that were taken out of messages, by their names."""
+    taken = list(filter(None, several))
+    names = {name.lower(): named(name) for name in itertools.chain.from_iterable(taken)}
+    says = "fields left out of %s: %s" % (counted(len(taken), "message"), ", ".join(names.values()))
+    return [Remark("fields-left-out", says)] if taken else []
 
 
 def letter_of(folder: bytes, mail: Mail) -> Optional[Letter]:

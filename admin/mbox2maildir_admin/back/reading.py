@@ -1,7 +1,7 @@
 """How a mailbox is read, before and after something is appended, and whether that gives back what was written."""
 import contextlib
 import os
-from collections.abc import Callable, Iterator, Sequence
+from collections.abc import Callable, Iterable, Iterator, Sequence
 from typing import NamedTuple, Optional
 
 from ..faults import Fault, Left, Reason
@@ -44,6 +44,13 @@ class Forms(NamedTuple):
     def is_at(self, inventory: Inventory, place: int) -> bool:
         """Whether a text has this message at a place."""
         return inventory.core(place) == self.core and inventory.bare(place) in self.bares
+
+
+class Written(NamedTuple):
+    """A message as a mailbox has it, and its forms."""
+
+    forms: Forms
+    text: bytes
 
 
 def forms_of(text: bytes) -> tuple[bytes, bytes]:
@@ -140,11 +147,20 @@ class Held(NamedTuple):
         except Fault:
             return False
 
-    def has(self, form: Forms, text: bytes, is_first: bool = False) -> bool:
-        """The same for one message, behind another one unless it is the first."""
-        before = () if is_first else (ANOTHER,)
+    def unheld(self, several: Iterable[Written], is_empty: bool) -> Iterator[int]:
+        """The places of messages that it does not give back, each behind another one, as it is going to stand. If the
+        mailbox is empty, that is the first one of these."""
+        before = [] if is_empty else [Written(Forms.of(ANOTHER), self.dialect.spelled(Letter(ANOTHER)))]
+        for place, one in enumerate(several):
+            if not self.has(*before, one):
+                yield place
+            else:
+                before = before or [one]
+
+    def has(self, *several: Written) -> bool:
+        """Whether it gives back these messages."""
         with unnamed(self.disk) as file:
-            file.write(b"".join([*(self.dialect.spelled(Letter(one)) for one in before), text]))
+            file.write(b"".join(one.text for one in several))
             file.flush()
             with Mailbox(b"", os.dup(file.fileno())) as mailbox:
-                return self.are([*map(Forms.of, before), form], mailbox)
+                return self.are([one.forms for one in several], mailbox)

@@ -28,9 +28,9 @@ from .appending import append, before_of, recover, take_back
 from .beside import Beside, Draft
 from .dialect import Dialect
 from .mails import Mail
-from .notes import Notes
+from .notes import Notes, remarks_on_taken
 from .numbers import Numbering, numbering_of
-from .reading import Forms, Held, are_at, messages_by, reading_now, ways_to_read
+from .reading import Forms, Held, Written, are_at, messages_by, reading_now, ways_to_read
 from .steps import How, NotAsItIs, Outcome, TakesNothing, Target, left_unheld
 
 FILE_CHANGED = "%s was changed meanwhile: stop the program that did it, and run this again"
@@ -41,12 +41,14 @@ ENDS = 3
 
 
 class Entry(NamedTuple):
-    """A message that is going to be appended: its file, its forms, and where its text is in the draft."""
+    """A message that is going to be appended: its file, its forms, where its text is in the draft, and the names of the
+    fields that were taken out of it."""
 
     mail: Mail
     forms: Forms
     start: int
     size: int
+    taken: Sequence[bytes]
 
 
 class Returning:
@@ -134,13 +136,7 @@ class Read(NamedTuple):
 class Appending:
     """The mail that goes back into one open mailbox."""
 
-    def __init__(
-        self,
-        returning: Returning,
-        target: Target,
-        known: Known,
-        read: Read,
-    ) -> None:
+    def __init__(self, returning: Returning, target: Target, known: Known, read: Read) -> None:
         self.returning, self.target, self.opened, self.known = returning, target, known.opened, known
         self.words, self.dialect, self.inventory, self.notes, self.gap = read
         inventory = read.inventory
@@ -188,20 +184,21 @@ class Appending:
 
     def drafted(self, draft: Draft, mails: Sequence[Mail]) -> list[Entry]:
         """Writes messages as the mailbox has them. What it cannot hold is left out."""
-        entries, is_new = self.spelled(draft, mails), not self.mailbox.size
+        entries, is_empty = self.spelled(draft, mails), not self.mailbox.size
         held = Held.by(self.mailbox, self.words, self.dialect, self.returning.disk)
         with draft.text() as text:
             are_held = not entries or held.are([one.forms for one in entries], text)
-            tried = entries[: not is_new] if are_held else entries
-            texts = ((one, os.pread(draft.number, one.size, one.start)) for one in tried)
-            bad = [one for one, its in texts if not held.has(one.forms, its, is_new and one is entries[0])]
+            # nothing is asked about the first message of a text, which is not the first one of the mailbox
+            tried = entries[: not is_empty] if are_held else entries
+            written = (Written(one.forms, os.pread(draft.number, one.size, one.start)) for one in tried)
+            bad = [tried[place].mail for place in held.unheld(written, is_empty)]
         if not bad and are_held:
             return entries
         if not bad:
             raise NotAsItIs(MISREAD, Reason.MISREAD)
-        self.refused += [one.mail for one in bad]
+        self.refused += bad
         draft.clear()
-        return self.drafted(draft, [one.mail for one in entries if one not in bad])
+        return self.drafted(draft, [one.mail for one in entries if one.mail not in bad])
 
     def spelled(self, draft: Draft, mails: Sequence[Mail]) -> list[Entry]:
         """Writes messages as the mailbox has them."""
@@ -213,7 +210,7 @@ class Appending:
                 raise Left(FILE_CHANGED % named(mail.path), Reason.CHANGED)
             start = draft.size
             draft.begin(self.dialect.spelled(letter))
-            entries.append(Entry(mail, forms, start, draft.size - start))
+            entries.append(Entry(mail, forms, start, draft.size - start, letter.taken))
         return entries
 
     def bring(self, draft: Draft, entries: Sequence[Entry]) -> None:
@@ -296,5 +293,6 @@ class Appending:
         count, there = len(entries) + len(self.there), len(self.there)
         row = Row(self.target.path, self.target.folder, self.dialect.word, count, fate, size=size, is_back=True)
         says = [Remark("there-already", "%s there already" % counted(there, "message"), there)] if there else []
+        says += remarks_on_taken(one.taken for one in entries)
         remarks = (*self.mailbox.remarks, *says, *self.notes.numbering.remarks, *self.target.remarks)
         return replace(row, remarks=remarks, next=self.notes.numbering.next)

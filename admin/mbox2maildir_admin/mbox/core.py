@@ -19,12 +19,18 @@ from .hidden import LONGEST, NOTED, pattern_of
 SHORT = 16
 # it ends a header; within a message, no line `From ` does
 EMPTY_LINE = re.compile(rb"\n\r?\n")
-FIELD = pattern_of(NOTED)
-FIRST_FIELD = re.compile(FIELD.pattern[1:])
-WHOLE_FIELD = re.compile(FIELD.pattern + rb"[^\n]*(?:\n[ \t][^\n]*)*")
+FIRST_FIELD = re.compile(pattern_of(NOTED).pattern[1:])
 # rows of `>` before `From `, what each of them has, and the end of a piece that may begin one
 QUOTES, QUOTED = re.compile(rb"\n>+(?=From )"), b">From "
 QUOTES_BEGUN = re.compile(rb">+(?:F(?:r(?:om?)?)?)?\Z")
+
+
+def whole_field(names: tuple[bytes, ...]) -> re.Pattern[bytes]:
+    """Finds a field of one of these names, with the lines that continue it, after the end of a line."""
+    return re.compile(pattern_of(names).pattern + rb"[^\n]*(?:\n[ \t][^\n]*)*")
+
+
+WHOLE_FIELD = whole_field(NOTED)
 
 
 class Hash(Protocol):

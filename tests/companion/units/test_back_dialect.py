@@ -4,6 +4,7 @@ import time
 import unittest
 from unittest import mock
 
+from mbox2maildir_admin.back.clients import Client
 from mbox2maildir_admin.back.dialect import LAST_TIME, Dialect, Letter, date_of, parted
 
 MAIL = b"Subject: one\n\nFrom me\n>From you\nend\n"
@@ -46,7 +47,10 @@ class DialectTest(unittest.TestCase):
 
     def test_what_programs_wrote_is_left_out(self) -> None:
         text = b"Content-Length: 9999\nA: b\nSTATUS: RO\nX-UID:\n 7\nX-Keywords: k\n\nStatus: x\n"
-        self.assertEqual(self.written("mboxrd", text), b"A: b\n\nStatus: x\n\n")
+        wanted = Letter(b"A: b\n\nStatus: x\n", taken=(b"Content-Length", b"STATUS", b"X-UID", b"X-Keywords"))
+        self.assertEqual(Client().bare(Letter(text)), wanted)
+        for text in (b"", b"Status: x", b"Status: x\n", b"\nStatus: x\n", b" Status: x\n\n", b"X-Mozilla-Status: 1\n"):
+            self.assertEqual(Client().bare(Letter(text)).text, b"" if text.startswith(b"Status") else text)
 
     def test_flags(self) -> None:
         for flags, is_old, wanted in (

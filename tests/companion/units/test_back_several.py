@@ -14,7 +14,7 @@ from mbox2maildir_admin.back.dialect import Dialect, Letter
 from mbox2maildir_admin.back.mails import sorted_mail
 from mbox2maildir_admin.back.keeping import Keeper, make_mailbox
 from mbox2maildir_admin.back.places import Names, Places
-from mbox2maildir_admin.back.reading import Forms, Held, are_at, messages_by, reading_now, takes_mail
+from mbox2maildir_admin.back.reading import Forms, Held, Written, are_at, messages_by, reading_now, takes_mail
 from mbox2maildir_admin.back.steps import How, Target
 from mbox2maildir_admin.back.several import Several
 from mbox2maildir_admin.commands import back as command
@@ -658,8 +658,9 @@ class PartsTest(HomeTest):
         mail = b"Subject: a\n\n>From me\n"
         for word, is_held in (("mboxrd", True), ("mboxo", False), ("mboxcl", True), ("mboxcl2", True)):
             text = Dialect(word).spelled(Letter(mail))
-            self.assertEqual(Held(word, Dialect(word), True, self.here).has(Forms.of(mail), text), is_held, word)
-        self.assertFalse(Held("mboxrd", Dialect(), True, self.here).has(Forms.of(mail), b"no mailbox\n"))
+            held = Held(word, Dialect(word), True, self.here)
+            self.assertEqual(held.has(Written(Forms.of(mail), text)), is_held, word)
+        self.assertFalse(held.has(Written(Forms.of(mail), b"no mailbox\n")))
         self.assertEqual(len(reading.Forms.of(b"a").bares), 2)
 
     def test_the_command(self) -> None:

@@ -1,12 +1,10 @@
 """The dialects of mailboxes: a small writer and a small reader of each, by what their pages say."""
 import re
+from collections.abc import Sequence
 from typing import NamedTuple
 
-# the fields that mail programs write for themselves
-NOTED = {
-    *(b"content-length", b"lines", b"status", b"x-imap", b"x-imapbase", b"x-keywords", b"x-status", b"x-uid"),
-    *(b"x-evolution", b"x-gm-thrid", b"x-gmail-labels", b"x-mozilla-keys", b"x-mozilla-status", b"x-mozilla-status2"),
-}
+# the fields by which mailboxes are read everywhere, and which are written anew
+NOTED = [b"content-length", b"status", b"x-imap", b"x-imapbase", b"x-keywords", b"x-status", b"x-uid"]
 
 
 class Dialect(NamedTuple):
@@ -95,11 +93,11 @@ def parted(text: bytes) -> tuple[bytes, bytes, bytes]:
     return b"".join(lines[:at]), b"".join(lines[at : at + 1]), b"".join(lines[at + 1 :])
 
 
-def bare(message: bytes) -> bytes:
-    """A message without the fields that mail programs write for themselves. Its last line has ended."""
+def bare(message: bytes, more: Sequence[bytes] = ()) -> bytes:
+    """A message without the fields that are written anew, and without more of these names. Its last line has ended."""
     head, gap, body = parted(message)
     fields = re.findall(rb"[^\n]*\n(?:[ \t][^\n]*\n)*|[^\n]+", head)
-    kept = [one for one in fields if b":" not in one or one.split(b":")[0].strip().lower() not in NOTED]
+    kept = [one for one in fields if b":" not in one or one.split(b":")[0].strip().lower() not in [*NOTED, *more]]
     text = b"".join([*kept, gap, body])
     return text if text.endswith(b"\n") else text + b"\n"
 

@@ -260,7 +260,13 @@ class History:
         x_status = b"".join(sorted(letters[flag] for flag in flags if flag in letters))
         keeper = self.keeper_of(one.folder)
         kept = keeper.flags(keeper.fields(1, flags) + b"\n") if keeper else None
-        return Appended(bare(one.text), sender[1] if sender else b"MAILER-DAEMON", status, x_status, kept)
+        return Appended(
+            bare(one.text, keeper.names if keeper else ()),
+            sender[1] if sender else b"MAILER-DAEMON",
+            status,
+            x_status,
+            kept,
+        )
 
     def keeper_of(self, folder: str) -> Optional[Keeper]:
         """The program that keeps flags in the mailbox of a folder, if one does."""
@@ -313,7 +319,9 @@ def shown_of(from_line: bytes, message: bytes, keeper: Optional[Keeper]) -> Appe
     assert stamp.tm_year >= 1970, from_line
     x_status = bytes(sorted(field_of(message, b"X-Status")))
     kept = keeper.flags(message) if keeper else None
-    return Appended(bare(message), words[1], field_of(message, b"Status"), x_status, kept)
+    return Appended(
+        bare(message, keeper.names if keeper else ()), words[1], field_of(message, b"Status"), x_status, kept
+    )
 
 
 def flags_of(message: bytes, keeper: Optional[Keeper], by_dovecot: bool) -> str:

@@ -1,7 +1,7 @@
 """Programs that keep what they know of messages in headers of a mailbox, and programs that deliver into a Maildir."""
 import re
 import shutil
-from collections.abc import Callable
+from collections.abc import Callable, Sequence
 from functools import partial
 from pathlib import Path
 from typing import NamedTuple, Optional
@@ -23,11 +23,12 @@ Deliver = Callable[[str, bytes], None]
 
 
 class Keeper(NamedTuple):
-    """A program that keeps flags in each message: the fields of message N with these flags, and the flags of a
-    message, if it has these fields."""
+    """A program that keeps flags in each message: the fields of message N with these flags, the flags of a message, if
+    it has these fields, and the names of all its fields, in lower case."""
 
     fields: Callable[[int, str], bytes]
     flags: Callable[[bytes], Optional[str]]
+    names: Sequence[bytes]
 
 
 def bits(flags: str, table: dict[str, int]) -> int:
@@ -66,12 +67,14 @@ KEEPERS = {
     "Thunderbird": Keeper(
         lambda _, flags: b"X-Mozilla-Status: %04x\nX-Mozilla-Status2: 00000000\n" % bits(flags, MOZILLA),
         lambda message: flags_in(field_of(message, b"X-Mozilla-Status"), MOZILLA),
+        [b"x-mozilla-status", b"x-mozilla-status2", b"x-mozilla-keys"],
     ),
     "Evolution": Keeper(
         lambda number, flags: b"X-Evolution: %08x-%04x\n" % (number, bits(flags, CAMEL)),
         lambda message: flags_in(evolution_digits(message), CAMEL),
+        [b"x-evolution"],
     ),
-    "Gmail": Keeper(gmail, flags_of_labels),
+    "Gmail": Keeper(gmail, flags_of_labels, [b"x-gm-thrid", b"x-gmail-labels"]),
 }
 
 
