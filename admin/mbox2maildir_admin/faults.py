@@ -55,6 +55,7 @@ class Reason(Phrase):
     LEFT_BEHIND = "left-behind", "An interrupted command left it behind."
     LINK = "link", "It is a symbolic link, or its path within the home contains one."
     MISSING = "missing", "Nothing is at its path."
+    WORDS = "words", "Its path was given as several words."
     NO_FILE = "no-file", "It is neither a regular file nor a folder."
     HOLES = "holes", "More than 16 MB of it were never written."
     MAILDIR = "maildir", "It is a Maildir."

@@ -210,8 +210,8 @@ def without_mailboxes(home: Path) -> None:
 
 
 def in_nobodys_way(home: Path) -> None:
-    """An account without a mailbox and a Maildir, such as that of virtual users, is on no list, and no run leaves it, not
-    even after Dovecot has made its folder of mailboxes."""
+    """An account without a mailbox and a Maildir, such as that of virtual users, is on no list, and left by no
+    run, even if Dovecot has made its folder of mailboxes."""
     own, words = home / "homes/m61vmail", ["migrate", "--users", "--tree", "mail", "spool"]
     several = [[*words, "--now"], ["verify", *words[1:]], WORDS]
 

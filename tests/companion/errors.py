@@ -10,6 +10,7 @@ from pathlib import Path
 from tests.support.checks import equal, matches
 from tests.support.homes import ADMIN, check_all, expect, mailbox, run
 from tests.support.mail import ONE
+from tests.support.printed import rows_in
 
 # a line that may begin a message, which only a human can decide
 UNCLEAR = ONE + b"From Tuesday on we are here\n\nbye\n\n"
@@ -220,6 +221,33 @@ def what_is_missing(home: Path) -> None:
     expect(["migrate", "--undo", "M", "none"], home, 1, left)
 
 
+def not_in_quotes(home: Path) -> None:
+    """If a path was given as several words, nothing is migrated, whatever else is there, and the whole command is
+    printed."""
+    for name in ("My Old Mail/in box", "Mail/in", "a", "b", "a b"):
+        mailbox(home / name, ONE)
+    for given, paths, command in (
+        ("M My Old Mail/in box", {"My Old Mail/in box": 4}, "M 'My Old Mail/in box'"),
+        ("--now M My Old Mail a", {"My Old Mail": 3}, "--now M 'My Old Mail' a"),
+        ("My Old Mail/Maildir a b", {"a b": 2}, "My Old Mail/Maildir 'a b'"),
+        ("M a b My Old Mail", {"a b": 2, "My Old Mail": 3}, "M 'a b' 'My Old Mail'"),
+    ):
+        out = "".join(
+            f"{path}: left (words): its path was given as {count} words, so nothing was migrated\n"
+            f"{RUN}mbox2maildir-admin migrate {command}\n"
+            for path, count in paths.items()
+        )
+        got, said, _ = run(["migrate", *given.split()], home)
+        equal(
+            f"{given}: status, and what is said",
+            (got, said.startswith(out), len(rows_in(said))),
+            (1, True, len(paths) + 1),
+        )
+        equal(f"{given}: what was made", [path.name for path in home.iterdir() if path.name in ("M", "My")], [])
+    both = run(["migrate", "--now", "--folder", "Both", "M", "./a", "./b"], home)
+    equal("two files beside it", (both[0], both[1].splitlines()[-1]), (0, "2 mailboxes: 2 done"))
+
+
 def on_an_older_python(home: Path) -> None:
     """The companion ends with one line, whatever its words are. No part of it is loaded before."""
     code = "import runpy, sys; sys.version_info = (3, 8, 18); sys.argv = sys.argv[1:]; runpy.run_path(sys.argv[0])"
@@ -240,5 +268,6 @@ if __name__ == "__main__":
         no_maildir_without_a_mailbox,
         a_maildir_with_a_mailbox,
         what_is_missing,
+        not_in_quotes,
         on_an_older_python,
     )

@@ -4,11 +4,14 @@ import os
 from collections.abc import Iterator, Sequence
 from dataclasses import replace
 
-from ..faults import Status
+from .. import ADMIN
+from ..faults import Left, Reason, Status
 from ..maildir.folders import folder_of, on_disk, why_no_folder
+from ..migration.outcomes import row_left
 from ..migration.rows import Reporter
 from ..migration.steps import Options
-from ..terminal import has_terminal, named
+from ..nexts import run_next
+from ..terminal import has_terminal, named, operand
 from ..users.asked import Tally
 from .command_line import WrongOptions, want_operands
 from .deciding import decision_of, labels_of
@@ -17,6 +20,9 @@ from .running import Telling, run_reported
 
 # what the last line says of what is only prepared
 ONLY_PREPARED = "nothing of it counts as done before migrate runs without --prepare"
+UNQUOTED = "its path was given as %d words, so nothing was migrated"
+# of how many words a path may be that was not quoted
+MOST_WORDS = 8
 
 
 def do_migrate(given: argparse.Namespace) -> Status:
@@ -57,10 +63,32 @@ def task_of(given: argparse.Namespace) -> Telling:
             migrate_spool(given, options, reporter, tally)
         elif given.undo:
             undo(target, names[0], options, reporter)
-        else:
+        elif not leave_unquoted(given.operands, options, reporter):
             migrate_named(target, names, options, reporter)
 
     return task
+
+
+def leave_unquoted(words: Sequence[bytes], options: Options, reporter: Reporter) -> bool:
+    """Leaves each path that was given as several words, because it was not quoted. Returns whether there is one."""
+    paths = list(joined(words))
+    then = run_next(ADMIN, "migrate", *options.words(), *(operand(path) for path, _ in paths))
+    for path, count in paths:
+        if count > 1:
+            reporter.total += 1
+            reporter.begin()
+            reporter.row(row_left(path, b"", Left(UNQUOTED % count, Reason.WORDS, then)))
+    return len(paths) < len(words)
+
+
+def joined(words: Sequence[bytes]) -> Iterator[tuple[bytes, int]]:
+    """The paths that words are, and of how many words each is: of several if that path is there."""
+    at = 0
+    while at < len(words):
+        several = (words[at : at + count] for count in range(min(MOST_WORDS, len(words) - at), 1, -1))
+        one = next((some for some in several if os.path.lexists(b" ".join(some))), words[at : at + 1])
+        yield b" ".join(one), len(one)
+        at += len(one)
 
 
 def undo(maildir: bytes, name: bytes, options: Options, reporter: Reporter) -> None:
