@@ -10,9 +10,9 @@ from pathlib import Path
 
 from tests.companion.spool import USERS, theirs, users
 from tests.support.checks import equal, match_in, matches
-from tests.support.homes import check_all, expect, mailbox, mail_in, run, want_users
+from tests.support.homes import check_all, expect, mailbox, mail_in, run, subjects, want_users
 from tests.support.mail import A, B, MAY, ONE, TWO, with_length
-from tests.support.printed import commands_in, row_in, rows_in
+from tests.support.printed import Reply, commands_in, row_in, rows_in
 
 PART = with_length(A, MAY) + b"\n" + B + b"\n"
 # a mailbox, and how many messages the answers give
@@ -290,6 +290,82 @@ def that_leaves_no_message(home: Path) -> None:
         expect(["dates", "M", "Trash"], home, status, f"Trash: messages {count}, dated 0\n", None)
 
 
+def of_several_that_are_done(home: Path) -> None:
+    """A word for several mailboxes advises no undo of those that are done, and one for such a mailbox alone does."""
+    quoted = A + b"\n>>From x\n\n"
+    for name, text in (("done", quoted), ("new", quoted.replace(b"one", b"two"))):
+        mailbox(home / "tree" / name, text)
+        if name == "done":
+            expect(["migrate", "M", "tree"], home, 0, None)
+    status, out, _ = run(["migrate", "--as", "mboxo", "M", "tree"], home)
+    equal(f"of several: {out}", (status, rows_in(out)[1].line), (0, "tree/new -> new: mboxo by --as, messages 1: done"))
+    done = row_in(out, "tree/done")
+    says = "tree/done -> done: done before, it was read as mboxrd, and --as mboxo gives other messages"
+    equal(f"the one that is done: {out}", (done.line, done.below), (says, []))
+    out = run(["migrate", "--as", "mboxo", "--folder", "done", "M", "tree/done"], home)[1]
+    equal("alone", row_in(out, "tree/done").command, "mbox2maildir-admin migrate --undo --folder done M tree/done")
+
+
+def marked(*messages: str) -> bytes:
+    """A mailbox of Thunderbird's with messages of these subjects. It has marked those as deleted that begin so."""
+    heads = ((A.replace(b"one", name.lstrip("-").encode()), 9 * name.startswith("-")) for name in messages)
+    return b"".join(head + b"X-Mozilla-Status: %04d\n\nhello\n\n" % mark for head, mark in heads)
+
+
+def drops(answer: Reply) -> tuple[bool, int]:
+    """Whether an answer leaves deleted mail out, and how many messages it gives."""
+    return "--drop-deleted" in answer.command, answer.messages
+
+
+def deleted_since(home: Path) -> None:
+    """Mail that is deleted once it was migrated stays, whenever --drop-deleted was given, and the mailbox goes on. What
+    was never brought is asked about without this option, and an undo removes all that was brought."""
+    for number in range(2):
+        box = home / f"box{number}"
+        plain = ["migrate", "--folder", box.name, "M", box.name]
+        drop = [*plain[:1], "--drop-deleted", *plain[1:]]
+        mailbox(box, marked("one", "two", "three"))
+        expect([plain, drop][number], home, 0, "...messages 3: done...\n...\n")
+        mailbox(box, marked("one", "-two", "three"))
+        expect(plain, home, 0, "1 mailbox: 1 done before\n")
+        out = "done before, without 1 message marked as deleted; 1 message gone from it that it had brought"
+        expect(drop, home, 0, f"{box.name} -> {box.name}: {out}\n1 mailbox: 1 done before\n")
+        mailbox(box, marked("one", "-two", "three", "four", "-five"))
+        status, out, _ = run(plain, home)
+        answers = list(map(drops, row_in(out, box.name).answers()))
+        equal(f"what was never brought: {out}", (status, answers), (1, [(True, 3), (False, 5)]))
+        out = "...: done, without 2 messages marked as deleted; it grew by 1 message...\n...\n"
+        expect(drop, home, 0, out)
+        equal("the mail", subjects(home / "M" / f".{box.name}"), ["four", "one", "three", "two"])
+        mailbox(box, marked("one", "-two", "three", "four", "-five", "-six"))
+        status, out, _ = run(plain, home)
+        equal(f"more of that: {out}", (status, len(row_in(out, box.name).answers())), (1, 2))
+        expect(["migrate", "--undo", *plain[1:]], home, 0, "...: undone, removed 4 messages\n...\n")
+
+
+def deleted_mail_that_was_kept(home: Path) -> None:
+    """Where deleted mail was kept, this answer comes first when it is asked again."""
+    box = mailbox(home / "box", marked("one", "-two"))
+    expect(["migrate", "--as", "mboxrd", "M", "box"], home, 0, "...messages 2: done...\n...\n")
+    mailbox(box, marked("one", "-two", "-three"))
+    out = run(["migrate", "M", "box"], home)[1]
+    equal(out, list(map(drops, row_in(out, "box").answers())), [(False, 3), (True, 1)])
+
+
+def all_mail_deleted(home: Path) -> None:
+    """A mailbox whose mail is all marked as deleted is done before in a later run, and can be undone. Then it is asked
+    again."""
+    mailbox(home / "box", marked("-one", "-two"))
+    says, drop = "without 2 messages marked as deleted", ["migrate", "--drop-deleted", "M", "box"]
+    expect(drop, home, 0, f"box -> INBOX: Thunderbird's, messages 0: done, {says}\n1 mailbox: 1 done\n")
+    for words in (drop, ["migrate", "M", "box"]):
+        expect(words, home, 0, f"box -> INBOX: done before, {says}\n1 mailbox: 1 done before\n")
+    out = "box -> INBOX: messages 0: undone, removed 0 messages\n1 mailbox: 1 undone\n"
+    expect(["migrate", "--undo", "M", "box"], home, 0, out)
+    status, out, _ = run(["migrate", "M", "box"], home)
+    equal(out, (status, list(map(drops, row_in(out, "box").answers()))), (1, [(True, 0), (False, 2)]))
+
+
 def by_what_it_brought(home: Path) -> None:
     """A line is not asked about that is in a message which the mailbox brought without a question, and no run notes an
     answer. If new mail has such a line too, a human is asked."""
@@ -315,13 +391,13 @@ def by_what_it_brought(home: Path) -> None:
 
 def of_words_that_were_typed(home: Path) -> None:
     """A word without a tie is taken for each mailbox to whose question it is an answer, as it is now, and noted with
-    what it was given for."""
+    what it was given for. It is noted too of one about which nothing was asked."""
     for name, text in (("tree/part", PART), ("tree/sure", ONE), ("tree/more", PART.replace(b"hello", b"hallo"))):
         mailbox(home / name, text)
     expect(["migrate", "--now", "--as", "mboxcl2", "M", "tree"], home, 0, None)
     notes = notes_in(home)
-    equal("whose answers are noted", sorted(note.split()[0] for note in notes), ["more", "part"])
-    equal("what each is for", len({re.findall(r"\bof=(\w+)", note)[0] for note in notes}), 2)
+    equal("whose answers are noted", sorted(note.split()[0] for note in notes), ["more", "part", "sure"])
+    equal("what each is for", len({tie for note in notes for tie in re.findall(r"\bof=(\w+)", note)}), 2)
     mailbox(home / "tree/part", PART + NEW)
     mailbox(home / "tree/more", PART.replace(b"hello", b"hallo") + B + b"\nyes\nFrom me to you.\n\n")
     status, out, _ = run(["migrate", "--now", "M", "tree"], home)
@@ -413,6 +489,10 @@ if __name__ == "__main__":
         without_asking_again,
         after_an_undo,
         that_leaves_no_message,
+        of_several_that_are_done,
+        deleted_since,
+        deleted_mail_that_was_kept,
+        all_mail_deleted,
         by_what_it_brought,
         of_words_that_were_typed,
         of_lengths,

@@ -4,6 +4,7 @@ nothing."""
 import json
 import os
 import pwd
+import re
 import shutil
 import subprocess
 import time
@@ -11,9 +12,9 @@ from collections.abc import Sequence
 from pathlib import Path
 
 from tests.support import accounts
-from tests.support.checks import LATER, equal, matches
-from tests.support.homes import ADMIN, check_all, expect, mailbox, run, script, subjects, want_users
-from tests.support.mail import ONE, THREE, TWO
+from tests.support.checks import LATER, equal, match_in, matches
+from tests.support.homes import ADMIN, check_all, expect, mail_in, mailbox, run, script, subjects, want_users
+from tests.support.mail import A, B, ONE, THREE, TWO
 from tests.support.printed import row_in, rows_in
 from tests.support.schema import wrong
 
@@ -129,14 +130,76 @@ def left_over(home: Path) -> None:
     (home / "old").rmdir()
     (home / "disk").rename(home / "old")
     status, out, _ = run(["migrate", "--now", "--folder", "a", "M", "old/a"], home)
-    lines = [row.line.replace("mboxrd or mboxo, messages 2: ", "") for row in rows_in(out)[:-1]]
+    said = [row.line.replace("mboxrd or mboxo, messages 2: ", "") for row in rows_in(out)[:-1]]
     says = "left (prepared): it is only prepared, and no mailbox of this command goes there"
     wanted = ["old/a -> a: done, 2 prepared before", *(f"{home}/old/{name} -> {name}: {says}" for name in "bc")]
-    equal(f"another command: {out}", (status, lines), (1, wanted))
+    equal(f"another command: {out}", (status, said), (1, wanted))
     rest, undo = (row_in(out, f"{home}/old/{name}").commands[at] for name, at in (("b", 0), ("c", 1)))
     expect(undo.split()[1:], home, 0, f"{home}/old/c -> c: messages 2: undone, removed 2 messages\n...\n")
     expect(rest.split()[1:], home, 0, f"{home}/old/b -> b: ...: done, 2 prepared before\n...\n")
     equal("lists", list((home / "M").rglob("mbox2maildir-prepared")), [])
+
+
+# a mailbox that words read differently, and new mail of that kind
+QUOTED, NEW = A + b"\n>>From twice\n>From once\n\n", B + b"\n>>From twice\n>From once\n\n"
+BY_MBOXO = [part.replace(b"\n>From", b"\nFrom").split(b"\n", 1)[1][:-1] for part in (QUOTED, NEW)]
+
+
+def words_hold(home: Path) -> None:
+    """A word that is given with --prepare, for one mailbox or for several, holds in later passes and on the day, though
+    nothing was asked: also once mail came, and where the mailbox is by then. What is undone is read without it."""
+    doveconf(home, MBOX)
+    prepare = ["migrate", "--prepare", "M"]
+    for number, (named, text) in enumerate((("old/box", QUOTED), ("old", QUOTED), ("old", QUOTED + NEW))):
+        mailbox(home / "old/box", QUOTED)
+        folder = ["--folder", "box"] * (named != "old")
+        expect([*prepare[:2], "--as", "mboxo", *folder, "M", named], home, 0, None)
+        prepared = {path.name for path in mail_in(home / "M/.box")}
+        expect([*prepare[:2], *folder, "M", named], home, 0, None)
+        equal("after another first pass", {path.name for path in mail_in(home / "M/.box")}, prepared)
+        mailbox(home / "old/box", text)
+        (home / "old").rename(home / f"old{number}")
+        out = run(["migrate", "--now", *folder, "M", named.replace("old", f"old{number}")], home)[1]
+        match_in(r" -> box: mboxo by --as, messages \d: done, .*1 prepared before", out)
+        got = sorted(path.read_bytes() for path in mail_in(home / "M/.box"))
+        equal(f"the mail: {out}", got, sorted(BY_MBOXO[: 1 + text.endswith(NEW)]))
+        shutil.rmtree(home / "M")
+    mailbox(home / "box", QUOTED)
+    expect([*prepare[:2], "--as", "mboxo", "M", "box"], home, 0, None)
+    # what is asked later has answers by the same word
+    mailbox(home / "box", QUOTED + B + b"\nyes\n\nFrom now on\n\n")
+    status, out, _ = run(["migrate", "--now", "M", "box"], home)
+    words = [re.findall(r"--as (\w+)", one.command)[0] for one in row_in(out, "box").answers()]
+    equal(f"a new question: {out}", (status, words), (1, ["unquoted", "mboxo"]))
+    mailbox(home / "box", QUOTED)
+    expect(["migrate", "--undo", "M", "box"], home, 0, None)
+    out = "box -> INBOX: mboxrd or mboxo, messages 1: done, `>>From ` loses a `>` in 1 line ...\n1 mailbox: 1 done\n"
+    expect(["migrate", "--now", "M", "box"], home, 0, out)
+
+
+def without_deleted_mail(home: Path) -> None:
+    """What --drop-deleted left out of a first pass is said by each pass, and left out on the day, also if that is all.
+    If more is deleted by then, it is asked."""
+    doveconf(home, MBOX)
+    left_out, gone = (A + b"X-Mozilla-Status: 000%d\n\nhello\n\n" % mark for mark in (1, 9))
+    for text, count in ((left_out + gone, 1), (gone, 0)):
+        box = mailbox(home / "box", text)
+        says = "without 1 message marked as deleted"
+        for words in (["--prepare", "--drop-deleted"], ["--prepare"]):
+            expect(
+                ["migrate", *words, "M", "box"],
+                home,
+                0,
+                f"box -> INBOX: ...messages {count}: prepared, {says}...\n...\n",
+            )
+        mailbox(box, text + gone.replace(b"one", b"two"))
+        status, out, _ = run(["migrate", "--now", "M", "box"], home)
+        equal(f"more is deleted: {out}", (status, len(row_in(out, "box").answers())), (1, 2))
+        mailbox(box, text)
+        out = f"box -> INBOX: ...messages {count}: done, {says}; as it was answered before...\n...\n"
+        expect(["migrate", "--now", "M", "box"], home, 0, out)
+        equal("the mail", len(list(mail_in(home / "M"))), count)
+        shutil.rmtree(home / "M")
 
 
 def theirs(path: Path, name: str) -> None:
@@ -188,4 +251,4 @@ def of_users(home: Path) -> None:
 
 
 if __name__ == "__main__":
-    check_all(printed, refused, one_at_work, left_over, of_users)
+    check_all(printed, refused, one_at_work, left_over, words_hold, without_deleted_mail, of_users)

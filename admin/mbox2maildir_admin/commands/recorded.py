@@ -3,13 +3,12 @@ import os
 from typing import Optional
 
 from ..faults import Fault
-from ..kinds.look import Look
-from ..ledger.history import History, Step
+from ..ledger.history import History
 from ..ledger.record import Record
 from ..maildir.making import RECORD
 from ..mbox.mailbox import Mailbox
 from ..readings.earlier import plan_then
-from ..readings.plans import Plan, plan_of
+from ..readings.plans import Plan
 from ..readings.reading import Reading
 
 
@@ -26,8 +25,7 @@ class Recorded:
         self.plan, record = None, record_of(self.folder)
         done = record.done(*mailbox.key()) if mailbox.size in record.sizes_done() else None
         if done:
-            reading = Reading.of_words(done.plan)
-            self.plan = plan_then(text, reading) if done.what is Step.DONE else plan_of(text, Look.read, reading)
+            self.plan = plan_then(text, Reading.of_words(done.plan))
         return self.plan
 
 

@@ -170,6 +170,8 @@ class History:
             self._prepared.pop(folder, None)
         if entry.what in (Note.PREPARED, Note.UNPREPARED):
             self._notes.pop((Note.EMPTY, folder), None)
+        if entry.what is Note.UNPREPARED:
+            self.forget_notes(folder, entry.path, Note.ANSWERED)
 
     def prepared(self, folder: bytes) -> Optional[Entry]:
         """The mailbox that a folder was prepared from last, if nothing of the folder is done since."""
@@ -226,11 +228,9 @@ class History:
         return list(self._texts.get((size, digest), {}).values())
 
     def done(self, size: int, digest: str) -> Optional[Entry]:
-        """The last line of a text of this size and SHA-256 that is done, in any folder; if none is, that of an answer
-        that leaves it no message."""
+        """The last line of a text of this size and SHA-256 that is done, in any folder."""
         lines = [one for one in self.lines_of(size, digest) if one.what is Step.DONE]
-        found = lines or [one for one in self.without_mail() if one.key[1:] == (size, digest)]
-        return found[-1] if found else None
+        return lines[-1] if lines else None
 
     def has_done(self, key: tuple[int, str], count: int) -> bool:
         """Whether a text of this size and SHA-256 is done that has so many messages."""
@@ -238,13 +238,7 @@ class History:
 
     def sizes_done(self) -> set[int]:
         """The sizes of the texts that are done."""
-        lines = (entry for entry in self.lines() if entry.what is Step.DONE)
-        return {entry.key.size for entry in (*lines, *self.without_mail())}
-
-    def without_mail(self) -> Iterator[Entry]:
-        """The answers that leave no message of a text."""
-        notes = (several for (note, _), several in self._notes.items() if note is Note.ANSWERED)
-        return (one for several in notes for one in several if not one.messages)
+        return {entry.key.size for entry in self.lines() if entry.what is Step.DONE}
 
     def begun_at(self, folder: bytes, path: bytes) -> Optional[int]:
         """When a mailbox was begun first in a folder, in seconds since 1970; None if it was not begun."""

@@ -27,7 +27,7 @@ def note_empty(record: Record, opened: Opened, ledger: Ledger, path: str) -> lis
 
 
 def note_answer(record: Record, opened: Opened, plan: Plan) -> None:
-    """Notes an answer by which a mailbox is read, with what it was given for, unless it is the last one of the mailbox
+    """Notes what was decided about a mailbox, with what it was given for, unless that is noted last of the mailbox
     anyhow."""
     name, mailbox = opened.name, opened.mailbox
     before = [entry.plan for entry in record.noting(Note.ANSWERED, name, mailbox.path)]
@@ -40,6 +40,13 @@ def answers_for(record: Record, opened: Opened) -> list[Entry]:
     prepared, path = record.prepared(opened.name), opened.mailbox.path
     paths = dict.fromkeys([unspelled(prepared.path), path] if prepared else [path])
     return [entry for one in paths for entry in record.noting(Note.ANSWERED, opened.name, one)]
+
+
+def noted_last(record: Record, opened: Opened) -> Reading:
+    """What was decided last about a mailbox, but for its lines."""
+    several = answers_for(record, opened)
+    last = Reading.of_words(several[-1].plan) if several else UNDECIDED
+    return UNDECIDED if last == UNDECIDED else Reading(last.word, of=last.of, drop=last.drop, noted=True)
 
 
 def answer_to(record: Record, opened: Opened, question: Question) -> Optional[Reading]:

@@ -15,7 +15,7 @@ from ..mbox.inventory import Inventory
 from ..mbox.mailbox import Mailbox
 from ..nexts import NOTHING, Answer, Does, Next, Remark
 from ..readings.earlier import decision_by, messages_then, plan_then, text_then
-from ..readings.reading import MBOXO, UNDECIDED, UNQUOTED, Reading
+from ..readings.reading import MBOXO, UNDECIDED, UNQUOTED, Reading, with_deleted
 from ..readings.texts import Choice, choice_of, content_of, disk_of
 from ..units import counted
 from .dovecot import names_in
@@ -43,7 +43,8 @@ def as_before(opened: Opened, ledger: Ledger, path: str, by: By) -> Optional[tup
     if not source or ledger.pending(path) is not None:
         return None
     with content_of(opened.mailbox, by[0]) as text:
-        plan = plan_then(text, Reading.of_words(source.words))
+        # mail that is marked as deleted by now, and was not brought, is new
+        plan = plan_then(text, with_deleted(Reading.of_words(source.words)))
         if not plan:
             return None
         with text_then(text, plan, by[0], by[1].start_of) as then:
@@ -61,7 +62,9 @@ def contradicted(how: How, root: bytes, opened: Opened, line: Entry) -> tuple[li
     if not contradicts(opened.mailbox, line, how.decision, (disk_of(root, how.dry), how.extra)):
         return [], NOTHING
     says = CONTRADICTED % (Reading.of_words(line.plan).of_text.words(), " ".join(how.decision.options()))
-    return [Remark("contradicted", says)], (Answer(how.undo(root, opened), Does.UNDO),)
+    # a word for several mailboxes is about those that are not done
+    then = (Answer(how.undo(root, opened), Does.UNDO),) if how.decision.alone else NOTHING
+    return [Remark("contradicted", says)], then
 
 
 def contradicts(mailbox: Mailbox, line: Entry, decision: Reading, by: By) -> bool:
@@ -92,11 +95,13 @@ class Before(NamedTuple):
 
     @classmethod
     def of(cls, known: Known, reading: Reading) -> "Before":
-        """What the ledger knows of a mailbox; this reading if it does not know it."""
+        """What the ledger knows of a mailbox; this reading if it does not know it. What that leaves out, all do: this
+        doubles no mail."""
         ledger, path = known.ledger, known.path
         source, batch = ledger.sources.get(path), ledger.open.get(ledger.pending(path) or 0)
         words = batch.head.words if batch else source.words if source else None
-        return cls(reading if words is None else Reading.of_words(words), source, batch)
+        then = reading if words is None else Reading.of_words(words)
+        return cls(then._replace(drop=reading.drop, dropped=reading.dropped), source, batch)
 
     def counts(self, decision: Reading, then: Inventory, contents: Contents) -> list[int]:
         """How much of what it has brought is among the messages that it had then, and among those that it has now. A

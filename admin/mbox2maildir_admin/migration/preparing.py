@@ -78,7 +78,7 @@ class LastPass(Transfer):
         """Brings what is new, and ends what is only prepared. With --again, what is there stays."""
         if not self.again:
             self.want_usable()
-        if not choice.plan.messages and not self.how.dry:
+        if choice.plan.is_empty and not self.how.dry:
             self.clear()
         return super().bring_any(choice)
 
@@ -249,7 +249,7 @@ class FirstPass(LastPass):
     def bring_any(self, choice: Choice) -> Row:
         """Makes the folder what the mailbox is now."""
         self.want_usable()
-        if not choice.plan.messages:
+        if choice.plan.is_empty:
             if not self.how.dry:
                 self.clear()
             return self.row_prepared(choice.plan)
@@ -275,7 +275,7 @@ class FirstPass(LastPass):
         one, verified = self.bringing(contents, match, placing), self.begin_pass(contents, origin)
         self.conversion.convert(self.opened, contents, placing, verified)
         self.remarks += finish(one, Plain(prepared))
-        text = text_of(self.how, choice, contents)
+        text = text_of(choice, contents)
         prepared.noted.reading = in_milliseconds(self.opened.mailbox.took) if text else reading
         prepared.write_whole(origin, text)
         self.verified = verified

@@ -30,7 +30,7 @@ from ..readings.plans import Plan, Question
 from ..readings.reading import UNDECIDED
 from ..readings.texts import Choice, choice_of, disk_of
 from ..units import counted
-from .answers import AS_ANSWERED, answer_to, note_answer, note_empty
+from .answers import AS_ANSWERED, answer_to, note_answer, note_empty, noted_last
 from .converting import SYNC_FAILED, Conversion
 from .cut import names_of_no_line, names_that_may_be_cut, want_none_cut
 from .finishing import finish
@@ -155,11 +155,14 @@ class Transfer:
     @contextlib.contextmanager
     def choice(self) -> Iterator[Choice]:
         """Chooses which text stands for the mailbox."""
-        at_once, is_bare = AtOnce(self.program), self.how.extra.IS_BARE
+        at_once, is_bare, decision = AtOnce(self.program), self.how.extra.IS_BARE, self.how.decision
+        if decision == UNDECIDED:
+            decision = noted_last(self.record, self.opened)
         read: Read = at_once.read
-        if is_bare or self.how.decision.word:
+        if is_bare or decision.word:
             read = Look.read
-        with choice_of(self.opened.mailbox, self.disk, read, self.how.decision) as choice:
+        with choice_of(self.opened.mailbox, self.disk, read, decision) as choice:
+            self.remarks += [AS_ANSWERED] * (decision.noted and choice.plan.answer is not None)
             yield choice._replace(plan=choice.plan.bared(is_bare), known=at_once.known)
 
     def bring(self, choice: Choice) -> Row:
@@ -178,11 +181,10 @@ class Transfer:
 
     def bring_any(self, choice: Choice) -> Row:
         """The same, but raises what keeps the mailbox from being done. One without mail only gets its folder."""
-        if not choice.plan.messages:
+        if choice.plan.is_empty:
             if not self.how.dry:
                 self.record.make(self.opened.make_folder)
                 self.remarks += note_empty(self.record, self.opened, self.ledger, self.path)
-                note_answer(self.record, self.opened, choice.plan)
             return self.row(choice.plan)
         self.remarks += want_syncs(self.opened.folder, self.how.any_disk)
         self.want_ended()
@@ -193,6 +195,8 @@ class Transfer:
                 self.known.take_place(contents.inventory, self.how.dry)
             match = self.matched(contents)
             self.want_sure(contents, match)
+            if not self.how.dry and AS_BROUGHT not in self.remarks:
+                note_answer(self.record, self.opened, choice.plan)
             if match.is_known and self.path in self.ledger.sources:
                 return self.row_known(contents, match)
             return self.take_steps(choice, contents, match)
@@ -292,8 +296,6 @@ class Transfer:
         placing = self.placing(match)
         one = self.bringing(contents, match, placing)
         self.want_extra(one)
-        if not self.how.dry and AS_BROUGHT not in self.remarks:
-            note_answer(self.record, self.opened, choice.plan)
         self.want_room_for(contents, placing)
         self.remarks += remarks_on(one, match, self.ledger, self.how.dry)
         self.remarks += [] if self.again else remarks_on_flags(self.ledger, self.path, contents)

@@ -24,6 +24,7 @@ from ..readings.reading import UNDECIDED, Reading
 from ..readings.texts import Choice, Full
 from ..units import Offset, Say
 from .outcomes import Fate, Row
+from .remarks import remarks_on_dropped
 from .replica import reader_in, signs_of
 from .steps import Contents, How, Opened
 
@@ -67,11 +68,10 @@ def date_at(mailbox: Mailbox, offset: int) -> int:
     return NO_DATE if date is None else date
 
 
-def text_of(how: How, choice: Choice, contents: Contents) -> Optional[Text]:
-    """What is noted of a text that was read; None for one that is read again: it was unpacked or quoted, or somebody
-    decided how it is read."""
+def text_of(choice: Choice, contents: Contents) -> Optional[Text]:
+    """What is noted of a text that was read; None for one that is read again: it was unpacked or quoted."""
     plan = choice.plan
-    if choice.packed or plan.is_copied or how.decision != UNDECIDED:
+    if choice.packed or plan.is_copied or not is_as_it_is(plan.reading):
         return None
     as_read = AsRead(plan.start, plan.messages, plan.kind, plan.remarks)
     return Text(as_read, contents.inventory, contents.full.offsets)
@@ -97,7 +97,8 @@ def row_unchanged(record: Record, how: How, path: bytes, name: bytes, folder: by
     prepared.look(say)
     if not all(prepared.files) or prepared.edited or reader_in(record, name, folder, prepared):
         return None
+    dropped = remarks_on_dropped(origin.words)
     says = Remark("prepared-before", "%d prepared before" % len(prepared.files))
     fate = Fate.WOULD_PREPARE if how.dry else Fate.PREPARED
     spent = None if how.dry else Spent(milliseconds_since(began), prepared.noted.foreseen())
-    return Row(path, name, "", origin.messages, fate, size=origin.key[0], remarks=(says,), spent=spent)
+    return Row(path, name, "", origin.messages, fate, size=origin.key[0], remarks=(*dropped, says), spent=spent)

@@ -48,9 +48,15 @@ class Plan:
     is_copied: bool = False
     # what is to be said of the mailbox
     remarks: tuple[Remark, ...] = ()
-    # the answer by which it is read, if something was asked: its lines have their order among those that are doubtful,
-    # so that it fits as long as what is asked has the same tie, whatever numbers its lines have by then
+    # the decision by which it is read. If something was asked, its lines have their order among those that are
+    # doubtful, so that it fits as long as what is asked has the same tie, whatever numbers its lines have by then;
+    # else it has no tie, and holds until something is asked
     answer: Optional[Reading] = None
+
+    @property
+    def is_empty(self) -> bool:
+        """Whether the mailbox has no mail, also none that is left out."""
+        return not (self.messages or self.reading.dropped)
 
     def bared(self, is_bare: bool) -> "Plan":
         """The same plan; whether it leaves out the header fields that mail programs wrote for themselves."""
@@ -145,6 +151,9 @@ def plan_of(mailbox: Mailbox, read: Read = Look.read, decision: Reading = UNDECI
         raise NoMail(verdict.kind)
     if verdict.recipe:
         raise left_as_other(verdict, mailbox.path)
+    if decision.noted:
+        verdict = verdict.after(decision)
+        decision = UNDECIDED if decision.of or verdict.answers or not decision.word else decision
     if decision.of:
         want_tied(mailbox, verdict, decision)
     plan = planned(mailbox, verdict, decision)
@@ -178,7 +187,7 @@ def planned(mailbox: Mailbox, verdict: Verdict, decision: Reading) -> Plan:
     if not reading:
         raise question_of(mailbox, verdict)
     if decision.drop and verdict.messages:
-        return plan_by(mailbox, verdict, reading, decision, verdict.kind)
+        return plan_by(mailbox, verdict, reading, DROP_DELETED, verdict.kind)
     return plan_as_it_is(verdict, reading)
 
 
@@ -243,7 +252,9 @@ def plan_by(mailbox: Mailbox, verdict: Verdict, reading: Reading, decision: Read
         says.append(left_out(counts.deleted))
         reading = reading._replace(drop=True, dropped=counts.deleted)
     messages, is_copied = counts.messages - reading.dropped, wants_copy(reading, counts)
-    return Plan(kind, messages, verdict.start, reading, is_copied, tuple(says))
+    # where no message has a mark, nothing is said of deleted mail
+    answer = Reading(decision.word, drop=decision.drop) if decision.word or counts.marked else None
+    return Plan(kind, messages, verdict.start, reading, is_copied, tuple(says), answer)
 
 
 def wants_copy(reading: Reading, counts: Counts) -> bool:

@@ -30,7 +30,7 @@ class Reading(NamedTuple):
     """How a text is read. A human decides the first fields: the word, or none if it is certain; the lines that are text
     and those that begin messages; the tie to what this was decided about; and whether mail is left out that Thunderbird
     marked as deleted. That is everything about one mailbox that was named; of several mailboxes, it decides only about
-    those that do not contradict it.
+    those that do not contradict it. What an earlier run has noted decides nothing that is asked now.
 
     The text shows its line ends, if they are not LF, and how many messages are left out. Besides, one of several
     folders may get a part of the messages, and header fields may be left out that mail programs wrote for themselves.
@@ -46,6 +46,7 @@ class Reading(NamedTuple):
     dropped: int = 0
     part: str = ""
     bare: bool = False
+    noted: bool = False
 
     @property
     def decided(self) -> "Reading":
@@ -89,6 +90,11 @@ class Reading(NamedTuple):
 
 
 UNDECIDED, PLAIN = Reading(), Reading(MBOXRD)
+
+
+def with_deleted(reading: Reading) -> Reading:
+    """The same reading with the mail that is marked as deleted."""
+    return reading._replace(drop=False, dropped=0)
 
 
 def renumbered(reading: Reading, new: Mapping[Line, Line]) -> Reading:

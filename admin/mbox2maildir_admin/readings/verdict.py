@@ -1,6 +1,6 @@
 """What a file is, and what may be decided about it."""
 from collections.abc import Sequence
-from dataclasses import dataclass
+from dataclasses import dataclass, replace
 from typing import Optional
 
 from ..kinds.damage import finding_of
@@ -54,6 +54,17 @@ class Verdict:
         """A decision that holds only as long as the lines that are doubtful now stay so, and no other one is."""
         ties = (self.look.doubts if self.look else Doubts(self.start)).ties(mailbox, self.kind)
         return decision._replace(of=ties.numbers if decision.text or decision.begin else ties.messages)
+
+    def after(self, noted: Reading) -> "Verdict":
+        """The same once something was decided. Its word stays in answers about deleted mail alone and, if lines begin
+        messages alike, in all others. If deleted mail was kept, this comes first."""
+        word, answers = noted.word, self.answers
+        if word and answers == (DROP_DELETED, PLAIN):
+            answers = Reading(word, drop=True), Reading(word)
+        elif word == MBOXO:
+            answers = tuple(one._replace(word=MBOXO) if one.word == MBOXRD else one for one in answers)
+        is_kept = bool(noted.of) and not noted.drop
+        return replace(self, answers=tuple(sorted(answers, key=lambda one: bool(one.drop == is_kept))))
 
     def doubtful(self) -> list[Line]:
         """The lines that may begin messages."""

@@ -31,7 +31,7 @@ from ..migration.several import refuse
 from ..migration.steps import Extra, Opened, Options
 from ..nexts import Remark, Todo, task
 from ..readings.earlier import messages_then, plan_then
-from ..readings.reading import Reading
+from ..readings.reading import Reading, with_deleted
 from ..readings.texts import content_of, disk_of
 from ..terminal import named, text_of
 from ..units import Say, counted, silent
@@ -138,7 +138,8 @@ class Undo:
         reading = Reading.of_words(words)
         extra = Dovecot(self.record) if reading.bare else Extra()
         with content_of(opened.mailbox, disk) as text:
-            plan = plan_then(text, reading)
+            # it still has what was marked as deleted since
+            plan = plan_then(text, with_deleted(reading))
             if not plan:
                 raise Left(UNREADABLE % words, Reason.UNDO)
             return cores_of(messages_then(text, plan, disk, extra.start_of))

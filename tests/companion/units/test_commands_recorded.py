@@ -26,17 +26,6 @@ class RecordedTest(HomeTest):
             self.assertEqual(Recorded(self.root).recorded(mailbox, mailbox), wanted)
             self.assertEqual(Recorded(self.root + b"/.Sent").recorded(mailbox, mailbox), wanted)
 
-    def test_only_an_answer_that_leaves_no_message_says_that_it_is_done(self) -> None:
-        text = A + b"X-Mozilla-Status: 0009\n\n"
-        self.fill(text)
-        with Mailbox.open(self.path) as mailbox:
-            for messages, wanted in ((1, None), (0, 0)):
-                self.note("answered", text, messages=messages, words="drop-deleted")
-                plan = Recorded(self.root).recorded(mailbox, mailbox)
-                self.assertEqual(plan.messages if plan else None, wanted)
-            self.note("done", text)
-            self.assertEqual(Recorded(self.root).recorded(mailbox, mailbox), Plan("", 1))
-
     def test_a_record_that_is_no_file(self) -> None:
         self.fill(TEXT)
         os.makedirs(self.root + b"/mbox2maildir-record")

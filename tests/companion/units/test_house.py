@@ -42,7 +42,6 @@ MOST_LINES, MOST_MODULES = 300, 15
 # several, also back, and of all names of a tree; those steps, those of the way back, and the commands, each a module
 LONGER = {
     "back.several": 305,
-    "ledger.history": 304,
     "ledger.ledger": 360,
     "ledger.match": 352,
     "migration.several": 317,

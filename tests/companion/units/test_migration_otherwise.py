@@ -100,8 +100,7 @@ class OtherwiseTest(HomeTest):
     def test_again_of_what_is_read_otherwise(self) -> None:
         """What a human says now holds once it is undone; if nobody says anything, it is read as it was."""
         row = self.done(QUOTED, QUOTED, "mboxo", again=True)
-        self.assertEqual((row.reason, len(self.mail())), (Reason.ANOTHER_READING, 2))
-        self.assertIn("--as mboxo ", told(row))
+        self.assertEqual((row.fate, row.kind, len(self.mail())), (Fate.DONE, "mboxo by --as", 2))
         row = self.done(QUOTED, QUOTED, "mboxrd", again=True, decision=Reading("mboxo"))
         self.assertEqual((row.reason, len(self.mail())), (Reason.ANOTHER_READING, 2))
         self.assertIn("migrate --undo ", told(row))
@@ -119,9 +118,13 @@ class OtherwiseTest(HomeTest):
             self.assertEqual(row.reason, Reason.UNCLEAR if text == MEASURED else None, told(row))
 
     def test_it_grew_and_nobody_says_the_word(self) -> None:
-        """The word counts for each `>`, which those that know the messages overlook."""
+        """The record has it. Without one it counts for each `>`, which those that know the messages overlook."""
         row = self.done(QUOTED, QUOTED + ONE, "mboxo")
-        self.assertEqual((row.fate, row.reason, len(self.mail())), (Fate.LEFT, Reason.ANOTHER_READING, 2))
+        self.assertEqual((row.fate, told(row)), (Fate.DONE, "as it was answered before; it grew by 1 message"))
+        (self.maildir / "mbox2maildir-record").unlink()
+        self.fill(QUOTED + ONE + TWO)
+        row = self.migrate()
+        self.assertEqual((row.fate, row.reason, len(self.mail())), (Fate.LEFT, Reason.ANOTHER_READING, 3))
         self.assertIn("--as mboxo ", told(row))
 
     def test_mail_without_a_length_came(self) -> None:

@@ -76,6 +76,7 @@ class ShownTest(HomeTest):
     def test_what_gives_other_bytes_than_it_brought(self) -> None:
         self.fill(UNDATED + b">>From x\n\n")
         self.assertIs(self.migrate(decision=Reading("mboxo")).fate, Fate.DONE)
+        (self.maildir / "mbox2maildir-record").unlink()
         self.fill(UNDATED + b">>From x\n\n" + NEW)
         self.assertIs(self.migrate().reason, Reason.UNCLEAR)
 

@@ -273,10 +273,10 @@ class ChangedTest(PreparingTest):
                 self.assertRaises(AssertionError, self.finish, **options)
 
     def test_what_a_copy_is_made_of_is_read(self) -> None:
-        """Lines that have to be quoted, and an answer of a human."""
+        """Lines that have to be quoted, also by a word."""
         for text, decision in (
             (with_length(A, MAY) + b"\n", UNDECIDED),
-            (ONE + TWO, Reading("mboxrd")),
+            (A + b"\n>>From x\n\n", Reading("mboxo")),
             (gzip.compress(ONE + TWO), UNDECIDED),
         ):
             self.make_home("home-%d" % len(os.listdir(self.here)))

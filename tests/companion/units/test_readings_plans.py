@@ -85,7 +85,7 @@ class PlanTest(unittest.TestCase):
             found = self.plan(text, decision)
             self.assertEqual(replace(found, answer=None), plan)
             is_asked = text in (NOT_QUOTED, (A + b"\n").replace(b"\n", b"\r"))
-            self.assertEqual(bool(found.answer), is_asked, text)
+            self.assertEqual(bool(found.answer and found.answer.of), is_asked, text)
 
     def test_an_answer_to_another_question(self) -> None:
         """It decides nothing: what is asked now is asked, if something is. Growth and flags do not make it another."""
