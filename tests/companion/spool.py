@@ -14,15 +14,13 @@ from pathlib import Path
 
 from tests.support import accounts
 from tests.support.checks import TOP, equal, match_in, matches, text_of
-from tests.support.homes import ADMIN, check_all, expect, mailbox, run, script, subjects, want_users
+from tests.support.homes import ADMIN, check_all, expect, mailbox, run, subjects, want_users
 from tests.support.ledgers import RECORD
 from tests.support.mail import ONE, THREE, TWO, numbered
 from tests.support.printed import groups_in, row_in, rows_in
 from tests.support.schema import wrong
 
 USERS = ["m61one", "m61two", "m61three"]
-# the limits of the first process of the machine
-FIRST = Path("/proc/1/limits")
 
 
 @contextlib.contextmanager
@@ -130,7 +128,6 @@ def spool(home: Path) -> None:
         inbox_in_a_home(home)
         second_mailbox(home)
         as_objects(home)
-        limits(home)
         without_proc(home)
         hostile_spool(home)
         hostile_homes(home)
@@ -375,32 +372,6 @@ def as_objects(home: Path) -> None:
     equal("--json: the sums", (sums["verdicts"], sums["messages"], sums["bytes"]), wanted)
     says = f"9 mailboxes: 2 done, 7 left; 3 messages, {wanted[2]} bytes in ... s; 3 users: ..."
     matches("--json: the sentence", sums["says"], says)
-
-
-def limits(home: Path) -> None:
-    """What runs with a user's rights has, of each limit, the lower one of root's and the first process's, and makes no
-    core dump, whatever limits root has set for itself."""
-    (home / "bin/mbox2maildir").rename(home / "bin/real")
-    script(home / "bin/mbox2maildir", f'cat /proc/self/limits >$HOME/limits; exec {home}/bin/real "$@"')
-    old = home / "limits/spool"
-    theirs(mailbox(old / "m61three", TWO + THREE), "m61three")
-    given = ["/usr/bin/env", "prlimit", "--cpu=5000:6000", "--nofile=500:2000", "--core=0:unlimited", "--"]
-    words = ["migrate", "--users", "--maildir", "Limits", str(old), "m61three"]
-    status, out, _ = run([*given, str(ADMIN), *words], home)
-    equal("limits: status", (status, out.splitlines()[-1][:17]), (0, "1 mailbox: 1 done"))
-    (home / "bin/real").rename(home / "bin/mbox2maildir")
-    root, first = limits_in(run([*given, "cat", "/proc/self/limits"], home)[1]), limits_in(text_of(FIRST))
-    wanted = {name: (min(soft, first[name][0]), min(hard, first[name][1])) for name, (soft, hard) in root.items()}
-    wanted["Max core file size"] = (0, 0)
-    equal("limits of a child", limits_in(text_of(home / "homes/m61three/limits")), wanted)
-    equal("limits of root's that are lower", wanted["Max cpu time"], (5000, 6000))
-
-
-def limits_in(text: str) -> dict[str, tuple[float, float]]:
-    """The soft and the hard limits that the kernel prints, by their names."""
-    lines = re.findall(r"(?m)^(Max .*?) {2,}(\w+) +(\w+)", text)
-    numbers = {word: float(word.replace("unlimited", "inf")) for _, *both in lines for word in both}
-    return {name: (numbers[soft], numbers[hard]) for name, soft, hard in lines}
 
 
 def without_proc(home: Path) -> None:

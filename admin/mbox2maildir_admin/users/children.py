@@ -3,6 +3,7 @@ import contextlib
 import json
 import os
 import pwd
+import resource
 import select
 import signal
 import time
@@ -17,9 +18,9 @@ from ..nexts import Todo, task
 from ..signals import ENDING, INTERRUPTS, blocked
 from ..terminal import named, shown
 from .clerks import Clerk, Refusal, Work
+from .descriptors import close_all_but
 from .disks import SYNC, Disks
-from .keyring import Join, joining
-from .limits import close_all_but, take_users_limits
+from .keyring import joining
 from .telling import LONGEST, Teller, Whose, next_of, number_of, row_of, spelled
 
 # how long a child may say nothing, in seconds, and how long all of them are listened to at a time, in milliseconds
@@ -31,8 +32,6 @@ PATH = "/usr/local/sbin:/usr/local/bin:/usr/sbin:/usr/bin:/sbin:/bin"
 # for waitid; the module os has this name since Python 3.9
 STOPPED = getattr(os, "CLD_STOPPED", 5)
 BROKEN_OFF, BROKEN = 130, "its process was interrupted"
-
-
 # the signals that are blocked
 Mask = set[Union[int, signal.Signals]]
 
@@ -46,7 +45,7 @@ class Ends(NamedTuple):
     life: int
 
 
-def start(account: pwd.struct_passwd, work: Work, mask: Mask, join: Join) -> Ends:
+def start(account: pwd.struct_passwd, work: Work, mask: Mask, join: Callable[[], object]) -> Ends:
     """Starts a task with the rights of an account and this mask of signals; until the child has set the mask, all of
     them are blocked. A child that does not read answers keeps nobody."""
     tells, told = os.pipe()
@@ -68,15 +67,16 @@ def start(account: pwd.struct_passwd, work: Work, mask: Mask, join: Join) -> End
     return Ends(pid, tells, life)
 
 
-def become(account: pwd.struct_passwd, kept: tuple[int, ...], mask: Mask, join: Join) -> None:
-    """Gives a process the rights of a user, some descriptors and a mask of signals. It keeps nothing else of root's."""
+def become(account: pwd.struct_passwd, kept: tuple[int, ...], mask: Mask, join: Callable[[], object]) -> None:
+    """Gives a process the rights of a user, some descriptors and a mask of signals. It keeps nothing else of root's,
+    and makes no core dump, which would hold mail."""
     os.setsid()
     join()
     nothing = os.open(os.devnull, os.O_RDWR)
     for number in range(3):
         os.dup2(nothing, number)
     close_all_but(kept)
-    take_users_limits()
+    resource.setrlimit(resource.RLIMIT_CORE, (0, 0))
     os.chdir("/")
     os.umask(0o077)
     os.initgroups(account.pw_name, account.pw_gid)

@@ -13,7 +13,7 @@ from mbox2maildir_admin.migration.rows import Reporter
 from mbox2maildir_admin.nexts import Answer, Command
 from mbox2maildir_admin.signals import ENDING
 from mbox2maildir_admin.terminal import LINE
-from mbox2maildir_admin.users import children, limits
+from mbox2maildir_admin.users import children, descriptors
 from mbox2maildir_admin.users.children import UNREADABLE, Child, Crew, Ends
 from mbox2maildir_admin.users.clerks import Clerk, Refusal, Work
 from mbox2maildir_admin.users.telling import LONGEST, Teller, Whose
@@ -319,7 +319,7 @@ class RightsTest(unittest.TestCase):
         most = min(hard, 1 << 20)
         self.addCleanup(resource.setrlimit, resource.RLIMIT_NOFILE, (soft, hard))
         resource.setrlimit(resource.RLIMIT_NOFILE, (most, hard))
-        with open("/etc/shadow", "rb") as file, mock.patch.object(limits, "DESCRIPTORS", "/nowhere"):
+        with open("/etc/shadow", "rb") as file, mock.patch.object(descriptors, "DESCRIPTORS", "/nowhere"):
             os.dup2(file.fileno(), most - 1)
             self.addCleanup(os.close, most - 1)
             files = self.facts()["files"]
@@ -329,10 +329,10 @@ class RightsTest(unittest.TestCase):
 
     def test_without_proc_and_without_a_limit_each_number_is_tried(self) -> None:
         none = resource.RLIM_INFINITY
-        with mock.patch.object(limits, "DESCRIPTORS", "/nowhere"), mock.patch.object(
+        with mock.patch.object(descriptors, "DESCRIPTORS", "/nowhere"), mock.patch.object(
             resource, "getrlimit", return_value=(1024, none)
         ):
-            self.assertEqual(limits.end_of_descriptors(), (1 << 31) - 1)
+            self.assertEqual(descriptors.end_of_descriptors(), (1 << 31) - 1)
 
     def test_a_child_has_the_rights_of_its_user_alone(self) -> None:
         account, groups = pwd.getpwnam("nobody"), os.getgroups()

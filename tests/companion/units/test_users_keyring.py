@@ -4,8 +4,7 @@ import os
 import unittest
 from unittest import mock
 
-from mbox2maildir_admin.users import keyring
-from mbox2maildir_admin.users.keyring import call_on, joining
+from mbox2maildir_admin.users.keyring import OF_64_BITS, joining
 
 # for the call `keyctl`: the operation that asks for the number of a keyring, and the name of the session's keyring
 GET_KEYRING_ID, SESSION = 0, -3
@@ -13,8 +12,8 @@ GET_KEYRING_ID, SESSION = 0, -3
 
 def session() -> int:
     """The number of the session keyring."""
-    number = call_on(os.uname().machine, True)
-    found = ctypes.CDLL(None).syscall(ctypes.c_long(number or -1), GET_KEYRING_ID, SESSION, 0)
+    number = OF_64_BITS.get(os.uname().machine, -1)
+    found = ctypes.CDLL(None).syscall(ctypes.c_long(number), GET_KEYRING_ID, SESSION, 0)
     assert isinstance(found, int)
     return found
 
@@ -31,14 +30,8 @@ class KeyringTest(unittest.TestCase):
         self.assertEqual(os.waitpid(child, 0)[1] >> 8, 1)
         self.assertEqual(session(), before)
 
-    def test_numbers(self) -> None:
-        found = [call_on(*of) for of in (("x86_64", True), ("x86_64", False), ("aarch64", True), ("vax", False))]
-        self.assertEqual(found, [250, 288, 219, None])
-        # a kernel of 32 bits names the processor
-        self.assertEqual({call_on("i%d86" % number, False) for number in (3, 4, 5, 6)}, {288})
-
     def test_where_there_is_none(self) -> None:
-        with mock.patch.object(keyring, "call_on", return_value=None):
+        with mock.patch("os.uname", return_value=mock.Mock(machine="vax")):
             joining()()
         with mock.patch("importlib.import_module", side_effect=ImportError):
             joining()()
