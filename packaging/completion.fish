@@ -84,7 +84,6 @@ complete -c mbox2maildir-admin -n '__mbox2maildir_at migrate 0 9999' -l tree -x 
 complete -c mbox2maildir-admin -n '__mbox2maildir_at migrate 0 9999' -l jobs -x -d 'how many folders or users at a time'
 complete -c mbox2maildir-admin -n '__mbox2maildir_at migrate 0 9999' -l names -r -F -d 'file with the names of users'
 complete -c mbox2maildir-admin -n '__mbox2maildir_at migrate 0 9999' -l list -d 'only print these users'
-complete -c mbox2maildir-admin -n '__mbox2maildir_at migrate 0 9999' -l by-size -d 'list the largest mailbox first'
 complete -c mbox2maildir-admin -n '__mbox2maildir_at back 0 9999' -l dry-run -d 'print what would go back'
 complete -c mbox2maildir-admin -n '__mbox2maildir_at back 0 9999' -l moved -x -a 'stay copy' -d 'what becomes of what people moved'
 complete -c mbox2maildir-admin -n '__mbox2maildir_at back 0 9999' -l dovecot -d 'carry over UIDs, keywords and subscriptions'

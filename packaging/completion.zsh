@@ -63,7 +63,7 @@ _mbox2maildir_admin() {
                 '--report[write these objects to a new file]:file:_files' '--users[migrate a spool, each mailbox as its user]' \
                 '--maildir[Maildir of each home]:name' '--tree[folder of mailboxes of each home]:name' \
                 '--jobs[how many folders or users at a time]:number' '--names[file with the names of users]:file:_files' \
-                '--list[only print these users]' '--by-size[list the largest mailbox first]' \
+                '--list[only print these users]' \
                 ':Maildir, or old spool:_path_files -/' '*:mailbox:_files'
             ;;
         back)

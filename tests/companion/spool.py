@@ -214,7 +214,7 @@ def listing(home: Path) -> None:
         mailbox(old / name, b"" if name.endswith("lock") else ONE)
         if name in USERS:
             theirs(old / name, name)
-    one, three, two = (
+    wanted = "".join(
         f"{name}\t{source}\t{size}\n"
         for name, source, size in (
             ("m61one", "from the spool", len(ONE)),
@@ -223,9 +223,7 @@ def listing(home: Path) -> None:
         )
     )
     theirs(mailbox(old / "m61three", ONE + TWO), "m61three")
-    wanted = one + three + two
     expect([*words, "--list", old], home, 0, wanted)
-    expect([*words, "--list", "--by-size", old], home, 0, three + one + two)
     given = f"{ADMIN} {' '.join(words)} --names - {old}"
     (home / "list").write_text(wanted, encoding="utf-8")
     status, out, err = run(["/bin/sh", "-c", f"{given} --list <list"], home)

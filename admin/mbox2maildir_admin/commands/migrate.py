@@ -53,8 +53,6 @@ def task_of(given: argparse.Namespace) -> Telling:
         raise WrongOptions(wrong)
     if given.list and (not given.users or given.json or given.report is not None):
         raise WrongOptions("--list needs --users, and goes with neither --json nor --report")
-    if given.by_size and not given.list:
-        raise WrongOptions("--by-size needs --list")
 
     def task(reporter: Reporter, tally: Tally) -> None:
         if given.users:

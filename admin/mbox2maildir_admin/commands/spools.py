@@ -22,7 +22,7 @@ def spool_of(given: argparse.Namespace) -> tuple[Spool, Optional[Sources]]:
 
 def list_spool(given: argparse.Namespace) -> bool:
     """Lists the users whom a run would take. Returns whether a list can hold all of their names."""
-    return list_users(*spool_of(given), by_size=given.by_size)
+    return list_users(*spool_of(given))
 
 
 def migrate_spool(given: argparse.Namespace, options: Options, reporter: Reporter, tally: Tally) -> None:

@@ -172,7 +172,6 @@ def add_for_users(add: Add) -> None:
     add("--users", action="store_true", help="migrate each mailbox in OLD into a Maildir in the home of its user")
     add_homes(add, "migrate")
     add("--list", action="store_true", help="only print these users, each with the source of the name and the bytes")
-    add("--by-size", action="store_true", help="with --list: the largest mailbox first")
 
 
 def add_verify(command_line: CommandLine) -> None:

@@ -165,18 +165,15 @@ class MigrateTest(unittest.TestCase):
     def test_list(self) -> None:
         """It needs --users, and prints nothing else."""
         with mock.patch.object(spools, "list_users", return_value=True) as listed:
-            status = self.run_it("--users", "--list", "--by-size", "--dovecot", "--tree", "mail", "/var/mail", "mia")
+            status = self.run_it("--users", "--list", "--dovecot", "--tree", "mail", "/var/mail", "mia")
         self.assertEqual(status, Status.WELL)
         spool = Spool(b"/var/mail", Home(b"Maildir", b"mail"))
-        self.assertEqual(listed.call_args, mock.call(spool, {b"mia": COMMAND_LINE}, by_size=True))
+        self.assertEqual(listed.call_args, mock.call(spool, {b"mia": COMMAND_LINE}))
         for words in (["M", "box"], ["--users", "--json", "S"], ["--users", "--report", "none", "S"]):
             with printed() as caught, self.assertRaises(SystemExit):
                 self.run_it("--list", *words)
             says = "mbox2maildir-admin: --list needs --users, and goes with neither --json nor --report"
             self.assertEqual(caught.err[0], says)
-        with printed() as caught, self.assertRaises(SystemExit):
-            self.run_it("--users", "--by-size", "/var/mail")
-        self.assertEqual(caught.err[0], "mbox2maildir-admin: --by-size needs --list")
 
     def test_jobs(self) -> None:
         for number, words in (("0", ["M", "box"]), ("x", ["--users", "/var/mail"])):

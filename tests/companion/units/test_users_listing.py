@@ -21,13 +21,13 @@ ACCOUNTS_HERE = {
 
 
 class ListTest(FolderTest):
-    def listed(self, home: Home, *names: bytes, by_size: bool = False) -> tuple[bool, list[str], list[str]]:
+    def listed(self, home: Home, *names: bytes) -> tuple[bool, list[str], list[str]]:
         """What is printed of a spool for these names, and whether a list can hold all of them."""
         asked = dict.fromkeys(names, COMMAND_LINE) if names else None
         with mock.patch.multiple(
             pwd, getpwnam=ACCOUNTS_HERE.__getitem__, getpwall=lambda: list(ACCOUNTS_HERE.values())
         ), mock.patch.object(module, "first_uid", lambda: 1000), printed() as caught:
-            is_right = list_users(Spool(self.here, home), asked, by_size)
+            is_right = list_users(Spool(self.here, home), asked)
         return is_right, caught.out, caught.err
 
     def test_all_users(self) -> None:
@@ -51,12 +51,6 @@ class ListTest(FolderTest):
         text = "\n".join(out).encode("utf-8", "surrogateescape")
         with mock.patch.object(sys, "stdin", io.TextIOWrapper(io.BytesIO(text))):
             self.assertEqual(list(asked_for([], b"-") or ()), [b"ann", b"caf\xe9", b"mia"])
-
-    def test_the_largest_first(self) -> None:
-        """A user without a mailbox has 0 bytes, and comes last."""
-        make(self.here, {"ann": b"1", "mia": b"22"})
-        wanted = ["mia\t%s\t2" % COMMAND_LINE, "ann\t%s\t1" % COMMAND_LINE, "daemon\t%s\t0" % COMMAND_LINE]
-        self.assertEqual(self.listed(PLAIN, b"daemon", b"ann", b"mia", by_size=True), (True, wanted, []))
 
     def test_names_that_were_asked_for(self) -> None:
         wanted = ["daemon\t%s\t0" % COMMAND_LINE, "ann\t%s\t0" % COMMAND_LINE]
