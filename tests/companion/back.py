@@ -1,5 +1,6 @@
 #!/usr/bin/env -S python3 -B
-"""mbox2maildir-admin back: random histories of a Maildir, and the mailboxes after the way back, beside a model.
+"""mbox2maildir-admin back: stories, and random histories of a Maildir, and the mailboxes after the way back, beside a
+model.
 
 BACK_SEEDS says how many histories there are of each dialect, and BACK_FIRST the first one.
 """
@@ -8,7 +9,7 @@ from collections import Counter
 from collections.abc import Sequence
 from functools import partial
 
-from tests.support.archives import Home, fresh
+from tests.support.archives import Home, Rule, fresh, letters, mail_of, number_of
 from tests.support.cases import Failed, run_cases
 from tests.support.rewriting.runs import Ran
 from tests.support.wayback.dialects import DIALECTS, Dialect, bare, parted
@@ -154,5 +155,59 @@ def histories(dialect: str) -> None:
         told(dialect, home)
 
 
+def goes_back(home: Home, why: str, *numbers: int) -> None:
+    """The way back ends well, and a mailbox has these messages then."""
+    ran = home.place.run(["back", "--json", "--now", "M", "OLD"])
+    there = [number_of(mail) for mail in mail_of((home.path / "OLD").read_bytes())]
+    if ran.status != 0 or there != [*numbers]:
+        raise Failed(f"{why}: {ran.status}: {there}, not {numbers}: {ran.output}")
+
+
+def a_name_that_was_placed_again(home: Home) -> None:
+    """People moved a message into another folder. The mailbox has one more of it then, which gets the name that the
+    first had. Each file is that of a message of the mailbox."""
+    home.write("OLD", letters(0))
+    home.done("OLD")
+    path = home.those(0)[0]
+    for sub in ("tmp", "new", "cur"):
+        (home.folder("Trash") / sub).mkdir(parents=True)
+    path.rename(home.folder("Trash") / "cur" / path.name)
+    home.write("OLD", letters(0, 0))
+    home.done("OLD")
+    goes_back(home, "the first was moved", 0, 0)
+    home.has(0, name="Trash")
+
+
+def names_that_no_line_can_have(home: Home) -> None:
+    """Equal messages went back, whose files have such names. One that is deleted in the mailbox then does not go back
+    again, and a further one does."""
+    home.write("OLD", letters(0))
+    home.done("OLD")
+    for number in range(2):
+        home.place_file(f"{number} name:2,", mail_of(letters(1))[0])
+    goes_back(home, "both are new", 0, 1, 1)
+    for kept in ([0, 1], [0]):
+        home.write("OLD", letters(*kept))
+        home.done("OLD")
+        goes_back(home, "what was deleted", *kept)
+    home.place_file("2 name:2,", mail_of(letters(1))[0])
+    goes_back(home, "one more", 0, 1)
+
+
+STORIES: Sequence[Rule] = (a_name_that_was_placed_again, names_that_no_line_can_have)
+
+
+def story(rule: Rule) -> None:
+    """A case: one story."""
+    with fresh() as home:
+        home.begin()
+        rule(home)
+
+
 if __name__ == "__main__":
-    run_cases({name: partial(histories, name) for name in DIALECTS})
+    run_cases(
+        {
+            **{rule.__name__: partial(story, rule) for rule in STORIES},
+            **{name: partial(histories, name) for name in DIALECTS},
+        }
+    )

@@ -9,6 +9,7 @@ from functools import partial
 
 from tests.support.archives import (
     PROGRAMS,
+    RECORD,
     RO,
     TEN,
     Fields,
@@ -27,6 +28,21 @@ from tests.support.cases import Failed
 from tests.support.mail import INTERNAL
 
 NONE, DOVECOT = [], ["--dovecot"]  # type: list[str], list[str]
+
+
+def rule_1_killed_under_a_name_that_it_had(home: Home) -> None:
+    """A reader deletes a message, of which the mailbox has one more then. A run is killed once it has placed that under
+    the name of the first: it is there once, and the first is not brought again."""
+    home.write("OLD", letters(0))
+    home.done("OLD")
+    home.take(0)
+    home.write("OLD", letters(0, 0))
+    home.done("OLD")
+    home.has(0)
+    for path in home.ledger(), home.maildir / RECORD:
+        path.write_bytes(b"".join(path.read_bytes().splitlines(True)[:-1]))
+    row = home.done("OLD")["OLD"]
+    home.has(0, why=row)
 
 
 def fields_change(home: Home, fields: Fields, words: Sequence[str]) -> None:
@@ -490,6 +506,30 @@ def rule_5_a_copy(home: Home) -> None:
     home.has(1)
 
 
+def rule_5_a_name_that_no_line_can_have(home: Home) -> None:
+    """A file of such a name is that of one message: its mailbox, or another one, has the message twice. If a mailbox
+    lost one of two, and its file is deleted, another mailbox does not bring that."""
+    for then in ("OLD", "OTHER"):
+        home.begin()
+        home.write("FIRST", letters(20))
+        home.done("FIRST")
+        home.place_file("a name", mail_of(letters(0))[0])
+        home.write("OLD", letters(0))
+        home.done("OLD")
+        home.write(then, letters(0, 0))
+        row = home.done(then)[then]
+        home.has(0, 0, 20, why=(then, row))
+    files = [home.place_file(f"{number} name", mail_of(letters(1))[0]) for number in range(2)]
+    home.write("OLD", letters(0, 1, 1))
+    home.done("OLD")
+    home.write("OLD", letters(0, 1))
+    home.done("OLD")
+    files[0].unlink()
+    home.write("THIRD", letters(1, 1))
+    row = home.done("THIRD")["THIRD"]
+    home.has(0, 0, 1, 20, why=row)
+
+
 FORMS = [b"", RO, b"X-UID: 3\n", b"Status: O\nX-UID: 4\n"]
 
 
@@ -508,6 +548,7 @@ def rule_5_in_several_forms(home: Home) -> None:
 
 
 RULES = [
+    rule_1_killed_under_a_name_that_it_had,
     rule_2_the_fields_of_another_mailbox,
     rule_2_only_the_cores_are_equal,
     rule_2_another_mailbox_in_crlf,
@@ -533,6 +574,7 @@ RULES = [
     rule_5_renamed_and_grown,
     rule_5_shared_and_renamed,
     rule_5_a_copy,
+    rule_5_a_name_that_no_line_can_have,
     rule_5_in_several_forms,
 ]  # type: list[Rule]
 

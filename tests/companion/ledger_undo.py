@@ -249,6 +249,34 @@ def rule_6_a_renamed_file_of_equal_messages(home: Home) -> None:
             home.has(5, 5, why=(place, is_deleted))
 
 
+def rule_6_the_only_file_was_renamed(home: Home) -> None:
+    """Another program gave the file of a message a name of its own. It stays, and the row says so."""
+    home.write("OLD", letters(5))
+    home.done("OLD")
+    path = home.those(5)[0]
+    path.rename(path.parent.parent / "cur/17000.1.host:2,S")
+    row = home.undo("OLD")["OLD"]
+    home.has(5)
+    want_said(row, 1, "renamed")
+    if "gone" in texts_of(row):
+        raise Failed(f"it is there: {row}")
+
+
+def rule_6_a_file_that_two_mailboxes_lack(home: Home) -> None:
+    """Two mailboxes have a message, whose file was deleted, and a third one has it three times. Its undo leaves one
+    file, which both have then."""
+    for name, count in (("OLD", 1), ("TWIN", 1), ("OTHER", 3)):
+        home.write(name, letters(*[5] * count))
+        home.done(name)
+    next(path for path in home.those(5) if path.name.endswith(".1")).unlink()
+    row = home.undo("OTHER")["OTHER"]
+    home.has(5, why=row)
+    home.undo("OLD")
+    home.has(5)
+    home.undo("TWIN")
+    home.has()
+
+
 def rule_6_a_renamed_file_and_a_third_mailbox(home: Home) -> None:
     """The same, and a third mailbox shares the file that was placed under the name anew: it stays, and the row counts
     the one that has another name."""
@@ -399,16 +427,21 @@ def rule_6_while_another_one_is_begun(home: Home) -> None:
 
 
 def rule_6_files_of_odd_names(home: Home) -> None:
-    """Files of other programs whose names no line can have are counted, each."""
-    home.write("OTHER", letters(9))
-    home.done("OTHER")
-    for number, mail in enumerate(mail_of(letters(*range(3)))):
-        home.place_file(f"{number} copied:2,S", mail)
-    home.write("OLD", letters(*range(5)))
-    home.done("OLD")
-    home.done("OLD", words=["--again"])
-    want_said(home.undo("OLD")["OLD"], 3, "nobody")
-    home.has(0, 1, 2, 9)
+    """Files of other programs whose names no line can have are counted, each, also after a killed run."""
+    for is_killed in (False, True):
+        home.begin()
+        home.write("OTHER", letters(9))
+        home.done("OTHER")
+        for number, mail in enumerate(mail_of(letters(0, 1, 1))):
+            home.place_file(f"{number} copied:2,S", mail)
+        home.write("OLD", letters(*range(5), 1))
+        home.done("OLD")
+        home.done("OLD", words=["--again"])
+        for path in (home.ledger(), home.maildir / RECORD) if is_killed else ():
+            path.write_bytes(b"".join(path.read_bytes().splitlines(True)[:-1]))
+        row = home.undo("OLD")["OLD"]
+        want_said(row, 3, "nobody")
+        home.has(0, 1, 1, 9, why=row)
 
 
 def rule_7_archives_that_overlap(home: Home) -> None:
@@ -619,6 +652,8 @@ RULES = [
     rule_6_a_killed_undo_of_equal_messages,
     rule_6_a_foreign_file_was_deleted,
     rule_6_a_renamed_file_of_equal_messages,
+    rule_6_the_only_file_was_renamed,
+    rule_6_a_file_that_two_mailboxes_lack,
     rule_6_a_renamed_file_and_a_third_mailbox,
     rule_6_kept_and_brought_later,
     rule_6_again_after_an_undo,

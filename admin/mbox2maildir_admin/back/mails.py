@@ -11,10 +11,11 @@ from typing import NamedTuple, Optional
 
 from .. import ADMIN
 from ..faults import Fault, PlaceFault, Reason
-from ..ledger.batches import State
+from ..ledger.assign import File, by_form, files_of
+from ..ledger.batches import Line, State
 from ..ledger.history import Step
 from ..ledger.ledger import Ledger
-from ..ledger.lines import NAMELESS, RETURNED
+from ..ledger.lines import RETURNED
 from ..ledger.record import Record
 from ..ledger.strangers import folders_in
 from ..maildir.files import listings_of
@@ -33,15 +34,27 @@ NOT_UNDONE = "the undo of %s was interrupted: run it again first"
 
 
 class Slot(NamedTuple):
-    """A message that mailboxes brought into a folder: the name of its file, without an info, its core, and the paths of
-    those that have it. Nobody misses the file of what went back and is no longer in its mailbox."""
+    """A file that mailboxes brought into a folder, or that went back. Nobody misses that of a message that went back
+    and is no longer in its mailbox."""
 
     folder: bytes
-    name: bytes
-    core: bytes
-    paths: frozenset[str]
-    is_held: bool = True
-    is_returned: bool = False
+    file: File
+
+    @property
+    def core(self) -> bytes:
+        """The core of its message."""
+        return self.file.lines[0].message.core
+
+    @property
+    def paths(self) -> set[str]:
+        """The paths of the mailboxes that have it, or had it."""
+        lines = [line for line in self.file.lines if line.state is State.HELD] or self.file.lines
+        return {line.path for line in lines}
+
+    @property
+    def is_returned(self) -> bool:
+        """Whether a mailbox has it since it went back."""
+        return any(line.state is State.HELD and line.message.word == RETURNED for line in self.file.lines)
 
 
 class Mail(NamedTuple):
@@ -75,46 +88,71 @@ class Sorted(NamedTuple):
 class Sorting:
     """Finds the file of each message that mailboxes brought."""
 
-    def __init__(self, slots: Iterable[Slot], mails: Iterable[Mail]) -> None:
-        self.slots, self.mails = list(slots), list(mails)
+    def __init__(self, lines: Iterable[tuple[bytes, list[Line]]], mails: Iterable[Mail]) -> None:
+        """Takes the lines about each folder, and the files of all."""
+        self.mails: collections.defaultdict[bytes, dict[bytes, Mail]] = collections.defaultdict(dict)
+        for mail in mails:
+            self.mails[mail.folder][mail.before] = mail
+        self.gone: list[Slot] = []
         self.moved: list[tuple[Mail, Slot]] = []
         self.changed: list[Slot] = []
         self.returned: list[Mail] = []
+        self.paths: set[str] = set()
+        for folder, several in lines:
+            self.take_home(folder, several)
 
     def run(self) -> Sorted:
         """Finds them: by the name and by the core in the folder, then in other folders."""
-        paths = frozenset(path for slot in self.slots for path in slot.paths)
-        for is_same, is_home in (
-            (lambda mail: (mail.folder, mail.before), True),
-            (lambda mail: (mail.folder, mail.core), True),
-            (lambda mail: own_base(mail.before), False),
-            (lambda mail: mail.core, False),
-        ):
-            self.take(is_same, is_home)
-        new = sorted(self.mails, key=lambda mail: (mail.time, mail.name, mail.folder))
-        deleted = [one for one in self.slots if one.is_held]
-        return Sorted(new, self.moved, self.changed, deleted, paths, self.returned)
+        self.gone.sort(key=lambda slot: not slot.file.is_held)
+        self.take_moved(lambda mail: own_base(mail.before), lambda slot: own_base(slot.file.lines[0].message.name))
+        self.take_moved(lambda mail: mail.core, lambda slot: slot.core)
+        new = sorted(self.left(), key=lambda mail: (mail.time, mail.name, mail.folder))
+        deleted = [slot for slot in self.gone if slot.file.is_held]
+        return Sorted(new, self.moved, self.changed, deleted, frozenset(self.paths), self.returned)
 
-    def take(self, key: Callable[[Mail], object], is_home: bool) -> None:
-        """Takes the files that have the key of a message."""
-        free: collections.defaultdict[object, list[Slot]] = collections.defaultdict(list)
-        for slot in reversed(self.slots):
-            free[key(Mail(slot.folder, slot.name, b"", slot.core, 0))].append(slot)
-        rest = []
-        for mail in self.mails:
-            its = key(mail)
-            if not its or not free.get(its):
-                rest.append(mail)
-                continue
-            slot = free[its].pop()
-            if mail.core != slot.core:
-                self.changed.append(slot)
-            if slot.is_returned and is_home:
-                self.returned.append(mail)
-            if not is_home:
-                self.moved.append((mail, slot))
-        self.mails = rest
-        self.slots = [slot for several in free.values() for slot in reversed(several)]
+    def left(self) -> Iterator[Mail]:
+        """The files that stand for no message."""
+        return (mail for mails in self.mails.values() for mail in mails.values())
+
+    def take_home(self, folder: bytes, lines: list[Line]) -> None:
+        """Takes the files that a folder has of the messages that were brought there."""
+        mails = self.mails[folder]
+        slots = [Slot(folder, file) for file in files_of(lines, mails) if file.is_held or went_back(file)]
+        self.paths.update(path for slot in slots for path in slot.paths)
+        found = [slot for slot in slots if slot.file.name]
+        for slot in found:
+            self.take(slot, mails.pop(slot.file.name or b""))
+        free = by_form((mail.core, before) for before, mail in mails.items())
+        missing = [slot for slot in slots if not slot.file.name]
+        for slot in sorted(missing, key=lambda slot: not slot.file.is_held):
+            if slot.file.find(free, slot.core):
+                self.take(slot, mails.pop(slot.file.name or b""))
+            else:
+                self.gone.append(slot)
+
+    def take(self, slot: Slot, mail: Mail) -> None:
+        """Takes the file of a message."""
+        if mail.core != slot.core:
+            self.changed.append(slot)
+        if mail.folder != slot.folder:
+            self.moved.append((mail, slot))
+        elif slot.is_returned:
+            self.returned.append(mail)
+
+    def take_moved(self, form: Callable[[Mail], bytes], form_of: Callable[[Slot], bytes]) -> None:
+        """Takes the files that other folders have of messages that are gone from theirs."""
+        at = {mail.path: mail for mail in self.left()}
+        free = by_form((form(mail), path) for path, mail in at.items())
+        for slot in self.gone:
+            if slot.file.find(free, form_of(slot)):
+                mail = at[slot.file.name or b""]
+                self.take(slot, self.mails[mail.folder].pop(mail.before))
+        self.gone = [slot for slot in self.gone if slot.file.name is None]
+
+
+def went_back(file: File) -> bool:
+    """Whether a file went back to a mailbox, which no longer has its message."""
+    return any(line.state is State.FORMER and line.message.word == RETURNED for line in file.lines)
 
 
 def own_base(name: bytes) -> bytes:
@@ -122,8 +160,8 @@ def own_base(name: bytes) -> bytes:
     return name if BASE.fullmatch(name) else b""
 
 
-def slots_of(root: bytes, record: Record) -> Iterator[Slot]:
-    """The messages that mailboxes brought into the folders of a Maildir. Raises Fault if that is not known."""
+def lines_about(root: bytes, record: Record) -> Iterator[tuple[bytes, list[Line]]]:
+    """The lines about the folders of a Maildir. Raises Fault if not all of them are known."""
     for line in record.lines():
         if line.what is Step.UNDOING:
             raise PlaceFault(NOT_UNDONE % line.path, Reason.UNDO)
@@ -131,7 +169,7 @@ def slots_of(root: bytes, record: Record) -> Iterator[Slot]:
         folder = INBOX if path == root else os.path.basename(path)
         ledger = Ledger(path)
         want_whole(root, folder, ledger)
-        yield from slots_in(folder, ledger)
+        yield folder, [line for line in ledger.entries(None) if line.state is not State.UNDONE]
 
 
 def want_whole(root: bytes, folder: bytes, ledger: Ledger) -> None:
@@ -150,30 +188,6 @@ def is_begun(ledger: Ledger, path: str) -> bool:
     """Whether a run was killed that may have placed something of a mailbox."""
     number = ledger.pending(path)
     return number is not None and bool(set(ledger.open[number].letters) - set(RETURNED))
-
-
-def slots_in(folder: bytes, ledger: Ledger) -> Iterator[Slot]:
-    """The messages that mailboxes brought into a folder. What has a name is one message, whoever brought it; of what
-    has none, as many are different ones as one mailbox has."""
-    paths: collections.defaultdict[tuple[bytes, bytes, bool], set[str]] = collections.defaultdict(set)
-    returned: set[bytes] = set()
-    nameless: collections.Counter[tuple[str, bytes]] = collections.Counter()
-    for line in ledger.entries(None):
-        is_held, one = line.state is State.HELD, line.message
-        if one.name == NAMELESS:
-            nameless[line.path, one.core] += is_held
-        elif is_held or line.state is State.FORMER and one.word == RETURNED:
-            paths[one.name, one.core, is_held].add(line.path)
-            returned |= {one.name} if is_held and one.word == RETURNED else set()
-    most: collections.Counter[bytes] = collections.Counter()
-    for (_, core), count in nameless.items():
-        most[core] = max(most[core], count)
-    held = {name for name, _, is_held in paths if is_held}
-    for (name, core, is_held), several in paths.items():
-        if is_held or name not in held:
-            yield Slot(folder, name, core, frozenset(several), is_held, name in returned)
-    for core in most.elements():
-        yield Slot(folder, NAMELESS, core, frozenset(path for path, its in nameless if its == core))
 
 
 def mails_of(root: bytes, say: Say = silent) -> Iterator[Mail]:
@@ -221,7 +235,7 @@ def core_in(path: bytes) -> Optional[bytes]:
 def sorted_mail(root: bytes, record: Record, say: Say = silent) -> Sorted:
     """Which mail of a Maildir is new, and what became of the rest. Raises Fault if nothing shows that."""
     try:
-        return Sorting(slots_of(root, record), mails_of(root, say)).run()
+        return Sorting(lines_about(root, record), mails_of(root, say)).run()
     except OSError as error:
         raise PlaceFault("%s: %s" % (named(error.filename or root), error.strerror), Reason.ERROR) from error
 

@@ -102,27 +102,28 @@ class State(Enum):
 
 
 class Line(NamedTuple):
-    """A message of the mailbox at a path, as the ledger has it in the batch with a number."""
+    """A message of the mailbox at a path, as the ledger has it in the batch with a number, and whether that batch was
+    to place its file."""
 
     path: str
     state: State
     message: Brought
     number: int = 0
+    is_new: bool = False
 
 
 class Lines:
     """The messages that lines of a mailbox have, while its batches are read in their order."""
 
-    def __init__(self, path: str) -> None:
-        self.path = path
+    def __init__(self) -> None:
         self.held: collections.defaultdict[tuple[bytes, ...], list[Line]] = collections.defaultdict(list)
         self.former: list[Line] = []
 
-    def take(self, number: int, one: Brought) -> None:
+    def take(self, line: Line) -> None:
         """Takes a line of a batch that has ended."""
-        same = self.held[one[1:]]
-        if one.word != LOST:
-            same.append(Line(self.path, State.HELD, one, number))
+        same = self.held[line.message[1:]]
+        if line.message.word != LOST:
+            same.append(line)
         elif same:
             # of several with a name, the last one has the file
             self.former.append(same.pop(0)._replace(state=State.FORMER))

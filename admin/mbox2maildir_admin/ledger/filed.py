@@ -1,19 +1,12 @@
-"""The files that the messages of a mailbox have by the ledger of their folder, whoever has rewritten the mailbox, and
-the lines that lack theirs.
-
-Another program may have renamed a file. So one that no line names, in the bare form of a message whose file is gone, is
-that file. Each counts once.
-"""
+"""The files that the messages of a mailbox have by the ledger of their folder, whoever has rewritten the mailbox."""
 import collections
 import itertools
-from collections.abc import Callable, Iterable, Iterator
 from typing import Optional
 
 from ..mbox.bases import OWN
 from ..mbox.inventory import Inventory
-from .batches import Line, State
 from .ledger import Ledger
-from .lines import LOST, NAMELESS, PLACED
+from .lines import LOST, PLACED
 
 
 class Filed:
@@ -70,40 +63,3 @@ class Filed:
                 self.places[waiting.pop(core)] = place
                 if more.get(core):
                     waiting[core] = more[core].popleft()
-
-
-def claims(lines: Iterable[Line], bare: bytes) -> collections.Counter[bytes]:
-    """How often the lines of a mailbox name a file at most for messages of a bare form that it has. A name that is
-    taken anew stands for several."""
-    by_path: collections.defaultdict[str, collections.Counter[bytes]] = collections.defaultdict(collections.Counter)
-    for line in lines:
-        one = line.message
-        if line.state is State.HELD and one.bare == bare and one.name != NAMELESS:
-            by_path[line.path][one.name] += 1
-    most: collections.Counter[bytes] = collections.Counter()
-    for names in by_path.values():
-        most |= names
-    return most
-
-
-def unfiled(lines: Iterable[Line], is_there: Callable[[bytes], bool]) -> list[Line]:
-    """Those of some lines whose names are not there. A name that was taken anew is that of one of its lines."""
-    seen: set[bytes] = set()
-    found: list[Line] = []
-    for line in lines:
-        name = line.message.name
-        if not is_there(name) or name in seen:
-            found.append(line)
-        elif name != NAMELESS:
-            seen.add(name)
-    return found
-
-
-def missing(lines: Iterable[Line], renamed: collections.Counter[bytes]) -> Iterator[Line]:
-    """Those of some lines of a mailbox, whose names are not there, that lack their files. So many files of each bare
-    form have no line: what stands for a line is taken from that."""
-    for line in lines:
-        if renamed[line.message.bare] > 0:
-            renamed[line.message.bare] -= 1
-        else:
-            yield line

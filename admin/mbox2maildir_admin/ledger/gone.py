@@ -44,7 +44,7 @@ def left_by_killed(match: Match) -> int:
     if ledger.pending(path) is None:
         return 0
     placed = {one.name for one in ledger.intended(path, ledger.last_end(path)) if one.word == PLACED}
-    placed.difference_update(match.taken, ledger.names())
+    placed.difference_update(match.taken(), ledger.names())
     return len(match.files.present(placed))
 
 

@@ -219,37 +219,38 @@ class Ledger:
                 most |= counted_in(source.bares, wanted)
         return most
 
-    def pieces(self) -> Iterator[tuple[int, Several]]:
-        """The lines of messages, each with the number of its batch."""
-        number = 0
+    def pieces(self) -> Iterator[tuple[int, Several, int]]:
+        """The lines of messages, the number of their batch, and how many come before those that it was to place."""
+        number = first = 0
         for text, several in pieces_in(self.folder):
             batch = None if several else BATCH.match(text[:-1])
-            number = int(batch[1]) if batch else number
+            number, first = (int(batch[1]), int(batch[2]) - int(batch[3])) if batch else (number, first)
             if several:
-                yield number, several
+                yield number, several, first
+                first -= len(several.names)
 
     def messages(
         self, numbers: Container[int], cores: Optional[Container[bytes]] = None
     ) -> Iterator[tuple[int, Brought]]:
-        """The lines of messages in batches with these numbers, or those that have one of these cores, each with its
-        number."""
-        for number, several in self.pieces():
+        """The lines of messages in batches with these numbers, or those with one of these cores, with their numbers."""
+        for number, several, _ in self.pieces():
             if number in numbers:
                 yield from ((number, one) for one in several.messages(cores))
 
     def entries(self, cores: Optional[Container[bytes]]) -> Iterator[Line]:
         """The lines of messages that have one of these cores; of all messages without them."""
         ended: dict[str, Lines] = {}
-        ends = {batch.path: self.last_end(batch.path) for batch in self.open.values()}
-        for number, one in self.messages({*self.ended, *self.open, *self.undone}, cores):
-            if number in self.ended:
-                path = self.ended[number]
-                ended.setdefault(path, Lines(path)).take(number, one)
-            elif number in self.undone and one.word != LOST:
-                yield Line(self.undone[number], State.UNDONE, one, number)
-            elif one.word != LOST:
-                path = self.open[number].path
-                yield Line(path, State.OPEN if number > ends[path] else State.DROPPED, one, number)
+        states = {number: (path, State.HELD) for number, path in self.ended.items()}
+        states.update((number, (path, State.UNDONE)) for number, path in self.undone.items())
+        for number, its in self.open.items():
+            states[number] = its.path, State.OPEN if number > self.last_end(its.path) else State.DROPPED
+        for number, several, first in self.pieces():
+            for at, one in several.counted(cores) if number in states else ():
+                line = Line(*states[number], one, number, at >= first)
+                if line.state is State.HELD:
+                    ended.setdefault(line.path, Lines()).take(line)
+                elif one.word != LOST:
+                    yield line
         for path, lines in ended.items():
             held = (one for same in lines.held.values() for one in same)
             yield from (one._replace(state=State.OPEN) if path in self.leaving else one for one in held)
@@ -274,7 +275,7 @@ class Ledger:
         """The names of the files that mailboxes have placed, or share, in batches that have ended, and in more with
         these numbers."""
         numbers = {*self.ended}.union(*more)
-        for number, several in self.pieces():
+        for number, several, _ in self.pieces():
             if number in numbers:
                 named = zip(several.words, several.names)
                 yield from (name for word, name in named if word in PLACED + SHARED and name != NAMELESS)

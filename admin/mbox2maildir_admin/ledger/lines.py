@@ -82,10 +82,14 @@ class Several(NamedTuple):
 
     def messages(self, wanted: Optional[Container[bytes]] = None) -> Iterator[Brought]:
         """Each of them, or each that has one of these cores."""
+        return (one for _, one in self.counted(wanted))
+
+    def counted(self, wanted: Optional[Container[bytes]] = None) -> Iterator[tuple[int, Brought]]:
+        """The same, each with how many are before it."""
         for at, name in enumerate(self.names):
             core = digest_at(self.cores, at)
             if wanted is None or core in wanted:
-                yield Brought(self.words[at : at + 1], name, core, digest_at(self.bares, at))
+                yield at, Brought(self.words[at : at + 1], name, core, digest_at(self.bares, at))
 
 
 # lines of messages that follow each other, with these; any other line by itself, with none

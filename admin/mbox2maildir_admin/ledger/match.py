@@ -16,8 +16,8 @@ from ..mbox.bases import is_own
 from ..mbox.core import SHORT
 from ..mbox.inventory import Inventory
 from ..units import Place, Say, silent
+from .assign import File, Offer, files_of, offers
 from .batches import Line, State
-from .filed import claims, missing, unfiled
 from .files import Files
 from .ledger import Ledger
 from .lines import FOREIGN, NAMELESS, PLACED, SHARED, Brought, counted_in, word_for_others
@@ -30,7 +30,8 @@ IsDeleted = Callable[[Place], bool]
 class Seen:
     """What is to be said of new messages."""
 
-    # by the paths of other mailboxes: how many messages they brought too, and how many of these are gone
+    # by the paths of other mailboxes: how many messages they brought too, or a killed run of theirs has placed, and how
+    # many of these are gone
     shared: collections.Counter[str] = field(default_factory=collections.Counter)
     gone: collections.Counter[str] = field(default_factory=collections.Counter)
     # the files that no mailbox brought
@@ -62,10 +63,9 @@ class Match:
         self.fresh: set[int] = set()
         self.need: Sequence[int] = range(len(inventory))
         self.dropped: list[Brought] = []
-        # the lines of the ledger about these messages, by their cores, and how often a name counts already
+        # the lines of the ledger about these messages, by their cores
         self.lines: dict[bytes, list[Line]] = {}
-        self.taken: collections.Counter[bytes] = collections.Counter()
-        # those of these names that are there, and files of other programs by their bare forms
+        # those of the names in these lines that are there, and files of other programs by their bare forms
         self.present: set[bytes] = set()
         self.strangers: dict[bytes, list[bytes]] = {}
         self.seen = Seen()
@@ -79,23 +79,33 @@ class Match:
         self.look()
         self.find_strangers()
         groups, needed = self.groups()
-        most, known = ledger.most(path, groups), self.known(groups)
-        for bare, places in groups.items():
-            serving = Serving(self, places)
-            serving.take_own()
-            serving.share(bare, most[bare] - known[bare] - serving.count())
-            serving.take_of_lines(bare)
-            serving.take_strangers(bare)
-            needed += serving.end()
+        needed += self.serve(groups)
         self.need = self.new if len(needed) == len(self.new) else array.array("Q", sorted(needed))
         self.drop()
         return self
+
+    def serve(self, groups: dict[bytes, list[int]]) -> list[int]:
+        """Finds what stands for new messages, whose places are given by their bare forms. Returns the places of the
+        rest."""
+        most, known, needed = self.ledger.most(self.path, groups), self.known(groups), []
+        cores: collections.defaultdict[bytes, list[bytes]] = collections.defaultdict(list)
+        for bare, places in groups.items():
+            cores[self.inventory.core(places[0])].append(bare)
+        for core, bares in cores.items():
+            files = files_of(self.lines.get(core, ()), self.present)
+            served = {one for one in files if self.is_mine(one.name or b"") or one.is_held_by(self.path)}
+            for bare in bares:
+                serving = Serving(self, groups[bare], files, served)
+                serving.take_offers(most[bare] - known[bare])
+                serving.take_strangers()
+                needed += serving.end()
+        return needed
 
     def find_strangers(self) -> None:
         """Finds the files that no line explains. At first sight they may be in another form, and all lines count."""
         ledger, is_first = self.ledger, self.path not in self.ledger.sources
         named = (one.name for _, one in ledger.messages({*ledger.ended, *ledger.open} if is_first else ()))
-        known = Hashes(itertools.chain(self.taken, self.names_of_lines(), named))
+        known = Hashes(itertools.chain(self.taken(), self.names_of_lines(), named))
         self.strangers = self.files.foreign(self.new, known, is_first)
 
     @classmethod
@@ -108,14 +118,13 @@ class Match:
         source = ledger.sources.get(path)
         self.lost = source.has() if source else self.lost
         self.look()
-        self.taken.clear()
         unnamed = self.files.by_core(self.names_of_lines())
         groups: collections.defaultdict[bytes, list[int]] = collections.defaultdict(list)
         for place in range(len(inventory)):
             groups[inventory.core(place)].append(place)
         needed: list[int] = []
         for core, places in groups.items():
-            serving = Serving(self, places)
+            serving = Serving(self, places, files_of(self.lines.get(core, ()), self.present), set())
             serving.take_any(unnamed.get(core, ()))
             needed += serving.end()
         self.need = array.array("Q", sorted(needed))
@@ -167,11 +176,18 @@ class Match:
                     self.files.kept.add(line.message.name)
                 else:
                     self.lines.setdefault(line.message.core, []).append(line)
-        self.taken.update(line.message.name for line in self.own_lines() if line.state is State.HELD)
-        self.taken.update(map(self.inventory.table.name, (at for at, is_mine in enumerate(self.mine) if is_mine)))
-        del self.taken[NAMELESS]
         names = self.names_of_lines()
         self.present = self.files.present(names) if names else set()
+
+    def is_mine(self, name: bytes) -> bool:
+        """Whether a run that was killed has placed a file of the mailbox under this name, which the text has."""
+        place = self.inventory.table.own_place(name)
+        return place is not None and bool(self.mine[place])
+
+    def taken(self) -> set[bytes]:
+        """The names of what stands for new messages."""
+        mine = map(self.inventory.table.name, itertools.compress(itertools.count(), self.mine))
+        return {*mine, *(one.name for one in self.found.values())}
 
     def own_lines(self) -> Iterator[Line]:
         """The lines of this mailbox that were looked at."""
@@ -222,109 +238,85 @@ class Match:
 
 
 class Serving:
-    """Looks for the files of some new messages, which have the same core."""
+    """Looks for what stands for some new messages, which have the same core."""
 
-    def __init__(self, match: Match, places: Sequence[int]) -> None:
-        self.match, self.waiting, self.places = match, list(places), places
-        # files that are marked as deleted, and stand for none; and lines of others that do, though their names are gone
+    def __init__(self, match: Match, places: Sequence[int], files: list[File], served: set[File]) -> None:
+        """Takes the files that lines about this core are about, and those of them that stand for a message."""
+        self.match, self.waiting, self.places, self.files, self.served = match, list(places), places, files, served
+        self.bare = match.inventory.bare(places[0])
+        # files that are marked as deleted, and stand for none
         self.refused: set[bytes] = set()
-        self.unfiled: list[Line] = []
-        self.lines = match.lines.get(match.inventory.core(places[0]), [])
+        # what stands for messages though it is gone, unless it was renamed, with the paths of those that brought it
+        self.gone: dict[File, str] = {}
 
-    def count(self) -> int:
-        """For how many messages a file was taken."""
-        return len(self.places) - len(self.waiting)
-
-    def take(self, word: bytes, name: bytes, places: Sequence[int] = (), most: int = 1) -> bool:
-        """Takes a file for one of the messages that wait, or for one of these, if it may stand for it, and stands for
-        fewer than so many already. Returns whether it does."""
+    def take(self, word: bytes, name: bytes, places: Sequence[int] = (), is_fresh: bool = False) -> bool:
+        """Takes a file for one of the messages that wait, or for one of these, if it may stand for it. Returns whether
+        it does. What this program has placed and no run has finished gets dates and flags too."""
         match, is_trashed = self.match, name in self.match.files.trashed
         several = places or self.waiting
         place = next((one for one in several if not is_trashed or match.is_deleted(Place(one))), None)
-        if match.taken[name] >= most:
-            return False
         if place is None:
-            self.refused.add(name)
+            self.refused |= {name} if several else set()
             return False
-        if name != NAMELESS:
-            match.taken[name] += 1
         self.waiting.remove(place)
+        match.fresh.update([place] if is_fresh and is_own(name) else ())
         match.found[place] = Brought(word, name, match.inventory.core(place), match.inventory.bare(place))
         return True
 
-    def is_there(self, name: bytes) -> bool:
-        """Whether a file of a line is there, as far as it has a name."""
-        return name in self.match.present or name == NAMELESS
+    def take_file(self, file: File, line: Line, is_fresh: bool = False) -> bool:
+        """Takes a file, by a line about it, unless it stands for another message."""
+        one, is_mine = line.message, line.path == self.match.path
+        word = one.word if is_mine and one.word != SHARED else word_for_others(one.word)
+        if file in self.served or not self.take(word, one.name, is_fresh=is_fresh):
+            return False
+        self.served.add(file)
+        return True
 
-    def share(self, bare: bytes, count: int) -> None:
-        """Takes so many messages that other mailboxes brought in this form. Files that are there come first."""
-        claimed, taken = claims(self.lines, bare), self.match.taken
-        others = (one for one in self.lines if one.path != self.match.path)
-        lines = [one for one in others if one.state in (State.HELD, State.FORMER) and one.message.bare == bare]
-        gone = set(unfiled(lines, lambda name: self.is_there(name) and not taken[name]))
-        for line in sorted(lines, key=gone.__contains__):
-            one, word = line.message, word_for_others(line.message.word)
-            if count > 0 and self.take(word, one.name, most=max(1, claimed[one.name])):
-                count -= 1
-                self.match.seen.shared[line.path] += 1
-                self.unfiled += [line] if line in gone else []
-
-    def take_own(self) -> None:
-        """Takes what a killed run placed of the mailbox, or found there."""
-        for line in self.lines:
-            one, before = line.message, self.waiting[:]
-            is_mine = line.path == self.match.path and line.state is State.OPEN and one.word != SHARED
-            if is_mine and one.name in self.match.present and self.take(one.word, one.name):
-                self.match.fresh.update(set(before).difference(self.waiting) if is_own(one.name) else ())
-
-    def take_of_lines(self, bare: bytes) -> None:
-        """Takes files of the ledger: what the mailbox had once, and what killed runs placed of it before, or of
-        others."""
-        for line in self.lines:
-            is_mine, one = line.path == self.match.path, line.message
-            may_serve = line.state in (State.OPEN, State.DROPPED) and one.bare == bare
-            if not (may_serve or is_mine):
+    def take_offers(self, count: int) -> None:
+        """Takes what lines offer. Other mailboxes brought so many of these messages, without those that this one has
+        begun."""
+        for offer, file, line in offers(self.files, self.match.path, self.bare):
+            is_shared = offer in (Offer.SHARED, Offer.GONE)
+            is_enough = is_shared and len(self.places) - len(self.waiting) >= count
+            if is_enough or not self.take_file(file, line, offer is Offer.BEGUN):
                 continue
-            word = one.word if is_mine and one.word != SHARED else word_for_others(one.word)
-            if one.name in self.match.present and self.take(word, one.name):
-                self.match.seen.regained += line.state is State.FORMER
+            self.match.seen.shared.update([line.path] if is_shared else ())
+            self.gone.update({file: line.path} if offer is Offer.GONE else {})
+            self.match.seen.regained += offer is Offer.ONCE and line[:2] == (self.match.path, State.FORMER)
 
-    def unnamed(self, bare: bytes) -> list[bytes]:
+    def unnamed(self) -> collections.deque[bytes]:
         """The files of this form that no line names. Those come last that may stand for a message that waits."""
-        names, digest_at = {line.message.name for line in self.lines}, self.match.inventory.table.digest
+        names = {line.message.name for file in self.files for line in file.lines}
+        digest_at = self.match.inventory.table.digest
         digests = dict.fromkeys(map(digest_at, sorted(self.places, key=set(self.waiting).__contains__)))
         own = (name for digest in digests for name in self.match.files.own_names(digest))
-        several = dict.fromkeys(itertools.chain(own, self.match.strangers.get(bare, ())))
-        return [name for name in several if name not in names and name not in self.match.taken]
+        several = dict.fromkeys(itertools.chain(own, self.match.strangers.get(self.bare, ())))
+        return collections.deque(name for name in several if name not in names and not self.match.is_mine(name))
 
-    def take_strangers(self, bare: bytes) -> None:
+    def take_strangers(self) -> None:
         """Takes files that no line names. They stand first for messages of this form whose files are gone: somebody
         renamed them."""
-        if not (self.waiting or self.unfiled):
+        if not (self.waiting or self.gone):
             return
-        match, files = self.match, self.unnamed(bare)
-        held = (one for one in self.lines if one[:2] == (match.path, State.HELD))
-        gone = missing([*unfiled(held, self.is_there), *self.unfiled], collections.Counter({bare: len(files)}))
-        match.seen.gone.update(line.path for line in gone if line.path != match.path)
-        claimed = claims(self.lines, bare) | collections.Counter(line.message.name for line in self.unfiled)
-        spare = sum(claimed.values()) - sum(map(self.is_there, claimed))
-        match.taken.update(files[:spare])
+        match, unnamed = self.match, self.unnamed()
+        missing = [file for file in self.files if file.name is None and (file.is_held or file in self.gone)]
+        for file in sorted(missing, key=lambda one: (not one.line_of(match.path), one not in self.gone)):
+            if file.bare == self.bare:
+                file.find({self.bare: unnamed}, self.bare)
+        match.seen.gone.update(path for file, path in self.gone.items() if file.name is None)
         for place in list(self.waiting):
-            its = {*match.files.own_names(match.inventory.table.digest(place)), *match.strangers.get(bare, ())}
-            name = next((one for one in files[spare:] if one in its and self.take(FOREIGN, one, [place])), None)
+            its = {*match.files.own_names(match.inventory.table.digest(place)), *match.strangers.get(self.bare, ())}
+            name = next((one for one in unnamed if one in its and self.take(FOREIGN, one, [place], True)), None)
             if name:
+                unnamed.remove(name)
                 match.seen.foreign.append(name)
-                # what `convert` has placed gets dates and flags too
-                match.fresh.update([place] if is_own(name) else ())
 
     def take_any(self, unnamed: Sequence[bytes]) -> None:
         """Takes any files with the core of the messages: those of the mailbox's own lines first, then those of others,
         then those without a line."""
-        for line in sorted(self.lines, key=lambda line: line.path != self.match.path):
-            word, name = line.message.word, line.message.name
-            if name in self.match.present:
-                kept = word if line.path == self.match.path else word_for_others(word)
-                self.take(kept, name)
+        for file in sorted(self.files, key=lambda one: not one.line_of(self.match.path)):
+            if file.name:
+                self.take_file(file, file.line_of(self.match.path) or file.lines[-1])
         for name in unnamed:
             if self.take(FOREIGN, name):
                 self.match.seen.foreign.append(name)
@@ -332,11 +324,8 @@ class Serving:
     def end(self) -> list[int]:
         """The places of the messages that are nowhere."""
         match = self.match
-        forms = {
-            line.message.bare
-            for line in self.lines
-            if line.path != match.path and line.state is State.HELD and line.message.name in match.present
-        }
+        lines = (line for file in self.files for line in file.lines if line.message.name in match.present)
+        forms = {one.message.bare for one in lines if one.path != match.path and one.state is State.HELD}
         match.seen.marked += min(len(self.refused), len(self.waiting))
         match.seen.other_form += sum(bool(forms) and match.inventory.bare(place) not in forms for place in self.waiting)
         return self.waiting

@@ -2,10 +2,11 @@
 import os
 from collections.abc import Sequence
 
-from mbox2maildir_admin.back.mails import Mail, Slot, Sorted, Sorting, copied, mails_in, slots_in, want_whole
+from mbox2maildir_admin.back.mails import Mail, Slot, Sorted, Sorting, copied, mails_in, want_whole
 from mbox2maildir_admin.faults import Fault, Reason
+from mbox2maildir_admin.ledger.batches import Line, State
 from mbox2maildir_admin.ledger.ledger import Ledger
-from mbox2maildir_admin.ledger.lines import FOREIGN, LOST, NAMELESS, RETURNED, note_end
+from mbox2maildir_admin.ledger.lines import FOREIGN, LOST, NAMELESS, PLACED, RETURNED, Brought, note_end
 from mbox2maildir_admin.maildir.making import PREPARED
 from mbox2maildir_admin.units import silent
 
@@ -18,9 +19,15 @@ C, D = b"c" * 16, b"d" * 16
 PATHS = frozenset([BOX])
 
 
-def slot(name: bytes = BASE, core: bytes = C, folder: bytes = HERE, is_held: bool = True) -> Slot:
-    """A message that a mailbox brought."""
-    return Slot(folder, name, core, frozenset([BOX]), is_held)
+# a line, and its folder
+Told = tuple[bytes, Line]
+
+
+def told(
+    name: bytes = BASE, core: bytes = C, folder: bytes = HERE, state: State = State.HELD, word: bytes = PLACED
+) -> Told:
+    """The line of a message that a mailbox brought."""
+    return folder, Line(BOX, state, Brought(word, name, core, core))
 
 
 def mail(name: bytes = BASE, core: bytes = C, folder: bytes = HERE, time: int = 5) -> Mail:
@@ -28,42 +35,59 @@ def mail(name: bytes = BASE, core: bytes = C, folder: bytes = HERE, time: int = 
     return Mail(folder, name, b"/" + name, core, time)
 
 
-def sorted_out(slots: Sequence[Slot], mails: Sequence[Mail]) -> Sorted:
+def sorted_out(several: Sequence[Told], mails: Sequence[Mail]) -> Sorted:
     """What becomes of them."""
-    return Sorting(slots, mails).run()
+    folders = dict.fromkeys(folder for folder, _ in several)
+    return Sorting(((one, [line for folder, line in several if folder == one]) for one in folders), mails).run()
+
+
+def seen(found: Sorted) -> tuple[object, ...]:
+    """What was found, with the folders and the cores of messages."""
+    slots = [[(one.folder, one.core) for one in several] for several in (found.changed, found.deleted)]
+    return found.new, [(mail, one.folder, one.core) for mail, one in found.moved], *slots, found.paths, found.returned
 
 
 class SortingTest(LedgerTest):
     def test_a_file_at_home(self) -> None:
         for its in (mail(), mail(BASE + b":2,S"), mail(b"renamed")):
-            self.assertEqual(sorted_out([slot()], [its]), Sorted([], [], [], [], PATHS, []))
+            self.assertEqual(seen(sorted_out([told()], [its])), ([], [], [], [], PATHS, []))
 
     def test_edited(self) -> None:
-        self.assertEqual(sorted_out([slot()], [mail(core=D)]), Sorted([], [], [slot()], [], PATHS, []))
+        self.assertEqual(seen(sorted_out([told()], [mail(core=D)])), ([], [], [(HERE, C)], [], PATHS, []))
 
     def test_deleted(self) -> None:
-        self.assertEqual(sorted_out([slot()], []), Sorted([], [], [], [slot()], PATHS, []))
-        self.assertEqual(sorted_out([slot(is_held=False)], []), Sorted([], [], [], [], PATHS, []))
+        self.assertEqual(seen(sorted_out([told()], [])), ([], [], [], [(HERE, C)], PATHS, []))
+        found = sorted_out([told(state=State.FORMER, word=RETURNED)], [])
+        self.assertEqual(seen(found), ([], [], [], [], PATHS, []))
 
     def test_moved(self) -> None:
         for its in (mail(folder=THERE), mail(b"renamed", folder=THERE)):
-            self.assertEqual(sorted_out([slot()], [its]), Sorted([], [(its, slot())], [], [], PATHS, []))
+            self.assertEqual(seen(sorted_out([told()], [its])), ([], [(its, HERE, C)], [], [], PATHS, []))
 
     def test_a_copy_is_new(self) -> None:
         copy = mail(b"copy", folder=THERE)
-        self.assertEqual(sorted_out([slot()], [copy, mail()]).new, [copy])
-        self.assertEqual(sorted_out([slot()], [mail(b"copy"), mail()]).new, [mail(b"copy")])
+        self.assertEqual(sorted_out([told()], [copy, mail()]).new, [copy])
+        self.assertEqual(sorted_out([told()], [mail(b"copy"), mail()]).new, [mail(b"copy")])
         # one of two was moved, and the other one is its copy
         several = [mail(b"x", folder=THERE), mail(b"y", folder=b".third")]
-        found = sorted_out([slot()], several)
+        found = sorted_out([told()], several)
         self.assertEqual((len(found.new), len(found.moved)), (1, 1))
 
     def test_a_home_comes_before_another_folder(self) -> None:
         """Two messages are equal. One was moved, and the one at home stays."""
-        slots = [slot(), slot(OTHER_BASE, folder=b".third")]
-        found = sorted_out(slots, [mail(b"x", folder=THERE), mail(OTHER_BASE, folder=b".third")])
-        self.assertEqual(found.moved, [(mail(b"x", folder=THERE), slot())])
+        several = [told(), told(OTHER_BASE, folder=b".third")]
+        found = sorted_out(several, [mail(b"x", folder=THERE), mail(OTHER_BASE, folder=b".third")])
+        self.assertEqual([(its, one.folder) for its, one in found.moved], [(mail(b"x", folder=THERE), HERE)])
         self.assertEqual((found.new, found.deleted), ([], []))
+
+    def test_a_name_that_was_placed_again(self) -> None:
+        """The mailbox has both messages: people moved the file of the first one."""
+        moved = mail(folder=THERE)
+        for is_new in (False, True):
+            several = [(HERE, told()[1]._replace(number=number, is_new=is_new)) for number in (1, 2)]
+            found = sorted_out(several, [moved, mail()])
+            self.assertEqual((found.new, [its for its, _ in found.moved], found.deleted), ([], [moved], []))
+            self.assertEqual(len(sorted_out(several, [mail()]).deleted), 1)
 
     def test_what_is_new_comes_by_its_time(self) -> None:
         several = [mail(b"late", D, time=9), mail(b"early", D, time=1)]
@@ -71,43 +95,45 @@ class SortingTest(LedgerTest):
 
     def test_what_was_moved_goes_back_too(self) -> None:
         its = mail(folder=THERE)
-        self.assertEqual(copied(sorted_out([slot()], [its])), Sorted([its], [], [], [slot()], PATHS, []))
+        found = copied(sorted_out([told()], [its]))
+        self.assertEqual(seen(found), ([its], [], [], [(HERE, C)], PATHS, []))
 
     def test_what_went_back_before(self) -> None:
         """What people moved after it went back is not counted: its keywords are those of another folder."""
-        its = slot()._replace(is_returned=True)
+        its = told(word=RETURNED)
         for one, returned in ((mail(), [mail()]), (mail(folder=THERE), [])):
             self.assertEqual(sorted_out([its], [one]).returned, returned)
 
 
 class SlotsTest(LedgerTest):
-    def slots(self) -> list[Slot]:
-        """The messages that the ledger has."""
-        return sorted(slots_in(HERE, Ledger(self.folder)))
+    def slots(self, *mails: Mail) -> list[Slot]:
+        """The messages that mailboxes brought and that are gone, if these files are there."""
+        return list(Sorting([(HERE, list(Ledger(self.folder).entries(None)))], mails).gone)
 
     def test_a_file_that_two_mailboxes_have(self) -> None:
         one = line_of(ONE)
         for path in (BOX, OTHER):
             note_end(self.folder, self.begin(path, one))
-        self.assertEqual(self.slots(), [Slot(HERE, one.name, one.core, frozenset([BOX, OTHER]))])
+        self.assertEqual([(its.core, its.paths) for its in self.slots()], [(one.core, {BOX, OTHER})])
 
     def test_without_a_name(self) -> None:
         one = line_of(ONE, FOREIGN)._replace(name=NAMELESS)
         for path, count in ((BOX, 2), (OTHER, 1)):
             note_end(self.folder, self.begin(path, *[one] * count))
-        self.assertEqual([its.name for its in self.slots()], [NAMELESS] * 2)
+        self.assertEqual([its.paths for its in self.slots()], [{BOX, OTHER}, {BOX}])
+        self.assertEqual(len(self.slots(mail(b"a name", one.core))), 1)
 
     def test_what_the_mailbox_lost(self) -> None:
         """What it lost goes back, unless it went back once."""
         kept, gone, back = line_of(ONE), line_of(TWO), line_of(TWO.replace(b"two", b"six"), RETURNED)
         note_end(self.folder, self.begin(BOX, kept, gone, back))
         note_end(self.folder, self.begin(BOX, *(one._replace(word=LOST) for one in (gone, back))))
-        self.assertEqual({one.name: one.is_held for one in self.slots()}, {kept.name: True, back.name: False})
+        self.assertEqual({its.core: its.file.is_held for its in self.slots()}, {kept.core: True, back.core: False})
         self.assertEqual([one.is_returned for one in self.slots()], [False, False])
 
     def test_what_went_back(self) -> None:
         note_end(self.folder, self.begin(BOX, line_of(ONE), line_of(TWO, RETURNED)))
-        self.assertEqual({one.name for one in self.slots() if one.is_returned}, {line_of(TWO).name})
+        self.assertEqual({one.core for one in self.slots() if one.is_returned}, {line_of(TWO).core})
 
     def test_an_intention_counts_for_nothing(self) -> None:
         self.begin(BOX, line_of(ONE, RETURNED))

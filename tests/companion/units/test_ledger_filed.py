@@ -1,16 +1,12 @@
-"""Which files the messages of a mailbox have by the ledger, and which lines lack theirs."""
-import unittest
-from collections import Counter
+"""Which files the messages of a mailbox have by the ledger."""
 
-from mbox2maildir_admin.ledger.batches import Line, State
-from mbox2maildir_admin.ledger.filed import Filed, claims, missing, unfiled
+from mbox2maildir_admin.ledger.filed import Filed
 from mbox2maildir_admin.ledger.ledger import Ledger
-from mbox2maildir_admin.ledger.lines import FOREIGN, LOST, NAMELESS, RETURNED, SHARED
+from mbox2maildir_admin.ledger.lines import FOREIGN, LOST, RETURNED, SHARED
 
 from tests.support.brought import BOX, OTHER, LedgerTest, inventory_of, line_of, named_of
 from tests.support.mail import ONE, THREE, TWO
 
-FORM = line_of(ONE).bare
 READ = ONE.replace(b"\n\n", b"\nStatus: RO\n\n", 1)
 
 
@@ -72,31 +68,3 @@ class FiledTest(LedgerTest):
     def test_names_of_other_programs(self) -> None:
         self.bring(BOX, line_of(ONE, name="17.host"), line_of(TWO, name=named(TWO) + ",U=7"))
         self.assertEqual(self.filed(ONE + TWO), [])
-
-
-def line(name: str, path: str = BOX, message: bytes = ONE, state: State = State.HELD) -> Line:
-    """A line of a mailbox."""
-    return Line(path, state, line_of(message, name=name))
-
-
-class LackingTest(unittest.TestCase):
-    """Lines of two mailboxes."""
-
-    def test_the_most_that_one_mailbox_claims(self) -> None:
-        several = [line("a"), line("a"), line("b"), line("a", OTHER), line("c", OTHER)]
-        self.assertEqual(claims(several, FORM), {b"a": 2, b"b": 1, b"c": 1})
-        # what it had once, another form, and what has no name claim nothing
-        nothing = [line("a", state=State.FORMER), line("b", message=TWO), line(NAMELESS.decode())]
-        self.assertEqual(claims(nothing, FORM), {})
-
-    def test_names_that_are_gone_or_were_taken_anew(self) -> None:
-        several = [line("a"), line("b"), line("a"), line(NAMELESS.decode()), line(NAMELESS.decode())]
-        there = {b"a", NAMELESS}
-        self.assertEqual(unfiled(several, there.__contains__), [several[1], several[2]])
-
-    def test_files_that_were_renamed(self) -> None:
-        """Each stands for one line of its form."""
-        several = [line("a"), line("b", message=TWO), line("c"), line("d")]
-        renamed = Counter({FORM: 2})
-        self.assertEqual(list(missing(several, renamed)), [several[1], several[3]])
-        self.assertEqual(renamed[FORM], 0)

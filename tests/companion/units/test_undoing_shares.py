@@ -4,7 +4,7 @@ from collections import Counter
 
 from mbox2maildir_admin.ledger.ledger import Ledger
 from mbox2maildir_admin.ledger.lines import FOREIGN, LOST, NAMELESS, SHARED, Brought, note_end
-from mbox2maildir_admin.undoing.shares import Shares, placings
+from mbox2maildir_admin.undoing.shares import Shares
 
 from tests.support.brought import BOX, OTHER, THIRD, LedgerTest, line_of, named_of
 from tests.support.mail import ONE, TWO
@@ -30,12 +30,6 @@ class SharesTest(LedgerTest):
     def shares(self, path: str, has: int = 3, is_resumed: bool = False) -> Shares:
         """What an undo of a mailbox that has the message so often makes of it."""
         return Shares(Ledger(self.folder), path, Counter({FIRST.core: has}), is_resumed)
-
-    def test_the_last_batch_that_placed_a_name(self) -> None:
-        self.placed(THIRD, line_of(TWO), need=0)
-        self.assertEqual(placings(Ledger(self.folder)), {FIRST.name: 1, SECOND.name: 2})
-        Ledger(self.folder).undo(OTHER)
-        self.assertEqual(placings(Ledger(self.folder)), {FIRST.name: 1, SECOND.name: 1})
 
     def test_a_file_that_was_renamed(self) -> None:
         """The file of its name goes, since the other mailbox has the one that was renamed."""
@@ -135,8 +129,10 @@ class SharesTest(LedgerTest):
 
     def test_a_file_whose_name_no_line_can_have(self) -> None:
         self.placed(THIRD, line_of(TWO, FOREIGN, NAMELESS.decode()), need=0)
-        found = Shares(Ledger(self.folder), THIRD, Counter({line_of(TWO).core: 1}), False)
-        self.assertEqual((found.foreign, found.gone, found.renamed), (1, 0, 0))
+        for counts in ((0, 1, 0), (1, 0, 0)):
+            found = Shares(Ledger(self.folder), THIRD, Counter({line_of(TWO).core: 1}), False)
+            self.assertEqual((found.foreign, found.gone, found.renamed), counts)
+            self.place(TWO, "a name")
 
     def test_a_mailbox_without_the_message(self) -> None:
         """What it no longer has stays, and what is gone is counted as that."""

@@ -1,0 +1,138 @@
+"""Which file stands for which message, for `migrate`, its undo and `back`. Nothing is read here: this takes lines of
+ledgers, and names of files.
+
+All lines with a name are about one file, whichever mailboxes have them, but for two things: each run that places the
+name anew begins another file, and a mailbox that has the name several times has several files. The newest file has the
+name. Of lines without a name, those of one mailbox are about different files. A file whose name is not there, or
+belongs to a newer file, is gone, unless a program has renamed it: then it is one of the files that no line names and
+that have its form. Each of these is one file only.
+"""
+import bisect
+import collections
+from collections.abc import Container, Iterable, Iterator, Mapping
+from enum import IntEnum
+from typing import Optional
+
+from .batches import Line, State
+from .lines import NAMELESS, SHARED
+
+
+class Offer(IntEnum):
+    """Why a file may stand for a new message of a mailbox, in the order in which files are taken: a run of the mailbox
+    that was killed has placed it, or found it; another mailbox brought it, and it is there; or it is gone; or the
+    mailbox brought it once, or some run that was killed."""
+
+    BEGUN = 0
+    SHARED = 1
+    GONE = 2
+    ONCE = 3
+
+
+# the states of what a mailbox brought, whether it has it still or not
+BROUGHT = State.HELD, State.FORMER
+# the names of files that no line names, in their order, by the forms of what they hold
+Unnamed = Mapping[bytes, collections.deque[bytes]]
+
+
+class File:
+    """A file that lines are about: these lines, the newest first, the name that it has, and whether no newer file took
+    the name that it had. It has none if it is gone."""
+
+    __slots__ = "lines", "name", "is_newest"
+
+    def __init__(self, lines: list[Line], name: Optional[bytes], is_newest: bool = True) -> None:
+        self.lines, self.name, self.is_newest = lines, name, is_newest
+
+    @property
+    def bare(self) -> bytes:
+        """The bare form of what it holds. Later lines may be of messages in other forms."""
+        return self.lines[-1].message.bare
+
+    @property
+    def is_held(self) -> bool:
+        """Whether a mailbox has its message still."""
+        return any(line.state is State.HELD for line in self.lines)
+
+    def is_held_by(self, path: str) -> bool:
+        """Whether this mailbox has it still."""
+        return any(line[:2] == (path, State.HELD) for line in self.lines)
+
+    def line_of(self, path: str) -> Optional[Line]:
+        """The line of a mailbox about it, and the last of several; first of those that count for more than what the
+        mailbox had once."""
+        own = [line for line in self.lines if line.path == path]
+        return next((line for line in own if line.state is not State.FORMER), own[0] if own else None)
+
+    @property
+    def is_gone(self) -> bool:
+        """Whether it is not there, as far as it has a name that a line can have."""
+        return self.name is None and self.lines[0].message.name != NAMELESS
+
+    @property
+    def is_renamed(self) -> bool:
+        """Whether a program has given it its name."""
+        return self.name is not None and self.lines[0].message.name not in (self.name, NAMELESS)
+
+    def find(self, unnamed: Unnamed, form: bytes) -> bool:
+        """Takes a name of this form if its own is not there, and returns whether it has one then."""
+        if self.name is None and unnamed.get(form):
+            self.name = unnamed[form].popleft()
+        return self.name is not None
+
+
+def by_form(names: Iterable[tuple[bytes, bytes]]) -> Unnamed:
+    """Takes forms, each with the name of a file. An empty one is none."""
+    found: collections.defaultdict[bytes, collections.deque[bytes]] = collections.defaultdict(collections.deque)
+    for form, name in names:
+        if form:
+            found[form].append(name)
+    return found
+
+
+def files_of(lines: Iterable[Line], there: Container[bytes]) -> list[File]:
+    """The files that lines are about, with their names if these are there."""
+    several: dict[bytes, list[Line]] = {}
+    for line in lines:
+        name = line.message.name
+        several.setdefault(name if name != NAMELESS else NAMELESS + line.message.core, []).append(line)
+    return [file for name, its in several.items() for file in files_named(its, name if name in there else None)]
+
+
+def files_named(lines: list[Line], name: Optional[bytes]) -> Iterator[File]:
+    """The files that lines with the same name are about, the newest first. It has the name if that is there."""
+    if len(lines) == 1:
+        yield File(lines, name)
+        return
+    placed = sorted({line.number for line in lines if line.is_new})
+    # each line of what a mailbox has is about another file, and without a name so is each of what it had once; of other
+    # lines, each of the same run
+    counted = BROUGHT if lines[0].message.name == NAMELESS else (State.HELD,)
+    turns: collections.defaultdict[int, list[Line]] = collections.defaultdict(list)
+    before: dict[tuple[str, int], int] = {}
+    for line in sorted(lines, key=lambda one: (one.number, one.is_new), reverse=True):
+        turn = (bisect.bisect_right if line.is_new else bisect.bisect_left)(placed, line.number)
+        group = line.path, 0 if line.state in counted else line.number
+        turn = before[group] = min(turn, before.get(group, turn + 1) - 1)
+        turns[turn].append(line)
+    for turn in sorted(turns, reverse=True):
+        is_newest = turn == len(placed)
+        yield File(turns[turn], name if is_newest else None, is_newest)
+
+
+def offers(files: list[File], path: str, bare: bytes) -> list[tuple[Offer, File, Line]]:
+    """What may stand for new messages of the mailbox at a path that have a bare form, with a line about it, in the
+    order in which it is to be taken. A file may be offered for several reasons."""
+    found: list[tuple[Offer, File, Line]] = []
+    for file in files:
+        own = file.line_of(path)
+        others = [line for line in reversed(file.lines) if line.path != path and line.message.bare == bare]
+        brought = sorted((one for one in others if one.state in BROUGHT), key=lambda one: one.state is State.FORMER)
+        if own and file.name and own.state is State.OPEN and own.message.word != SHARED:
+            found.append((Offer.BEGUN, file, own))
+        if brought:
+            found.append((Offer.GONE if file.is_gone else Offer.SHARED, file, brought[0]))
+        once = [own] if own else [line for line in others if line not in brought]
+        if once and file.name:
+            found.append((Offer.ONCE, file, once[0]))
+    # what a mailbox no longer has in this form, it may have in another one
+    return sorted(found, key=lambda one: (one[0], one[2].path != path and one[2].state is State.FORMER))
