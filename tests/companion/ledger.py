@@ -25,6 +25,7 @@ from tests.support.archives import (
     want_said,
 )
 from tests.support.cases import Failed
+from tests.support.ledgers import as_if_killed
 from tests.support.mail import INTERNAL
 
 NONE, DOVECOT = [], ["--dovecot"]  # type: list[str], list[str]
@@ -43,6 +44,23 @@ def rule_1_killed_under_a_name_that_it_had(home: Home) -> None:
         path.write_bytes(b"".join(path.read_bytes().splitlines(True)[:-1]))
     row = home.done("OLD")["OLD"]
     home.has(0, why=row)
+
+
+def rule_1_killed_and_taken_by_another(home: Home) -> None:
+    """A run was killed once all was placed. Another mailbox takes a file of it, and its row says so, whatever became of
+    the message in the first one."""
+    for later in (range(5), range(3)):
+        home.begin()
+        home.write("OLD", letters(*range(5)))
+        home.done("OLD")
+        as_if_killed(home.maildir)
+        if len(later) < 5:
+            home.write("OLD", letters(*later))
+            home.done("OLD")
+        home.write("OTHER", letters(4, 7))
+        row = home.done("OTHER")["OTHER"]
+        home.has(*range(5), 7, why=row)
+        want_said(row, 1, "already", "OLD")
 
 
 def fields_change(home: Home, fields: Fields, words: Sequence[str]) -> None:
@@ -549,6 +567,7 @@ def rule_5_in_several_forms(home: Home) -> None:
 
 RULES = [
     rule_1_killed_under_a_name_that_it_had,
+    rule_1_killed_and_taken_by_another,
     rule_2_the_fields_of_another_mailbox,
     rule_2_only_the_cores_are_equal,
     rule_2_another_mailbox_in_crlf,

@@ -280,7 +280,7 @@ class Serving:
             is_enough = is_shared and len(self.places) - len(self.waiting) >= count
             if is_enough or not self.take_file(file, line, offer is Offer.BEGUN):
                 continue
-            self.match.seen.shared.update([line.path] if is_shared else ())
+            self.match.seen.shared.update([line.path] if line.path != self.match.path else ())
             self.gone.update({file: line.path} if offer is Offer.GONE else {})
             self.match.seen.regained += offer is Offer.ONCE and line[:2] == (self.match.path, State.FORMER)
 

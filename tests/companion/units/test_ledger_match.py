@@ -255,7 +255,7 @@ OTHERS = (
         "begun by another",
         lambda case: case.begins(ONE, TWO, path=OTHER, there=1),
         ONE + TWO,
-        Found((0, 1), (1,), ((0, SHARED),)),
+        Found((0, 1), (1,), ((0, SHARED),), 1),
     ),
     Case(
         "begun by another, in another form",
@@ -267,7 +267,7 @@ OTHERS = (
         "begun by another, which went on",
         both(lambda case: case.begins(ONE, path=OTHER, there=1), has(TWO, path=OTHER)),
         ONE,
-        Found((0,), (), ((0, SHARED),)),
+        Found((0,), (), ((0, SHARED),), 1),
     ),
     Case(
         "begun by another, and a third one's is gone",
@@ -476,7 +476,7 @@ class OfTest(MatchCase):
             ledger = Ledger(self.folder)
             ledger.leaving = {OTHER}
             match = type(self.match(TWO)).of(ledger, BOX, inventory_of(ONE), lambda place: False)
-            self.assertEqual((list(match.need), sum(match.seen.shared.values())), (need, 0))
+            self.assertEqual((list(match.need), sum(match.seen.shared.values())), (need, int(there)))
 
     def test_what_is_no_longer_in_it(self) -> None:
         """First lines of forms that it has not, then of files that are gone."""
