@@ -74,7 +74,10 @@ class Reason(Phrase):
         Status.LATER,
     )
     # the folder that it would go to
-    NO_FOLDER = "no-folder", "Another mailbox has its folder, or its name cannot be the name of a folder."
+    NO_FOLDER = (
+        "no-folder",
+        "Another mailbox has its folder, another folder has its mail, or its name cannot be the name of a folder.",
+    )
     NOT_OWN = (
         "not-own",
         "A folder on the path belongs to another user, can be changed by others, cannot be entered by users, or is a "

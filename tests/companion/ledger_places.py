@@ -788,6 +788,30 @@ def rule_9_a_record_from_a_backup(home: Home) -> None:
     home.has(0, 1, 3, 4, 6, 20)
 
 
+def rule_9_a_record_was_lost_and_a_folder_renamed(home: Home) -> None:
+    """Nothing shows into which folder a mailbox went but the ledger of that folder. If it would go into another one, by
+    its name or by --folder, it is left, with the name of the folder that has its mail, and it goes on there."""
+    for words, name in (["--folder", "Archive"], "Put-aside"), (["--jobs", "1"], "Archive"):
+        home.begin(*words)
+        home.write("OLD", letters(*FIVE))
+        home.done("OLD", words=["--folder", "Archive"])
+        home.folder().rename(home.folder(name))
+        (home.maildir / RECORD).unlink()
+        row = home.left("OLD")
+        equal(f"{name}: why it is left", row["reason"], "no-folder")
+        want_said(row, name)
+        home.write("OLD", letters(*FIVE, 6))
+        home.words = row["next"][0]["argv"][2:-2]
+        home.done("OLD")
+        home.has(*FIVE, 6, why=row)
+    a_tree(home)
+    home.folder("x").rename(home.folder("put-aside"))
+    (home.maildir / RECORD).unlink()
+    ran = home.run("mail")
+    home.has(0, 1, 3, 4, 10, 11, why=ran.text)
+    equal("what is left of the tree", [ran[name]["verdict"] for name in ("mail/x", "mail/y")], ["left", "done before"])
+
+
 def rule_9_an_older_record_and_a_mailbox_that_is_gone(home: Home) -> None:
     """The record comes from a backup. A mailbox that it lacks gets the bytes of another one, which is deleted, and then
     its own mail again: nothing is there twice."""
@@ -957,6 +981,7 @@ RULES = [
     rule_9_a_maildir_from_a_backup,
     rule_9_a_folder_from_a_backup,
     rule_9_a_record_from_a_backup,
+    rule_9_a_record_was_lost_and_a_folder_renamed,
     rule_9_an_older_record_and_a_mailbox_that_is_gone,
     rule_9_mail_of_other_programs,
     rule_9_files_of_this_program,

@@ -55,7 +55,8 @@ def trees(home: Path) -> None:
         "  1 left (left-behind): An interrupted command left it behind.\n"
         "  1 left (link): It is a symbolic link, or its path within the home contains one.\n"
         "  1 left (no-file): It is neither a regular file nor a folder.\n"
-        "  2 left (no-folder): Another mailbox has its folder, or its name cannot be the name of a folder.\n"
+        "  2 left (no-folder): Another mailbox has its folder, another folder has its mail, or its name cannot be the "
+        "name of a folder.\n"
         "10 mailboxes: 5 done, 5 left; 3 other files: no mail"
     ).splitlines()
     status, got, err = run(["migrate", "M", "tree"], home)

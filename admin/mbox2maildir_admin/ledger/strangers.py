@@ -1,10 +1,14 @@
-"""Files that have names which only this program gives, though the ledger of their folder does not have them."""
+"""What this program has brought into a Maildir, though the ledger of its folder, or the record, does not have it."""
+import contextlib
 import os
 
 from ..faults import Fault
+from ..maildir.folders import INBOX
 from ..mbox.bases import BASE
 from .ledger import Ledger
+from .lines import number_in
 from .match import Match
+from .record import Record
 
 
 def folders_in(root: bytes) -> list[bytes]:
@@ -29,3 +33,18 @@ def unexplained(root: bytes, match: Match) -> set[bytes]:
             # what cannot be read explains nothing
             continue
     return names
+
+
+def unrecorded(record: Record) -> dict[str, bytes]:
+    """The folders of a Maildir that have mail of mailboxes by their ledgers, while no line of the record has these
+    ledgers: it was lost, and the folders may have got other names since. They are given by the paths of mailboxes."""
+    root, known = record.maildir, {"", *(line.ledger for line in record.lines())}
+    found: dict[str, bytes] = {}
+    for path in (one for one in folders_in(root) if number_in(one) not in known):
+        # what cannot be read is said of the mailbox that goes there
+        with contextlib.suppress(Fault, OSError):
+            ledger = Ledger(path)
+            undone = record.undone_since(ledger.number, ledger.size)
+            has_mail = (one for one, source in ledger.sources.items() if source.count() and one not in undone)
+            found.update(dict.fromkeys(has_mail, INBOX if path == root else os.path.basename(path)))
+    return found

@@ -1,7 +1,7 @@
 """What the record of a Maildir, and the ledger of a folder, know of a mailbox before it is read."""
 import itertools
 import os
-from collections.abc import Container
+from collections.abc import Container, Sequence
 from typing import NamedTuple, Optional
 
 from ..ledger.history import Entry, Key, Note, Step, names_of
@@ -9,14 +9,16 @@ from ..ledger.ledger import Ledger
 from ..ledger.lines import number_in
 from ..ledger.match import cores_of
 from ..ledger.record import Record, unspelled
-from ..ledger.strangers import folders_in
-from ..maildir.folders import INBOX, folder_named, folder_path
+from ..ledger.strangers import folders_in, unrecorded
+from ..maildir.folders import INBOX, folder_named, folder_path, words_of
 from ..mbox.inventory import Inventory
 from ..nexts import Remark
-from ..terminal import named
+from ..terminal import named, operand
 from ..units import counted
-from .places import where_it_is
-from .steps import Opened
+from .places import Planned, where_it_is
+from .steps import Opened, Options
+
+ELSEWHERE = "its mail is in %s: the ledger there says so, and the record does not"
 
 
 class Elsewhere(NamedTuple):
@@ -245,3 +247,27 @@ def is_replaced(line: Entry) -> bool:
         return os.stat(unspelled(line.path)).st_size != line.key.size
     except OSError:
         return False
+
+
+def without_lost(several: Sequence[Planned], record: Record, options: Options) -> list[Planned]:
+    """Mailboxes, of which those are left that the record has nowhere, though the ledger of another folder than theirs
+    has their mail. The commands for them have these options."""
+    new = {one.path for one in several if one.folder and not is_recorded(one, record)}
+    lost = unrecorded(record) if new else {}
+    found = []
+    for one in several:
+        names = names_of(one.target or one.path) if lost and one.path in new else []
+        folder = next((lost[name] for name in names if name in lost), one.folder)
+        if folder != one.folder:
+            words = [*options.words(), *words_of(folder), operand(record.maildir)]
+            one = one.left_to_human(ELSEWHERE % folder_named(folder), words)
+        found.append(one)
+    return found
+
+
+def is_recorded(one: Planned, record: Record) -> bool:
+    """Whether the record has a mailbox in any folder, as far as its path can be looked at."""
+    try:
+        return bool(record.folders_of(one.target or one.path))
+    except OSError:
+        return True

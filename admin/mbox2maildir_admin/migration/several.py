@@ -25,6 +25,7 @@ from ..program import Program, find_program
 from ..progress import Beat
 from ..terminal import named, operand, text_of, word
 from .dovecot import OLD_SUBSCRIPTIONS, SUBSCRIPTIONS, Dovecot, subscribe
+from .known import without_lost
 from .leftovers import Leftovers
 from .mailbox import Migration
 from .outcomes import Ended, Fate, Observer, Row, row_left, with_name
@@ -135,6 +136,7 @@ class Several:
         """Migrates each mailbox; those that are files go into this folder. Returns which hold mail."""
         how, plan = self.migration.how, list(self.plan(folder))
         plan = plan if folder else self.pairs.without_folders_in_inbox(plan, self.files_given())
+        plan = without_lost(plan, self.migration.record, how.options)
         if how.postponed:
             for row in postponed_rows(self.migration.record, self.migration.root, plan, self.names, how.dry):
                 self.report(Ended(row))

@@ -44,7 +44,7 @@ LONGER = {
     "back.several": 305,
     "ledger.ledger": 360,
     "ledger.match": 352,
-    "migration.several": 317,
+    "migration.several": 319,
     "migration.steps": 312,
     "migration.transfer": 386,
     "migration.trees": 304,
