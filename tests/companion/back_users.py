@@ -429,12 +429,26 @@ def hostile_homes(home: Path) -> None:
         attempt("the record", "Maildir/mbox2maildir-record", secret, "left (record)")
         attempt("the ledger", "Maildir/mbox2maildir-messages", secret, "left")
         attempt("what was beside", "Maildir/mbox2maildir-back", secret, "left")
-        attempt("the draft", "Maildir/mbox2maildir-back.new", secret, "left")
+        attempt("the draft", "Maildir/mbox2maildir-back.new", secret, "back")
         attempt("a folder", "Maildir/.other", two / "Maildir")
         attempt("mail", "Maildir/cur/1.M9.host:2,S", secret)
         attempt("the tree", "mail", two / "mail", "mail: left")
         attempt("a mailbox", "mail/sent", two / "mail/sent")
         attempt("its lock", "mail/sent.lock", secret)
+
+
+def pipe(home: Path) -> None:
+    """A pipe that has the name of what a run may leave holds up nobody, and its user's row says what to do."""
+    with migrated(home):
+        for name in NAMES[:2]:
+            deliver(home, name)
+        path = home / "homes/m61one/Maildir/mbox2maildir-back"
+        os.mkfifo(path)
+        shutil.chown(path, "m61one", "m61one")
+        status, out, err = run(WORDS, home)
+        equal("status and standard error", (status, err), (1, ""))
+        row = "INBOX -> m61one Maildir: messages 1: left (no-file): .../mbox2maildir-back is not a regular file: ..."
+        matches("rows", "\n".join(sorted(out.splitlines()[:2])), f"{row}\nINBOX -> m61two: mboxrd, messages 1: back")
 
 
 if __name__ == "__main__":
@@ -450,4 +464,5 @@ if __name__ == "__main__":
         killed,
         hostile_spool,
         hostile_homes,
+        pipe,
     )

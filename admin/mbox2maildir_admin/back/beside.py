@@ -3,18 +3,22 @@
 The file gets its name once it is whole and on the disk. So whatever ends a run, the next one knows which bytes at the
 end of the mailbox are of it, and takes them back, unless anything else has changed there.
 """
+import contextlib
 import enum
 import hashlib
 import os
 import re
 from typing import NamedTuple, Optional
 
+from ..faults import Fault, Left, Reason
 from ..maildir.making import GOES_BACK, sync_folder
-from ..mbox.files import BLOCK, Reader
+from ..mbox.files import BLOCK, Reader, open_plain
 from ..mbox.mailbox import Mailbox
 from ..readings.unnamed import unnamed
+from ..terminal import named
 from ..units import Offset
 
+NO_FILE = "%s is not a regular file: remove it, and run this again"
 # the ending of its name while it is not whole; and its last line, before which is where each message begins
 UNFINISHED = b".new"
 FOOT = b"\nmbox2maildir-back 1\t%d\t%d\t%s\t%s\t%d\t%s\t%d\n"
@@ -67,12 +71,14 @@ class Beside:
     @classmethod
     def left_in(cls, folder: bytes) -> Optional["Beside"]:
         """The one that a killed run left in a folder; None if there is none. One without all of its bytes says nothing,
-        and goes."""
+        and goes. Raises Left if something else has its name."""
         path = os.path.join(folder, GOES_BACK)
         try:
-            number = os.open(path, os.O_RDONLY | FLAGS)
+            number = open_plain(path, os.O_NOFOLLOW)
         except FileNotFoundError:
             return None
+        except Fault as fault:
+            raise Left(NO_FILE % named(path), Reason.NO_FILE) from fault
         whole = os.fstat(number).st_size
         foot = os.pread(number, LONGEST_FOOT, max(0, whole - LONGEST_FOOT))
         found = FOOT_HERE.search(foot)
@@ -176,9 +182,11 @@ class Draft:
 
     @classmethod
     def in_folder(cls, folder: bytes) -> "Draft":
-        """The one of a folder."""
+        """The one of a folder. What has its name is worth nothing."""
         path = os.path.join(folder, GOES_BACK + UNFINISHED)
-        return cls(path, os.open(path, os.O_RDWR | os.O_CREAT | FLAGS, 0o600))
+        with contextlib.suppress(FileNotFoundError):
+            os.unlink(path)
+        return cls(path, os.open(path, os.O_RDWR | os.O_CREAT | os.O_EXCL | FLAGS, 0o600))
 
     @classmethod
     def unnamed(cls, disk: bytes) -> "Draft":
