@@ -61,6 +61,7 @@ class Does(Phrase):
     # what a label of Gmail's gives
     LABEL_NONE = "label-none", "it gives no folder"
     LABEL_FOLDER = "label-folder", "it gives a folder"
+    LABEL_READ = "label-read", "it says that mail was read, and gives no folder"
     ALL = "labels-all", "each message goes into all of its folders"
     ONE = "labels-one", "each message goes into one folder"
     INTO_INBOX = "into-inbox", "if this is to be INBOX, run this next"

@@ -2,6 +2,7 @@
 Takeout, and verify, --again and --undo, which know the folders from the record. The Takeouts are written by the form
 that Google gives its own."""
 import os
+import re
 import shlex
 import shutil
 import subprocess
@@ -18,7 +19,11 @@ from tests.support.terminals import Terminal
 
 LABELS = ["migrate", "--labels", "M", "t.mbox"]
 KIND = "Gmail's Takeout"
-GIVES = "none", "folder"
+# what is said of messages, if no label shows what was read
+UNREAD = (
+    "{} message... came unread, since no known label says that mail was read (with --labels, --label NAME=read ...)"
+)
+GIVES = "none", "folder", "read"
 UNDO = "    run this next:\n        mbox2maildir-admin migrate --undo M t.mbox\n1 mailbox: 1 left\n"
 RESERVED = (
     ("one", "Inbox,Opened"),
@@ -57,6 +62,12 @@ def message(subject: str, labels: str, more: str = "", body: str = "hello\n") ->
 def takeout(home: Path, messages: Sequence[tuple[str, str]] = RESERVED, name: str = "t.mbox") -> None:
     """A Takeout of messages, each by its subject and its labels."""
     mailbox(home / name, "".join(message(*one) for one in messages).encode())
+
+
+def flags_in(maildir: Path) -> dict[str, str]:
+    """The flags of each message that has some, by its subject."""
+    found = {path: path.name.partition(":2,")[2] for path in maildir.rglob("cur/*")}
+    return {re.findall("(?m)^Subject: (.*)", path.read_text())[0]: flags for path, flags in found.items() if flags}
 
 
 def folders_in(maildir: Path) -> dict[str, list[str]]:
@@ -118,21 +129,23 @@ def one_folder_for_each(home: Path) -> None:
 def a_label_is_asked_about(home: Path) -> None:
     """More than half of the messages have a label that nobody knows: a mark in another language, or a folder. What is
     answered holds for later Takeouts at this path, and nothing is placed before."""
-    opened = "=?UTF-8?Q?Ge=C3=B6ffnet?="
+    opened = "=?UTF-8?Q?Ge=C3=B6ffnete?="
     takeout(home, [("one", f"{opened},Posteingang"), ("two", f"Papierkorb,{opened}"), ("three", "Posteingang")])
-    none, folder = (
-        ["mbox2maildir-admin", "migrate", "--labels", "--label", f"Ge\u00f6ffnet={gives}"] for gives in GIVES
+    none, folder, read = (
+        ["mbox2maildir-admin", "migrate", "--labels", "--label", f"Ge\u00f6ffnete={gives}"] for gives in GIVES
     )
-    says = "more than half of the messages have the label Ge\u00f6ffnet, so it may be a mark of Gmail's and no folder"
+    says = "more than half of the messages have the label Ge\u00f6ffnete, so it may be a mark of Gmail's and no folder"
     out = (
         f"t.mbox: left (labels): {says}: 2 of 3\n    it gives no folder:\n        {shlex.join(none)} M t.mbox\n"
-        f"    it gives a folder:\n        {shlex.join(folder)} M t.mbox\n1 mailbox: 1 left\n"
+        f"    it gives a folder:\n        {shlex.join(folder)} M t.mbox\n"
+        "    it says that mail was read, and gives no folder:\n"
+        f"        {shlex.join(read)} M t.mbox\n1 mailbox: 1 left\n"
     )
     expect(LABELS, home, 1, out)
     equal("whether anything was made", (home / "M").exists(), False)
     words = [str(home / "bin/mbox2maildir-admin"), *LABELS]
     with Terminal(words, home, PATH=f"{home}/bin:{os.environ['PATH']}") as terminal:
-        terminal.until("(a, b, l): ")
+        terminal.until("(a, b, c, l): ")
         terminal.type("a\n")
         status, rest = terminal.end()
     equal("status", status, 0)
@@ -141,13 +154,45 @@ def a_label_is_asked_about(home: Path) -> None:
     takeout(home, [("one", f"{opened},Posteingang"), ("two", f"Papierkorb,{opened}"), ("four", opened)])
     out = (
         "t.mbox -> INBOX: done before, 1 message gone from it that it had brought\n"
-        f"t.mbox -> Archive: {KIND}, messages 1: done\n3 mailboxes: 1 done, 2 done before\n"
+        f"t.mbox -> Archive: {KIND}, messages 1: done, {UNREAD.format(1)}\n3 mailboxes: 1 done, 2 done before\n"
     )
     expect(LABELS, home, 0, out)
     equal("the folders then", folders_in(home / "M")[".Archive"], ["four"])
     expect([*folder[1:], "M", "t.mbox"], home, 1, f"t.mbox: left (another-reading): ...\n{UNDO}")
     expect([*folder[1:], "N", "t.mbox"], home, 0, None)
-    equal("a folder", folders_in(home / "N")[".Ge&APY-ffnet"], ["four", "one", "two"])
+    equal("a folder", folders_in(home / "N")[".Ge&APY-ffnete"], ["four", "one", "two"])
+    expect([*read[1:], "O", "t.mbox"], home, 0, None)
+    equal("what was read", flags_in(home / "O"), dict.fromkeys(["four", "one", "two"], "S"))
+    expect([*none[1:], "O", "t.mbox"], home, 1, f"t.mbox: left (another-reading): ...\n{UNDO.replace(' M ', ' O ')}")
+
+
+def a_label_says_what_was_read(home: Path) -> None:
+    """In German as in English, also where the folders of labels are not wanted. What no label shows, a human says, and
+    otherwise the rows count it."""
+    german = [
+        ("one", "Posteingang,=?UTF-8?Q?Ge=C3=B6ffnet?="),
+        ("two", "Papierkorb,=?UTF-8?Q?Ge=C3=B6ffnet?=,Markiert"),
+        ("three", "Posteingang,Ungelesen,Wichtig"),
+    ]
+    takeout(home, german)
+    for maildir, labels in ("M", ["--labels"]), ("N", ["--now"]):
+        expect(["migrate", *labels, maildir, "t.mbox"], home, 0, None)
+        equal(f"{labels}: flags", flags_in(home / maildir), {"one": "S", "two": "FS"})
+    equal("the folders of labels", folders_in(home / "M"), {"": ["one", "three"], ".Trash": ["two"]})
+    equal("no folders of labels", folders_in(home / "N"), {"": ["one", "three", "two"]})
+    # none of these has a label that is known to say that it was read
+    takeout(home, [("one", "Inbox,x"), ("two", "Inbox,y"), ("three", "Unread"), ("four", "Sent,z")])
+    row = f"t.mbox -> INBOX: {KIND}, messages 2: done, {UNREAD.format(2)}\n"
+    row += f"t.mbox -> Archive: {KIND}, messages 1: done\n"
+    row += f"t.mbox -> Sent: {KIND}, messages 1: done, {UNREAD.format(1)}\n"
+    row += "".join(f"t.mbox -> {label}: {KIND}, messages 1: done, {UNREAD.format(1)}\n" for label in "xyz")
+    expect(["migrate", "--labels", "P", "t.mbox"], home, 0, row + "6 mailboxes: 6 done\n")
+    said = [word for pair in ("x=read", "y=unread", "z=starred") for word in ("--label", pair)]
+    expect([*LABELS[:2], *said, "Q", "t.mbox"], home, 0, None)
+    equal("what was said", flags_in(home / "Q"), {"one": "S", "four": "F"})
+    equal("folders", folders_in(home / "Q"), {"": ["one", "two"], ".Archive": ["three"], ".Sent": ["four"]})
+    out = f"t.mbox -> INBOX: {KIND}, messages 4: done, {UNREAD.format(3)}; labelled Sent 1: ...\n1 mailbox: 1 done\n"
+    expect(["migrate", "O", "t.mbox"], home, 0, out)
 
 
 def a_label_gives_no_folder(home: Path) -> None:
@@ -299,7 +344,10 @@ def words_that_do_not_go_together(home: Path) -> None:
     (home / "tree").mkdir()
     for words, says in (
         (["--label", "x=none", "M", "t.mbox"], "--label needs --labels"),
-        (["--labels", "--label", "x", "M", "t.mbox"], "--label x: it takes NAME=none or NAME=folder"),
+        (
+            ["--labels", "--label", "x", "M", "t.mbox"],
+            "--label x: it takes NAME=WHAT, and WHAT is one of none, folder, read, unread, starred",
+        ),
         (
             ["--labels", "--folder", "x", "M", "t.mbox"],
             "--labels does not go with --folder, --dovecot and --keep-envelopes",
@@ -317,6 +365,7 @@ if __name__ == "__main__":
         each_label_is_a_folder,
         one_folder_for_each,
         a_label_is_asked_about,
+        a_label_says_what_was_read,
         a_label_gives_no_folder,
         only_a_takeout_has_labels,
         a_later_takeout,

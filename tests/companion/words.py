@@ -613,7 +613,7 @@ def modules(home: Path) -> None:
     slow |= {"jobs.workers", "takeouts", "undoing", "users.spool"}
     for words, others in (
         (["kind", "box"], {"commands.migrate", "migration.mailbox"}),
-        (["migrate", "--now", "M", "box"], {"commands.kind", "commands.objects", "labels.gmail", "readings.streams"}),
+        (["migrate", "--now", "M", "box"], {"commands.kind", "commands.objects", "flags.gmail", "readings.streams"}),
         (["verify", "M", "box"], {"commands.kind", "commands.migrate", "migration.mailbox"}),
     ):
         found = loaded(words, home)

@@ -29,7 +29,7 @@ GERMAN: dict[str, Optional[str]] = {
     "Gesendet": ".Sent",
     "Entw\u00fcrfe": ".Drafts",
     "Papierkorb": ".Trash",
-    **dict.fromkeys(["Archiviert", "Ungelesen", "Wichtig"]),
+    **dict.fromkeys(["Archiviert", "Ge\u00f6ffnet", "Ungelesen", "Wichtig"]),
 }
 # in this order a message gets one folder
 ORDER = ("", ".Sent", ".Drafts", ".Junk", ".Trash")

@@ -54,7 +54,7 @@ def add_labels(add: Callable[..., argparse.Action]) -> None:
         metavar="NAME=WHAT",
         action="append",
         default=[],
-        help="whether a label gives a folder: WHAT is `folder` or `none`",
+        help="what a label gives: WHAT is `folder`, `none`, or instead of a folder a flag: `read`, `unread`, `starred`",
     )
 
 
@@ -64,7 +64,7 @@ def labels_of(given: argparse.Namespace) -> Optional[Choosing]:
     for one in given.label:
         label, _, gives = one.rpartition("=")
         if not label or gives not in GIVES:
-            raise WrongOptions("--label %s: it takes NAME=none or NAME=folder" % named(one))
+            raise WrongOptions("--label %s: it takes NAME=WHAT, and WHAT is one of %s" % (named(one), ", ".join(GIVES)))
         pairs.append((label, gives))
     if given.labels is None and pairs:
         raise WrongOptions("--label needs --labels")

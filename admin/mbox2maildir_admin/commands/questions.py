@@ -27,7 +27,7 @@ TIMES = 4
 # the words with which the command of an answer begins, and the option that names a format
 MIGRATE, WORD = (ADMIN, "migrate"), "--as"
 # answers that are about folders, and not about what a text is
-FOLDERS = Does.OWN_FOLDER, Does.JOINS_INBOX, Does.LABEL_NONE, Does.LABEL_FOLDER, Does.ALL, Does.ONE
+FOLDERS = Does.OWN_FOLDER, Does.JOINS_INBOX, Does.LABEL_NONE, Does.LABEL_FOLDER, Does.LABEL_READ, Does.ALL, Does.ONE
 # how far the mailboxes of one question are indented
 WITHIN = "  "
 # the most bytes that are read of standard input at once

@@ -4,7 +4,8 @@ A sender may write such headers too. They count only if each message of a mailbo
 the first one counts, since a program puts its own before what was sent.
 """
 import re
-from collections.abc import Callable, Iterable, Iterator
+import sys
+from collections.abc import Callable, Iterable, Iterator, Sequence
 from typing import NamedTuple, Optional
 
 from ..mbox.inventory import Inventory
@@ -61,13 +62,10 @@ def letters_of_evolution(header: bytes) -> Optional[str]:
     return letters_of(evolution_flags(header), EVOLUTION)
 
 
-def letters_of_takeout(header: bytes) -> Optional[str]:
-    """The flags that Gmail's labels give, for an account in English; None if the message is not from Gmail."""
-    if gmail_thread(header) is None:
-        return None
-    labels = labels_of(gmail_labels(header) or "")
-    is_seen = "Opened" in labels and "Unread" not in labels
-    return "F" * ("Starred" in labels) + "S" * is_seen
+def field_of_takeout(header: bytes) -> Optional[str]:
+    """The field with Gmail's labels; None if the message is not from Gmail. What they say, the labels of all messages
+    show."""
+    return None if gmail_thread(header) is None else gmail_labels(header) or ""
 
 
 def labels_of(text: str) -> list[str]:
@@ -100,32 +98,54 @@ GMAIL = "Gmail"
 CLIENTS = {
     "Thunderbird": letters_of_thunderbird,
     "Evolution": letters_of_evolution,
-    GMAIL: letters_of_takeout,
+    GMAIL: field_of_takeout,
 }
+UNSAID = "%s came unread, since no known label says that mail was read (with --labels, --label NAME=read says so)"
 
 
 class Kept(NamedTuple):
-    """The flags of a mailbox's messages by their places, and the program that kept them."""
+    """The flags of a mailbox's messages by their places, and the program that kept them; and of each message, unless
+    that is known of all, whether nothing says that it was read or not."""
 
     program: str
     letters: list[str]
+    unsaid: bytes = b""
 
-    def remarks(self, places: Iterable[int]) -> Iterator[Remark]:
+    @classmethod
+    def by_labels(cls, fields: Sequence[str]) -> "Kept":
+        """Those of a Takeout with these fields."""
+        from .gmail import letters_by, own_names
+
+        known = {one: tuple(labels_of(one)) for one in set(fields)}
+        roles = own_names(label for labels in known.values() for label in labels)
+        return cls(GMAIL, *letters_by([known[one] for one in fields], roles))
+
+    def at(self, places: Iterable[int]) -> "Kept":
+        """Those of the messages at some places."""
+        found = list(places)
+        unsaid = bytes(self.unsaid[place] for place in found) if self.unsaid else b""
+        return Kept(self.program, [self.letters[place] for place in found], unsaid)
+
+    def remarks(self, places: Sequence[int]) -> Iterator[Remark]:
         """What is to be said of the messages at some places."""
         count = sum(bool(self.letters[place]) for place in places)
         if count:
             yield Remark("flags", "%s with flags of %s" % (counted(count, "message"), self.program))
+        unsaid = sum(self.unsaid[place] for place in places) if self.unsaid else 0
+        if unsaid:
+            yield Remark("unread", UNSAID % counted(unsaid, "message"))
 
 
 def kept_in(mailbox: Mailbox, inventory: Inventory) -> Optional[Kept]:
     """The flags that a program has kept in a mailbox, if one has them in the header of each message."""
     for program, read in CLIENTS.items():
-        letters: list[str] = []
+        several: list[str] = []
         for place in map(Place, range(len(inventory))):
             found = read(header_at(mailbox, inventory.offset(place)))
             if found is None:
                 break
-            letters.append(found)
+            # many messages have the same
+            several.append(sys.intern(found))
         else:
-            return Kept(program, letters)
+            return Kept.by_labels(several) if program == GMAIL else Kept(program, several)
     return None

@@ -6,9 +6,8 @@ from ..terminal import option
 # a message goes into the folder of each of its labels; the same, however many folders that makes; into one of them
 SOME, ALL, ONE = "", "all", "one"
 WORDS = ALL, ONE
-# what a label may be said to give: no folder, or one of its own
-NONE, FOLDER = "none", "folder"
-GIVES = NONE, FOLDER
+# what a label may be said to give: no folder, one of its own, or a flag alone
+NONE, FOLDER, READ, UNREAD, STARRED = GIVES = "none", "folder", "read", "unread", "starred"
 
 
 class Choosing(NamedTuple):

@@ -5,12 +5,13 @@ from collections.abc import Iterable, Mapping, Sequence
 from typing import NamedTuple
 
 from ..faults import Left, Reason
+from ..flags.clients import GMAIL, Kept
+from ..flags.gmail import ARCHIVE, ORDER, Own, letters_by, own_names
 from ..maildir.folders import INBOX, folder_of, on_disk, why_no_folder
 from ..nexts import Does
 from ..terminal import named
-from .choosing import FOLDER, NONE, ONE, SOME, Choosing
+from .choosing import FOLDER, NONE, ONE, READ, SOME, Choosing
 from .fields import field_of, labels_of
-from .gmail import ARCHIVE, ORDER, Own, own_names
 
 # more folders than these are asked about
 MOST = 2000
@@ -32,10 +33,12 @@ class LabelsLeft(Left):
 
 
 class Sorted(NamedTuple):
-    """The places of the messages that each folder gets, by its name on the disk; and the labels that give it."""
+    """The places of the messages that each folder gets, by its name on the disk; the labels that give it; and the flags
+    of all messages."""
 
     places: Mapping[bytes, Places]
     labels: Mapping[bytes, Sequence[str]]
+    kept: Kept
 
     def alike(self, folder: bytes) -> Sequence[str]:
         """Labels of different names that give one folder; none if only one gives it."""
@@ -67,15 +70,14 @@ class Sorting:
             self.counts.update(known[field])
             for label in known[field]:
                 self.first.setdefault(label, number)
-        self.own = own_names(self.counts)
-
-    def is_own(self, label: str) -> bool:
-        """Whether a label is Gmail's own. One of which somebody says that it gives a folder counts as the user's."""
-        return label in self.own and self.choosing.gives(label) != FOLDER
+        # what the labels stand for that make no folders of their names: what was said of them comes first
+        said = {label: gives for label, gives in choosing.given if gives != FOLDER}
+        own = {**own_names(self.counts), **{label: Own(gives) for label, gives in said.items()}}
+        self.roles = {label: role for label, role in own.items() if choosing.gives(label) != FOLDER}
 
     def want_decided(self) -> None:
         """Raises LabelsLeft if a label gives no folder, or if a human must say whether it gives one."""
-        users = [label for label in self.counts if not self.is_own(label) and self.choosing.gives(label) != NONE]
+        users = [label for label in self.counts if label not in self.roles]
         for label in users:
             why = why_no_label(label)
             if why:
@@ -84,12 +86,15 @@ class Sorting:
         half = len(self.messages) / 2
         asked = [label for label in users if self.counts[label] > half and not self.choosing.gives(label)]
         if asked:
-            none, folder = (
+            answers = [
                 (self.choosing.with_given(*((label, gives) for label in asked)), does)
                 for gives, does in ((NONE, Does.LABEL_NONE), (FOLDER, Does.LABEL_FOLDER))
-            )
+            ]
+            for read in asked:
+                given = ((label, READ if label == read else NONE) for label in asked)
+                answers.append((self.choosing.with_given(*given), Does.LABEL_READ))
             names, counts = ("the labels %s" if len(asked) > 1 else "the label %s"), self.counts_of(asked)
-            raise LabelsLeft(IN_QUESTION % (names % " and ".join(map(named, asked)), counts), none, folder)
+            raise LabelsLeft(IN_QUESTION % (names % " and ".join(map(named, asked)), counts), *answers)
 
     def counts_of(self, labels: Sequence[str]) -> str:
         """How many of the messages have these labels, as it is said."""
@@ -112,14 +117,15 @@ class Sorting:
             says = ((self.choosing._replace(word=word), does) for word, does in (("all", Does.ALL), ("one", Does.ONE)))
             raise LabelsLeft(TOO_MANY % len(places), *says)
         order = sorted(places, key=lambda folder: (folder != INBOX, folder))
-        return Sorted({folder: places[folder] for folder in order}, {one: list(its) for one, its in labels.items()})
+        kept = Kept(GMAIL, *letters_by(self.messages, self.roles))
+        its_labels = {one: list(its) for one, its in labels.items()}
+        return Sorted({folder: places[folder] for folder in order}, its_labels, kept)
 
     def folders_of(self, labels: Sequence[str]) -> dict[bytes, list[str]]:
         """The folders of a message with these labels, and the labels that give each. Names of one meaning, such as
         `Draft` and `Drafts`, count as one label."""
-        given = [label for label in labels if self.choosing.gives(label) != NONE]
-        users = [label for label in given if not self.is_own(label)]
-        gmails = {self.own[label] for label in given if self.is_own(label)}
+        users = [label for label in labels if label not in self.roles]
+        gmails = {self.roles.get(label) for label in labels}
         several = [(on_disk(folder_of(label)), label) for label in users]
         several += [(folder_of_own(own), own.value) for own in ORDER if own in gmails]
         found: dict[bytes, list[str]] = {}

@@ -169,14 +169,18 @@ class Extra:
             return left
         return None
 
+    def kept(self, one: Bringing) -> Optional[Kept]:
+        """The flags that a mail program kept, if one did."""
+        return kept_in(one.contents.text, one.contents.inventory)
+
     def foresee(self, one: Bringing) -> list[Remark]:
         """What `run` would say, if nothing may be made."""
-        kept = kept_in(one.contents.text, one.contents.inventory)
+        kept = self.kept(one)
         return self.remarks_on(kept, one) if kept else []
 
     def run(self, one: Bringing) -> list[Remark]:
         """Does it after the dates, before everything is verified. Returns what is to be said of it."""
-        kept = kept_in(one.contents.text, one.contents.inventory)
+        kept = self.kept(one)
         if not kept:
             return []
         letters = [kept.letters[place] for place in one.places]

@@ -34,7 +34,16 @@ UNLABELLED = "the label was taken from %s; the mail stays here"
 
 
 class OfLabels(Extra):
-    """The flags of Gmail's labels; its folders were asked for."""
+    """The flags of Gmail's labels, which those of all messages of a Takeout show; its folders were asked for."""
+
+    def __init__(self, kept: Kept) -> None:
+        """Takes the flags of the messages of one folder."""
+        self.of_part = kept
+
+    def kept(self, one: Bringing) -> Kept:
+        """These flags."""
+        del one
+        return self.of_part
 
     def remarks_on(self, kept: Kept, one: Bringing) -> list[Remark]:
         """What is to be said of flags."""
@@ -83,8 +92,8 @@ class FolderTransfer(Transfer):
     """One folder of a Takeout."""
 
     def __init__(self, source: Source, conversion: Conversion, how: How, opened: Opened, ledger: Ledger) -> None:
-        super().__init__(conversion, how, opened, ledger)
         self.source, self.places = source, source.sorted.places[opened.name]
+        super().__init__(conversion, replace(how, extra=OfLabels(source.sorted.kept.at(self.places))), opened, ledger)
         reading = source.choice.plan.reading._replace(part=word_of(self.places))
         self.plan = replace(source.choice.plan, messages=len(self.places), reading=reading)
         self.known = KnownPart(self.record, ledger, opened, reading.part)

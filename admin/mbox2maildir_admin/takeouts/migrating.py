@@ -39,7 +39,7 @@ from ..readings.plans import NoMail, OtherKind, Question
 from ..readings.reading import UNDECIDED
 from ..readings.texts import Choice, choice_of, disk_of
 from ..terminal import named
-from .folder import FolderTransfer, OfLabels, Source
+from .folder import FolderTransfer, Source
 
 NO_MESSAGE = "it has no message, and so no labels"
 WITHOUT_LABELS = "it was migrated without --labels, so all of its mail is in one folder"
@@ -57,7 +57,7 @@ def migrate_takeouts(root: bytes, names: Sequence[bytes], options: Options, obse
     refuse(root, names, options)
     os.umask(0o077)
     with Record.to_migrate(root, options.dry) as record:
-        how = How(options.dry, options.again, OfLabels(), now=options.now, decision=options.decision, names=names)
+        how = How(options.dry, options.again, now=options.now, decision=options.decision, names=names)
         how = replace(how, again_rewritten=options.again_rewritten, any_disk=options.any_disk, is_labelled=True)
         how = replace(how, options=options.of_next(), home=os.fsencode(os.path.expanduser("~")))
         migration = Migration(Program(find_program()), root, record, how)

@@ -18,14 +18,14 @@ from mbox2maildir_admin.back.keywords import NO_BASE, NO_ROOM
 from mbox2maildir_admin.back.numbers import NO_DOVECOT, Numbering
 from mbox2maildir_admin.back.places import name_in
 from mbox2maildir_admin.faults import Left
-from mbox2maildir_admin.flags.clients import CLIENTS
+from mbox2maildir_admin.flags.clients import CLIENTS, kept_in
 from mbox2maildir_admin.ledger.history import Key, Note
 from mbox2maildir_admin.ledger.record import Record
 from mbox2maildir_admin.mbox.inventory import Inventory
 from mbox2maildir_admin.mbox.locks import WRITING, open_mailbox
 from mbox2maildir_admin.migration.outcomes import Fate, Row
 from mbox2maildir_admin.nexts import COMMAND, lines_below
-from mbox2maildir_admin.units import Size
+from mbox2maildir_admin.units import Offset, Size
 
 from tests.companion.units.test_back_several import BackHome
 from tests.support.units import FolderTest, source_of
@@ -320,8 +320,10 @@ class ClientTest(FolderTest):
             self.assertEqual(self.client(head, b"").program, "")
             for flags in ("", "S", "F", "FS", "DFPRST"):
                 fields = client.fields(Letter(b"A: b\n\nx\n", flags), 1)
-                found = CLIENTS[program](b"".join(one + b"\n" for one in fields))
-                self.assertEqual(sorted(found or ""), [one for one in flags if one in kept[program]], (program, flags))
+                with source_of(FROM + b"".join(one + b"\n" for one in fields) + b"\n") as mailbox:
+                    found = kept_in(mailbox, Inventory.read(mailbox, Offset(0)))
+                wanted = [one for one in flags if one in kept[program]]
+                self.assertEqual(found and (found.program, sorted(found.letters[0])), (program, wanted), flags)
 
     def test_numbers_of_evolution_rise(self) -> None:
         client = self.client(self.HEADS["Evolution"], b"X-Evolution: 00000007-0010\n")

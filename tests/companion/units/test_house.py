@@ -45,7 +45,7 @@ LONGER = {
     "ledger.ledger": 360,
     "ledger.match": 352,
     "migration.several": 319,
-    "migration.steps": 312,
+    "migration.steps": 316,
     "migration.transfer": 386,
     "migration.trees": 304,
 }

@@ -2,10 +2,10 @@
 import unittest
 from collections.abc import Sequence
 
+from mbox2maildir_admin.flags.gmail import ENGLISH, NAMED, OTHERS, Own, own_names
 from mbox2maildir_admin.labels import remark
-from mbox2maildir_admin.labels.choosing import ALL, FOLDER, NONE, ONE, Choosing
+from mbox2maildir_admin.labels.choosing import ALL, FOLDER, GIVES, NONE, ONE, READ, STARRED, UNREAD, Choosing
 from mbox2maildir_admin.labels.fields import field_of, labels_of
-from mbox2maildir_admin.labels.gmail import ENGLISH, OTHERS, Own, own_names
 from mbox2maildir_admin.labels.noted import Noted
 from mbox2maildir_admin.labels.sorting import MOST, LabelsLeft, Sorted, Sorting
 from mbox2maildir_admin.ledger.history import Entry, Key, Note
@@ -63,16 +63,16 @@ class FieldsTest(unittest.TestCase):
 class NamesTest(unittest.TestCase):
     def test_languages(self) -> None:
         """Names of another language count once its Inbox is there, and no other one."""
-        german = {"Posteingang": 1, "Papierkorb": 1}
-        self.assertEqual(own_names(german)["Papierkorb"], Own.TRASH)
-        self.assertIs(own_names({**german, "Inbox": 1}), ENGLISH)
-        self.assertIs(own_names({"Papierkorb": 1}), ENGLISH)
+        german = ["Posteingang", "Papierkorb", "Ge\u00f6ffnet"]
+        self.assertEqual([own_names(german)[name] for name in german], [Own.INBOX, Own.TRASH, Own.READ])
+        self.assertEqual(own_names([*german, "Inbox"]), ENGLISH)
+        self.assertEqual(own_names(["Papierkorb"]), ENGLISH)
+        self.assertEqual([Own(one) for one in "INBOX Sent Drafts Junk Trash starred".split()], list(NAMED[:6]))
+        self.assertLessEqual(set(GIVES) - {FOLDER}, {one.value for one in Own})
         for names in OTHERS:
-            own = own_names({names[0]: 1})
-            self.assertEqual(
-                [own[name] for name in names[:5]], [Own(one) for one in "INBOX Sent Drafts Junk Trash".split()]
-            )
-            self.assertEqual({own[name] for name in names[5:]}, {Own.MARK})
+            own = own_names(names[:1])
+            self.assertEqual([own[name] for name in names], list(NAMED[: len(names)]))
+            self.assertEqual((len(set(names)), len(own)), (len(names), len({*ENGLISH, *names})))
 
 
 class SortingTest(unittest.TestCase):
@@ -119,13 +119,31 @@ class SortingTest(unittest.TestCase):
         wanted = {b".": [1], b".Archive": [0, 3], b".Important": [2]}
         self.assertEqual({folder: list(its) for folder, its in found.places.items()}, wanted)
 
+    def test_flags(self) -> None:
+        """Of Gmail's own labels and of those of which it was said. What says that mail is unread comes first."""
+        rows: Sequence[tuple[Sequence[str], Choosing, object]] = (
+            (("Opened,x", "Unread,x", "Opened,Unread", "Starred"), Choosing(), (["S", "", "", "F"], b"")),
+            (("Unread,x", "y", "Starred"), Choosing(), (["", "", "F"], b"\0\1\1")),
+            (
+                ("a,b", "b,c", "c,a", "Opened"),
+                Choosing().with_given(("a", READ), ("b", UNREAD), ("c", STARRED), ("Opened", NONE)),
+                (["", "F", "FS", ""], b""),
+            ),
+            (("Opened", "x"), Choosing().with_given(("Opened", FOLDER), ("x", NONE)), (["", ""], b"\1\1")),
+        )
+        for labels, choosing, wanted in rows:
+            kept = sorted_by(*labels, choosing=choosing).kept
+            self.assertEqual((kept.letters, kept.unsaid), wanted, labels)
+            self.assertEqual(kept.at([1, 0]).letters, kept.letters[1::-1])
+
     def test_more_than_half(self) -> None:
         left = self.left("x,y", "x,y", "y")
         self.assertIn("the labels x and y", str(left))
         self.assertIn("2 and 3 of 3", str(left))
         gives = [(choosing.given, does) for choosing, does in left.says]
-        none, folder = (tuple((label, one) for label in "xy") for one in (NONE, FOLDER))
-        self.assertEqual(gives, [(none, Does.LABEL_NONE), (folder, Does.LABEL_FOLDER)])
+        pairs = (NONE, NONE), (FOLDER, FOLDER), (READ, NONE), (NONE, READ)
+        words = Does.LABEL_NONE, Does.LABEL_FOLDER, Does.LABEL_READ, Does.LABEL_READ
+        self.assertEqual(gives, [(tuple(zip("xy", pair)), does) for pair, does in zip(pairs, words)])
         sorted_by("x", "x", "y", "y")
         self.assertIn("the label y", str(self.left("x,y", "x,y", "y", choosing=Choosing().with_given(("x", NONE)))))
 

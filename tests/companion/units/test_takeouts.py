@@ -184,16 +184,16 @@ class TakeoutTest(HomeTest):
     def test_what_is_not_gone(self) -> None:
         """A message that lost its label is in the Takeout all the same, so that many of them are no other mailbox."""
         texts = [ONE.replace(b"one", b"%d" % number) for number in range(8)]
-        self.fill(b"".join(labelled(text, b"Inbox") for text in texts))
+        self.fill(b"".join(labelled(text, b"Inbox,Opened") for text in texts))
         self.bring()
         more = [ONE.replace(b"one", b"x%d" % number) for number in range(8)]
-        later = [labelled(text, b"Trash") for text in texts] + [labelled(text, b"Inbox") for text in more]
+        later = [labelled(text, b"Trash,Opened") for text in texts] + [labelled(text, b"Inbox") for text in more]
         self.fill(b"".join(later))
         rows = {row.folder: row for row in self.bring()}
         self.assertEqual({row.fate for row in rows.values()}, {Fate.DONE})
         says = "it grew by 8 messages; " + UNLABELLED % "8 messages"
         self.assertEqual(told(rows[b"."]), says)
-        self.fill(b"".join(later[8:]).replace(b"x", b"y"))
+        self.fill(b"".join(later[8:]).replace(b": x", b": y"))
         self.assertEqual({row.fate for row in self.bring()}, {Fate.LEFT})
 
 
