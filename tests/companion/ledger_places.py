@@ -804,6 +804,11 @@ def rule_9_a_record_was_lost_and_a_folder_renamed(home: Home) -> None:
         home.words = row["next"][0]["argv"][2:-2]
         home.done("OLD")
         home.has(*FIVE, 6, why=row)
+    # a copy of a folder has its ledger too
+    shutil.copytree(str(home.folder(name)), str(home.folder("Copy")))
+    (home.maildir / RECORD).unlink()
+    home.done("OLD")
+    home.has(*FIVE, 6, name=name)
     a_tree(home)
     home.folder("x").rename(home.folder("put-aside"))
     (home.maildir / RECORD).unlink()

@@ -1,4 +1,5 @@
 """What this program has brought into a Maildir, though the ledger of its folder, or the record, does not have it."""
+import collections
 import contextlib
 import os
 
@@ -35,16 +36,16 @@ def unexplained(root: bytes, match: Match) -> set[bytes]:
     return names
 
 
-def unrecorded(record: Record) -> dict[str, bytes]:
+def unrecorded(record: Record) -> dict[str, list[bytes]]:
     """The folders of a Maildir that have mail of mailboxes by their ledgers, while no line of the record has these
     ledgers: it was lost, and the folders may have got other names since. They are given by the paths of mailboxes."""
     root, known = record.maildir, {"", *(line.ledger for line in record.lines())}
-    found: dict[str, bytes] = {}
+    found: collections.defaultdict[str, list[bytes]] = collections.defaultdict(list)
     for path in (one for one in folders_in(root) if number_in(one) not in known):
         # what cannot be read is said of the mailbox that goes there
         with contextlib.suppress(Fault, OSError):
             ledger = Ledger(path)
             undone = record.undone_since(ledger.number, ledger.size)
-            has_mail = (one for one, source in ledger.sources.items() if source.count() and one not in undone)
-            found.update(dict.fromkeys(has_mail, INBOX if path == root else os.path.basename(path)))
+            for its in (one for one, source in ledger.sources.items() if source.count() and one not in undone):
+                found[its].append(INBOX if path == root else os.path.basename(path))
     return found

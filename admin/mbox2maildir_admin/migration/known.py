@@ -257,10 +257,10 @@ def without_lost(several: Sequence[Planned], record: Record, options: Options) -
     found = []
     for one in several:
         names = names_of(one.target or one.path) if lost and one.path in new else []
-        folder = next((lost[name] for name in names if name in lost), one.folder)
-        if folder != one.folder:
-            words = [*options.words(), *words_of(folder), operand(record.maildir)]
-            one = one.left_to_human(ELSEWHERE % folder_named(folder), words)
+        folders = [folder for name in names for folder in lost.get(name, ())]
+        if folders and one.folder not in folders:
+            words = [*options.words(), *words_of(folders[0]), operand(record.maildir)]
+            one = one.left_to_human(ELSEWHERE % folder_named(folders[0]), words)
         found.append(one)
     return found
 
