@@ -20,7 +20,7 @@ from ..readings.texts import Choice, choice_of, content_of, disk_of
 from ..units import counted
 from .dovecot import names_in
 from .known import Known
-from .remarks import remarks_on_flags, remarks_on_lost
+from .remarks import remarks_on_lost
 from .steps import Contents, Extra, How, Opened
 
 CONTRADICTED = "it was read as %s, and %s gives other messages"
@@ -53,7 +53,7 @@ def as_before(opened: Opened, ledger: Ledger, path: str, by: By) -> Optional[tup
             match.compare()
             if match.count_new():
                 return None
-            return contents.words, [*remarks_on_lost(match), *remarks_on_flags(ledger, path, contents)]
+            return contents.words, list(remarks_on_lost(match))
 
 
 def contradicted(how: How, root: bytes, opened: Opened, line: Entry) -> tuple[list[Remark], Next]:

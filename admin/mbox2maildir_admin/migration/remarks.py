@@ -2,22 +2,18 @@
 from collections.abc import Iterator, Sequence
 from typing import Optional
 
-from ..flags.changed import changed_flags, lacking_flags, remarks_on_changed
-from ..ledger.filed import Filed
 from ..ledger.gone import left_by_killed
 from ..ledger.ledger import Ledger
-from ..ledger.lines import PLACED
 from ..ledger.match import Match
 from ..ledger.record import unspelled
 from ..maildir.folders import INBOX
-from ..mbox.bases import BASE
 from ..mbox.inventory import Inventory
 from ..nexts import Remark
 from ..readings.reading import Reading
 from ..readings.remarks import left_out
 from ..terminal import named
 from ..units import counted
-from .steps import Bringing, Contents
+from .steps import Bringing
 
 # the words for messages that no mailbox brought, and for those that a mailbox no longer has, with what is said of them
 THERE, NO_LONGER = "there-already", "lost"
@@ -43,7 +39,6 @@ def remarks_on(one: Bringing, match: Match, ledger: Ledger, dry: bool) -> Iterat
     ):
         if count:
             yield Remark(word, says % counted(count, "message"), count if word == THERE else 0)
-    yield from remarks_on_flags_that_differ(one, match)
 
 
 def remarks_on_new(match: Match) -> Iterator[Remark]:
@@ -89,18 +84,6 @@ def remarks_on_joined(others: Sequence[bytes]) -> list[Remark]:
     return [Remark("joined", "its folder has mail of %s%s too" % (named(others[0]), several))] if others else []
 
 
-def remarks_on_flags_that_differ(one: Bringing, match: Match) -> Iterator[Remark]:
-    """What is to be said of messages whose files, which others brought, lack flags."""
-    full = one.contents.full
-    found = ((place, BASE.match(its.name)) for place, its in match.found.items() if its.word != PLACED)
-    offsets = {base[0]: full.offsets[place] for place, base in found if base}
-    if not offsets:
-        return
-    count = lacking_flags(one.opened.folder, full.mailbox, offsets.get, one.contents.is_bare)
-    if count:
-        yield Remark("flags-differ", "%s of these with flags in it that the file lacks" % counted(count, "message"))
-
-
 def remarks_on_inbox(ledger: Ledger) -> Iterator[Remark]:
     """What is to be said of a mailbox that comes to INBOX beside others, with which it shares no message."""
     others = [path for path, source in ledger.sources.items() if source.count()]
@@ -113,16 +96,3 @@ def remarks_on_dropped(words: Optional[str]) -> list[Remark]:
     """What is to be said of a mailbox that is done by a reading, about messages that were left out."""
     dropped = Reading.of_words(words).dropped
     return [left_out(dropped)] if dropped else []
-
-
-def remarks_on_flags(ledger: Ledger, path: str, contents: Contents) -> list[Remark]:
-    """What is to be said of a mailbox that programs wrote into since it placed messages: how many of these got other
-    flags in it. A file of another mailbox does not show which flags a message had in this one."""
-    full, found = contents.full, Filed(ledger, path, contents.inventory)
-
-    def offset_of(base: bytes) -> Optional[int]:
-        place = found.get(base)
-        return None if place is None else full.offsets[place]
-
-    flags = changed_flags(ledger.folder, full.mailbox, offset_of, contents.is_bare) if found else 0
-    return remarks_on_changed(flags)

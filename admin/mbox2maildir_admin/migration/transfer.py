@@ -38,7 +38,7 @@ from .keeping import keep_done, keep_new
 from .known import Known
 from .otherwise import as_before, contradicted, want_same_reading
 from .outcomes import Fate, Row, row_left
-from .remarks import remarks_on, remarks_on_dropped, remarks_on_flags, remarks_on_joined, remarks_on_lost
+from .remarks import remarks_on, remarks_on_dropped, remarks_on_joined, remarks_on_lost
 from .shown import AS_BROUGHT, answer_shown
 from .steps import Bringing, Contents, How, Opened
 
@@ -286,7 +286,7 @@ class Transfer:
 
     def row_known(self, contents: Contents, match: Match) -> Row:
         """The row of a mailbox that has nothing new. The ledger notes that it was read."""
-        remarks = [*remarks_on_lost(match), *remarks_on_flags(self.ledger, self.path, contents)]
+        remarks = list(remarks_on_lost(match))
         if not self.how.dry:
             self.verified = with_names(self.begin(contents, Placing(match), 0), self.ledger, self.is_unread)
         return self.row_before(contents.words, len(contents.inventory), remarks)
@@ -298,7 +298,6 @@ class Transfer:
         self.want_extra(one)
         self.want_room_for(contents, placing)
         self.remarks += remarks_on(one, match, self.ledger, self.how.dry)
-        self.remarks += [] if self.again else remarks_on_flags(self.ledger, self.path, contents)
         elsewhere = self.known.elsewhere(contents.inventory)
         self.remarks += [*map(self.known.remark_on, elsewhere), *back_in(self.ledger)]
         self.remarks += remarks_on_joined(self.known.joined(self.how.names))

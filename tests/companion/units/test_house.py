@@ -49,7 +49,7 @@ LONGER = {
     "migration.transfer": 386,
     "migration.trees": 304,
 }
-MORE = {"back": 17, "commands": 18, "ledger": 16, "migration": 24}
+MORE = {"back": 17, "commands": 18, "migration": 24}
 
 
 def name_of(path: Path) -> str:

@@ -150,9 +150,8 @@ class OtherwiseTest(HomeTest):
 
     def test_a_question_about_what_is_done(self) -> None:
         """If nothing is new in it as it was read, nobody is asked. The row says what changed."""
-        flags = "flags of 1 message changed in it since then and are not carried over"
         for text, then, says in (
-            (DOUBTFUL, DOUBTFUL.replace(b"\n\n", b"\nStatus: RO\n\n", 1), flags),
+            (DOUBTFUL, DOUBTFUL.replace(b"\n\n", b"\nStatus: RO\n\n", 1), ""),
             (DOUBTFUL + ONE, DOUBTFUL, "1 message gone from it that it had brought"),
         ):
             row = self.done(text, then, "unquoted")
