@@ -205,6 +205,20 @@ def after_a_rehearsal(home: Path) -> None:
                 shutil.rmtree(home / "M", ignore_errors=True)
 
 
+def of_what_was_shown(home: Path) -> None:
+    """An answer is about the lines that are shown: it holds once another line of the letter has changed, and is asked
+    again once one of these has."""
+    text = A + b"\n" + b"hello\n" * 20 + MAY + B + b"\n"
+    for before, after, holds in ((b"hello\nhello\n", b"hallo\nhello\n", True), (b"hello\nFrom", b"hallo\nFrom", False)):
+        mailbox(home / "box", text)
+        answer, count = answers_in(run(["migrate", "--now", "--dry-run", "M", "box"], home)[1], "box")[0]
+        mailbox(home / "box", text.replace(before, after, 1))
+        status, said = run_printed(answer.replace(" --dry-run", ""), home)
+        equal(f"{after!r}: {said}", (status, "since this was answered" in said), (0, False) if holds else (1, True))
+        equal(f"{after!r}: the mail", len(list(mail_in(home / "M"))) if holds else 0, count if holds else 0)
+        shutil.rmtree(home / "M", ignore_errors=True)
+
+
 def of_numbers(home: Path) -> None:
     """An answer that names lines holds after growth. Once these have other numbers, it is asked again, also where
     another doubtful line has the number of one."""
@@ -485,6 +499,7 @@ if __name__ == "__main__":
         of_dry_runs,
         of_several,
         after_a_rehearsal,
+        of_what_was_shown,
         of_numbers,
         without_asking_again,
         after_an_undo,

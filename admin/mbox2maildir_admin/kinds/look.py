@@ -43,7 +43,7 @@ class Look:
         self.claimed_by, self.claimed, self.body, self.without = Line(0), Offset(0), Offset(0), Line(0)
         # whether the first message is the one by which Dovecot keeps an empty mailbox
         self.internal = bool(internal_head(mailbox, start)[0])
-        self.joins, self.doubts = Joins(mailbox), Doubts(start)
+        self.joins, self.doubts = Joins(mailbox), Doubts()
         # what the first From_ line looks like without a date, and in what all of them end, if none has one
         first = mailbox.at(start, LONG).split(b"\n")[0]
         self.shape, self.ending = shape_of(first), ending_of(first)
@@ -77,7 +77,7 @@ class Look:
             self.seen["cut" if self.is_cut else "no end"].add(last)
             if self.is_cut:
                 self.doubts.add(last, self.mailbox.end, CUT)
-        self.doubts.end(self.mailbox.end, self.count("dated") > 0, self.are_deleted())
+        self.doubts.end(self.count("dated") > 0, self.are_deleted())
         self.seen["doubtful" if self.count("dated") else "undated"].take(self.seen.pop("like the first", Lines()))
         self.ending = None if self.count("dated") else self.ending
         self.mailbox.check()

@@ -52,7 +52,7 @@ class Verdict:
 
     def tied(self, mailbox: Mailbox, decision: Reading) -> Reading:
         """A decision that holds only as long as the lines that are doubtful now stay so, and no other one is."""
-        ties = (self.look.doubts if self.look else Doubts(self.start)).ties(mailbox, self.kind)
+        ties = (self.look.doubts if self.look else Doubts()).ties(mailbox, self.kind)
         return decision._replace(of=ties.numbers if decision.text or decision.begin else ties.messages)
 
     def after(self, noted: Reading) -> "Verdict":

@@ -78,35 +78,25 @@ class DoubtsTest(unittest.TestCase):
         self.assertEqual(len({one.numbers for one in found} | {one.messages for one in found}), 2 * len(texts))
         self.assertNotEqual(self.ties(ASKED, "other"), found[0])
 
-    def test_a_line_that_stands_where_another_one_stood(self) -> None:
-        """Its number is that of an answer, which is about the other one."""
-        text = A + b"\nFrom a\nFrom b\n\n"
-        later = text.replace(b"Subject: one\n", b"Subject: one\nStatus: RO\n")
-        self.assertEqual((self.numbers(text), self.numbers(later)), ([5, 6], [6, 7]))
-        self.assertEqual(self.ties(text).messages, self.ties(later).messages)
-        self.assertNotEqual(self.ties(text).numbers, self.ties(later).numbers)
-
-    def test_messages_without_dates(self) -> None:
-        """Where none has a date, lines like the first are certain, and end what holds a doubtful line."""
-        first, second, third = UNDATED
-        wanted = self.ties(first + second).messages
-        for text in (first + second + third, first + third + second, first + third + second + third * 2):
-            self.assertEqual(self.ties(text).messages, wanted, text)
-        self.assertNotEqual(self.ties(first + second.replace(b"S: y", b"S: x")).messages, wanted)
-        # among dated ones they are doubtful themselves
-        self.assertNotEqual(self.ties(first + second + ONE).messages, wanted)
-
-    def test_a_stretch_of_several_blocks(self) -> None:
-        """Places do not depend on where a block ends."""
-        long = A + b"\n" + b"x" * 99 + b"\n" + (b"y" * 79 + b"\n") * (2 * BLOCK // 80) + b"From me on\nFrom you on\n\n"
-        wanted = self.ties(long).messages
-        for before in (TWO, TWO * 7, C + b"\n" + b"z" * (BLOCK - 190) + b"\n\n"):
-            self.assertEqual(self.ties(before + long).messages, wanted)
-            flags = long.replace(b"Subject", b"Status: RO\nSubject", 1)
-            self.assertEqual(self.ties(before + flags + TWO).messages, wanted)
-
-    def test_the_same_message_twice(self) -> None:
-        self.assertNotEqual(self.ties(ASKED + TWO + ASKED).messages, self.ties(ASKED + TWO).messages)
+    def test_what_is_near(self) -> None:
+        """Three lines before and after count, up to the lines `From ` around them. Notes of programs are none of them,
+        nor is what is further away, and no block ends there."""
+        letter = A + b"\n" + b"x" * 99 + b"\n" + (b"y" * 79 + b"\n") * (2 * BLOCK // 80)
+        letter += b"1\n2\n3\nFrom me on\nX-UID: 7\n4\n\tof it\n6\n7\n"
+        wanted = self.ties(letter).messages
+        for before, after, is_same in (
+            (b"xx", b"xy", True),
+            (b"\n1\n", b"\nI\n", False),
+            (b"\n6\n", b"\nVI\n", False),
+            (b"\n7\n", b"\nVII\n", True),
+            (b"X-UID: 7", b"X-UID: 70", True),
+            (b"\n3\n", b"\nX-Keywords: a\n b\n3\n", True),
+            (b"\n4\n", b"\n>From x\n4\n", False),
+            (b"1\n2\n3\nFrom me", b"1\n2\n3 From me", False),
+        ):
+            self.assertEqual(self.ties(letter.replace(before, after)).messages == wanted, is_same, after)
+        for before in (TWO * 7, C + b"\n" + b"z" * (BLOCK - 190) + b"\n\n"):
+            self.assertEqual(self.ties(before + letter + b"\n" + TWO).messages, wanted)
 
 
 if __name__ == "__main__":
