@@ -1,8 +1,9 @@
 """mbox2maildir-admin back: messages of odd forms at the beginning, in the middle and at the end of what is new. Each
-goes into its mailbox or beside it, a rehearsal says the same, and nothing empty is left behind."""
+goes into its mailbox or beside it, a rehearsal says the same, and nothing empty is left behind. The list of
+subscriptions names mailboxes that are there then."""
 import os
 import re
-from collections.abc import Iterable, Iterator, Mapping
+from collections.abc import Iterable, Iterator, Mapping, Sequence
 from pathlib import Path
 from typing import NamedTuple, Optional
 
@@ -62,9 +63,9 @@ class Told(NamedTuple):
 class House:
     """A home whose mailboxes were migrated, and in whose Maildir mail came since."""
 
-    def __init__(self, home: Home, boxes: Optional[Mapping[str, bytes]] = None) -> None:
-        self.home, self.boxes = home, boxes or BOXES
-        home.begin("--jobs", "1")
+    def __init__(self, home: Home, boxes: Optional[Mapping[str, bytes]] = None, words: Sequence[str] = ()) -> None:
+        self.home, self.boxes, self.words = home, boxes or BOXES, words
+        home.begin("--jobs", "1", *words)
         for path, text in self.boxes.items():
             home.write(path, text)
         home.place.own(home.path / "mail")
@@ -73,13 +74,12 @@ class House:
     def deliver(self, mails: Iterable[bytes], folder: str = "", first: int = 0) -> None:
         """Mail comes, one after the other."""
         place = self.home.maildir / folder
+        for sub in ("tmp", "new", "cur"):
+            (place / sub).mkdir(parents=True, exist_ok=True)
         for number, text in enumerate(mails, first):
             path = place / f"new/{number}.M1.host"
-            path.parent.mkdir(parents=True, exist_ok=True)
             path.write_bytes(text)
             os.utime(path, ((number + 1) * DAY,) * 2)
-        for sub in ("tmp", "cur"):
-            (place / sub).mkdir(exist_ok=True)
         self.home.place.own(place, *place.rglob("*"))
 
     def deliver_among(self, odd: bytes) -> None:
@@ -108,7 +108,7 @@ class House:
 
     def run(self, *words: str) -> Ran:
         """Runs the way back."""
-        return self.home.place.run(["back", "--json", "--now", *words, "M", "spool", "mail"])
+        return self.home.place.run(["back", "--json", "--now", *self.words, *words, "M", "spool", "mail"])
 
     def has(self, wanted: dict[str, list[bytes]]) -> None:
         """The mail that was appended to each mailbox, in its order, and a new Maildir gets all of it unasked."""
@@ -225,6 +225,22 @@ def fields_of_programs(home: Home) -> None:
         equal(f"{path}: left out", rows[path], Told(path, messages=1, fields=", ".join(sum(gone, []))))
 
 
+def subscriptions(home: Home) -> None:
+    """The list of the tree gets those folders that have a mailbox there, and keeps what it had."""
+    house = House(home, {"spool": OLD, "mail/a": OLD, "mail/.subscriptions": b"a\nelsewhere\n"}, ["--dovecot"])
+    for folder in (".new", ".lists.one"):
+        house.deliver(PLAIN, folder)
+    for folder in (".empty", ".stays"):
+        house.deliver([], folder)
+    house.deliver([JOINED], ".stays")
+    with open(home.maildir / "subscriptions", "ab") as file:
+        file.write(b"INBOX\nnew\nlists\tone\nempty\nstays\nnowhere\n")
+    ran = house.run("--dry-run"), house.run()
+    equal("the list", house.texts()["mail/.subscriptions"], b"a\nelsewhere\nINBOX\nnew\nlists/one\n")
+    says = [rows_of(one)[-1]["remarks"][0]["says"] for one in ran]
+    equal("what is said", says, ["subscribed to 5 folders"] * 2)
+
+
 def numbered(keeper: Keeper, *numbers: int) -> bytes:
     """Messages in which a program keeps flags."""
     return b"".join(letter(number, keeper.fields(number, "")) for number in numbers)
@@ -236,5 +252,5 @@ def names_in(header: bytes) -> list[str]:
 
 
 if __name__ == "__main__":
-    cases = first_lines, a_blank, several_blanks, an_empty_mailbox, held_by_none, fields_of_programs
+    cases = first_lines, a_blank, several_blanks, an_empty_mailbox, held_by_none, fields_of_programs, subscriptions
     run_rules({case.__name__: case for case in cases})

@@ -80,7 +80,8 @@ class Several:
 
     def __init__(self, program: Program, root: bytes, record: Record, how: How, observer: Observer) -> None:
         self.program, self.root, self.record, self.how, self.observer = program, root, record, how, observer
-        self.is_right = True
+        # whether nothing is left, and the mailboxes to which mail would go back
+        self.is_right, self.would = True, set[bytes]()
 
     def run(self, places: Places, copies: bool) -> Next:
         """Brings back the mail of each folder, and tells its row."""
@@ -102,13 +103,14 @@ class Several:
             for row in standing.rest():
                 self.tell(row)
         tree = next(iter(places.trees), None) if self.how.dovecot else None
-        for row in rows_of(self.root, tree, places, self.how.dry):
+        for row in rows_of(self.root, tree, places, self.how.dry, self.would):
             self.tell(row)
         return self.aside()
 
     def tell(self, row: Row) -> None:
         """Tells a row."""
         self.is_right = self.is_right and not row.left_for
+        self.would |= {row.path} if row.fate is Fate.WOULD_BACK else set()
         self.observer.row(row)
 
     def drop_locks(self, places: Places, found: Sorted) -> None:

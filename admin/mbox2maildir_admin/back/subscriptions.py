@@ -2,12 +2,12 @@
 import contextlib
 import os
 import stat
-from collections.abc import Iterator
+from collections.abc import Container, Iterator
 from dataclasses import replace
 from typing import Optional
 
 from ..faults import Fault, Left, Reason
-from ..maildir.folders import folder_of_place, folder_path, on_disk
+from ..maildir.folders import INBOX, folder_of_place, folder_path, on_disk
 from ..maildir.making import sync_folder
 from ..migration.dovecot import FORM, OLD_SUBSCRIPTIONS, SUBSCRIPTIONS, lines_of
 from ..migration.outcomes import Fate, Row, row_left
@@ -25,35 +25,38 @@ Name = tuple[bytes, ...]
 
 
 class Lists:
-    """The two lists of names, and the mailboxes by their folders."""
+    """The two lists of names, the mailboxes by their folders, and the paths of those that a dry run would make."""
 
-    def __init__(self, root: bytes, tree: bytes, places: Places) -> None:
-        self.root, self.tree, self.places = root, tree, places
+    def __init__(self, root: bytes, tree: bytes, places: Places, would: Container[bytes]) -> None:
+        self.root, self.tree, self.places, self.would = root, tree, places, would
         self.path = os.path.join(tree, OLD_SUBSCRIPTIONS)
         self.old, self.has_tabs = names_in(self.path, b"/")
         self.new, _ = names_in(os.path.join(root, SUBSCRIPTIONS), b".")
 
     def names(self) -> list[Name]:
-        """What the tree is to be subscribed to: the folders of the list of the Maildir, by the names of their
-        mailboxes. If `migrate` wrote that list, what is missing there was unsubscribed, unless it is no folder."""
+        """What the tree is to be subscribed to: the folders of the list of the Maildir that have a mailbox there, by
+        the name of that. If `migrate` wrote that list, what is missing there was unsubscribed, unless it is no folder.
+        What else the list of the tree has stays, as RFC 3501, 6.3.6 wants it, whether it is there or not."""
         old = {folder_of_old(name): name for name in reversed(self.old)}
         wanted = {folder_of(name): old.get(folder_of(name)) or self.name_of(name) for name in self.new}
         is_ours = self.places.record.has_subscriptions()
         kept = [name for name in self.old if folder_of_old(name) in wanted or not (is_ours and self.is_there(name))]
-        return list(dict.fromkeys([*kept, *wanted.values()]))
+        return list(dict.fromkeys([*kept, *filter(None, wanted.values())]))
 
     def is_there(self, name: Name) -> bool:
         """Whether the Maildir has the folder of a mailbox."""
         return os.path.isdir(folder_path(self.root, folder_of_old(name)))
 
-    def name_of(self, name: Name) -> Name:
-        """The name of the mailbox for a folder; that of the folder if it has no mailbox in the tree."""
+    def name_of(self, name: Name) -> Optional[Name]:
+        """The name of the mailbox for a folder; None if it has no mailbox in the tree. INBOX has one anywhere."""
+        if folder_of(name) == INBOX:
+            return name
         with contextlib.suppress(Left):
             path = self.places.of(folder_of(name))[0].path
             parts = os.path.relpath(path, self.tree).split(b"/")
-            if os.path.lexists(path) and parts[0] != b"..":
+            if parts[0] != b".." and (path in self.would or os.path.lexists(path)):
                 return tuple(parts)
-        return name
+        return None
 
     def text(self, names: list[Name]) -> bytes:
         """The list of the tree, in the form that it has, or in that of Dovecot."""
@@ -78,13 +81,14 @@ def folder_of_old(name: Name) -> bytes:
     return on_disk(folder_of_place(b"/".join(name).decode()))
 
 
-def rows_of(root: bytes, tree: Optional[bytes], places: Places, is_dry: bool) -> Iterator[Row]:
-    """Writes the list of a tree, and gives its row, if anything is to change in it."""
+def rows_of(root: bytes, tree: Optional[bytes], places: Places, is_dry: bool, would: Container[bytes]) -> Iterator[Row]:
+    """Writes the list of a tree, and gives its row, if anything is to change in it. In a dry run, mail would go back to
+    the mailboxes at some paths."""
     if tree is None or not os.path.lexists(os.path.join(root, SUBSCRIPTIONS)):
         return
     path = os.path.join(tree, OLD_SUBSCRIPTIONS)
     try:
-        lists = Lists(root, tree, places)
+        lists = Lists(root, tree, places, would)
         names = lists.names()
         if set(names) == set(lists.old):
             return

@@ -490,10 +490,10 @@ class SubscriptionsTest(BackHome):
         new = b"V\t2\n\nINBOX\nrenamed\nlists\tsheds\nnone\n"
         self.assertEqual(
             self.lists(b"V\t2\n\nsent\nelsewhere\n", new),
-            b"V\t2\n\nelsewhere\nINBOX\nlists\tb\nlists\tsheds\nnone\n",
+            b"V\t2\n\nelsewhere\nINBOX\nlists\tb\nlists\tsheds\n",
         )
         last = self.rows[-1]
-        self.assertEqual((last.fate, last.says), (Fate.BACK, "subscribed to 5 folders"))
+        self.assertEqual((last.fate, last.says), (Fate.BACK, "subscribed to 4 folders"))
 
     def test_the_old_form(self) -> None:
         self.assertEqual(
