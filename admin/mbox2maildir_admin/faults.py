@@ -6,11 +6,9 @@ import os
 from collections.abc import Iterator, Sequence
 from typing import Optional, Union
 
+from .looks import ABSENT, is_folder, may_be
 from .nexts import NOTHING, Next, Phrase, Quote, lines_below, run_next
 from .terminal import complain, named, operand
-
-# the errors that say that nothing is at a path
-ABSENT = errno.ENOENT, errno.ENOTDIR
 
 
 class Status(enum.IntEnum):
@@ -203,7 +201,7 @@ def next_of(fault: Union[Fault, OSError], path: bytes) -> Next:
         return run_next("ls", "-ld", operand(place))
     if fault.errno not in ABSENT:
         return NOTHING
-    while place and not os.path.isdir(place):
+    while place and not may_be(is_folder, place):
         place = os.path.dirname(place)
     return run_next("ls", operand(place or b"."))
 

@@ -11,6 +11,7 @@ from typing import NamedTuple, Optional
 
 from . import PROGRAM
 from .faults import Fault, Left, PlaceFault, Reason
+from .looks import is_file, is_folder, real_path
 from .nexts import Todo, run_next, task
 from .signals import INTERRUPTS, Process, running, status_of
 from .terminal import named
@@ -47,10 +48,10 @@ def places_of_program(here: str, clone: str) -> Iterator[str]:
 def find_program() -> bytes:
     """Returns the path of mbox2maildir: beside the program that was started, or else the first in PATH, or else, in a
     clone, the one that `make` has built."""
-    here = os.path.dirname(os.path.realpath(sys.argv[0]))
-    clone = os.path.dirname(here) if os.path.isdir(os.path.join(here, str(__package__))) else ""
+    here = os.path.dirname(os.fsdecode(real_path(os.fsencode(sys.argv[0]))))
+    clone = os.path.dirname(here) if is_folder(os.path.join(here, str(__package__))) else ""
     for program in places_of_program(here, clone):
-        if os.path.isfile(program):
+        if is_file(program):
             return os.fsencode(program)
     then = run_next("make", "-C", clone) if clone else task(Todo.INSTALL)
     raise PlaceFault("could not find %s in %s or in PATH" % (PROGRAM, named(here)), Reason.CONVERT_FAILED, then)

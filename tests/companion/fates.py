@@ -2,10 +2,10 @@
 """Each name in a tree, a spool and a home has exactly one fate.
 
 The case `worlds` makes random worlds, each with a list of what must become of its names, and migrates them. Rows, sums,
-status and Maildirs are compared with that list. In the case `faults` one call of the system fails in each run. All
-other cases are worlds that are not drawn. For a world that differs the seed is printed, and `--seed N --count 1 worlds`
-makes it again. The environment's ADMIN may name the folder of another companion, or an installed program, which is
-tried instead.
+status and Maildirs are compared with that list. In the cases `faults` and `some_faults` one call of the system fails in
+each run. All other cases are worlds that are not drawn. For a world that differs the seed is printed, and `--seed N
+--count 1 worlds` makes it again. The environment's ADMIN may name the folder of another companion, or an installed
+program, which is tried instead, but for `faults`.
 """
 import argparse
 import contextlib
@@ -25,7 +25,7 @@ from tests.support.accounts import are_own
 from tests.support.cases import run_cases
 from tests.support.checks import TOP
 from tests.support.fates.comparing import differences
-from tests.support.fates.faults import Attempt, a_spool, small_tree, with_left
+from tests.support.fates.faults import Attempt, a_spool, small_tree, with_left, wrong_calls
 from tests.support.fates.rows import ROWS, Stage
 from tests.support.fates.running import NOBODY, install, is_root
 from tests.support.fates.trees import of_a_tree, of_words
@@ -136,7 +136,14 @@ def row(place: House, make: Callable[[Stage], list[str]]) -> None:
     assert not wrong, "\n".join(["", *some(wrong)])
 
 
-def faults(place: House, seed: int, count: int) -> None:
+def faults(place: House) -> None:
+    """Each call of the small tree fails once, each in a run of its own."""
+    home = place.clear()
+    wrong = wrong_calls(small_tree, home, place.top / "bin")
+    assert not wrong, "\n".join([f"{len(wrong)} differ", *some(wrong)])
+
+
+def some_faults(place: House, seed: int, count: int) -> None:
     """One call fails in each run. This many calls and errors are drawn from all."""
     draw, who = Random(seed), place.users()
     wrong: list[str] = []
@@ -159,7 +166,8 @@ def main() -> None:
     with house() as place:
         cases: dict[str, Callable[[], None]] = {name: partial(row, place, make) for name, make in ROWS.items()}
         cases["worlds"] = partial(worlds, place, options.seed, options.count or WORLDS, options.jobs)
-        cases["faults"] = partial(faults, place, options.seed, options.count or FAULTS)
+        cases["faults"] = partial(faults, place)
+        cases["some_faults"] = partial(some_faults, place, options.seed, options.count or FAULTS)
         run_cases(cases)
 
 

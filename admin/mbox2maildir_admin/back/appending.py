@@ -8,6 +8,7 @@ from collections.abc import Callable
 from typing import Optional
 
 from ..faults import Left, Reason
+from ..looks import is_there
 from ..mbox.files import BLOCK
 from ..mbox.mailbox import Mailbox
 from ..terminal import spelled
@@ -105,7 +106,7 @@ def recover(mailbox: Mailbox, beside: Beside) -> Optional[Line]:
         torn = beside.torn_in(mailbox)
         beside.remove()
         return None if torn is None else mailbox.line_at(torn)
-    if os.path.lexists(beside.path):
+    if is_there(beside.path):
         # what it has may not be on the disk yet
         os.fsync(mailbox.number)
         beside.remove()

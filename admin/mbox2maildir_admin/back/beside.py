@@ -206,7 +206,7 @@ class Draft:
 
     def __exit__(self, *_: object) -> None:
         os.close(self.number)
-        if os.path.lexists(self.path):
+        with contextlib.suppress(FileNotFoundError):
             os.unlink(self.path)
 
     def text(self) -> Mailbox:

@@ -4,6 +4,7 @@ import os
 from collections.abc import Iterable
 from contextlib import AbstractContextManager
 
+from ..looks import is_folder
 from ..maildir.making import sync_folder
 from ..mbox.lock_file import drop_left, lock_file_of
 from ..mbox.mailbox import Mailbox
@@ -32,7 +33,7 @@ def make_mailbox(path: bytes) -> None:
     """Makes a mailbox that is not there, which only its owner may read, and the folders above it. They are on the disk
     then."""
     above = os.path.dirname(os.path.abspath(path))
-    if not os.path.isdir(above):
+    if not is_folder(above):
         make_folders(above)
     with contextlib.suppress(FileExistsError):
         os.close(os.open(path, os.O_WRONLY | os.O_CREAT | os.O_EXCL | os.O_NOFOLLOW | os.O_CLOEXEC, 0o600))
@@ -43,7 +44,7 @@ def make_mailbox(path: bytes) -> None:
 def make_folders(path: bytes) -> None:
     """Makes a folder, and those above it."""
     above = os.path.dirname(path)
-    if not os.path.isdir(above):
+    if not is_folder(above):
         make_folders(above)
     os.mkdir(path, 0o700)
     sync_folder(above)

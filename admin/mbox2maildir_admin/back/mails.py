@@ -4,7 +4,6 @@ A message that a mailbox brought has one file, in its folder or where people hav
 one: IMAP keeps some names and changes others. Any further file is new, also a copy of such a message.
 """
 import collections
-import errno
 import os
 from collections.abc import Callable, Iterable, Iterator, Sequence
 from typing import NamedTuple, Optional
@@ -16,11 +15,13 @@ from ..ledger.batches import Line, State
 from ..ledger.history import Step
 from ..ledger.ledger import Ledger
 from ..ledger.lines import RETURNED
+from ..ledger.prepared_lines import has_list
 from ..ledger.record import Record
 from ..ledger.strangers import folders_in
+from ..looks import is_folder
 from ..maildir.files import listings_of
 from ..maildir.folders import INBOX, folder_named
-from ..maildir.making import PREPARED, SUBFOLDERS
+from ..maildir.making import SUBFOLDERS
 from ..mbox.bases import BASE, before_info
 from ..mbox.core import Core
 from ..mbox.files import BLOCK, open_file
@@ -176,7 +177,7 @@ def want_whole(root: bytes, folder: bytes, ledger: Ledger) -> None:
     """Raises Fault if a ledger does not say what is in its folder."""
     if ledger.damage:
         raise PlaceFault(DAMAGED % (folder_named(folder), ledger.damage), Reason.LEDGER)
-    is_prepared = os.path.lexists(os.path.join(ledger.folder, PREPARED))
+    is_prepared = has_list(ledger.folder)
     # what is only to go back has no file of its own
     begun = [one for one in ledger.paths() if is_begun(ledger, one)]
     if is_prepared or begun:
@@ -193,7 +194,7 @@ def is_begun(ledger: Ledger, path: str) -> bool:
 def mails_of(root: bytes, say: Say = silent) -> Iterator[Mail]:
     """The files of mail in all folders of a Maildir. Each is read."""
     for path in folders_in(root):
-        if all(os.path.isdir(os.path.join(path, sub)) for sub in SUBFOLDERS[1:]):
+        if all(is_folder(os.path.join(path, sub)) for sub in SUBFOLDERS[1:]):
             yield from mails_in(INBOX if path == root else os.path.basename(path), path, say)
 
 
@@ -224,10 +225,6 @@ def core_in(path: bytes) -> Optional[bytes]:
                 core.update(block)
     except Fault:
         return None
-    except OSError as error:
-        if error.errno == errno.ELOOP:
-            return None
-        raise
     core.update(b"" if block.endswith(b"\n") else b"\n")
     return core.end()[0]
 

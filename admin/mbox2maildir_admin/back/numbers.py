@@ -4,7 +4,6 @@ Dovecot 2.3 takes over a higher last UID in `X-IMAPbase`, with its index and wit
 higher. If a Maildir goes on with the UIDs of its mailbox, the messages that go back keep theirs. If it was to, and no
 longer does, UIDVALIDITY is new.
 """
-import os
 import time
 from collections.abc import Iterator, Sequence
 from typing import NamedTuple, Optional
@@ -12,7 +11,7 @@ from typing import NamedTuple, Optional
 from ..flags.dovecot_headers import MOST_VALIDITY, Head, Reading, header_at
 from ..ledger.history import names_of
 from ..ledger.ledger import Ledger
-from ..ledger.record import Record, unspelled
+from ..ledger.record import Record, is_gone
 from ..mbox.inventory import Inventory
 from ..mbox.mailbox import Mailbox
 from ..migration.steps import Opened
@@ -161,7 +160,7 @@ class Numbering:
 def numbering_of(opened: Opened, record: Record, target: Target, how: How) -> Numbering:
     """The numbers of an open mailbox and of its folder, whatever their names are now. The mailbox says from now on what
     it is to say before its mail is appended."""
-    gone = [one for one in Ledger(opened.folder).paths() if not os.path.lexists(unspelled(one))]
+    gone = filter(is_gone, Ledger(opened.folder).paths())
     is_numbered = record.has_numbered({*gone, *names_of(opened.mailbox.path)})
     if not how.dovecot:
         numbering = Numbering(None, False)

@@ -8,8 +8,9 @@ from typing import NamedTuple, Optional
 from ..faults import Left, Reason
 from ..ledger.history import names_of
 from ..ledger.ledger import Ledger
-from ..ledger.record import Record, unspelled
+from ..ledger.record import Record, is_gone, unspelled
 from ..ledger.strangers import folders_in
+from ..looks import is_file, is_folder, is_link, is_there
 from ..maildir.folders import INBOX, folder_named, folder_on_disk, folder_path, name_given, without_utf7
 from ..migration.places import Planned, recorded
 from ..migration.trees import Tree
@@ -44,8 +45,8 @@ class Names(NamedTuple):
     def trees(self, record: Record) -> list[bytes]:
         """The folders of mailboxes. None is made where folders came from mailboxes: it would be in the way of these,
         which are elsewhere."""
-        made = [self.tree] if self.tree and not os.path.lexists(self.tree) and not has_folders(record) else []
-        return [path for path in self.paths if os.path.isdir(path)] or made
+        made = [self.tree] if self.tree and not is_there(self.tree) and not has_folders(record) else []
+        return list(filter(is_folder, self.paths)) or made
 
 
 class Places:
@@ -62,11 +63,11 @@ class Places:
 
     def planned(self, name: bytes) -> Iterator[Planned]:
         """The mailboxes at a path, with their folders."""
-        if os.path.isdir(name):
+        if is_folder(name):
             yield from Tree(name, self.root).read().placed(self.record, self.root, set())
             return
         one = recorded(Planned(name, INBOX), self.record, self.root)
-        is_known = bool(self.record.folders_of(name)) or not os.path.isfile(name)
+        is_known = bool(self.record.folders_of(name)) or not is_file(name)
         yield one if is_known else one._replace(folder=self.folder_of_moved(name))
 
     def folder_of_moved(self, path: bytes) -> bytes:
@@ -75,8 +76,7 @@ class Places:
         inode = os.stat(path).st_ino
         for place in folders_in(self.root):
             ledger = Ledger(place)
-            gone = [one for one in ledger.sources if not os.path.lexists(unspelled(one))]
-            if any(ledger.sources[one].inode == inode for one in gone):
+            if any(source.inode == inode and is_gone(one) for one, source in ledger.sources.items()):
                 return INBOX if place == self.root else os.path.basename(place)
         return INBOX
 
@@ -93,13 +93,12 @@ class Places:
         first. Raises Left if there is none, and none can be made."""
         paths = Ledger(folder_path(self.root, folder)).paths()
         found = self.all_of(folder)
-        there = [one for one in found if os.path.lexists(one)]
+        there = list(filter(is_there, found))
         there.sort(key=lambda one: not set(names_of(one)) & set(paths))
-        gone = [one for one in paths if not os.path.lexists(unspelled(one))]
         if there:
             return [Place(one) for one in there]
-        if paths and len(gone) == len(paths):
-            raise Left(GONE % named(unspelled(gone[0])), Reason.MISSING)
+        if paths and all(map(is_gone, paths)):
+            raise Left(GONE % named(unspelled(paths[0])), Reason.MISSING)
         if folder == INBOX:
             if not found:
                 raise Left(self.names.no_inbox, Reason.NO_MAILBOX)
@@ -138,13 +137,13 @@ class Places:
     def is_free(path: bytes, paths: Sequence[str]) -> bool:
         """Whether a mailbox can be made at a path, or was made there before for a folder whose ledger has these
         paths."""
-        if os.path.lexists(path):
-            is_file = os.path.isfile(path) and not os.path.islink(path)
-            return is_file and (not os.path.getsize(path) or bool(set(names_of(path)) & set(paths)))
+        if is_there(path):
+            is_own = is_file(path) and not is_link(path)
+            return is_own and (not os.path.getsize(path) or bool(set(names_of(path)) & set(paths)))
         above = os.path.dirname(os.path.abspath(path))
-        while not os.path.lexists(above):
+        while not is_there(above):
             above = os.path.dirname(above)
-        return os.path.isdir(above)
+        return is_folder(above)
 
 
 def has_folders(record: Record) -> bool:

@@ -6,7 +6,7 @@ from typing import NamedTuple, Optional
 
 from ..faults import Fault, Left, Reason
 from ..kinds.starts import text_start
-from ..ledger.record import unspelled
+from ..ledger.record import is_gone
 from ..mbox.core import Core
 from ..mbox.inventory import Inventory
 from ..mbox.mailbox import Mailbox
@@ -95,8 +95,8 @@ def path_in(known: Known) -> str:
     paths = ledger.paths()
     if known.path in paths:
         return known.path
-    gone = (one for one in paths if not os.path.lexists(unspelled(one)))
-    return next((one for one in gone if ledger.is_of(one, mailbox.key(), mailbox.state.st_ino)), "")
+    same = (one for one in paths if ledger.is_of(one, mailbox.key(), mailbox.state.st_ino))
+    return next(filter(is_gone, same), "")
 
 
 def messages_by(

@@ -12,6 +12,7 @@ from ..ledger.ledger import Ledger
 from ..ledger.lines import RETURNED, Brought, Head, note_end
 from ..ledger.match import cores_of
 from ..ledger.record import Record, Verified, unspelled
+from ..looks import is_there
 from ..maildir.space import Need, want_room
 from ..mbox.inventory import Inventory
 from ..mbox.locks import READING, WRITING, open_mailbox
@@ -85,7 +86,7 @@ class Returning:
     @contextlib.contextmanager
     def opened(self, path: bytes) -> Iterator[Mailbox]:
         """Opens a mailbox, and holds all of its locks."""
-        if self.how.dry and not os.path.lexists(path):
+        if self.how.dry and not is_there(path):
             with Mailbox(path, os.open(os.devnull, os.O_RDONLY)) as mailbox:
                 yield mailbox
             return

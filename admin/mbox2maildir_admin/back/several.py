@@ -13,6 +13,7 @@ from ..ledger.history import names_of
 from ..ledger.ledger import Ledger
 from ..ledger.record import Record, unspelled
 from ..ledger.strangers import folders_in
+from ..looks import is_file, is_there, may_be
 from ..maildir.folders import INBOX, folder_named, folder_path
 from ..maildir.making import GOES_BACK, RECORD
 from ..maildir.roots import real_place, want_roots_alone
@@ -63,7 +64,7 @@ def bring_back(root: bytes, names: Sequence[bytes], how: How, copies: bool, obse
 
 def want_migrated(root: bytes) -> None:
     """Raises Fault if nothing was migrated into a Maildir."""
-    if not os.path.lexists(os.path.join(root, RECORD)):
+    if not is_there(os.path.join(root, RECORD)):
         raise PlaceFault(NO_RECORD % named(root), Reason.NO_MAILDIR)
 
 
@@ -126,7 +127,7 @@ class Several:
         wanted.update(mail.folder for mail, _ in found.moved)
         for path in folders_in(self.root):
             folder = INBOX if path == self.root else os.path.basename(path)
-            if folder in wanted or os.path.lexists(os.path.join(path, GOES_BACK)):
+            if folder in wanted or is_there(os.path.join(path, GOES_BACK)):
                 yield folder
 
     def rows(self, target: Target, places: Places) -> Iterator[Row]:
@@ -154,7 +155,7 @@ class Several:
     def numbered(self, target: Target) -> Row:
         """The row of a mailbox that takes no mail, once it says which UIDs the folder has given."""
         row = nothing_new(target.path, target.folder, target.remarks)
-        if not self.how.dovecot or not os.path.isfile(row.path):
+        if not self.how.dovecot or not is_file(row.path):
             return row
         say = Beat(functools.partial(self.observer.progress, named(row.path)))
         numbering = Returning(self.program, self.root, self.record, self.how, say).number(target)
@@ -166,14 +167,14 @@ class Several:
         if not beside:
             return
         with contextlib.closing(beside):
-            paths = [one for one in (unspelled(beside.before.path), *places.all_of(folder)) if os.path.isfile(one)]
+            paths = [one for one in (unspelled(beside.before.path), *places.all_of(folder)) if is_file(one)]
             same = [one for one in paths if os.stat(one).st_ino == beside.before.inode]
             # another file at its path may be a copy of it
             for path in (same or paths)[:1]:
                 line = Returning(self.program, self.root, self.record, self.how).recover(path, beside)
                 if line is not None:
                     yield left(path, folder, Left(TORN % line, Reason.TORN), 0)
-            if os.path.lexists(beside.path):
+            if is_there(beside.path):
                 beside.remove()
 
     def rows_beside(self, target: Target, places: Places, why: str, tried: Sequence[bytes] = ()) -> Iterator[Row]:
@@ -184,7 +185,7 @@ class Several:
             return
         try:
             other = places.beside(path, folder, tried)
-        except Fault as fault:
+        except (Fault, OSError) as fault:
             yield left(path, folder, fault, len(mails), remarks)
             return
         found = self.brought(other, Target(other.path, folder, mails, remarks))
@@ -203,7 +204,7 @@ class Several:
         how = self.how
         try:
             say = Beat(functools.partial(self.observer.progress, named(target.path)))
-            is_missing = place.is_new and not os.path.lexists(place.path)
+            is_missing = place.is_new and not is_there(place.path)
             if is_missing and not how.dry:
                 # none is made that would stay empty
                 would = Returning(self.program, self.root, self.record, replace(how, dry=True), say).run(target)
@@ -226,7 +227,7 @@ class Several:
         if self.how.dry or not self.is_right:
             return NOTHING
         names = (self.root.rstrip(b"/") + ASIDE + end for end in (b"", *(b"-%d" % number for number in range(2, 100))))
-        name = next((name for name in names if not os.path.lexists(name)), None)
+        name = next((name for name in names if not may_be(is_there, name)), None)
         return run_next("mv", "-nT", operand(self.root), operand(name)) if name else NOTHING
 
 
@@ -279,7 +280,7 @@ class Standing:
         # that nobody knows what they have now
         noted = Ledger(folder_path(root, folder)).sources.values() if self.counts else ()
         sizes = {source.key[0] for source in noted if record.has_done(source.key, source.count())}
-        self.unsure = {path for path in paths if size_at(path) not in sizes}
+        self.unsure = {path for path in paths if may_be(lambda one: size_at(one) not in sizes, path)}
 
     def row(self, row: Row) -> Row:
         """The row of a mailbox, with what stands in it."""
@@ -294,7 +295,7 @@ class Standing:
 
 def size_at(path: bytes) -> int:
     """How many bytes the file at a path has; 0 if there is none."""
-    return os.path.getsize(path) if os.path.isfile(path) else 0
+    return os.path.getsize(path) if is_file(path) else 0
 
 
 def standing_in(counts: "collections.Counter[str]", is_sure: bool) -> Iterator[Remark]:

@@ -7,6 +7,7 @@ from dataclasses import replace
 from typing import Optional
 
 from ..faults import Fault, Left, Reason
+from ..looks import is_folder, is_there
 from ..maildir.folders import INBOX, folder_of_place, folder_path, on_disk
 from ..maildir.making import sync_folder
 from ..migration.dovecot import FORM, OLD_SUBSCRIPTIONS, SUBSCRIPTIONS, lines_of
@@ -45,7 +46,7 @@ class Lists:
 
     def is_there(self, name: Name) -> bool:
         """Whether the Maildir has the folder of a mailbox."""
-        return os.path.isdir(folder_path(self.root, folder_of_old(name)))
+        return is_folder(folder_path(self.root, folder_of_old(name)))
 
     def name_of(self, name: Name) -> Optional[Name]:
         """The name of the mailbox for a folder; None if it has no mailbox in the tree. INBOX has one anywhere."""
@@ -54,7 +55,7 @@ class Lists:
         with contextlib.suppress(Left):
             path = self.places.of(folder_of(name))[0].path
             parts = os.path.relpath(path, self.tree).split(b"/")
-            if parts[0] != b".." and (path in self.would or os.path.lexists(path)):
+            if parts[0] != b".." and (path in self.would or is_there(path)):
                 return tuple(parts)
         return None
 
@@ -84,10 +85,12 @@ def folder_of_old(name: Name) -> bytes:
 def rows_of(root: bytes, tree: Optional[bytes], places: Places, is_dry: bool, would: Container[bytes]) -> Iterator[Row]:
     """Writes the list of a tree, and gives its row, if anything is to change in it. In a dry run, mail would go back to
     the mailboxes at some paths."""
-    if tree is None or not os.path.lexists(os.path.join(root, SUBSCRIPTIONS)):
+    if tree is None:
         return
     path = os.path.join(tree, OLD_SUBSCRIPTIONS)
     try:
+        if not is_there(os.path.join(root, SUBSCRIPTIONS)):
+            return
         lists = Lists(root, tree, places, would)
         names = lists.names()
         if set(names) == set(lists.old):
@@ -104,7 +107,7 @@ def rows_of(root: bytes, tree: Optional[bytes], places: Places, is_dry: bool, wo
 def write(path: bytes, text: bytes) -> None:
     """Puts a text in the place of a plain file, or of nothing, whatever ends a run. Its mode stays."""
     mode = 0o600
-    if os.path.lexists(path):
+    if is_there(path):
         state = os.lstat(path)
         if not stat.S_ISREG(state.st_mode):
             raise Left("it is no plain file", Reason.SUBSCRIPTIONS)

@@ -11,6 +11,7 @@ from ..kinds.folders import is_maildir
 from ..kinds.others import Holds
 from ..ledger.history import History, Note
 from ..ledger.record import Record
+from ..looks import is_folder, type_at
 from ..maildir.folders import INBOX
 from ..mbox.mailbox import Mailbox
 from ..migration.answers import is_passed_over
@@ -67,7 +68,7 @@ def say_left_out(rows: Iterable[Row], tell: Findings = LINES) -> bool:
 def for_mailboxes(maildir: bytes, path: bytes, task: Callable[[bytes, bytes], bool], tell: Findings = LINES) -> bool:
     """Does a task for a mailbox and the folder that has its mail or, if the path is a folder, for each mailbox below it
     and its folder. A file without mail by the record is left out."""
-    if not os.path.isdir(path):
+    if not is_folder(path):
         record = record_of(maildir)
         left = left_out(path, maildir, record, tell) if record.noted(Note.NO_MAIL, INBOX, path) else None
         if left:
@@ -117,7 +118,7 @@ def of_folder(folder: bytes, maildir: bytes, path: bytes) -> Iterator[None]:
     try:
         yield
     except FileNotFoundError as fault:
-        if not os.path.exists(path) or os.path.isdir(os.path.join(folder, b"new")):
+        if not type_at(path) or is_folder(os.path.join(folder, b"new")):
             raise
         then = run_next(ADMIN, "migrate", operand(maildir), operand(path))
         raise Fault("it was not migrated: %s is no Maildir" % named(folder), Reason.NO_MAILDIR, then) from fault

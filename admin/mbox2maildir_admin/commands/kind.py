@@ -13,6 +13,7 @@ from ..kinds.folders import is_maildir
 from ..kinds.making import Where
 from ..kinds.others import Holds
 from ..ledger.history import History
+from ..looks import is_folder
 from ..maildir.space import trial_folder
 from ..mbox.mailbox import Mailbox
 from ..migration.trees import Tree
@@ -37,7 +38,7 @@ def do_kind(given: argparse.Namespace) -> Status:
 def kind_below(path: bytes, tell: Findings = LINES) -> bool:
     """Prints what a file is or, for a folder, what each file in it is. Returns whether all can be converted as they
     are."""
-    if not os.path.isdir(path):
+    if not is_folder(path):
         return kind_of(path, tell)
     if is_maildir(path):
         tell.kind(Kind(path, "a Maildir", next=task(Todo.LEAVE)))

@@ -6,6 +6,7 @@ from dataclasses import replace
 
 from .. import ADMIN
 from ..faults import Left, Reason, Status
+from ..looks import is_folder, is_surely, is_there
 from ..maildir.folders import folder_of, on_disk, why_no_folder
 from ..migration.outcomes import row_left
 from ..migration.rows import Reporter
@@ -46,7 +47,9 @@ def task_of(given: argparse.Namespace) -> Telling:
     want_operands(given.operands, ["OLD..."] if given.users else ["MAILDIR", "MAILBOX..."])
     target, *names = given.operands
     of_users = UsersOptions.of(given)
-    options = options_of(given, is_one(names, of_users))
+    # what is at a name counts only where something is said of one mailbox
+    says = given.again or given.word or given.drop_deleted
+    options = options_of(given, bool(says) and is_one(names, of_users))
     for wrong in wrong_for_users(options, of_users) if given.users else wrong_for_own(options, of_users, names):
         raise WrongOptions(wrong)
     for wrong in wrong_for_undo(options, given.users, names) if given.undo else wrong_for_prepare(options):
@@ -84,7 +87,7 @@ def joined(words: Sequence[bytes]) -> Iterator[tuple[bytes, int]]:
     at = 0
     while at < len(words):
         several = (words[at : at + count] for count in range(min(MOST_WORDS, len(words) - at), 1, -1))
-        one = next((some for some in several if os.path.lexists(b" ".join(some))), words[at : at + 1])
+        one = next((some for some in several if is_surely(is_there, b" ".join(some))), words[at : at + 1])
         yield b" ".join(one), len(one)
         at += len(one)
 
@@ -141,7 +144,7 @@ def is_one(names: Sequence[bytes], of_users: UsersOptions) -> bool:
     """Whether a single MAILBOX is migrated that is a file, or a single NAME without a folder of mailboxes."""
     if len(names) != 1 or of_users.tree or of_users.names is not None:
         return False
-    return not os.path.isdir(names[0])
+    return not is_folder(names[0])
 
 
 def wrong_for_own(options: Options, of_users: UsersOptions, names: Sequence[bytes]) -> Iterator[str]:
@@ -152,13 +155,13 @@ def wrong_for_own(options: Options, of_users: UsersOptions, names: Sequence[byte
         why = why_no_folder(options.folder)
         if why:
             yield "--folder %s: %s" % (named(options.folder), why)
-        if any(map(os.path.isdir, names)):
+        if any(map(is_folder, names)):
             yield "--folder needs a MAILBOX that is a file"
     if options.decision.of and not options.decision.alone:
         yield "--of, --text and --begin need exactly one MAILBOX, which is a file"
     if options.labels and (options.folder is not None or options.dovecot or options.keep_envelopes):
         yield "--labels does not go with --folder, --dovecot and --keep-envelopes"
-    if options.labels and any(map(os.path.isdir, names)):
+    if options.labels and any(map(is_folder, names)):
         yield "--labels needs a MAILBOX that is a file"
 
 

@@ -5,6 +5,7 @@ from typing import Optional
 from ..faults import Fault
 from ..ledger.history import History
 from ..ledger.record import Record
+from ..looks import is_there
 from ..maildir.making import RECORD
 from ..mbox.mailbox import Mailbox
 from ..readings.earlier import plan_then
@@ -40,4 +41,4 @@ def record_of(folder: bytes) -> History:
 
 def root_of(folder: bytes) -> bytes:
     """The Maildir of a folder: the folder itself if it has a record, otherwise the one that it is in."""
-    return folder if os.path.lexists(os.path.join(folder, RECORD)) else os.path.dirname(os.path.abspath(folder))
+    return folder if is_there(os.path.join(folder, RECORD)) else os.path.dirname(os.path.abspath(folder))

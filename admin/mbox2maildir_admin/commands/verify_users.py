@@ -10,6 +10,7 @@ from typing import Optional, Union
 from .. import ADMIN
 from ..faults import Fault, Status
 from ..ledger.record import Record
+from ..looks import is_folder, is_link
 from ..maildir.folders import INBOX, folder_named
 from ..migration.outcomes import BY_RECORD, Fate, Row
 from ..migration.places import Pairs, Planned, recorded
@@ -81,7 +82,7 @@ class Verifier(Migrant):
     @staticmethod
     def planned(name: bytes, pairs: Pairs, relay: Relay) -> Iterator[Planned]:
         """A file with its folder, unless it is left."""
-        if os.path.islink(name):
+        if is_link(name):
             relay.leave(name, link_left(name))
             return
         one = pairs.judged(recorded(Planned(name, INBOX), pairs.record, pairs.root))
@@ -93,7 +94,7 @@ class Verifier(Migrant):
 
 def is_tree(name: bytes) -> bool:
     """Whether a name is that of a folder of mailboxes."""
-    return os.path.isdir(name) and not os.path.islink(name)
+    return is_folder(name) and not is_link(name)
 
 
 class Told(Findings):

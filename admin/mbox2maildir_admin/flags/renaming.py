@@ -5,6 +5,7 @@ import os
 from collections.abc import Callable, Container, Iterator, Sequence
 from typing import NamedTuple
 
+from ..looks import is_there
 from ..maildir.making import sync_folder
 from ..mbox.bases import before_info
 from ..mbox.inventory import Inventory
@@ -33,7 +34,7 @@ class Flagged(NamedTuple):
         new = self.base + INFO + letters.encode("latin-1")
         target = os.path.join(folder, b"cur", new)
         is_so = letters == self.letters and (self.sub == b"cur" or not is_listed)
-        if is_so or os.path.lexists(target):
+        if is_so or is_there(target):
             return self.name
         os.rename(os.path.join(folder, self.sub, self.name), target)
         return new

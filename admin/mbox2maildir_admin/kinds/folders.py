@@ -5,6 +5,7 @@ import stat
 from typing import TYPE_CHECKING
 
 from ..faults import Fault
+from ..looks import type_at
 from ..maildir.making import ENVELOPES, LEDGER, RECORD, SUBFOLDERS
 from ..mbox.files import open_file
 from ..nexts import Next, Todo, in_shell, task
@@ -43,10 +44,7 @@ FROM_MH = (
 
 def is_maildir(path: bytes) -> bool:
     """Whether a folder is a Maildir: it has the three folders, and none of them is a symbolic link."""
-    try:
-        return all(stat.S_ISDIR(os.lstat(os.path.join(path, sub)).st_mode) for sub in SUBFOLDERS)
-    except OSError:
-        return False
+    return all(type_at(os.path.join(path, sub), False) == stat.S_IFDIR for sub in SUBFOLDERS)
 
 
 def has_maildir(entries: list[Entry]) -> bool:

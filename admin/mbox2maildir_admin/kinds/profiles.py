@@ -5,8 +5,9 @@ import os
 import re
 from typing import NamedTuple, Optional
 
+from ..looks import is_file, is_folder, may_be
 from ..maildir.folders import INBOX, folder_on_disk
-from ..mbox.files import is_empty, is_there
+from ..mbox.files import is_empty
 from ..terminal import is_text
 from .folders import FROM, Entry, head_of
 from .making import is_below
@@ -91,12 +92,12 @@ class Profiles:
     def parted(self, folder: bytes, entries: list[Entry]) -> tuple[list[Entry], list[Entry]]:
         """The names in a folder that are looked at, and the rest, which holds no mail: of a profile, and of the folder
         above the profiles. Takes a profile that is named by its parent. Raises OSError if a name can't be looked at."""
-        if is_of_profile(entries):
+        if is_profile(folder):
             if os.path.dirname(folder) in (self.old, os.path.join(self.old, PROFILES)):
                 self.found.append(Profile(folder))
             wanted = [one for one in entries if one.name in OF_ACCOUNTS]
         elif any(one.name == LIST for one in entries):
-            wanted = [one for one in entries if one.name == PROFILES or may_be_profile(one.path)]
+            wanted = [one for one in entries if one.name == PROFILES or may_be(is_profile, one.path)]
         else:
             wanted = []
         return (wanted, [one for one in entries if one not in wanted]) if wanted else (entries, [])
@@ -120,20 +121,5 @@ class Profiles:
 
 
 def is_profile(path: bytes) -> bool:
-    """Whether a folder is a profile. One that can't be looked at is none."""
-    has_accounts = any(os.path.isdir(os.path.join(path, one)) for one in OF_ACCOUNTS)
-    return has_accounts and os.path.isfile(os.path.join(path, PREFERENCES))
-
-
-def may_be_profile(path: bytes) -> bool:
-    """Whether a folder is a profile, or may be one, because it can't be looked at."""
-    try:
-        return is_there(path, b"/" + PREFERENCES) and any(is_there(path, b"/%s/." % one) for one in OF_ACCOUNTS)
-    except OSError:
-        return True
-
-
-def is_of_profile(entries: list[Entry]) -> bool:
-    """Whether these are the entries of a profile. Raises OSError if that can't be known."""
-    has_accounts = any(one.name in OF_ACCOUNTS and one.is_dir() for one in entries)
-    return has_accounts and any(one.name == PREFERENCES and one.is_file() for one in entries)
+    """Whether a folder is a profile."""
+    return is_file(os.path.join(path, PREFERENCES)) and any(is_folder(os.path.join(path, one)) for one in OF_ACCOUNTS)

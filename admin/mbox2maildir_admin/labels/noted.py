@@ -5,7 +5,7 @@ from typing import NamedTuple, Optional
 
 from ..faults import Fault
 from ..ledger.history import Entry, History, Key, Note, names_of
-from ..ledger.record import Record, unspelled
+from ..ledger.record import Record, is_gone, unspelled
 from ..maildir.folders import INBOX
 from ..mbox.mailbox import Mailbox
 from .choosing import GIVES, Choosing
@@ -55,7 +55,7 @@ def line_of(record: History, mailbox: Mailbox) -> Optional[Entry]:
     found = line_at(record, mailbox.path)
     gone = [one for one in record.labelled().values() if one.key.size == mailbox.size and one.plan != NOTHING]
     for line in [] if found else gone:
-        if not os.path.lexists(unspelled(line.path)) and line.key[1:] == mailbox.key():
+        if line.key[1:] == mailbox.key() and is_gone(line.path):
             return line
     return found
 

@@ -18,6 +18,7 @@ from collections.abc import Iterable, Iterator
 from typing import IO
 
 from ..faults import PlaceFault, Reason
+from ..looks import is_there
 from ..maildir.making import ENVELOPES, sync_folder
 from ..mbox.files import BLOCK, LONG
 from ..mbox.inventory import Inventory
@@ -62,7 +63,7 @@ def keep(folder: bytes, key: tuple[Size, str], words: str, path: str, lines: Ite
     place, part = os.path.join(folder, ENVELOPES), os.path.join(folder, PART)
     head = mark_of(key) + b"%s\t%s\n" % (words.encode(), path.encode())
     there: collections.Counter[bytes] = collections.Counter()
-    if os.path.lexists(place):
+    if is_there(place):
         with lines_of(place) as found:
             there.update(map(short, found))
     if there[short(head)]:
@@ -84,7 +85,7 @@ def write(place: bytes, part: bytes, *several: Iterable[bytes]) -> None:
     returns."""
     number = os.open(part, os.O_WRONLY | os.O_CREAT | os.O_EXCL | os.O_CLOEXEC, 0o600)
     with os.fdopen(number, "wb") as file:
-        if os.path.lexists(place):
+        if is_there(place):
             with opened(place) as old:
                 shutil.copyfileobj(old, file, BLOCK)
         with gzip.GzipFile(b"", "wb", 9, file, 0) as packed:

@@ -5,6 +5,7 @@ from collections.abc import Callable, Container, Iterator, Sequence
 from typing import Optional
 
 from ..faults import Fault
+from ..looks import is_link
 from ..maildir.files import digest_of, names_of
 from ..mbox.bases import BASE, DIGEST, FIRST, base_in, before_info, is_own
 from ..mbox.core import Core
@@ -46,7 +47,7 @@ class Files:
             self.has_named = self.has_named or base is None
             self.has_strange = self.has_strange or inventory.table.place_of(base) is None
             # a symbolic link is no mail
-            self.others += BASE.match(name) is None and not os.path.islink(path)
+            self.others += BASE.match(name) is None and not is_link(path)
             if b"T" in name[len(before) :]:
                 self.trashed.add(before)
 

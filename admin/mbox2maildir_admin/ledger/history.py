@@ -12,8 +12,8 @@ import re
 from collections.abc import Container, Iterable, Iterator
 from typing import NamedTuple, Optional, Union
 
+from ..looks import real_path
 from ..maildir.folders import INBOX
-from ..mbox.files import real_path
 from ..terminal import shown, spelled
 from ..units import Size
 

@@ -20,6 +20,7 @@ from collections.abc import Iterable, Iterator
 from typing import Optional
 
 from ..faults import PlaceFault, Reason
+from ..looks import is_folder, is_there
 from ..maildir.files import CLOCK_TICK, digest_of, names_of
 from ..maildir.making import PREPARED, sync_folder
 from ..mbox.bases import DIGEST, Table, base_in, own_base_in
@@ -207,14 +208,14 @@ class Prepared:
     def sweep(self) -> None:
         """Removes what a killed run of the program has left in `tmp`. The record is locked, so none is at work."""
         folder = os.path.join(self.folder, b"tmp")
-        for name in os.listdir(folder) if os.path.isdir(folder) else ():
+        for name in os.listdir(folder) if is_folder(folder) else ():
             if self.table.place_of(own_base_in(name)) is not None:
                 os.unlink(os.path.join(folder, name))
 
     def make_folder(self) -> None:
         """Makes the folder, which then has the list, if one of them is missing. It has its name once it has the
         list."""
-        if not self.is_there and not os.path.lexists(self.folder):
+        if not self.is_there and not is_there(self.folder):
             make_listed(self.folder)
             self.is_made = self.is_there = self.has_head = True
         elif not self.is_there:

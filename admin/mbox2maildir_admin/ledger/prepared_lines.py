@@ -6,6 +6,7 @@ import re
 import time
 from typing import NamedTuple, Optional
 
+from ..looks import is_there
 from ..maildir.making import PREPARED, sync_folder
 from ..mbox.bases import before_info
 from .lines import append, lines_in
@@ -139,4 +140,4 @@ def origin_in(folder: bytes) -> Optional[Origin]:
 
 def has_list(folder: bytes) -> bool:
     """Whether a folder has a list."""
-    return os.path.lexists(os.path.join(folder, PREPARED))
+    return is_there(os.path.join(folder, PREPARED))

@@ -13,6 +13,7 @@ from collections.abc import Callable, Container, Iterator
 from typing import NamedTuple, Optional
 
 from ..faults import PlaceFault, Reason
+from ..looks import is_there
 from ..maildir.making import RECORD, SyncNames, has_begun, sync_folder, synced_once
 from ..maildir.roots import make_alone
 from ..mbox.mailbox import is_still
@@ -63,7 +64,7 @@ class Record(History):
         self.maildir, self.path = maildir, os.path.join(maildir, RECORD)
         self._number: Optional[int] = None
         self.size, self.is_cut = 0, False
-        self._gone: Optional[list[Entry]] = None
+        self._gone: dict[str, list[Entry]] = {}
         # the lines that wait for the file to be made
         self.waiting: list[Entry] = []
         # the function that puts lines on the disk; for a worker, its parent does that
@@ -192,12 +193,13 @@ class Record(History):
             if entry:
                 self.take(entry)
 
-    def gone(self) -> list[Entry]:
-        """The last lines of those mailboxes of it that were gone from their paths when this was asked first."""
-        if self._gone is None:
-            last = {(line.key.folder, line.path): line for line in self.lines()}
-            self._gone = [line for line in last.values() if not os.path.lexists(unspelled(line.path))]
-        return self._gone
+    def gone(self, place: str) -> list[Entry]:
+        """The last lines of those mailboxes in a folder that were gone from it when this was asked first."""
+        if place not in self._gone:
+            lines = (line for line in self.lines() if os.path.dirname(line.path) == place)
+            last = {(line.key.folder, line.path): line for line in lines}
+            self._gone[place] = [line for line in last.values() if is_gone(line.path)]
+        return self._gone[place]
 
     def add(self, what: What, key: Key, messages: int, path: bytes, plan: Optional[str] = None) -> None:
         """Appends a line, which is on the disk when this returns."""
@@ -259,3 +261,8 @@ def open_record(path: bytes, make: bool) -> Optional[int]:
 def unspelled(path: str) -> bytes:
     """The path that a line of the record spells."""
     return ESCAPED.sub(lambda found: bytes([int(found[1], 16)]) if found[1] else b"\\", path.encode("utf-8"))
+
+
+def is_gone(path: str) -> bool:
+    """Whether nothing is at the path that a line spells any more."""
+    return not is_there(unspelled(path))

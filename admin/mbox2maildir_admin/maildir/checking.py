@@ -6,6 +6,7 @@ import os
 from collections.abc import Callable, Iterator, Sequence
 from typing import NamedTuple, Optional
 
+from ..looks import is_there
 from ..mbox.bases import BASE, before_info, is_own
 from ..mbox.inventory import Inventory
 from ..terminal import NAMED, named
@@ -113,7 +114,7 @@ class Check:
                 homes[place].append(path)
         for paths in homes.values():
             # a file that was moved is there only once
-            self.doubles += [path for path in paths if os.path.lexists(path)][1:]
+            self.doubles += list(filter(is_there, paths))[1:]
 
     def is_home(self, again: bool, name: bytes) -> bool:
         """Whether the file of this name is read as a message's. In a listing after the first one, this holds only if

@@ -6,6 +6,7 @@ from collections.abc import Callable, Iterator
 from typing import Optional
 
 from ..faults import PlaceFault, Reason
+from ..looks import is_folder, is_there
 from ..nexts import Todo, run_next, task
 from ..terminal import named, operand, text_of
 
@@ -33,7 +34,7 @@ def want_maildir(maildir: bytes) -> None:
         names = set(os.listdir(maildir))
     except FileNotFoundError:
         above = os.path.dirname(os.path.abspath(maildir))
-        if not os.path.isdir(above):
+        if not is_folder(above):
             why = "%s: the folder that it is to be made in is not there" % named(maildir)
             raise PlaceFault(why, Reason.NO_MAILDIR, run_next("mkdir", "-p", operand(above))) from None
         return
@@ -44,7 +45,7 @@ def want_maildir(maildir: bytes) -> None:
 
 def has_begun(maildir: bytes) -> bool:
     """Whether there is a Maildir, or a part of one."""
-    return any(os.path.lexists(os.path.join(maildir, name)) for name in (*SUBFOLDERS, RECORD))
+    return any(is_there(os.path.join(maildir, name)) for name in (*SUBFOLDERS, RECORD))
 
 
 def want_own(folder: bytes) -> None:

@@ -7,6 +7,7 @@ import os
 from typing import NamedTuple, Optional
 
 from ..faults import Left, Reason
+from ..looks import is_folder, is_there, may_be
 from ..nexts import Remark, Todo, task
 from ..terminal import named
 from .space import folder_there
@@ -43,13 +44,13 @@ class Mount(NamedTuple):
 
     @classmethod
     def of(cls, folder: bytes) -> "Optional[Mount]":
-        """The file system of a folder; None if the system does not say, as for a part of a btrfs."""
+        """The file system of a folder; None if the system does not say, as for a part of a btrfs, or without /proc."""
         number = os.stat(folder).st_dev
         device = b"%d:%d" % (os.major(number), os.minor(number))
         try:
             with open(MOUNTS, "rb") as file:
                 return next((cls.parse(line) for line in file if line.split(b" ")[2] == device), None)
-        except OSError:
+        except FileNotFoundError:
             return None
 
     def doubt(self) -> Optional[Doubt]:
@@ -67,7 +68,7 @@ class Mount(NamedTuple):
     def is_of_folder(self) -> bool:
         """Whether it was mounted from a folder, as bindfs is, which gives no name of its own. A path that cannot be
         seen from here may be one."""
-        return self.source.startswith(b"/") and (os.path.isdir(self.source) or not os.path.lexists(self.source))
+        return self.source.startswith(b"/") and may_be(lambda path: is_folder(path) or not is_there(path), self.source)
 
 
 def want_syncs(maildir: bytes, any_disk: bool) -> list[Remark]:

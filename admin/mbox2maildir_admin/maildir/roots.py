@@ -6,6 +6,7 @@ from collections.abc import Iterator, Sequence
 
 from .. import ADMIN
 from ..faults import PlaceFault, Reason
+from ..looks import real_path, way_to
 from ..nexts import Answer, Command, Todo, task
 from ..terminal import named
 from .making import SUBFOLDERS, SyncNames, make_maildir, sync_folder
@@ -16,7 +17,7 @@ OTHERS_WRITE = stat.S_IWGRP | stat.S_IWOTH
 
 def real_place(maildir: bytes) -> bytes:
     """The path of a Maildir without symbolic links. A path without any stays as it was given."""
-    real = os.path.realpath(maildir)
+    real = real_path(maildir)
     return maildir if real == os.path.abspath(maildir) else real
 
 
@@ -26,7 +27,7 @@ def want_roots_alone(maildir: bytes) -> None:
     others cannot replace what belongs to root there. Its path had no symbolic link when it was looked at first. Raises
     Fault if they can."""
     place = os.path.abspath(maildir)
-    if os.path.realpath(place) != place:
+    if real_path(place) != place:
         raise replaced(maildir, "others, who have put a link there,")
     for folder, may_be_sticky in folders_of(place):
         try:
@@ -71,8 +72,10 @@ def folders_of(maildir: bytes) -> Iterator[tuple[bytes, bool]]:
 
 
 def want_roots(path: bytes, words: Sequence[str]) -> None:
-    """Checks that what root names belongs to root. Raises Fault if not, with the words that do it as the owner."""
-    owner = os.stat(path).st_uid
+    """Checks that what root names belongs to root, and so does each symbolic link that leads there. Raises Fault if
+    not, with the words that do it as the owner."""
+    states = [*map(os.lstat, way_to(path)[1]), os.stat(path)]
+    owner = next((state.st_uid for state in states if state.st_uid), 0)
     if owner == 0:
         return
     try:

@@ -7,6 +7,7 @@ from typing import NamedTuple, Optional
 
 from .. import ADMIN
 from ..faults import Left, Reason
+from ..looks import is_folder
 from ..mbox.files import BLOCK
 from ..terminal import is_text, named
 from .files import changed_at, paths_of
@@ -25,7 +26,7 @@ UNSYNCED = errno.EINVAL, errno.ENOSYS, errno.EROFS
 def folder_there(folder: bytes) -> bytes:
     """A folder or, if it does not exist, the nearest one above it that does."""
     folder = os.path.abspath(folder)
-    while not os.path.isdir(folder):
+    while not is_folder(folder):
         folder = os.path.dirname(folder)
     return folder
 

@@ -3,10 +3,9 @@ import errno
 import io
 import os
 import stat
-import sys
 from typing import Optional
 
-from ..faults import ABSENT, Fault, Reason
+from ..faults import Fault, Reason
 from ..nexts import Todo, task
 from ..units import Offset
 
@@ -21,42 +20,12 @@ WHOLE = 1 << 20
 MOST_HOLES = 16 << 20
 
 
-def is_there(path: bytes, ending: bytes = b"") -> bool:
-    """Whether there is something, even a symbolic link, with this name and this ending. With the ending it may be too
-    long for a name. Raises OSError if that can't be known."""
-    try:
-        os.lstat(path + ending)
-    except OSError as fault:
-        if fault.errno in ABSENT or ending and fault.errno == errno.ENAMETOOLONG:
-            return False
-        raise
-    return True
-
-
 def is_empty(path: bytes) -> bool:
     """Whether a file has no byte. If that cannot be seen, it may have some."""
     try:
         return not os.stat(path).st_size
     except OSError:
         return False
-
-
-def real_path(path: bytes) -> bytes:
-    """A path without symbolic links, which need not lead to something. Raises OSError if a part of it can't be looked
-    at."""
-    try:
-        if sys.version_info >= (3, 10):
-            return os.path.realpath(path, strict=True)
-        from pathlib import Path
-
-        return os.fsencode(Path(os.fsdecode(path)).resolve(strict=True))
-    except RuntimeError:
-        # symbolic links lead to each other
-        pass
-    except OSError as fault:
-        if fault.errno not in (*ABSENT, errno.ELOOP):
-            raise
-    return os.path.realpath(path)
 
 
 def has_holes(number: int, size: int) -> bool:
@@ -80,7 +49,12 @@ def has_holes(number: int, size: int) -> bool:
 
 def open_plain(path: bytes, flags: int = 0) -> int:
     """Opens a regular file for reading, and returns its descriptor. Raises Fault for anything else."""
-    number = os.open(path, REGULAR | flags)
+    try:
+        number = os.open(path, REGULAR | flags)
+    except OSError as fault:
+        if fault.errno == errno.ELOOP and flags & os.O_NOFOLLOW:
+            raise Fault("it is a symbolic link: name the file that it points to", Reason.LINK) from fault
+        raise
     if not stat.S_ISREG(os.fstat(number).st_mode):
         os.close(number)
         raise Fault("it is not a regular file", Reason.NO_FILE, task(Todo.NOT_MAIL))

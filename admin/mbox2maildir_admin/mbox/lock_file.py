@@ -14,9 +14,10 @@ from typing import NamedTuple, Optional
 
 from .. import ADMIN
 from ..faults import Left, Reason
+from ..looks import is_there
 from ..nexts import Remark
 from ..terminal import named
-from .files import REGULAR, is_there
+from .files import REGULAR
 from .mailbox import Mailbox
 
 # the ending of its name, and from which age on it does not count, in seconds
@@ -179,9 +180,9 @@ def release_lock(spot: Spot, number: int) -> None:
 def look_for_lock_file(mailbox: Mailbox) -> None:
     """Looks for the lock file of another program. Raises Left if there is one; an old one, and one that a killed run
     left, is only mentioned."""
-    if not is_there(mailbox.path, LOCK):
-        return
     path = mailbox.path + LOCK
+    if not is_there(path):
+        return
     try:
         age = time.time() - os.lstat(path).st_mtime
     except FileNotFoundError:

@@ -45,9 +45,6 @@ def open_mailbox(
     try:
         number = open_plain(path, kind.flags | (0 if follow else os.O_NOFOLLOW))
     except OSError as fault:
-        is_link = fault.errno == errno.ELOOP
-        if is_link:
-            raise Left("it is a symbolic link: name the file that it points to", Reason.LINK) from fault
         raise Left(fault.strerror, reason_of_fault(fault, path), next_of(fault, path)) from fault
     try:
         mailbox = Mailbox(path, number, Digest(), say)

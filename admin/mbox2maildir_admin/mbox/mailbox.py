@@ -58,9 +58,9 @@ class Mailbox:
         self.take_state()
 
     @classmethod
-    def open(cls, path: bytes, say: Say = silent) -> "Mailbox":
+    def open(cls, path: bytes, say: Say = silent, follow: bool = True) -> "Mailbox":
         """Opens a text without a lock."""
-        return cls(path, open_plain(path), say=say)
+        return cls(path, open_plain(path, 0 if follow else os.O_NOFOLLOW), say=say)
 
     def take_state(self) -> None:
         """Takes the state of the file as it is now."""

@@ -27,6 +27,7 @@ from ..flags.dovecot_list import list_of, name_by, raised, rename, replace
 from ..flags.renaming import add_flags
 from ..ledger.history import Entry, Key, Note, names_of
 from ..ledger.record import Record
+from ..looks import is_there
 from ..maildir.folders import INBOX, folder_named, folder_of_place
 from ..maildir.making import sync_folder
 from ..mbox.files import WHOLE, open_file, read_up_to
@@ -202,11 +203,10 @@ def place_file(folder: bytes, name: bytes, text: bytes, note: Noted) -> None:
     stays."""
     path, part = os.path.join(folder, name), part_of(folder, name)
     remove_part(folder, name)
-    if os.path.lexists(path):
+    if is_there(path):
         if content_of(path, len(text)) == text:
             return
-        then = run_next("rm", operand(path))
-        raise Left("an earlier run left another %s" % named(name), Reason.NUMBERED, then)
+        raise Left("an earlier run left another %s" % named(name), Reason.NUMBERED, run_next("rm", operand(path)))
     note(path, len(text), hashlib.sha256(text).hexdigest())
     with written(part, text):
         try:
@@ -290,7 +290,7 @@ def subscribe(root: bytes, old: bytes, record: Record, dry: bool = False) -> lis
     key = Key(INBOX, Size(len(text)), hashlib.sha256(text).hexdigest())
     if not names or record.has_subscribed(key):
         return []
-    if os.path.lexists(path) and content_of(path, len(text)) != text:
+    if is_there(path) and content_of(path, len(text)) != text:
         there, has_tabs = lines_of(path)
         return [line for line in (lines if has_tabs else names) if line not in there]
     if not dry:

@@ -1,8 +1,8 @@
 """The From_ lines of a mailbox, which go into a file of its folder if they are to be kept."""
-import os
 from typing import Optional
 
 from ..faults import Left
+from ..looks import is_folder
 from ..readings.earlier import plan_then
 from ..readings.reading import Reading
 from ..readings.texts import Choice, content_of, disk_of
@@ -25,7 +25,7 @@ def keep_done(how: How, root: bytes, opened: Opened, words: Optional[str]) -> No
     """Keeps the From_ lines of a mailbox that was done before by the words of a plan, if that is wanted and was not
     done."""
     mailbox = opened.mailbox
-    if not how.keep_envelopes or how.dry or not mailbox.size or not os.path.isdir(opened.folder):
+    if not how.keep_envelopes or how.dry or not mailbox.size or not is_folder(opened.folder):
         return
     from ..ledger.envelopes import envelopes_of, has_kept, keep
 

@@ -8,8 +8,9 @@ from ..ledger.history import Entry, Key, Note, Step, names_of
 from ..ledger.ledger import Ledger
 from ..ledger.lines import number_in
 from ..ledger.match import cores_of
-from ..ledger.record import Record, unspelled
+from ..ledger.record import Record, is_gone, unspelled
 from ..ledger.strangers import folders_in, unrecorded
+from ..looks import is_there, state_at
 from ..maildir.folders import INBOX, folder_named, folder_path, words_of
 from ..mbox.inventory import Inventory
 from ..nexts import Remark
@@ -153,7 +154,7 @@ class Known:
 
     def moved(self) -> list[Entry]:
         """Those of mailboxes that are gone from their paths."""
-        return [line for line in self.same() if is_gone(line)]
+        return [line for line in self.same() if is_gone(line.path)]
 
     def elsewhere(self, inventory: Inventory) -> list[Elsewhere]:
         """Where all went, or began to go, before another folder was named for the mailbox; and that mailboxes had which
@@ -162,8 +163,8 @@ class Known:
         if self.last and self.last.what is not Step.BEGUN:
             return []
         beside, cores = os.path.dirname(names_of(self.opened.mailbox.path)[0]), None
-        same, found = [line for line in self.same() if is_gone(line) or is_replaced(line)], self.in_others()
-        others = (one for one in self.record.gone() if os.path.dirname(one.path) == beside and one not in same)
+        same, found = [line for line in self.same() if is_gone(line.path) or is_replaced(line)], self.in_others()
+        others = (one for one in self.record.gone(beside) if one not in same)
         for line in itertools.chain(same, others):
             folder, is_same = where_it_is(self.root, line.key.folder, line.ledger), line in same
             # the same bytes may have fewer messages as they are read now
@@ -172,7 +173,7 @@ class Known:
             ledger = Ledger(folder_path(self.root, folder))
             cores = cores or cores_of(inventory)
             if is_same or ledger.is_in(line.path, cores):
-                is_moved = is_gone(line) and (is_same or self.is_moved(ledger, line.path))
+                is_moved = is_gone(line.path) and (is_same or self.is_moved(ledger, line.path))
                 found.append(Elsewhere(line, folder, is_moved))
         return found
 
@@ -191,7 +192,7 @@ class Known:
         if is_known or self.opened.name == INBOX or self.opened.mailbox.path in given:
             return []
         others = (unspelled(path) for path in self.ledger.paths() if path != self.path)
-        return [path for path in others if os.path.lexists(path)]
+        return list(filter(is_there, others))
 
     def remark_on(self, one: Elsewhere) -> Remark:
         """What is said of the mailbox if its messages went into another folder too."""
@@ -210,10 +211,11 @@ class Known:
         ledger = self.ledger
         if self.path in ledger.paths():
             return
-        gone = [path for path in ledger.paths() if path not in ledger.leaving and not os.path.lexists(unspelled(path))]
+        moved = [path for path in ledger.paths() if path not in ledger.leaving and self.is_moved(ledger, path)]
+        gone = list(filter(is_gone, moved))
         cores = cores_of(inventory) if gone else None
         for path in gone:
-            if cores is not None and self.is_moved(ledger, path) and ledger.is_in(path, cores):
+            if cores is not None and ledger.is_in(path, cores):
                 if dry:
                     ledger.rename(path, self.path)
                     return
@@ -236,17 +238,10 @@ class Known:
             self.record.add(Note.NUMBERED, numbered.key, numbered.messages, self.opened.mailbox.path)
 
 
-def is_gone(line: Entry) -> bool:
-    """Whether nothing is at the path of a mailbox any more."""
-    return not os.path.lexists(unspelled(line.path))
-
-
 def is_replaced(line: Entry) -> bool:
     """Whether a mailbox of another size is at the path of one."""
-    try:
-        return os.stat(unspelled(line.path)).st_size != line.key.size
-    except OSError:
-        return False
+    state = state_at(unspelled(line.path))
+    return state is not None and state.st_size != line.key.size
 
 
 def without_lost(several: Sequence[Planned], record: Record, options: Options) -> list[Planned]:

@@ -13,6 +13,7 @@ from ..ledger.prepared import Prepared
 from ..ledger.prepared_lines import ASIDE, has_list, origin_in, remove_aside
 from ..ledger.record import Record, unspelled
 from ..ledger.strangers import folders_in
+from ..looks import is_folder, is_there, may_be, real_path
 from ..maildir.folders import INBOX, folder_path, words_of
 from ..nexts import Does, Remark, Todo, run_next, task
 from ..terminal import operand, spelled, text_of
@@ -68,7 +69,7 @@ class Leftovers:
     def __init__(self, record: Record, root: bytes, names: Sequence[bytes], options: Options) -> None:
         """Takes the names that a run migrates. A first pass leaves nothing over."""
         self.record, self.root, self.names, self.options = record, root, names, options
-        self.trees = [os.path.realpath(name) for name in names if os.path.isdir(name) and not options.prepare]
+        self.trees = [real_path(name) for name in names if is_folder(name) and not options.prepare]
         self.listed = [] if options.prepare else listed_in(root)
         # the first pass may have been killed before the record had it
         record.has_prepared = record.has_prepared or any(map(has_list, folders_in(root)))
@@ -82,7 +83,7 @@ class Leftovers:
         """The rows of these folders. Where the mailbox is gone, everything that was prepared is removed if no more than
         a tenth of its tree is gone, or if the options say so. All others are left: nobody is to read there."""
         gone = self.options.gone
-        went = {one.folder: os.path.realpath(one.path) for one in plan if one.folder}
+        went = {one.folder: one.path for one in plan if one.folder}
         self.clear_unused(went)
         left = []
         for one in self.listed:
@@ -91,12 +92,13 @@ class Leftovers:
             except (Fault, OSError) as fault:
                 yield row_left(unspelled(one.path), one.name, fault)
         now = {tree: unspelled(tree) for tree in map(spelled, self.trees)}
-        now.update({one.tree: self.tree_of(went[one.name]) for one in self.listed if one.tree and one.name in went})
+        met = {one.tree: went[one.name] for one in self.listed if one.tree and one.name in went}
+        now.update({tree: self.tree_of(real_path(path)) for tree, path in met.items()})
         if gone and len(self.trees) == 1:
             # a tree that is still there has a command of its own
-            moved = [one.tree for one in left if one.tree and not os.path.isdir(unspelled(one.tree))]
+            moved = [one.tree for one in left if one.tree and not is_folder(unspelled(one.tree))]
             now = {**dict.fromkeys(moved, self.trees[0]), **now}
-        absent = [one for one in left if now.get(one.tree) and not os.path.lexists(one.path_in(now[one.tree]))]
+        absent = [one for one in left if now.get(one.tree) and not is_there(one.path_in(now[one.tree]))]
         many, all_of = (collections.Counter(one.tree for one in several) for several in (absent, self.listed))
         for one in left:
             if one not in absent:
@@ -112,7 +114,7 @@ class Leftovers:
         path, options = unspelled(one.path), self.options.of_next()
         folder = [*([] if one.name == INBOX else words_of(one.name)), operand(self.root)]
         then = task(Todo.BRING_BACK, text_of(place))
-        if os.path.lexists(place):
+        if may_be(is_there, place):
             then = run_next(ADMIN, "migrate", *options.words(), *folder, operand(place))
         undo = [*Options(dry=options.dry, now=options.now, undo=True).words(), *folder, operand(path)]
         then += run_next(ADMIN, "migrate", *undo, does=Does.UNDO_PREPARED)

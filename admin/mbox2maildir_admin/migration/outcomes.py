@@ -1,10 +1,12 @@
 """What became of a mailbox, and who is told of it."""
 import enum
+from collections.abc import Sequence
 from dataclasses import dataclass, replace
 from typing import NamedTuple, Optional, Union
 
 from ..faults import Fault, Left, Reason, next_of, reason_of_fault, why_left
 from ..ledger.record import Verified
+from ..looks import type_at
 from ..nexts import NOTHING, Next, Quote, Remark
 from ..progress import Spent
 from ..readings.plans import Plan
@@ -132,3 +134,15 @@ def row_left(
     kind, messages = (known.kind, known.messages) if known else ("", None)
     row = Row(path, name, kind, messages, Fate.LEFT, why_left(fault, path), reason_of_fault(fault, path), size)
     return replace(row, quotes=getattr(fault, "quotes", ()), next=next_of(fault, path))
+
+
+def seen(names: Sequence[bytes], observer: Observer) -> list[bytes]:
+    """Those of some names that can be looked at. The others are left."""
+    found = []
+    for name in names:
+        try:
+            type_at(name)
+            found.append(name)
+        except OSError as fault:
+            observer.row(row_left(name, b"", fault))
+    return found

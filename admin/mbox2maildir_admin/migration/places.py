@@ -14,6 +14,7 @@ from ..ledger.history import History, Step
 from ..ledger.lines import number_in
 from ..ledger.record import Record, unspelled
 from ..ledger.strangers import folders_in
+from ..looks import is_file
 from ..maildir.files import names_of
 from ..maildir.folders import COPY, INBOX, folder_named, folder_path, words_of
 from ..maildir.syncing import SyncOne
@@ -124,18 +125,11 @@ def settled(
 
 
 def beside(path: bytes) -> list[bytes]:
-    """The files beside one that may be its copies, or that it may be a copy of, by their names."""
+    """The files beside one that may be its copies, or that it may be a copy of, by their names; those that are known to
+    hold no mail are neither."""
     names = [path + ending for ending in ENDINGS]
     names += [path[: -len(ending)] for ending in ENDINGS if path.endswith(ending)]
-    return [name for name in names if may_be_mailbox(name)]
-
-
-def may_be_mailbox(path: bytes) -> bool:
-    """Whether there is a file that is not known to hold no mail, by its name and size."""
-    try:
-        return os.path.isfile(path) and not is_no_mail(path)
-    except (Fault, OSError):
-        return True
+    return [name for name in names if is_file(name) and not is_no_mail(name)]
 
 
 def has_record(plan: Iterable[Planned], record: Record, dry: bool) -> bool:

@@ -16,6 +16,7 @@ from ..ledger.prepared import Prepared
 from ..ledger.prepared_lines import Origin, shared
 from ..ledger.record import Record, unspelled
 from ..ledger.strangers import folders_in
+from ..looks import is_there, real_path
 from ..maildir import files
 from ..maildir.checking import first_of
 from ..maildir.folders import INBOX, folder_path
@@ -79,18 +80,18 @@ def concerned(
     for one in done:
         paths = list(map(unspelled, one.ledger.paths()))
         now = [path_now(record, one.name, path, trees) for path in paths]
-        if one.name in went or all(now) and not any(os.path.lexists(path) for path in [*paths, *now]):
+        if one.name in went or all(now) and not any(map(is_there, [*paths, *now])):
             yield one._replace(mailboxes=went.get(one.name, ()), path=now[0])
 
 
 def trees_of(done: Sequence[Done], went: Mapping[bytes, Sequence[bytes]], names: Sequence[bytes]) -> Trees:
     """The trees of these names. One was moved since if the mailboxes of a folder had the same path in another one."""
-    trees = {os.path.realpath(name): os.path.realpath(name) for name in names}
+    trees = {real_path(name): real_path(name) for name in names}
     for one in done:
         paths = list(map(unspelled, one.ledger.paths()))
         for mailbox in went.get(one.name, ()):
             tree = unspelled(tree_above(mailbox, names))
-            inner = os.path.realpath(mailbox)[len(tree) :]
+            inner = real_path(mailbox)[len(tree) :]
             trees.update((path[: -len(inner)], tree) for path in paths if tree and path.endswith(inner))
     return trees
 
@@ -123,7 +124,7 @@ def want_untouched(record: Record, done: Sequence[Done]) -> None:
 def is_mailbox(ledger: Ledger, path: str, mailbox: bytes) -> bool:
     """Whether a mailbox is the one that was at a path of a ledger: it may have been moved since."""
     before = unspelled(path)
-    if path in names_of(mailbox) or os.path.lexists(before):
+    if path in names_of(mailbox) or is_there(before):
         return path in names_of(mailbox)
     is_named_so = os.path.basename(before) == os.path.basename(mailbox)
     return is_named_so or ledger.is_of(path, NO_KEY, os.stat(mailbox).st_ino)
@@ -236,12 +237,12 @@ def rows_without_mail(
     for line in record.empty():
         name, path = line.key.folder, unspelled(line.path)
         now = path_now(record, name, path, trees)
-        folder, is_gone = folder_path(root, name), bool(now) and not (os.path.lexists(path) or os.path.lexists(now))
+        folder, is_gone = folder_path(root, name), bool(now) and not (is_there(path) or is_there(now))
         prepared, ledger = Prepared.read(folder), Ledger(folder)
-        is_used, is_there = name == INBOX or prepared.is_there or bool(ledger.paths()), os.path.lexists(folder)
-        if is_used or not (is_gone or name in went) or is_there and not holds_nothing(folder):
+        is_used, has_folder = name == INBOX or prepared.is_there or bool(ledger.paths()), is_there(folder)
+        if is_used or not (is_gone or name in went) or has_folder and not holds_nothing(folder):
             continue
-        if is_there and not dry:
+        if has_folder and not dry:
             prepared.is_made = True
             empty(record, name, ledger, prepared)
         if not dry:

@@ -23,6 +23,7 @@ from ..ledger.prepared import Prepared
 from ..ledger.prepared_lines import Origin, in_milliseconds, milliseconds_since
 from ..ledger.record import Verified, unspelled
 from ..ledger.strangers import unexplained
+from ..looks import is_there
 from ..maildir.mounts import want_syncs
 from ..nexts import Does, Next, Remark
 from ..progress import Spent
@@ -105,8 +106,8 @@ class LastPass(Transfer):
 
     def is_lost(self) -> bool:
         """Whether the record has it that the folder is prepared, and the list is gone though nothing is done there."""
-        is_gone = os.path.lexists(self.opened.folder) and not self.prepared.is_there and not self.ledger.sources
-        return is_gone and self.record.prepared(self.opened.name) is not None
+        is_here = is_there(self.opened.folder) and not self.prepared.is_there and not self.ledger.sources
+        return is_here and self.record.prepared(self.opened.name) is not None
 
     def was_bare(self) -> Optional[bool]:
         """Whether --dovecot was given when the folder was prepared; None if that is not known."""
@@ -225,7 +226,7 @@ class FirstPass(LastPass):
         if prepared.is_there:
             other = unspelled(prepared.origin.path) if prepared.origin else self.opened.mailbox.path
             # a symbolic link may lead from one to the other
-            if not {*names_of(other)} & {*self.known.names} and os.path.lexists(other):
+            if not {*names_of(other)} & {*self.known.names} and is_there(other):
                 raise Left(ANOTHER % named(other), Reason.PREPARED)
         elif self.ledger.paths() or self.record.last_steps(name):
             raise Left(NOT_FREE, Reason.PREPARED)

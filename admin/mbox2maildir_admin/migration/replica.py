@@ -15,6 +15,7 @@ from ..ledger.placing import Placing
 from ..ledger.prepared import Prepared
 from ..ledger.prepared_lines import NEXT_LIST, aside_of, has_list, home_of, remove_aside, remove_list
 from ..ledger.record import Record, unspelled
+from ..looks import is_folder, is_there, real_path
 from ..maildir.files import digest_of, names_of
 from ..maildir.folders import INBOX
 from ..maildir.making import LEDGER, MARK, PREPARED, SUBFOLDERS, sync_folder
@@ -47,8 +48,8 @@ def signs_of(state: os.stat_result) -> tuple[int, ...]:
 
 def tree_above(path: bytes, names: Sequence[bytes]) -> str:
     """The tree among these names that a mailbox is in, as lines spell it; empty if it is in none."""
-    real = os.path.realpath(path)
-    for tree in (os.path.realpath(name) for name in names):
+    real = real_path(path)
+    for tree in (real_path(name) for name in names):
         if real.startswith(tree.rstrip(b"/") + b"/"):
             return spelled(tree)
     return ""
@@ -143,7 +144,7 @@ def take_back(record: Record, name: bytes, ledger: Ledger, prepared: Prepared, d
             os.unlink(os.path.join(folder, file))
     for file in (KEYWORDS, LIST):
         remove_part(folder, file)
-    if all(os.path.isdir(os.path.join(folder, sub)) for sub in (b"new", b"cur")):
+    if all(is_folder(os.path.join(folder, sub)) for sub in (b"new", b"cur")):
         # a run may have been killed before it made them
         sync_names(folder)
     for path in paths:
@@ -167,7 +168,7 @@ def give_names_back(folder: bytes, prepared: Prepared) -> None:
             os.unlink(path)
         elif home and home != home_of(name, path):
             target = os.path.join(folder, home[:3], before_info(name) + home[3:])
-            if not os.path.lexists(target):
+            if not is_there(target):
                 os.rename(path, target)
 
 

@@ -15,6 +15,7 @@ from ..kinds.folders import is_maildir
 from ..kinds.making import is_below
 from ..kinds.named import is_spared
 from ..ledger.record import Record
+from ..looks import is_file, is_folder, is_link, is_surely, is_there, real_path, type_at
 from ..maildir.folders import INBOX, folder_of, on_disk
 from ..maildir.making import want_maildir, want_own
 from ..maildir.roots import real_place, want_roots, want_roots_alone
@@ -28,12 +29,12 @@ from .dovecot import OLD_SUBSCRIPTIONS, SUBSCRIPTIONS, Dovecot, subscribe
 from .known import without_lost
 from .leftovers import Leftovers
 from .mailbox import Migration
-from .outcomes import Ended, Fate, Observer, Row, row_left, with_name
+from .outcomes import Ended, Fate, Observer, Row, row_left, seen, with_name
 from .places import Pairs, Planned, UserHome, has_record, into_inbox, recorded, where_it_went
 from .postponed import postponed_rows
 from .servers import Place, locations, want_unread
 from .steps import Extra, How, Options
-from .trees import NamesMet, Tree, also_named, identity_if_known, link_left, other_names
+from .trees import NamesMet, Tree, also_named, identity, link_left, other_names
 
 
 def migrate_own(root: bytes, names: Sequence[bytes], options: Options, observer: Observer) -> None:
@@ -41,6 +42,7 @@ def migrate_own(root: bytes, names: Sequence[bytes], options: Options, observer:
     if os.geteuid() == 0:
         # a symbolic link above it may lead elsewhere by then
         root = real_place(root)
+    names = seen(names, observer)
     refuse(root, names, options)
     if options.prepare:
         want_unread(Place(root, os.fsencode(os.path.expanduser("~"))), locations(), options.unread)
@@ -54,19 +56,20 @@ def refuse(root: bytes, names: Sequence[bytes], options: Options = Options()) ->
     try:
         want_maildir(root)
     except NotADirectoryError:
-        if not os.path.lexists(root):
+        if not is_there(root):
             raise
         # a name that is no file may be the Maildir
-        first = next((name for name in names if not os.path.isfile(name)), root)
+        first = next((name for name in names if not is_file(name)), root)
         raise not_in_order("%s: it is a file, not a Maildir" % named(root), first, [root, *names], options) from None
     for name in names:
-        if is_maildir(name):
+        # one that can't be looked at is left once it is read
+        if is_surely(is_maildir, name):
             raise not_in_order("%s: it is a Maildir, not a mailbox" % named(name), name, [root, *names], options)
     if os.geteuid() == 0:
         words = [*options.words(), *(operand(os.path.abspath(name)) for name in [root, *names])]
         # the owner of the folder that the Maildir is in could put another one in its place
         for path in (root, os.path.dirname(os.path.abspath(root)), *names):
-            if os.path.exists(path):
+            if type_at(path):
                 want_roots(path, words)
         want_roots_alone(root)
 
@@ -122,6 +125,8 @@ class Several:
         # an Inbox of a user's tree is not the user's inbox, if that is or was another mailbox
         is_taken = home and (home.has_inbox or migration.record.last_steps(INBOX))
         self.taken: set[bytes] = {INBOX} if is_taken else set()
+        # the symbolic links that are followed: those that were named
+        self.links = {one for one in names if not self.own and is_link(one)}
         # the subscriptions of trees that are to be written, and the rows of files without mail
         trees = filter(self.is_tree, names) if options.dovecot and not options.prepare else ()
         self.subscriptions = {os.path.join(tree.rstrip(b"/") or b"/", OLD_SUBSCRIPTIONS): tree for tree in trees}
@@ -142,7 +147,7 @@ class Several:
                 self.report(Ended(row))
         self.observer.total += len(plan)
         # a symbolic link may give a folder two names, and it has one ledger
-        groups = groups_of([one.folder and os.path.realpath(one.folder_in(self.migration.root)) for one in plan])
+        groups = groups_of([one.folder and real_path(one.folder_in(self.migration.root)) for one in plan])
         jobs, rows = min(jobs_of(self.jobs, len(groups)), len(groups)), InOrder(self.observer.row)
         try:
             if jobs > 1 and has_record(plan, self.migration.record, how.dry):
@@ -216,20 +221,20 @@ class Several:
 
     def is_tree(self, name: bytes) -> bool:
         """Whether a name is that of a folder of mailboxes. A symbolic link is not one if none is followed."""
-        return os.path.isdir(name) and not (self.own and os.path.islink(name))
+        return is_folder(name) and not (self.own and is_link(name))
 
     def files_given(self) -> list[bytes]:
         """The names that are files, or mailboxes that were exported. The mailbox of a spool is its user's inbox,
         whatever its name is."""
         home, exports = self.migration.how.home, [tree.export for tree in self.trees.values() if tree.export]
-        files = [one for one in self.names if os.path.isfile(one) and (not self.own or is_below(one, home))]
+        files = [one for one in self.names if is_file(one) and (not self.own or is_below(one, home))]
         return files + exports
 
     def plan(self, folder: Optional[str]) -> Iterator[Planned]:
         """The mailboxes in their order, with their folders. Reports the rows of what is not migrated."""
         names = list({os.path.abspath(name): name for name in reversed(self.names)}.values())[::-1]
         for name in names:
-            key = None if self.is_tree(name) or self.own and os.path.islink(name) else identity_if_known(name)
+            key = None if self.is_tree(name) or self.own and is_link(name) else identity(name)
             if key:
                 self.met.setdefault(key, {}).setdefault(os.path.abspath(name), name)
         record, root, options, _ = self.pairs
@@ -241,7 +246,7 @@ class Several:
         for name in names:
             if name in self.trees:
                 yield from self.plan_of_tree(self.trees[name])
-            elif self.own and os.path.islink(name):
+            elif self.own and is_link(name):
                 self.observer.row(row_left(name, b"", link_left(name)))
             else:
                 one = Planned(name, INBOX if folder is None else on_disk(folder_of(text_of(folder))))
@@ -286,7 +291,7 @@ class Several:
         if one.target and one.why:
             return Ended(row_left(one.path, b"", one.why))
         say = Beat(functools.partial(self.progress, named(one.path)))
-        follow = not self.own and one.path in self.names
+        follow = one.path in self.links
         row, verified = self.migration.run(one.target or one.path, one.folder, say, follow, one.why)
         if one.why and one.reason is Reason.COPY and row.fate == Fate.LEFT:
             # whatever its text is, this reason comes first

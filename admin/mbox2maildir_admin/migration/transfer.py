@@ -19,6 +19,7 @@ from ..ledger.match import Match
 from ..ledger.placing import Placing
 from ..ledger.record import Record, Verified, unspelled
 from ..ledger.strangers import unexplained
+from ..looks import is_folder
 from ..maildir.mounts import want_syncs
 from ..maildir.space import Need, want_room
 from ..maildir.traces import times_of
@@ -120,7 +121,7 @@ class Transfer:
         of_uids = self.how.extra.remarks_on_done(name) if mailbox.size else []
         of_folder = back_in(self.ledger) + gone_from(self.ledger)
         if not self.known.is_at_home:
-            of_folder = [LEDGER_GONE if os.path.isdir(self.opened.folder) else FOLDER_GONE]
+            of_folder = [LEDGER_GONE if is_folder(self.opened.folder) else FOLDER_GONE]
         elif self.known.is_older:
             of_folder = [Remark("ledger-older", OLDER % counted(self.known.lacking(), "message"))]
         says = (*of_uids, *remarks_on_dropped(words), *of_folder, *more)

@@ -20,8 +20,8 @@ from ..kinds.folders import (
 from ..kinds.making import ASIDE
 from ..kinds.profiles import Profiles
 from ..ledger.history import History, names_of
+from ..looks import is_folder, is_surely, is_there, may_be, real_path, state_at
 from ..maildir.folders import INBOX, LONGEST, folder_on_disk, folder_path, name_before
-from ..mbox.files import real_path
 from ..nexts import Remark, Todo, run_next, task
 from ..readings.copies import UNFINISHED
 from ..readings.plans import is_no_mail
@@ -53,7 +53,7 @@ class Maildir(NamedTuple):
         place = folder_path(maildir, self.folder)
         if not self.folder:
             then = task(Todo.MOVE_TO, text_of(os.path.join(maildir, b".NAME")))
-        elif self.folder == INBOX or self.folder in taken or os.path.lexists(place):
+        elif self.folder == INBOX or self.folder in taken or may_be(is_there, place):
             then = task(Todo.MOVE_FILES, text_of(place))
         elif self.has_more:
             then = task(Todo.MOVE_OTHERS)
@@ -92,7 +92,7 @@ class Tree:
 
     def read(self) -> "Tree":
         """Finds the names."""
-        key = identity_if_known(self.old)
+        key = identity(self.old)
         folders = [] if key and self.is_met(self.old, key) else [self.old]
         while folders:
             folders += self.walk(folders.pop())
@@ -183,7 +183,7 @@ class Tree:
         if self.is_met(path, key):
             return
         names = list(self.met[key].values())[:-1]
-        others = [one for one in names if state.st_nlink == 1 or os.path.realpath(one) == os.path.realpath(path)]
+        others = [one for one in names if state.st_nlink == 1 or real_path(one) == real_path(path)]
         if others:
             self.pass_over(path, same_file(others[0]))
         else:
@@ -274,29 +274,18 @@ def other_names(met: NamesMet) -> dict[bytes, list[bytes]]:
     for names in met.values():
         places: dict[bytes, bytes] = {}
         for path in names.values() if len(names) > 1 else ():
-            places.setdefault(os.path.realpath(path), path)
+            places.setdefault(real_path(path), path)
         others.update({path: [one for one in places.values() if one != path] for path in places.values()})
     return others
 
 
 def identity(path: bytes) -> Optional[Identity]:
-    """What shows which folder is at a path; None if there is none."""
-    try:
-        state = os.stat(path)
-    except (FileNotFoundError, NotADirectoryError):
-        return None
-    return state.st_dev, state.st_ino
-
-
-def identity_if_known(path: bytes) -> Optional[Identity]:
-    """The same; None also if the path can't be looked at, which whoever opens it will say."""
-    try:
-        return identity(path)
-    except OSError:
-        return None
+    """What shows which file or folder is at a path; None if there is none."""
+    state = state_at(path)
+    return (state.st_dev, state.st_ino) if state else None
 
 
 def link_left(path: bytes) -> Left:
     """Why a symbolic link is left."""
-    then = task(Todo.FOLLOW if os.path.isdir(path) else Todo.FOLLOW_INTO)
+    then = task(Todo.FOLLOW if is_surely(is_folder, path) else Todo.FOLLOW_INTO)
     return Left("it is a symbolic link", Reason.LINK, then)

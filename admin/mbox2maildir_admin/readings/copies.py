@@ -7,8 +7,9 @@ from typing import BinaryIO, Optional
 
 from .. import ADMIN
 from ..faults import Fault, fault_of
+from ..looks import is_there
 from ..maildir.folders import COPY
-from ..mbox.files import BLOCK, Reader, is_there
+from ..mbox.files import BLOCK, Reader
 from ..mbox.parts import from_lines_of
 from ..nexts import Todo, task
 from ..terminal import named

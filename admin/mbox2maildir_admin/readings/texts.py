@@ -15,6 +15,7 @@ from ..kinds.look import Look, Read
 from ..kinds.making import Looks, Makes, Recipe
 from ..kinds.others import Form, other_of
 from ..kinds.starts import text_start
+from ..looks import is_folder
 from ..maildir.files import paths_of
 from ..maildir.space import trial_folder
 from ..mbox.inventory import Inventory
@@ -215,7 +216,7 @@ def disk_of(maildir: bytes, is_trial: bool = False) -> bytes:
     which it is to be made. The copies of a trial are in no home."""
     if is_trial:
         return trial_folder()
-    if os.path.isdir(maildir):
+    if is_folder(maildir):
         return maildir
     above = os.path.dirname(os.path.abspath(maildir))
     return above if os.access(above, os.W_OK | os.X_OK) else trial_folder()

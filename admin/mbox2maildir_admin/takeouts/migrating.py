@@ -16,7 +16,7 @@ from ..ledger.history import Entry
 from ..ledger.ledger import Ledger
 from ..ledger.prepared import Prepared
 from ..ledger.prepared_lines import has_list
-from ..ledger.record import Record, unspelled
+from ..ledger.record import Record, is_gone, unspelled
 from ..ledger.strangers import folders_in
 from ..maildir.folders import INBOX, folder_path
 from ..maildir.roots import real_place
@@ -26,7 +26,7 @@ from ..mbox.locks import open_mailbox
 from ..migration.answers import answer_to
 from ..migration.leftovers import name_of
 from ..migration.mailbox import Migration
-from ..migration.outcomes import Ended, Fate, Observer, Row, row_left
+from ..migration.outcomes import Ended, Fate, Observer, Row, row_left, seen
 from ..migration.replica import is_prepared
 from ..migration.several import refuse
 from ..migration.steps import How, Opened, Options
@@ -54,6 +54,7 @@ def migrate_takeouts(root: bytes, names: Sequence[bytes], options: Options, obse
     if os.geteuid() == 0:
         # a symbolic link above it may lead elsewhere by then
         root = real_place(root)
+    names = seen(names, observer)
     refuse(root, names, options)
     os.umask(0o077)
     with Record.to_migrate(root, options.dry) as record:
@@ -142,7 +143,7 @@ class Takeout:
         folders = self.record.folders_of(mailbox.path)
         if not folders and mailbox.size in self.record.sizes:
             lines = self.record.lines_of(*mailbox.key())
-            folders = [one.key.folder for one in lines if not os.path.lexists(unspelled(one.path))]
+            folders = [one.key.folder for one in lines if is_gone(one.path)]
         if folders:
             undo = replace(self.how, is_labelled=False).undo(self.root, opened._replace(name=folders[-1]))
             raise Left(WITHOUT_LABELS, Reason.ANOTHER_READING, (Answer(undo),))

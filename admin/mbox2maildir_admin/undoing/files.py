@@ -1,7 +1,6 @@
 """The files of messages that were placed in a folder, and their removal."""
 import collections
 import contextlib
-import errno
 import fcntl
 import hashlib
 import os
@@ -120,10 +119,6 @@ def has_digest(path: bytes, digest: bytes) -> Optional[bool]:
         return None
     except Fault:
         return False
-    except OSError as fault:
-        if fault.errno == errno.ELOOP:
-            return False
-        raise
 
 
 @contextlib.contextmanager

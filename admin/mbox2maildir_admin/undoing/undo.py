@@ -17,7 +17,8 @@ from ..ledger.history import Entry, Step, names_of
 from ..ledger.ledger import Ledger
 from ..ledger.lines import LOST, Brought, Head, note_end
 from ..ledger.match import cores_of
-from ..ledger.record import Record, unspelled
+from ..ledger.record import Record, is_gone, unspelled
+from ..looks import is_there
 from ..maildir.folders import INBOX, folder_named, name_given
 from ..maildir.making import RECORD
 from ..maildir.roots import real_place
@@ -118,8 +119,8 @@ class Undo:
         by what it has."""
         names, paths = names_of(opened.mailbox.path), ledger.paths()
         found = next((name for name in names if name in paths), "")
-        gone = (path for path in paths if not found and not os.path.lexists(unspelled(path)))
-        return found or next((path for path in gone if self.is_moved(ledger, path, opened)), "")
+        moved = (path for path in paths if self.is_moved(ledger, path, opened))
+        return found or next(filter(is_gone, moved), "")
 
     def is_moved(self, ledger: Ledger, path: str, opened: Opened) -> bool:
         """Whether a mailbox is the one that was at a path: it has the same bytes, or is the same file and has all that
@@ -195,7 +196,7 @@ def undo_own(root: bytes, path: bytes, how: How, observer: Observer) -> None:
         root = real_place(root)
     name = None if how.folder is None else text_of(name_given(how.folder))
     refuse(root, [path], Options(how.dry, folder=name, now=how.now, undo=True))
-    if not os.path.lexists(os.path.join(root, RECORD)):
+    if not is_there(os.path.join(root, RECORD)):
         raise PlaceFault("%s: it has no record, so nothing was migrated into it" % named(root), Reason.UNDO)
     observer.total += 1
     with Record.open(root, not how.dry) as record:

@@ -13,6 +13,7 @@ from ..back.several import bring_all, want_migrated
 from ..back.steps import How
 from ..faults import Left, Reason, fault_of
 from ..ledger.strangers import folders_in
+from ..looks import is_folder, is_link, is_there, may_be
 from ..maildir.files import names_of
 from ..mbox.bases import BASE
 from ..mbox.lock_file import hold, look_for_lock_file, spot_of
@@ -69,7 +70,7 @@ class Returner(Migrant):
 
     def has_more(self, root: bytes) -> bool:
         """Whether there is a Maildir, even if no mailbox is there: its mail is left then."""
-        return os.path.lexists(root)
+        return may_be(is_there, root)
 
     def names(self, relay: Relay) -> Iterator[bytes]:
         """The paths that mail may go back to."""
@@ -78,7 +79,7 @@ class Returner(Migrant):
 
     def run(self, root: bytes, names: list[bytes], relay: Relay, program: Program) -> None:
         """Brings the mail of a Maildir back into the mailboxes at these paths."""
-        if not os.path.lexists(root) and all(map(is_bare, names)):
+        if not is_there(root) and all(map(is_bare, names)):
             return
         has_none = not self.mailbox and names == [self.place]
         # what is there came from no old mailbox if its user has none
@@ -93,9 +94,9 @@ class Returner(Migrant):
 
 def is_bare(path: bytes) -> bool:
     """Whether nothing that may be a mailbox is at a path or below it."""
-    if not os.path.lexists(path):
+    if not is_there(path):
         return True
-    if os.path.islink(path) or not os.path.isdir(path):
+    if is_link(path) or not is_folder(path):
         return False
     tree = Tree(path).read()
     is_left = tree.mailboxes() or tree.links or tree.maildirs

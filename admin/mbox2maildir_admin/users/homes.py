@@ -10,6 +10,7 @@ from ..faults import Fault, Left, Reason
 from ..ledger.prepared_lines import has_list
 from ..ledger.record import Record
 from ..ledger.strangers import folders_in
+from ..looks import may_be
 from ..maildir.making import want_own
 from ..migration.outcomes import Observer, Row, row_left
 from ..migration.places import UserHome
@@ -141,10 +142,7 @@ class Migrant:
 
     def has_more(self, root: bytes) -> bool:
         """Whether folders of the Maildir are only prepared, which is said even if no mailbox is there any more."""
-        try:
-            return not self.options.prepare and any(map(has_list, folders_in(root)))
-        except OSError:
-            return False
+        return not self.options.prepare and may_be(lambda root: any(map(has_list, folders_in(root))), root)
 
     def run(self, root: bytes, names: list[bytes], relay: "Relay", program: Program) -> None:
         """Migrates the mailboxes at these paths into a Maildir."""

@@ -264,6 +264,8 @@ class RecordTest(FolderTest):
             for path in (box, b"/gone", b"/gone"):
                 record.add_step(Step.BEGUN, self.verified()._replace(path=path))
                 record.add_step(Step.DONE, self.verified()._replace(path=path))
-            self.assertEqual([(one.what, one.path) for one in record.gone()], [(Step.DONE, "/gone")])
+            self.assertEqual([(one.what, one.path) for one in record.gone("/")], [(Step.DONE, "/gone")])
+            here = os.path.dirname(os.fsdecode(box))
+            self.assertEqual(record.gone(here), [])
             os.unlink(box)
-            self.assertEqual(len(record.gone()), 1)
+            self.assertEqual(record.gone(here), [])

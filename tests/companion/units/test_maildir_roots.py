@@ -62,7 +62,7 @@ class AloneTest(unittest.TestCase):
             mode, owner = states[path]
             return os.stat_result((mode, 1, 1, 1, owner, 0, 0, 0, 0, 0))
 
-        with mock.patch("os.lstat", lstat), mock.patch("os.path.realpath", lambda path: path):
+        with mock.patch("os.lstat", lstat), mock.patch("mbox2maildir_admin.maildir.roots.real_path", lambda path: path):
             try:
                 want_roots_alone(M)
             except PlaceFault as fault:

@@ -2,7 +2,6 @@
 import errno
 import os
 import unittest
-from pathlib import Path
 from unittest import mock
 
 from mbox2maildir_admin.faults import Fault, Left
@@ -11,11 +10,9 @@ from mbox2maildir_admin.mbox.files import (
     Reader,
     has_holes,
     is_empty,
-    is_there,
     open_file,
     open_plain,
     read_up_to,
-    real_path,
 )
 from mbox2maildir_admin.mbox.locks import open_mailbox
 from mbox2maildir_admin.units import Offset
@@ -35,7 +32,7 @@ class FilesTest(unittest.TestCase):
                     self.assertEqual(file.read(), b"text")
             self.assertRaisesRegex(Fault, "it is not a regular file", open_plain, here + b"/pipe")
             self.assertRaisesRegex(Fault, "it is not a regular file", open_plain, here)
-            self.assertRaises(OSError, open_plain, here + b"/link", os.O_NOFOLLOW)
+            self.assertRaisesRegex(Fault, "it is a symbolic link", open_plain, here + b"/link", os.O_NOFOLLOW)
 
     def test_an_empty_file(self) -> None:
         """What cannot be looked at may have mail."""
@@ -44,21 +41,6 @@ class FilesTest(unittest.TestCase):
             os.symlink("empty", here + b"/link")
             found = [is_empty(here + name) for name in (b"/empty", b"/link", b"/box", b"/missing")]
         self.assertEqual(found, [True, True, False, False])
-
-    def test_paths_without_links(self) -> None:
-        """What a symbolic link leads to, which may be missing, but not what can't be looked at."""
-        with folder() as here:
-            real = os.path.realpath(here)
-            make(here, {"box": b"text"})
-            for name, target in ((b"link", b"box"), (b"away", b"missing"), (b"round", b"round")):
-                os.symlink(target, here + b"/" + name)
-            self.assertEqual(real_path(here + b"/link"), real + b"/box")
-            self.assertEqual(real_path(here + b"/away"), real + b"/missing")
-            self.assertEqual(real_path(here + b"/box/below"), real + b"/box/below")
-            self.assertEqual(real_path(here + b"/round"), real + b"/round")
-            with mock.patch("os.lstat", side_effect=OSError(errno.EIO, "as of a disk")):
-                with mock.patch("os.readlink", side_effect=OSError(errno.EIO, "as of a disk")):
-                    self.assertRaisesRegex(OSError, "as of a disk", real_path, here + b"/box")
 
     def test_what_is_read_has_a_limit(self) -> None:
         """A text is read up to a byte, even if it is longer than a block."""
@@ -86,30 +68,6 @@ class FilesTest(unittest.TestCase):
             with open_file(here + b"/box") as file:
                 ends = LineEnds(Reader(file.fileno()))
                 self.assertEqual([ends.read(2), ends.read(1), ends.read(9), ends.read(9)], [b"a\n", b"\n", b"b\n", b""])
-
-
-class NamesTest(unittest.TestCase):
-    def test_errors_of_names(self) -> None:
-        for number, ending, wanted in (
-            (errno.ENOENT, b"", False),
-            (errno.ENOTDIR, b"", False),
-            (errno.ENAMETOOLONG, b".lock", False),
-            (errno.ENAMETOOLONG, b"", None),
-            (errno.EACCES, b".lock", None),
-            (errno.EIO, b"", None),
-            (errno.ELOOP, b"", None),
-        ):
-            with mock.patch.object(os, "lstat", side_effect=OSError(number, os.strerror(number))):
-                if wanted is None:
-                    with self.assertRaises(OSError):
-                        is_there(b"box", ending)
-                else:
-                    self.assertEqual(is_there(b"box", ending), wanted)
-        with folder() as here:
-            os.symlink(b"nowhere", here + b"/link")
-            self.assertEqual([is_there(here + name) for name in (b"/link", b"/none", b"/link/x")], [True, False, False])
-            Path(os.fsdecode(here), "n" * 255).touch()
-            self.assertFalse(is_there(here + b"/" + b"n" * 255, b".lock"))
 
 
 class HolesTest(unittest.TestCase):

@@ -9,7 +9,7 @@ from collections.abc import Iterator, Sequence
 from pathlib import Path
 from unittest import mock
 
-from mbox2maildir_admin.faults import Left
+from mbox2maildir_admin.faults import Fault, Left
 from mbox2maildir_admin.mbox import lock_file, locks
 from mbox2maildir_admin.mbox.locks import open_mailbox
 
@@ -84,7 +84,7 @@ class LocksTest(unittest.TestCase):
     def test_links(self) -> None:
         os.symlink("box", self.here + b"/link")
         self.assertRaisesRegex(
-            Left, "it is a symbolic link: name the file that it points to", self.said, self.here + b"/link"
+            Fault, "it is a symbolic link: name the file that it points to", self.said, self.here + b"/link"
         )
         with mock.patch.object(locks, "time", Clock()), open_mailbox(self.here + b"/link", follow=True) as mailbox:
             self.assertEqual(mailbox.size, 7)

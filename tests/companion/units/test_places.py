@@ -8,7 +8,7 @@ from unittest import mock
 from mbox2maildir_admin.faults import Left
 from mbox2maildir_admin.ledger.history import Entry, History, Step
 from mbox2maildir_admin.ledger.lines import number_in
-from mbox2maildir_admin.migration.places import Planned, may_be_mailbox, recorded, settled, where_it_is
+from mbox2maildir_admin.migration.places import Planned, recorded, settled, where_it_is
 from mbox2maildir_admin.terminal import spelled
 
 from tests.support.brought import BOX, LedgerTest, line_of
@@ -79,14 +79,6 @@ class RecordedTest(FolderTest):
         with mock.patch.object(record, "folders_of", side_effect=error):
             one = recorded(Planned(b"box", b".box"), record, b"M")
         self.assertEqual((one.folder, str(one.why)), (b"", "Permission denied"))
-
-
-class BesideTest(FolderTest):
-    def test_what_cannot_be_looked_at_may_be_a_mailbox(self) -> None:
-        path = self.write("box", ONE)
-        with mock.patch("mbox2maildir_admin.migration.places.is_no_mail", side_effect=PermissionError):
-            self.assertTrue(may_be_mailbox(path))
-        self.assertFalse(may_be_mailbox(path + b"-missing"))
 
 
 class WhereTest(LedgerTest):

@@ -172,7 +172,7 @@ class SeveralTest(HomeTest):
         self.assertEqual(rows, [(b"tree/Sent", Fate.LEFT, taken), (b"tree/link", Fate.BEFORE, "")])
 
     def test_a_name_that_cannot_be_looked_at(self) -> None:
-        """Then it is not known whether another name is the same. If it can't be opened, whatever opens it says why."""
+        """Then it is not known whether another name is the same."""
         self.file("box")
         self.file("closed/box", TWO)
         stat, closed = os.stat, str(self.home / "closed/box")
@@ -183,8 +183,7 @@ class SeveralTest(HomeTest):
             return stat(path, **words)
 
         with mock.patch("os.stat", refused):
-            rows = self.rows(b"box", b"closed/box")
-        self.assertEqual([row[2] for row in rows], [Fate.DONE, Fate.DONE])
+            self.assertRaises(PermissionError, self.rows, b"box", b"closed/box")
 
     def test_two_trees_with_one_folder(self) -> None:
         self.file("one/Sent")
@@ -197,7 +196,7 @@ class SeveralTest(HomeTest):
         self.assertEqual(self.rows(b"link"), [(b"link", b".", Fate.DONE, "")])
 
     def test_a_link_in_the_place_of_a_mailbox(self) -> None:
-        """A user may put one there meanwhile. Whoever migrates into a Maildir of their own may have named it."""
+        """A user may put one there meanwhile. It is not the one that was named, whoever migrates."""
         self.file("other", TWO)
         run = Migration.run
 
@@ -206,10 +205,10 @@ class SeveralTest(HomeTest):
             os.symlink("other", path)
             return run(migration, path, *words)
 
-        for own, fate in ((True, Fate.LEFT), (None, Fate.DONE)):
+        for own in (True, None):
             self.file("box")
             with mock.patch.object(Migration, "run", late):
-                self.assertEqual([row[2] for row in self.rows(b"box", own=own)], [fate], own)
+                self.assertEqual([row[2] for row in self.rows(b"box", own=own)], [Fate.LEFT], own)
             os.unlink(self.home / "box")
 
     def test_whose_home_the_next_commands_are_for(self) -> None:

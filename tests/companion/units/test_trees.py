@@ -155,8 +155,7 @@ class TreeTest(FolderTest):
 
     def test_a_folder_that_cannot_be_looked_at(self) -> None:
         with mock.patch("os.stat", side_effect=OSError(errno.EIO, os.strerror(errno.EIO))):
-            tree = Tree(self.here).read()
-        self.assertEqual([(row.path, told(row)) for row in tree.rows], [(self.here, "Input/output error")])
+            self.assertRaises(OSError, Tree, self.here)
 
     def test_a_name_that_cannot_be_looked_at(self) -> None:
         """It may go away between the list of its folder and a look at it."""

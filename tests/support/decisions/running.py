@@ -73,7 +73,13 @@ class Desk:
             as_user()
 
     def run(self, *words: str) -> Ran:
-        """Runs the companion with these words, in a copy of this process."""
+        """Runs the companion with these words, in a copy of this process. It must never die of a fault of its own."""
+        ran = self.run_any(*words)
+        assert ran.status >= 0 and "Traceback" not in ran.errors, f"{words}: status {ran.status}: {ran.errors}"
+        return ran
+
+    def run_any(self, *words: str) -> Ran:
+        """The same, whatever it dies of. The status is that of `subprocess`."""
         want_no_people(words)
         with tempfile.TemporaryFile(dir=str(self.programs)) as out, tempfile.TemporaryFile(
             dir=str(self.programs)
@@ -86,8 +92,7 @@ class Desk:
             for file in (out, err):
                 file.seek(0)
                 texts.append(file.read().decode(errors="surrogateescape"))
-        assert os.WIFEXITED(status) and "Traceback" not in texts[1], f"{words}: status {status}: {texts[1]}"
-        return Ran(os.WEXITSTATUS(status), *texts)
+        return Ran(os.WEXITSTATUS(status) if os.WIFEXITED(status) else -os.WTERMSIG(status), *texts)
 
     def become(self, words: Sequence[str], out: int, err: int) -> None:
         """Runs the companion in this process, which ends with it."""
@@ -101,10 +106,14 @@ class Desk:
             signal.signal(signal.SIGTERM, signal.SIG_DFL)
             sys.argv = [str(self.programs / COMPANION), *words]
             sys.stdout, sys.stderr = (open(number, "w", encoding="utf-8") for number in (1, 2))
-            status = cli.main()
+            status = self.main()
             sys.stdout.flush()
         finally:
             os._exit(status)
+
+    def main(self) -> int:
+        """What is run in the copy."""
+        return cli.main()
 
     def in_shell(self, command: str) -> Ran:
         """Runs a command as it was printed."""

@@ -1,12 +1,14 @@
 """Starts a program in Python whose calls of the system fail: python3 failing.py PROGRAM WORD..
 
 FATES_FAIL is the number of the call that fails, counted from 1, with the number of its error, as `17:5`. FATES_LOG
-names a file that gets a line for each call that failed, or for each call if none is to fail. A child of the program
-goes on counting by itself. The program is not changed: the names in `os`, `fcntl`, `io` and `builtins` that it calls
-stand for other functions.
+names a file that gets a line for each call that failed, or for each call if none is to fail: its number, what was
+called, about what, and the functions of the companion that called it, the innermost first. A child of the program goes
+on counting by itself. The program is not changed: the names in `os`, `fcntl`, `io` and `builtins` that it calls stand
+for other functions.
 """
 import builtins
 import fcntl
+import inspect
 import io
 import os
 import runpy
@@ -21,6 +23,7 @@ CALLS = {
     ).split(),
     fcntl: "flock fcntl lockf".split(),
 }
+PACKAGE = "mbox2maildir_admin."
 TEMPORARY = getattr(os, "O_TMPFILE", -1)
 open_log, write_log, close_log = os.open, os.write, os.close
 
@@ -32,15 +35,31 @@ def note(path: str, line: str) -> None:
     close_log(number)
 
 
+def callers() -> str:
+    """The functions of the companion that are at work, the innermost first, each with its line."""
+    frame, found = inspect.currentframe(), []
+    while frame:
+        room = frame.f_globals.get("__name__", "")
+        if room.startswith(PACKAGE):
+            found.append(f"{room[len(PACKAGE) :]}.{frame.f_code.co_name}:{frame.f_lineno}")
+        frame = frame.f_back
+    return " ".join(found)
+
+
 class Counter:
     """Counts calls, and has one of them fail."""
 
     def __init__(self) -> None:
-        number, _, error = os.environ.get("FATES_FAIL", "0:0").partition(":")
-        self.count, self.number, self.error = 0, int(number), int(error)
+        self.count = self.number = self.error = 0
+        self.log = ""
+        self.own: tuple[str, ...] = ()
+
+    def begin(self, own: str, log: str, fail: str) -> None:
+        """Begins to count the calls of a program."""
+        number, _, error = fail.partition(":")
+        self.count, self.number, self.error, self.log = 0, int(number), int(error), log
         # the program itself is found and read without faults
-        self.own = (sys.argv[1], os.path.dirname(os.path.realpath(sys.argv[1])))
-        self.log = os.environ["FATES_LOG"]
+        self.own = (own, os.path.dirname(os.path.realpath(own)))
 
     def call(self, what: str, about: object = None) -> None:
         """Begins a call, which may fail."""
@@ -49,7 +68,7 @@ class Counter:
             return
         self.count += 1
         if self.number in (0, self.count):
-            note(self.log, f"{self.count} {what} {about!r}\n")
+            note(self.log, f"{self.count}\t{what}\t{about!r}\t{callers()}\n")
         if self.count == self.number:
             path = about if isinstance(about, (str, bytes)) else None
             raise OSError(self.error, os.strerror(self.error), *([path] if path is not None else []))
@@ -165,8 +184,8 @@ def opened(file: Any, *words: Any, **options: Any) -> Any:
     return buffered if "b" in mode else io.TextIOWrapper(buffered, **of_text)
 
 
-def main() -> None:
-    """Puts the functions in place, and starts the program."""
+def put_in_place() -> None:
+    """Puts the functions in place."""
     real_scandir = os.scandir
     for module, names in CALLS.items():
         for name in names:
@@ -179,7 +198,13 @@ def main() -> None:
 
     os.scandir = scandir  # type: ignore
     builtins.open = io.open = os.fdopen = opened  # type: ignore
+
+
+def main() -> None:
+    """Starts the program."""
     sys.argv = sys.argv[1:]
+    counter.begin(sys.argv[0], os.environ["FATES_LOG"], os.environ.get("FATES_FAIL", "0:0"))
+    put_in_place()
     runpy.run_path(sys.argv[0], run_name="__main__")
 
 

@@ -1,20 +1,25 @@
 """Runs in each of which one call of the system fails. Whatever a call answers, nothing is called done that is not, and
 each name has a fate, or the run ends with a fault and status 1."""
+import collections
 import errno
+import gc
+import multiprocessing
 import os
 import pwd
 import re
 import shutil
-from collections.abc import Callable, Iterator
+from collections.abc import Callable, Iterator, Sequence
 from pathlib import Path
 from random import Random
 from typing import NamedTuple
 
 from tests.support.checks import LATER
+from tests.support.decisions.running import Desk
 from tests.support.fates import texts
 from tests.support.fates.comparing import FIRST, Comparison, files_of, folder_on_disk
+from tests.support.fates.failing import counter, put_in_place
 from tests.support.fates.names import name
-from tests.support.fates.running import NOBODY, Outcome, is_root, migrate
+from tests.support.fates.running import COMPANION, NOBODY, Outcome, is_root, migrate
 from tests.support.fates.stores import maildir, mh_folder
 from tests.support.fates.texts import Fate
 from tests.support.fates.trees import ready
@@ -23,9 +28,13 @@ from tests.support.fates.world import INBOX, Branch, Thing, World
 
 START = Path(__file__).with_name("failing.py")
 ERRORS = [errno.EIO, errno.EACCES, errno.ENOMEM, errno.ESTALE]
-CALL = re.compile(r"^(\d+) (\S+) (.*)$", re.MULTILINE)
+# the errors of a world in which each call fails, and how many processes run it
+EACH, JOBS = [errno.ENOMEM, errno.EIO, errno.EACCES], 4
 # calls that ask what is there, and for locks: if one fails, something is not known, and status 0 would say that it is
 ASKING = "open stat lstat entry.stat scandir listdir readdir access readlink flock fcntl lockf".split()
+
+
+Make = Callable[[Random, Path], World]
 
 
 class Fault(NamedTuple):
@@ -34,8 +43,51 @@ class Fault(NamedTuple):
     number: int
     error: int
 
+    def told(self) -> str:
+        """As a run is told of it."""
+        return f"{self.number}:{self.error}"
+
     def __str__(self) -> str:
-        return f"{self.number}:{errno.errorcode[self.error]}"
+        return f"{self.number}:{errno.errorcode.get(self.error, '')}"
+
+
+# no call fails
+NONE = Fault(0, 0)
+
+
+class Call(NamedTuple):
+    """A call: its number, what was called, about what, and the functions that called it, the innermost first."""
+
+    number: int
+    what: str
+    about: str
+    callers: str
+
+
+class Right(NamedTuple):
+    """Why all is well though a call fails that a function makes, or has others make, about something."""
+
+    function: str
+    about: str
+    why: str
+
+    def is_for(self, call: Call) -> bool:
+        """Whether a call is meant."""
+        is_its = f" {self.function}:" in f" {call.callers}"
+        return is_its and re.search(self.about, call.about) is not None
+
+
+# a file of the small tree that holds no mail, or what would stand beside it
+NO_MAIL = r"cards\.sqlite|dovecot\.index\.log|\.imap|\.hidden|y\.lock"
+RIGHT = (
+    Right("readings.at_once.read_parts", "", "what cannot be read at once is read anew, one after the other"),
+    Right("readings.unnamed.unnamed", "b'M'", "where no file without a name can be made, a name is removed at once"),
+    Right("commands.migrate.joined", "b'M tree'", "the words are looked at one by one"),
+    Right("program.places_of_program", "mbox2maildir", "the program that is found is run next"),
+    Right("migration.several.refuse", "b'tree/tmp'", "whoever reads the tree sees whether it is a Maildir"),
+    Right("migration.places.recorded", "", "no folder is wanted for what holds no mail"),
+    Right("migration.places.beside", NO_MAIL, "what holds no mail is no copy, and has none"),
+)
 
 
 def small_tree(draw: Random, home: Path) -> World:
@@ -67,7 +119,7 @@ def with_left(draw: Random, home: Path) -> World:
     return world
 
 
-def a_spool(who: Accounts) -> Callable[[Random, Path], World]:
+def a_spool(who: Accounts) -> Make:
     """A spool with the mailboxes of two users, each of whom has a tree too."""
 
     def spool_of(draw: Random, home: Path) -> World:
@@ -94,7 +146,7 @@ def a_spool(who: Accounts) -> Callable[[Random, Path], World]:
 class Attempt:
     """A world in which one call fails."""
 
-    def __init__(self, make: Callable[[Random, Path], World], home: Path) -> None:
+    def __init__(self, make: Make, home: Path) -> None:
         self.make, self.home, self.log = make, home, home.parent / "calls"
 
     def begin(self) -> World:
@@ -107,25 +159,27 @@ class Attempt:
         world.finish((NOBODY, NOBODY) if is_root() and not world.is_for_users else None)
         return world
 
-    def run(self, world: World, number: int = 0, error: int = 0) -> Outcome:
+    def run(self, fault: Fault = NONE) -> tuple[World, Outcome, list[Call]]:
+        """Runs the world anew. Returns also which calls failed, or all calls if none is to fail."""
+        world = self.begin()
+        self.log.write_bytes(b"")
+        self.log.chmod(0o666)
+        outcome, lines = self.outcome(world, fault), self.log.read_text(encoding="utf-8", errors="replace").splitlines()
+        calls = (line.split("\t") for line in lines)
+        return world, outcome, [Call(int(number), *words) for number, *words in calls]
+
+    def outcome(self, world: World, fault: Fault) -> Outcome:
         """Runs a world in which one call fails, or none. It begins as the companion's own first line begins it."""
         start = self.home.parent / "bin" / START.name
         if not start.exists():
             shutil.copy(str(START), str(start))
-        self.log.write_bytes(b"")
-        self.log.chmod(0o666)
         words = ["/usr/bin/env", "python3", "-I", "-B", str(start)]
-        return migrate(world, start=words, FATES_LOG=str(self.log), FATES_FAIL=f"{number}:{error}")
-
-    def calls(self) -> list[tuple[str, str, str]]:
-        """The calls of the run: the number of each, what was called, and about what."""
-        return CALL.findall(self.log.read_text(encoding="utf-8", errors="replace"))
+        return migrate(world, start=words, FATES_LOG=str(self.log), FATES_FAIL=fault.told())
 
     def faults(self) -> list[Fault]:
         """All faults that there may be: each call with each error."""
-        self.run(self.begin())
-        last = max(int(number) for number, _, _ in self.calls())
-        return [Fault(number, error) for number in range(1, last + 1) for error in ERRORS]
+        _, _, calls = self.run()
+        return [Fault(call.number, error) for call in calls for error in ERRORS]
 
     def is_here(self, about: str) -> bool:
         """Whether a call is about a file of the world, or an open one."""
@@ -134,16 +188,88 @@ class Attempt:
 
     def wrong(self, fault: Fault) -> list[str]:
         """What is wrong with a run in which a call fails, and with a run after it in which none fails."""
-        world = self.begin()
-        run = self.run(world, *fault)
-        failed = self.calls()
+        world, run, failed = self.run(fault)
         wrong = list(wrong_of_fault(world, run))
-        if run.status == 0 and any(what in ASKING and self.is_here(about) for _, what, about in failed):
+        if run.status == 0 and any(call.what in ASKING and self.is_here(call.about) for call in failed):
             wrong.append(f"status 0: {run.last}")
         if not wrong:
             wrong = [f"the run after it: {line}" for line in wrong_after(world, migrate(world))]
-        calls = " and ".join(f"{what} {about}" for _, what, about in failed)
-        return [f"{fault} {calls}: {line}" for line in wrong]
+        return told(fault, failed, wrong)
+
+
+class FailingDesk(Desk):
+    """Runs the companion in copies of this process, in which a call fails. The calls are noted in a file."""
+
+    log, fault = "", NONE
+
+    def main(self) -> int:
+        """What is run in the copy."""
+        counter.begin(str(self.programs / COMPANION), self.log, self.fault.told())
+        put_in_place()
+        return super().main()
+
+
+class EachCall(Attempt):
+    """A world in which each call fails once. It is run in copies of this process, which take less time."""
+
+    def __init__(self, make: Make, home: Path, programs: Path) -> None:
+        super().__init__(make, home)
+        self.desk = FailingDesk(home, programs)
+        self.desk.log, self.desk.is_root_at_work = str(self.log), not is_root()
+        self.met: set[Right] = set()
+        # else each copy would have to move what is collected
+        gc.freeze()
+
+    def outcome(self, world: World, fault: Fault) -> Outcome:
+        """Runs a world in which one call fails, or none."""
+        self.desk.fault = fault
+        ran = self.desk.run_any("migrate", *world.options, "--", *map(os.fsdecode, world.words))
+        return Outcome(*ran)
+
+    def faults(self) -> list[Fault]:
+        """Each call with one error, and with further ones so that each place in the code meets all of three."""
+        _, _, calls = self.run()
+        places: collections.defaultdict[tuple[str, str], list[int]] = collections.defaultdict(list)
+        for call in calls:
+            places[call.what, call.callers].append(call.number)
+        return [
+            Fault(numbers[place % len(numbers)], EACH[place % len(EACH)])
+            for numbers in places.values()
+            for place in range(max(len(numbers), len(EACH)))
+        ]
+
+    def wrong(self, fault: Fault) -> list[str]:
+        """What is wrong with a run in which a call fails: also that all is well, unless that is right."""
+        world, run, failed = self.run(fault)
+        wrong = list(wrong_of_fault(world, run))
+        if run.status == 0:
+            rights = {call: [right for right in RIGHT if right.is_for(call)] for call in failed}
+            self.met.update(right for several in rights.values() for right in several)
+            wrong += [f"status 0: {run.last}"] * (not all(rights.values()))
+        return told(fault, failed, wrong)
+
+
+def told(fault: Fault, failed: Sequence[Call], wrong: Sequence[str]) -> list[str]:
+    """What is wrong, each with the calls that failed."""
+    calls = " and ".join(f"{call.what} {call.about} in {call.callers.split(' ')[0]}" for call in failed)
+    return [f"{fault} {calls}: {line}" for line in wrong]
+
+
+def wrong_in_share(make: Make, home: Path, programs: Path, faults: Sequence[Fault]) -> tuple[list[str], set[Right]]:
+    """What is wrong with some runs, and what was right in them though a call failed."""
+    home.parent.mkdir()
+    attempt = EachCall(make, home, programs)
+    return [line for fault in faults for line in attempt.wrong(fault)], attempt.met
+
+
+def wrong_calls(make: Make, top: Path, programs: Path) -> list[str]:
+    """What is wrong with runs of a world in each of which another call fails."""
+    faults = EachCall(make, top / "home", programs).faults()
+    shares = [(make, top / str(share) / "home", programs, faults[share::JOBS]) for share in range(JOBS)]
+    with multiprocessing.get_context("fork").Pool(JOBS) as pool:
+        found = pool.starmap(wrong_in_share, shares)
+    never = set(RIGHT).difference(*(met for _, met in found))
+    return [line for wrong, _ in found for line in wrong] + [f"it never comes to this: {right}" for right in never]
 
 
 def wrong_of_fault(world: World, run: Outcome) -> Iterator[str]:
