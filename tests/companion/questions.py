@@ -7,7 +7,18 @@ import shutil
 from pathlib import Path
 
 from tests.support.checks import equal, matches, without_work
-from tests.support.homes import check_all, expect, mail_in, mailbox, run, run_whole, subjects
+from tests.support.homes import (
+    OWNER,
+    check_all,
+    expect,
+    hand_over,
+    mail_in,
+    mailbox,
+    run,
+    run_whole,
+    subjects,
+    want_root,
+)
 from tests.support.ledgers import RECORD, without_chance
 from tests.support.mail import A, B, C, MAY, ONE
 from tests.support.printed import row_in, rows_in
@@ -33,7 +44,7 @@ question 1 of 1: box -> Old Mail: not quoted, messages 1: line 28: a line `From 
     m: show more lines
     l: leave it
 type a letter and Enter (a, b, m, l): """
-# what a line of a record has of the time
+IS_LINK = "it is a symbolic link: name the file that it points to"
 # the keys of a terminal that interrupt a program, and that end its input
 CTRL_C, CTRL_D = "\x03", "\x04"
 
@@ -242,6 +253,32 @@ def a_mailbox_changes_meanwhile(home: Path) -> None:
             equal(f"{box.name}: rows", len(rows_of(said)), 1)
 
 
+def a_link_comes_meanwhile(home: Path) -> None:
+    """Where a mailbox of a tree was, its owner has put a symbolic link to a file that only root may read. It is
+    followed neither for a question nor by the command that was printed for root."""
+    want_root()
+    box, secret = home / "old/alice/word", home / "secret"
+    mailbox(box, WORD)
+    mailbox(secret, WORD.replace(MAY, MAY + b"a secret\n" * 9))
+    hand_over(home / "old/alice")
+    with terminal_of(home, "migrate", "--now", "M", "old") as terminal:
+        question = terminal.until(PROMPT)
+        box.unlink()
+        box.symlink_to(secret)
+        hand_over(box)
+        terminal.type("m\n")
+        more = terminal.until(PROMPT)
+        equal("what is said", more.split("\n")[1], f"mbox2maildir-admin: old/alice/word: {IS_LINK}")
+        equal("whether it is followed", "a secret" in more, False)
+        equal("the lines", re.findall(r"\d+ \| .*", more), re.findall(r"\d+ \| .*", question))
+        terminal.type("l\n")
+        _, rest = terminal.end()
+    for command in row_in(rest, "old/alice/word").commands:
+        status, out, err = run(command.split(), home)
+        equal(f"{command}: status, output", (status, out), (1, ""))
+        equal(f"{command}: errors", err.split("\n")[0], f"mbox2maildir-admin: old/alice/word: it belongs to {OWNER}")
+
+
 def several_at_a_time(home: Path) -> None:
     """Questions come once all folders are done at which several processes are at work; one after the other, if asked
     for."""
@@ -346,6 +383,7 @@ if __name__ == "__main__":
         it_is_broken_off,
         nothing_is_held,
         a_mailbox_changes_meanwhile,
+        a_link_comes_meanwhile,
         several_at_a_time,
         one_letter_for_all,
         a_folder_is_asked_for,

@@ -126,7 +126,7 @@ def reporter_of(given: argparse.Namespace) -> Reporter:
         return Reporter()
     from .questions import Asker
 
-    return Asker()
+    return Asker(given.operands[1:])
 
 
 def options_of(given: argparse.Namespace, alone: bool) -> Options:

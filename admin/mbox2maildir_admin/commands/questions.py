@@ -37,8 +37,10 @@ MOST = 4096
 class Asker(Reporter):
     """Prints rows, but keeps those of mailboxes about which it can ask."""
 
-    def __init__(self, clock: Callable[[], float] = time.monotonic) -> None:
+    def __init__(self, names: Sequence[bytes] = (), clock: Callable[[], float] = time.monotonic) -> None:
+        """Takes the names that a human has typed: a symbolic link is followed if it is one of them."""
         super().__init__(clock)
+        self.names = names
         self.asked: list[Row] = []
         self.is_asking = False
         # the path of the mailbox whose answer is at work
@@ -63,7 +65,7 @@ class Asker(Reporter):
         self.asked = [row for rows in groups for row in rows]
         while groups and has_terminal():
             rows, begun = groups.pop(0), self.clock()
-            letter = letter_for(rows, "question %d of %d" % (number, number + len(groups)))
+            letter = letter_for(rows, "question %d of %d" % (number, number + len(groups)), self.names)
             # how long somebody thinks is not the time of the work
             self.start += self.clock() - begun
             if letter == SINGLY:
@@ -123,7 +125,7 @@ def word_of(words: Sequence[str]) -> str:
     return words[words.index(WORD) + 1] if WORD in words else ""
 
 
-def letter_for(rows: Sequence[Row], title: str) -> str:
+def letter_for(rows: Sequence[Row], title: str, names: Sequence[bytes] = ()) -> str:
     """Asks about mailboxes that have the same question, and returns the letter that was typed; that of what is left if
     the input ends."""
     shown, around = [row.quotes for row in rows], AROUND
@@ -134,7 +136,7 @@ def letter_for(rows: Sequence[Row], title: str) -> str:
         if letter != MORE:
             return letter
         around *= TIMES
-        shown = [lines_of(row, answers_of(row)[LETTERS[0]].command, around) for row in rows]
+        shown = [lines_of(row, answers_of(row)[LETTERS[0]].command, around, names) for row in rows]
 
 
 def put_question(rows: Sequence[Row], title: str, shown: Sequence[Sequence[Quote]]) -> None:
@@ -160,15 +162,16 @@ def put_question(rows: Sequence[Row], title: str, shown: Sequence[Sequence[Quote
     put("%s%s: leave %s" % (BELOW, LEAVE, "it" if is_one else "all of them"))
 
 
-def lines_of(row: Row, command: Command, around: int) -> tuple[Quote, ...]:
+def lines_of(row: Row, command: Command, around: int, names: Sequence[bytes]) -> tuple[Quote, ...]:
     """The lines that a question is about, with more lines around them. The mailbox may be another one by now, which its
-    answer finds out."""
+    answer finds out; in a tree it may be a symbolic link, and none is followed there."""
     maildir, path = map(bytes_of, command.words[-2:])
     asked = {quote.line: quote for quote in row.quotes if not quote.is_around}
     wanted = sorted({line for one in asked for line in range(one - around, one + around + 1)})
     try:
-        with Mailbox.open(path, say_of(path)) as mailbox, content_of(mailbox, disk_of(maildir)) as text:
-            found = texts_of(text, wanted)
+        with Mailbox.open(path, say_of(path), row.path in names) as mailbox:
+            with content_of(mailbox, disk_of(maildir)) as text:
+                found = texts_of(text, wanted)
     except (Fault, OSError) as fault:
         complain_of(fault, path)
         return row.quotes

@@ -143,7 +143,7 @@ class AskerTest(unittest.TestCase):
 
     def test_the_time_of_a_human(self) -> None:
         times = iter([0.0, 10.0, 60.0, 61.0])
-        self.asker = Asker(lambda: next(times))
+        self.asker = Asker(clock=lambda: next(times))
         self.asker.row(LEFT)
         self.assertEqual(self.ask("a")[-1], "1 mailbox: 1 done; 1 message, 0 bytes in 11 s")
 
@@ -248,10 +248,10 @@ class LinesTest(FolderTest):
         command = Command.of("mbox2maildir-admin", "migrate", "M", os.fsdecode(path))
         row = replace(LEFT, quotes=(Quote(2, "b", True), Quote(3, "...c")))
         wanted = Quote(1, "a", True), Quote(2, "b", True), Quote(3, "...c"), Quote(4, "d", True)
-        self.assertEqual(lines_of(row, command, 2), wanted)
+        self.assertEqual(lines_of(row, command, 2, ()), wanted)
         os.unlink(path)
         with printed() as caught:
-            self.assertEqual(lines_of(row, command, 2), row.quotes)
+            self.assertEqual(lines_of(row, command, 2, ()), row.quotes)
         self.assertRegex(caught.err[0], "No such file")
 
 
