@@ -191,6 +191,26 @@ def an_empty_mailbox(home: Home) -> None:
     equal("the first ones", [b"\n Subject: blank\n" in texts[path] for path in ("spool", "mail/lists/one")], [True] * 2)
 
 
+def marked_as_deleted(home: Home) -> None:
+    """If each message of a new mailbox would have the field of Thunderbird, one that says that it is deleted would be
+    asked about. It holds up no other one."""
+    house = House(home)
+    house.deliver(
+        [b"Subject: a\nX-Mozilla-Status: %s\n\nb\n" % status for status in (b"0001", b"0009", b"0000")], ".new"
+    )
+    left = Told("mail/new-back", "not-held", 0, ("M/.new/new/1.M1.host",))
+    equal("rows", house.back(1), [Told("mail/new", messages=2), left])
+
+
+def without_dates(home: Home) -> None:
+    """A mailbox whose From_ lines have no date takes no line with one. All goes beside it."""
+    old = re.sub(rb"(?m)^(From \S+) .*$", rb"\1", OLD)
+    house = House(home, dict.fromkeys(PATHS, old))
+    house.deliver(PLAIN)
+    equal("rows", house.back(), [Told("mail/inbox-back", messages=3)])
+    house.has({**dict.fromkeys(PATHS, []), "mail/inbox-back": PLAIN})
+
+
 def held_by_none(home: Home) -> None:
     """What no mailbox holds stays in the Maildir, by the name of its file; all else goes back. No mailbox is made for
     it."""
@@ -252,5 +272,15 @@ def names_in(header: bytes) -> list[str]:
 
 
 if __name__ == "__main__":
-    cases = first_lines, a_blank, several_blanks, an_empty_mailbox, held_by_none, fields_of_programs, subscriptions
+    cases = (
+        first_lines,
+        a_blank,
+        several_blanks,
+        an_empty_mailbox,
+        marked_as_deleted,
+        without_dates,
+        held_by_none,
+        fields_of_programs,
+        subscriptions,
+    )
     run_rules({case.__name__: case for case in cases})

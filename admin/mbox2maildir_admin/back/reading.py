@@ -8,6 +8,7 @@ from ..faults import Fault, Left, Reason
 from ..kinds.starts import text_start
 from ..ledger.record import is_gone
 from ..mbox.core import Core
+from ..mbox.dates import is_dated
 from ..mbox.inventory import Inventory
 from ..mbox.mailbox import Mailbox
 from ..migration.known import Known
@@ -86,6 +87,14 @@ def ways_to_read(known: Known) -> Iterator[tuple[str, Dialect]]:
         dialect = takes_mail(known.opened.mailbox, words)
         if dialect:
             yield words, dialect
+
+
+def has_no_dates(mailbox: Mailbox, inventory: Inventory) -> bool:
+    """Whether the From_ lines of a mailbox have no date, and nothing is asked about them. Once one has a date, the
+    others may be text."""
+    start = text_start(mailbox)
+    is_dateless = len(inventory) > 1 and start is not None and not is_dated(mailbox.from_line_at(start))
+    return is_dateless and not reading_now(mailbox).startswith(ASKED)
 
 
 def path_in(known: Known) -> str:

@@ -31,7 +31,7 @@ from .dialect import Dialect
 from .mails import Mail
 from .notes import Notes, remarks_on_taken
 from .numbers import Numbering, numbering_of
-from .reading import Forms, Held, Written, are_at, messages_by, reading_now, ways_to_read
+from .reading import Forms, Held, Written, are_at, has_no_dates, messages_by, reading_now, ways_to_read
 from .steps import How, NotAsItIs, Outcome, TakesNothing, Target, left_unheld
 
 FILE_CHANGED = "%s was changed meanwhile: stop the program that did it, and run this again"
@@ -110,6 +110,8 @@ class Returning:
                 notes = Notes(numbering)
                 inventory = messages_by(words, opened.mailbox, self.disk, self.program, notes.look)
                 known.take_place(inventory, self.how.dry)
+                if has_no_dates(opened.mailbox, inventory):
+                    break
                 try:
                     return Appending(self, target, known, Read(words, dialect, inventory, notes, gap)).run()
                 except NotAsItIs:
