@@ -51,8 +51,7 @@ _mbox2maildir_admin() {
         migrate)
             _arguments '--help[print help]' '--dry-run[print what would be done]' \
                 '--prepare[place mail for later, while people use it]' '--unread[with --prepare: nobody reads MAILDIR]' \
-                '--postponed[with --prepare: people use the mailboxes again, also those done]' \
-                '--gone[remove what was prepared from mailboxes that are gone]' '--folder[folder of the Maildir]:name' \
+                '--folder[folder of the Maildir]:name' \
                 '--labels[make folders of labels]' '*--label[whether a label gives a folder]:name=what' \
                 '--again[convert what of a mailbox is nowhere]' '--undo[remove what a mailbox placed]' \
                 '--dovecot[write the files of Dovecot]' $decides \

@@ -65,13 +65,6 @@ def prepared_beside(home: Home) -> None:
     home.write("READ", letters(3, 5, fields=RO))
 
 
-def one_done(home: Home) -> None:
-    """One is done, its flags too, and people use it again."""
-    home.write("OLD", letters(0, 1, 1, 2, fields=RO))
-    home.done("OLD")
-    home.write("OLD", letters(1, 2, 3))
-
-
 def both_done(home: Home) -> None:
     """Both are done, and a message of each was deleted."""
     two_archives(home)
@@ -120,7 +113,6 @@ DEEDS = {
     "tree": Deed(["--jobs", "1", "M", "mail"], of_a_tree, ["mail/x", "mail/y"]),
     "first_pass": Deed([*PREPARE, *FOLDER, "M", "OLD"], prepared, ["OLD"]),
     "last_pass": Deed([*FOLDER, "M", "OLD"], prepared, ["OLD"]),
-    "postponed": Deed([*PREPARE, "--postponed", *FOLDER, "M", "OLD"], one_done, ["OLD"]),
     "last_pass_of_two": Deed([*FOLDER, "M", "OLD", "READ"], prepared_beside, ["READ", "OLD"]),
     "last_pass_of_a_server": Deed(["--dovecot", "M", "OLD"], prepared_of_a_server, ["OLD"]),
     "last_pass_unchanged": Deed(["--dovecot", "M", "OLD"], unchanged_of_a_server, ["OLD"]),

@@ -11,11 +11,12 @@ import time
 from collections.abc import Sequence
 from pathlib import Path
 
+from tests.companion.answers import run_printed
 from tests.support import accounts
 from tests.support.checks import LATER, equal, match_in, matches
 from tests.support.homes import ADMIN, check_all, expect, mail_in, mailbox, run, script, subjects, want_users
 from tests.support.mail import A, B, ONE, THREE, TWO
-from tests.support.printed import row_in, rows_in
+from tests.support.printed import commands_in, row_in, rows_in
 from tests.support.schema import wrong
 
 USERS = ["m91one", "m91two"]
@@ -84,7 +85,7 @@ def refused(home: Path) -> None:
     assert status == 1 and "say by --unread" in err, err
     equal("what was made", (home / "Maildir").exists(), False)
     expect([*words[:2], "--unread", *words[2:]], home, 0, "box -> INBOX: ...: prepared\n...\n", **own)
-    for wrong_words in (["--unread"], ["--prepare", "--again"], ["--prepare", "--gone"], ["--prepare", "--undo"]):
+    for wrong_words in (["--unread"], ["--prepare", "--again"], ["--prepare", "--undo"]):
         expect(["migrate", *wrong_words, "Maildir", "box"], home, 2, "", None)
 
 
@@ -138,6 +139,23 @@ def left_over(home: Path) -> None:
     expect(undo.split()[1:], home, 0, f"{home}/old/c -> c: messages 2: undone, removed 2 messages\n...\n")
     expect(rest.split()[1:], home, 0, f"{home}/old/b -> b: ...: done, 2 prepared before\n...\n")
     equal("lists", list((home / "M").rglob("mbox2maildir-prepared")), [])
+
+
+def started_again(home: Path) -> None:
+    """The old server is started again once mail has come into a folder that was done. This goes back into the old
+    mailbox, and first passes begin anew."""
+    doveconf(home, MBOX)
+    box = mailbox(home / "old/a", ONE)
+    for options in (["--prepare"], ["--now"]):
+        expect(["migrate", *options, "M", "old"], home, 0, None)
+    (home / "M/.a/new/1700000000.M1.host").write_bytes(b"Subject: new\n\nhello\n")
+    status, out, _ = run(["back", "--now", "M", "old"], home)
+    equal(f"what came is in the mailbox: {out}", (status, b"\nSubject: new\n" in box.read_bytes()), (0, True))
+    (move,) = commands_in(out)
+    equal(move, run_printed(move, home)[0], 0)
+    expect(["migrate", "--prepare", "M", "old"], home, 0, "old/a -> a: ...messages 2: prepared\n...\n")
+    expect(["migrate", "--now", "M", "old"], home, 0, "old/a -> a: ...messages 2: done, 2 prepared before\n...\n")
+    equal("the mail", subjects(home / "M/.a"), ["new", "one"])
 
 
 # a mailbox that words read differently, and new mail of that kind
@@ -236,19 +254,23 @@ def of_users(home: Path) -> None:
             file.write(THREE)
         (home / "homes" / USERS[1] / "mail/sent").rename(home / "homes" / USERS[1] / "mail/kept")
         (home / "spool").rename(home / "spool.old")
-        last = lines(home, [*words[:6], "--now", "--gone", "spool.old"])
+        out = run([*words[:6], "--now", "spool.old"], home)[1]
+        last = [row.line for row in rows_in(out)]
+        gone = f"{USERS[1]} mail/sent"
         for line in (
             f"{USERS[0]} -> INBOX: {kind} 2: done, 1 prepared before",
             f"{USERS[1]} -> INBOX: {kind} 1: done, 1 prepared before",
             f"{USERS[0]} mail/sent -> sent: {kind} 1: done, 1 prepared before",
             f"{USERS[1]} mail/kept -> kept: {kind} 1: done",
-            f"{USERS[1]} mail/sent -> sent: undone, its mailbox is gone; removed 1 message",
+            f"{gone} -> sent: left (prepared): its mailbox is gone, as are 1 of the 1 of its tree that were prepared",
         ):
             assert line in last, (line, last)
+        status, out = run_printed(row_in(out, gone).command, home)
+        equal(f"what is prepared from it is undone: {out}", (status, "undone, removed 1 message" in out), (0, True))
         for name in USERS:
             for path in (home / "homes" / name / "Maildir").rglob("*"):
                 equal(f"whose {path} is", path.stat().st_uid, pwd.getpwnam(name).pw_uid)
 
 
 if __name__ == "__main__":
-    check_all(printed, refused, one_at_work, left_over, words_hold, without_deleted_mail, of_users)
+    check_all(printed, refused, one_at_work, left_over, started_again, words_hold, without_deleted_mail, of_users)

@@ -54,7 +54,7 @@ from tests.support.powercut.others import (
     RestoredMigrated,
     RestoredSynced,
 )
-from tests.support.powercut.passes import AnotherFirst, Passes, PassesOfServer, Postponed
+from tests.support.powercut.passes import AnotherFirst, Passes, PassesOfServer
 from tests.support.powercut.readers import Again, Between, BetweenListings, Later, Reader
 from tests.support.powercut.returned import Returned
 from tests.support.powercut.sharing import BroughtAgain, Grown, Overlapping
@@ -86,7 +86,6 @@ WORKLOADS = {
     "passes": Passes,
     "another_first": AnotherFirst,
     "passes_of_server": PassesOfServer,
-    "postponed": Postponed,
     "returned": Returned,
     "restored_synced": RestoredSynced,
     "restored_migrated": RestoredMigrated,

@@ -135,8 +135,7 @@ def options_of(given: argparse.Namespace, alone: bool) -> Options:
     spared, decision = tuple(map(os.fsencode, given.no_mail)), decision_of(given, alone)
     options = Options(given.dry_run, given.again, given.dovecot, given.folder, spared, given.now, decision, jobs=jobs)
     options = replace(options, any_disk=given.any_disk, keep_envelopes=given.keep_envelopes, labels=labels_of(given))
-    options = replace(options, prepare=given.prepare, unread=given.unread, gone=given.gone)
-    options = replace(options, postponed=given.postponed)
+    options = replace(options, prepare=given.prepare, unread=given.unread)
     return options if alone or not given.again else replace(options, again=False, again_rewritten=True)
 
 
@@ -177,10 +176,8 @@ def wrong_for_prepare(options: Options) -> Iterator[str]:
     """What is wrong with the options for what is only prepared."""
     if options.unread and not options.prepare:
         yield "--unread needs --prepare"
-    if options.postponed and not options.prepare:
-        yield "--postponed needs --prepare"
-    if options.prepare and (options.again or options.again_rewritten or options.gone or options.labels):
-        yield "--prepare goes with none of --again, --gone and --labels"
+    if options.prepare and (options.again or options.again_rewritten or options.labels):
+        yield "--prepare goes with neither --again nor --labels"
 
 
 def wrong_for_users(options: Options, of_users: UsersOptions) -> Iterator[str]:

@@ -135,8 +135,6 @@ def add_ways(add: Add) -> None:
     add("--dry-run", action="store_true", help="print what would be done, and write nothing")
     add("--prepare", action="store_true", help="place what is there by now, while people use the mailboxes, for later")
     add("--unread", action="store_true", help="with --prepare: nobody reads MAILDIR, although no Dovecot shows that")
-    add("--gone", action="store_true", help="remove what was prepared from mailboxes of a tree that are gone since")
-    add("--postponed", action="store_true", help="with --prepare: people use the mailboxes again, also those done")
     add("--now", action="store_true", help="do not wait until a mailbox was left alone for a minute")
     add("--folder", metavar="NAME", help="convert into this folder of MAILDIR")
     add("--dovecot", action="store_true", help="keep order, UIDs, keywords and subscriptions as Dovecot had them")

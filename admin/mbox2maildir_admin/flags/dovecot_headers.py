@@ -44,9 +44,6 @@ LISTED = 45
 # the flags that mbox2maildir reads; it looks for each letter in the first line of either field
 CONVERTED = {b"A": "R", b"D": "T", b"F": "F", b"R": "S"}
 
-# the fields that it reads, and the end of a header
-MARKED, HEADER_END = re.compile(rb"^((?:X-)?Status):([^\n]*)", re.I | re.M), re.compile(rb"^\r?\n", re.M)
-
 # UIDVALIDITY, the next UID, and the places of messages by their UIDs
 Numbers = tuple[int, int, Iterable[tuple[int, Place]]]
 
@@ -268,17 +265,6 @@ def flags_of(marks: int, is_bare: bool) -> str:
     """The letters of the flags of a message with these marks: those that Dovecot reads if it is converted bare,
     otherwise those that mbox2maildir gives."""
     return "".join(flag for place, flag in enumerate(FLAGS) if marks >> place + (32 if is_bare else 40) & 1)
-
-
-def home_of_text(text: bytes) -> bytes:
-    """Where mbox2maildir places a message that begins so: `new`, or `cur` with the letters of its flags."""
-    first: dict[bytes, bytes] = {}
-    end = HEADER_END.search(text)
-    for name, value in MARKED.findall(text, 0, end.start() if end else len(text)):
-        first.setdefault(name.lower(), value)
-    value = b"".join(first.values())
-    letters = sorted(flag for letter, flag in CONVERTED.items() if letter in value)
-    return b"cur:2," + "".join(letters).encode() if letters or b"O" in value else b"new"
 
 
 def info_of(marks: int, current: str, is_bare: bool = False) -> str:

@@ -135,9 +135,8 @@ class History:
         self._undone: collections.defaultdict[str, dict[str, int]] = collections.defaultdict(dict)
         # the mailbox that a folder was prepared from last, until something of the folder is done
         self._prepared: dict[bytes, Entry] = {}
-        # whether anything was ever prepared, and the paths from which folders were prepared last
+        # whether anything was ever prepared
         self.has_prepared = False
-        self.prepared_at: dict[bytes, str] = {}
         # by what they note and their folder, in their order
         self._notes: collections.defaultdict[tuple[Note, bytes], list[Entry]] = collections.defaultdict(list)
 
@@ -165,7 +164,6 @@ class History:
             self._notes[entry.what, folder].append(entry)
         if entry.what is Note.PREPARED:
             self._prepared[folder], self.has_prepared = entry, True
-            self.prepared_at[folder] = entry.path
         elif entry.what in (Note.UNPREPARED, Step.DONE):
             self._prepared.pop(folder, None)
         if entry.what in (Note.PREPARED, Note.UNPREPARED):
@@ -266,10 +264,6 @@ class History:
     def longest_written(self, folder: bytes) -> int:
         """The size of the largest file that was to be written into a folder."""
         return max((note.key.size for note in self._notes[Note.WROTE, folder]), default=0)
-
-    def empty(self) -> list[Entry]:
-        """The last line of each folder that a mailbox of no byte has."""
-        return [several[-1] for (note, _), several in self._notes.items() if note is Note.EMPTY and several]
 
     def noting(self, note: Note, folder: bytes, path: bytes) -> list[Entry]:
         """The lines that note this with a path, in their order."""

@@ -36,7 +36,6 @@ from .prepared_lines import (
     FIRST_LINE,
     MADE,
     NEXT_LIST,
-    POSTPONED,
     READ_AGAIN,
     TOOK,
     WHOLE,
@@ -71,7 +70,7 @@ class Prepared:
         # what the last pass has read, and whether it was whole; whether a sync failed, and whether the folder was made
         # for this or was done before; and in which batch it is finished
         self.origin: Optional[Origin] = None
-        self.is_whole = self.has_failed = self.is_made = self.is_postponed = False
+        self.is_whole = self.has_failed = self.is_made = False
         self.batch: Optional[int] = None
         # what is noted of the text
         self.noted = Noted(self.table)
@@ -109,9 +108,8 @@ class Prepared:
         self.is_whole = self.is_whole or line == WHOLE
         self.has_failed = self.has_failed or line == FAILED
         self.is_made = self.is_made or line == MADE
-        self.is_postponed = self.is_postponed or line == POSTPONED
         self.has_head = self.has_head or line == FIRST_LINE
-        return bool(begun or finishes or as_read or took) or line in (WHOLE, FAILED, MADE, POSTPONED, FIRST_LINE)
+        return bool(begun or finishes or as_read or took) or line in (WHOLE, FAILED, MADE, FIRST_LINE)
 
     def take_file(self, file: re.Match[bytes]) -> bool:
         """Takes the line of a file, and returns whether it is one: no inode has more than 64 bits."""
@@ -270,15 +268,7 @@ class Prepared:
         self.write_part([*origin, *map(self.line, range(len(self.table)))])
         finish_list(self.folder)
         self.wanted, self.batch = bytearray(len(self.table)), None
-        self.is_whole = self.is_postponed = False
-
-    def postpone(self, origin: Origin, batch: int) -> None:
-        """Writes the list of a folder that was done, up to this batch. It is on the disk when this returns, and all of
-        its files are to be taken back."""
-        self.wanted, self.is_made = bytearray(b"\1") * len(self.table), True
-        self.write_part([origin.line(), *map(self.line, range(len(self.table))), b">\t%d\n" % batch, POSTPONED + b"\n"])
-        finish_list(self.folder)
-        self.origin, self.batch, self.is_postponed, self.is_there = origin, batch, True, True
+        self.is_whole = False
 
     def note_facts(self) -> None:
         """Takes the facts of the files that are wanted. What changed since the look is verified after this, so that

@@ -22,7 +22,7 @@ FILE = re.compile(
 )
 FINISHES = re.compile(rb">\t(\d{1,18})\Z")
 TOOK = re.compile(rb"t\t(\d{1,18})\Z")
-WHOLE, FAILED, MADE, POSTPONED = b"=", b"!", b"/", b"<"
+WHOLE, FAILED, MADE = b"=", b"!", b"/"
 # the facts of a file that is read again, whatever its facts are
 READ_AGAIN = 0, 0, 0
 # the list that takes the place of the other one once the disk is synced

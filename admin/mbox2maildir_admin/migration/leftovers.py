@@ -81,8 +81,7 @@ class Leftovers:
 
     def rows(self, plan: Iterable[Planned]) -> Iterator[Row]:
         """The rows of these folders. Where the mailbox is gone, everything that was prepared is removed if no more than
-        a tenth of its tree is gone, or if the options say so. All others are left: nobody is to read there."""
-        gone = self.options.gone
+        a tenth of its tree is gone. All others are left: nobody is to read there."""
         went = {one.folder: one.path for one in plan if one.folder}
         self.clear_unused(went)
         left = []
@@ -94,16 +93,12 @@ class Leftovers:
         now = {tree: unspelled(tree) for tree in map(spelled, self.trees)}
         met = {one.tree: went[one.name] for one in self.listed if one.tree and one.name in went}
         now.update({tree: self.tree_of(real_path(path)) for tree, path in met.items()})
-        if gone and len(self.trees) == 1:
-            # a tree that is still there has a command of its own
-            moved = [one.tree for one in left if one.tree and not is_folder(unspelled(one.tree))]
-            now = {**dict.fromkeys(moved, self.trees[0]), **now}
         absent = [one for one in left if now.get(one.tree) and not is_there(one.path_in(now[one.tree]))]
         many, all_of = (collections.Counter(one.tree for one in several) for several in (absent, self.listed))
         for one in left:
             if one not in absent:
                 yield self.left(one, NOT_MET, unspelled(one.path))
-            elif gone or many[one.tree] * TENTH <= all_of[one.tree]:
+            elif many[one.tree] * TENTH <= all_of[one.tree]:
                 yield self.emptied(one)
             else:
                 yield self.left(one, MANY_GONE % (many[one.tree], all_of[one.tree]), one.path_in(now[one.tree]))

@@ -26,7 +26,6 @@ from ..units import Say, silent
 from .answers import is_passed_over, note_no_mail
 from .converting import Conversion
 from .outcomes import BY_NO_MAIL, BY_RECORD, Ended, Fate, Row, row_left
-from .postponed import prepared_in
 from .preparing import FirstPass, LastPass
 from .replica import has_failed, is_free, is_prepared, note_begun, reader_in, take_back
 from .steps import How, Opened
@@ -139,7 +138,7 @@ class Migration:
 def transfer_of(conversion: Conversion, how: How, opened: Opened, ledger: Ledger, verified: Container[int]) -> Transfer:
     """The way of a mailbox into its folder, which may be prepared, or is to be. These batches of the ledger were
     verified by this run, and their disk is not synced yet."""
-    record, prepared = conversion.record, prepared_in(conversion.record, how, opened, ledger)
+    record, prepared = conversion.record, Prepared.read(opened.folder)
     note_begun(ledger, prepared)
     is_over = prepared.is_there and not is_prepared(record, opened.name, ledger, prepared)
     if is_over:

@@ -41,10 +41,7 @@ from .steps import Bringing, Contents, How, Opened
 from .transfer import PARTLY_THERE, Transfer
 from .unchanged import Same, note_state, same_as_prepared, text_of
 
-NOT_FREE = (
-    "mail of a mailbox is in its folder already, and migrate brings the rest; if the move was postponed, say so by "
-    "--postponed"
-)
+NOT_FREE = "mail of a mailbox is in its folder already, and migrate brings the rest"
 READ = "somebody reads in its folder already: %s"
 ANOTHER = "%s is prepared in its folder, and only one mailbox can be"
 OTHERWISE = "it was prepared %s --dovecot"

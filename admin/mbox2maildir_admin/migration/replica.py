@@ -7,7 +7,7 @@ from collections.abc import Sequence
 from typing import Optional
 
 from ..flags.renaming import sync_names
-from ..ledger.history import Key, Note, Step
+from ..ledger.history import Note, Step
 from ..ledger.ledger import Ledger
 from ..ledger.lines import PLACED, Brought
 from ..ledger.match import Match
@@ -22,7 +22,6 @@ from ..maildir.making import LEDGER, MARK, PREPARED, SUBFOLDERS, sync_folder
 from ..mbox.bases import base_in, before_info, own_base_in
 from ..nexts import Remark
 from ..terminal import spelled
-from ..units import Size
 from .dovecot import KEYWORDS, LIST, Dovecot, names_in, remove_part
 from .steps import Bringing, Extra, Opened
 
@@ -70,8 +69,8 @@ def take_prepared(match: Match, placing: Placing, prepared: Prepared) -> None:
         else:
             match.mine[place] = 1
     if len(need) < len(match.need):
-        for at, is_there in enumerate(prepared.files):
-            if is_there and prepared.wanted[at]:
+        for at, is_file in enumerate(prepared.files):
+            if is_file and prepared.wanted[at]:
                 match.files.take(prepared.table.base(at))
         match.new = array.array("Q", (place for place in match.new if not match.mine[place]))
         match.need = need
@@ -98,9 +97,9 @@ def reader_in(record: Record, name: bytes, folder: bytes, prepared: Prepared) ->
 
 def is_prepared(record: Record, name: bytes, ledger: Ledger, prepared: Prepared) -> bool:
     """Whether the list of a folder counts: once something of the folder is done, a list that is there was left by a
-    killed run, or comes from a backup, and its files are mail, unless the move was postponed."""
+    killed run, or comes from a backup, and its files are mail."""
     is_over = ledger.sources or has_done(record, name)
-    return prepared.is_there and (prepared.is_postponed or not is_over)
+    return prepared.is_there and not is_over
 
 
 def is_free(record: Record, opened: Opened, ledger: Ledger) -> bool:
@@ -130,9 +129,9 @@ def note_begun(ledger: Ledger, prepared: Prepared) -> None:
 
 
 def take_back(record: Record, name: bytes, ledger: Ledger, prepared: Prepared, dry: bool) -> None:
-    """Takes back what a `migrate` that was killed, or after which the move was postponed, has done in a folder: flags,
-    lists of UIDs, and what it noted, of each mailbox. Afterwards the folder is only prepared."""
-    folder, paths, origin = ledger.folder, ledger.paths(), prepared.origin
+    """Takes back what a `migrate` that was killed has done in a folder, of each mailbox: flags, lists of UIDs, and what
+    it noted. Afterwards the folder is only prepared."""
+    folder, paths = ledger.folder, ledger.paths()
     if dry:
         for path in paths:
             ledger.forget(path)
@@ -152,10 +151,6 @@ def take_back(record: Record, name: bytes, ledger: Ledger, prepared: Prepared, d
     for line in (record.last_of(name, {path}) for path in sorted(ledger.former)):
         if line:
             record.add_after(line, Step.UNDONE, unspelled(line.path))
-    if prepared.is_postponed and origin:
-        record.add(
-            Note.PREPARED, Key(name, Size(origin.key[0]), origin.key[1]), origin.messages, unspelled(origin.path)
-        )
     prepared.take_back()
 
 

@@ -31,7 +31,6 @@ from .leftovers import Leftovers
 from .mailbox import Migration
 from .outcomes import Ended, Fate, Observer, Row, row_left, seen, with_name
 from .places import Pairs, Planned, UserHome, has_record, into_inbox, recorded, where_it_went
-from .postponed import postponed_rows
 from .servers import Place, locations, want_unread
 from .steps import Extra, How, Options
 from .trees import NamesMet, Tree, also_named, identity, link_left, other_names
@@ -100,7 +99,7 @@ def run_all(
         how = How(options.dry, options.again, extra, spared, options.now, options.decision, options.of_next())
         how = replace(how, names=names, home=home.path if home else os.fsencode(os.path.expanduser("~")))
         how = replace(how, again_rewritten=options.again_rewritten, any_disk=options.any_disk, prepare=options.prepare)
-        how = replace(how, keep_envelopes=options.keep_envelopes, postponed=options.postponed)
+        how = replace(how, keep_envelopes=options.keep_envelopes)
         several = Several(Migration(program, root, record, how), names, observer, home, options)
         leftovers = Leftovers(record, root, names, options)
         for row in leftovers.rows(several.migrate(options.folder)):
@@ -142,9 +141,6 @@ class Several:
         how, plan = self.migration.how, list(self.plan(folder))
         plan = plan if folder else self.pairs.without_folders_in_inbox(plan, self.files_given())
         plan = without_lost(plan, self.migration.record, how.options)
-        if how.postponed:
-            for row in postponed_rows(self.migration.record, self.migration.root, plan, self.names, how.dry):
-                self.report(Ended(row))
         self.observer.total += len(plan)
         # a symbolic link may give a folder two names, and it has one ledger
         groups = groups_of([one.folder and real_path(one.folder_in(self.migration.root)) for one in plan])

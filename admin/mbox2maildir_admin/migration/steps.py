@@ -224,10 +224,6 @@ class Options:
     # whether mail is only prepared, and whether nobody reads it
     prepare: bool = False
     unread: bool = False
-    # whether it is right that mailboxes are gone that were prepared
-    gone: bool = False
-    # whether what is done is only prepared again
-    postponed: bool = False
 
     def words(self) -> list[str]:
         """The options, as words of a command."""
@@ -236,8 +232,6 @@ class Options:
             "--undo": self.undo,
             "--prepare": self.prepare,
             "--unread": self.unread,
-            "--gone": self.gone,
-            "--postponed": self.postponed,
             "--dovecot": self.dovecot,
             "--dry-run": self.dry,
         }
@@ -281,9 +275,8 @@ class How:
     keep_envelopes: bool = False
     # whether the mailbox goes into the folders of its labels
     is_labelled: bool = False
-    # whether mail is only prepared, also what is done
+    # whether mail is only prepared
     prepare: bool = False
-    postponed: bool = False
 
     def where(self, root: bytes, opened: Opened) -> Where:
         """Where the next command puts a file of which it makes a mailbox for a folder of this Maildir."""

@@ -9,7 +9,7 @@ from pathlib import Path
 from unittest import mock
 
 from mbox2maildir_admin.faults import Left, PlaceFault
-from mbox2maildir_admin.flags.dovecot_headers import FLAGS, Reading, header_at, home_of_text, info_of, internal_head
+from mbox2maildir_admin.flags.dovecot_headers import FLAGS, Reading, header_at, info_of, internal_head
 from mbox2maildir_admin.flags.dovecot_list import LOCK, list_of, raised, replace
 from mbox2maildir_admin.ledger.record import Record
 from mbox2maildir_admin.migration.dovecot import content_of, place_file, subscribe, subscriptions_of
@@ -129,24 +129,6 @@ def reading_of(headers: Sequence[str]) -> Reading:
         for found in re.finditer(b"(?m)^From ", text):
             reading.add(header_at(source, Offset(found.start())))
     return reading
-
-
-class HomeTest(unittest.TestCase):
-    def test_where_the_program_places_a_message(self) -> None:
-        """The rows of docs/RULES.md."""
-        for text, home in (
-            (b"Status: RO\nX-Status: AF\n\nhi\n", b"cur:2,FRS"),
-            (b"status: O\n\n", b"cur:2,"),
-            (b"X-Status: RD\n", b"cur:2,ST"),
-            (b"Status: R\nStatus: O\n\n", b"cur:2,S"),
-            (b"Status:\n O\n", b"new"),
-            (b"Status: r\n\n", b"new"),
-            (b"Subject: s\n\nStatus: R\n", b"new"),
-            (b"\r\nStatus: R\n", b"new"),
-            (b"Status : R\n\n", b"new"),
-            (b"", b"new"),
-        ):
-            self.assertEqual(home_of_text(text), home, text)
 
 
 class ReadingTest(unittest.TestCase):

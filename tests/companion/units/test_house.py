@@ -44,7 +44,6 @@ LONGER = {
     "back.several": 308,
     "ledger.ledger": 360,
     "ledger.match": 352,
-    "migration.preparing": 301,
     "migration.several": 319,
     "migration.steps": 316,
     "migration.transfer": 386,

@@ -176,11 +176,9 @@ class HistoryTest(unittest.TestCase):
         self.assertTrue(history.has_subscribed(key_with(b".", 9, digest_of(b"4"))))
         self.assertFalse(history.has_subscribed(key_with(b".", 4, "0")))
 
-    def test_folders_of_mailboxes_without_a_byte(self) -> None:
-        """The last line of each, whatever else is noted."""
-        history = history_of((Note.EMPTY, 0, "/a"), (Note.EMPTY, 0, "/b"), (Note.EMPTY, 0, "/c", b".x"))
+    def test_which_mailboxes_gave_their_uids(self) -> None:
+        history = history_of((Note.EMPTY, 0, "/b"))
         history.take(entry_of(Note.NUMBERED, 1, "/d"))
-        self.assertEqual([line.path for line in history.empty()], ["/b", "/c"])
         self.assertEqual([history.has_numbered({path}) for path in ("/b", "/d")], [False, True])
 
     def test_notes_of_a_path(self) -> None:

@@ -67,9 +67,6 @@ class LeftoversTest(HomeTest):
         rows = self.run_tree()
         self.assertEqual([rows[name].fate for name in (".m3", ".m4", ".m5")], [Fate.LEFT, Fate.LEFT, Fate.DONE])
         self.assertEqual(len(self.folders()), TENTH)
-        rows = self.run_tree(gone=True)
-        self.assertEqual([rows[name].fate for name in (".m3", ".m4")], [Fate.UNDONE] * 2)
-        self.assertEqual(len(self.folders()), TENTH - 2)
 
     def test_a_tree_that_is_not_mounted(self) -> None:
         self.make(*self.many())
@@ -90,9 +87,6 @@ class LeftoversTest(HomeTest):
         self.run_tree(prepare=True)
         rows = self.run_tree()
         self.assertEqual([rows[name].fate for name in (".a", ".b", ".c")], [Fate.LEFT, Fate.LEFT, Fate.DONE])
-        (self.tree / "c").unlink()
-        rows = self.run_tree(gone=True)
-        self.assertEqual([rows[name].fate for name in (".a", ".b")], [Fate.LEFT, Fate.LEFT])
         self.assertIs(self.run_tree(other)[".a"].fate, Fate.DONE)
 
     def test_a_command_without_a_tree(self) -> None:
@@ -163,7 +157,7 @@ class LeftoversTest(HomeTest):
         path = self.maildir / ".b" / "mbox2maildir-prepared"
         lines = path.read_bytes().count(b"\n")
         path.write_bytes(path.read_bytes() + b"?\n")
-        rows = self.run_tree(gone=True)
+        rows = self.run_tree()
         self.assertEqual((rows[".a"].fate, rows[".b"].fate), (Fate.DONE, Fate.LEFT))
         self.assertIn("line %d of it is damaged" % (lines + 1), rows[".b"].says)
         self.assertEqual(len(list((self.maildir / ".b" / "new").iterdir())), 2)

@@ -9,13 +9,15 @@ from unittest import mock
 from mbox2maildir_admin.faults import Reason
 from mbox2maildir_admin.ledger.ledger import Ledger
 from mbox2maildir_admin.ledger.prepared import Prepared
+from mbox2maildir_admin.ledger.record import Record
 from mbox2maildir_admin.migration import preparing
 from mbox2maildir_admin.migration.outcomes import Fate, Row
 from mbox2maildir_admin.migration.replica import signs_of
 from mbox2maildir_admin.migration.several import run_all
 from mbox2maildir_admin.migration.steps import Options
 from mbox2maildir_admin.program import Converted
-from mbox2maildir_admin.units import Offset
+from mbox2maildir_admin.undoing.prepared import undo_prepared
+from mbox2maildir_admin.units import Offset, silent
 
 from tests.support.mail import ONE, THREE, TWO, bodies_of, digest_of
 from tests.support.migrating import Cut, Function, Killed, Listener
@@ -318,7 +320,6 @@ class RefusedTest(PreparingTest):
             self.left(self.finish(ONE + TWO), "its sync failed", Reason.SYNC_FAILED)
         self.left(self.finish(), "its sync failed", Reason.SYNC_FAILED)
         self.left(self.prepare(), "its sync failed", Reason.SYNC_FAILED)
-        self.left(self.prepare(postponed=True), "its sync failed", Reason.SYNC_FAILED)
         self.assertIs(self.finish(again=True).fate, Fate.DONE)
         self.has(ONE, TWO)
 
@@ -414,9 +415,9 @@ class KilledTest(PreparingTest):
         for name in ("uidlist", "keywords"):
             (self.maildir / ".a/tmp" / ("mbox2maildir-admin-dovecot-" + name)).write_bytes(b"3 V1")
         self.box.unlink()
-        listener = Listener()
-        run_all(Options(gone=True), self.root, names, listener, Function())
-        self.assertEqual([row.fate for row in listener.rows], [Fate.UNDONE])
+        with Record.open(self.root) as record:
+            row = undo_prepared(self.root, record, os.fsencode(self.box), None, False, silent)
+        self.assertIs(row and row.fate, Fate.UNDONE)
         self.assertFalse((self.maildir / ".a").exists())
 
     def test_a_ledger_that_is_gone(self) -> None:

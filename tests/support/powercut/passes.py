@@ -1,7 +1,6 @@
 """First passes over a mailbox that changes between them, and the last one, on the disk whose power is cut. The next
 pass must end as one `migrate` of the mailbox as it is then."""
 import os
-import subprocess
 from collections.abc import Sequence
 from pathlib import Path
 
@@ -98,37 +97,3 @@ class PassesOfServer(Passes):
         made = numbered(self.mail, self.chance)
         self.several = [made] * len(self.stages)
         return [made._replace(path=f"{self.mail}/box")]
-
-
-class Postponed(AnotherFirst):
-    """What was done is only prepared again, and is finished later. The mail that the mailbox has all the time is always
-    there."""
-
-    comes_before = (*PREPARE, "--postponed")
-    stages = ((*PREPARE, "--postponed"), ())
-
-    def did_something(self, said: str) -> bool:
-        # what is postponed once more is done once more
-        return False
-
-    def texts(self) -> list[list[bytes]]:
-        first, last = super().texts()
-        self.done = [write(f"{self.mail}/done", first, self.chance)]
-        return [first[3:] + last[-3:], last]
-
-    def prepare(self, recorder: Recorder) -> None:
-        super().prepare(recorder)
-        self.change(self.done[0])
-        words = self.words(recorder.at, self.mailboxes)
-        subprocess.run(words, env=self.environment, stdout=subprocess.DEVNULL, check=True)
-
-    def owed(self, at: str, marks: Sequence[str]) -> Owed:
-        kept = [{message.base for message in made.messages} for made in (*self.done, *self.several)]
-        always = [one for one in self.mailboxes[0].messages if all(one.base in bases for bases in kept)]
-        return [*super().owed(at, marks), (self.folder(at), always)]
-
-    def dated(self, at: str, marks: Sequence[str]) -> Owed:
-        return Migrate.owed(self, at, marks)
-
-    def undone(self, at: str) -> Owed:
-        return self.all_undone(at) if Migrate.owed(self, at, []) else []

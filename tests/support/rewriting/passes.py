@@ -162,21 +162,17 @@ class Passes(Twice):
             self.put_aside()
         while self.draw.random() < 0.6:
             self.is_day = True
-            self.goes_through("--gone", likely=0.8)
+            self.goes_through(likely=0.8)
             if self.draw.random() < 0.5:
                 self.give_up()
 
     def give_up(self) -> None:
-        """The old server is started again, and mailboxes change. What is done already is only prepared again."""
+        """The old server is started again before anything is done, and mailboxes change."""
         if self.old:
             self.bring_back()
-        is_done = self.has_ended()
-        if is_done and self.mail or not self.was_prepared():
-            return
-        self.change()
-        self.noted[f"changed after a last pass{', which was postponed' * is_done}"] += 1
-        while is_done and not self.goes_through(*PREPARE, "--postponed", likely=0.3):
-            pass
+        if self.was_prepared() and not self.has_ended():
+            self.change()
+            self.noted["changed after a last pass"] += 1
 
     def has_ended(self) -> bool:
         """Whether something is done: by a ledger, or by the record if there is no mail."""

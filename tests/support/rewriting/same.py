@@ -50,6 +50,17 @@ def answers_in(rows: Iterable[Row]) -> dict[str, object]:
     return {row["path"]: (row["folder"], row["verdict"], row["reason"], texts_of(row)) for row in rows}
 
 
+def undo_in(row: Row) -> list[str]:
+    """The words that undo what stays only prepared in a folder to which no mailbox went, if a row is about one."""
+    undo = (command["argv"][2:] for command in row["next"] if command.get("answer") == "undo-prepared")
+    return list(next(undo, []))
+
+
+def undo_of_gone(row: Row) -> list[str]:
+    """The same if the mailbox is not there."""
+    return undo_in(row) if any("task" in step for step in row["next"]) else []
+
+
 class Twice(Several):
     """Mailboxes that are migrated into a Maildir in some way, by a seed, and into another one at once."""
 
@@ -125,16 +136,18 @@ class Twice(Several):
             if once != passes and not stays:
                 self.wrong.append(f"{what}: {name}: once {once}; by passes {passes}")
 
-    def run_rows(self, *words: str) -> list[Row]:
+    def run_rows(self) -> list[Row]:
         """Runs all, and returns the rows."""
-        return [
-            row for command in self.commands() for row in self.carry_out([*self.words, *words, *command])[1].values()
-        ]
+        return [row for command in self.commands() for row in self.carry_out([*self.words, *command])[1].values()]
 
     def finish(self) -> dict[str, object]:
-        """Runs all until no answer is missing. Returns how each mailbox ended."""
+        """Runs all until no answer is missing, and undoes what is only prepared from mailboxes that are gone. Returns
+        how each mailbox ended."""
         for _ in range(ANSWERS):
-            rows = self.run_rows(*["--gone"] * (self.into == "Maildir"))
+            rows = self.run_rows()
+            for words in filter(None, map(undo_of_gone, rows)):
+                self.carry_out(words)
+            rows = [row for row in rows if not undo_in(row)]
             left = {row["path"]: row for row in rows if row["verdict"] == "left"}
             if not left or not self.run_next(left):
                 break
@@ -142,7 +155,7 @@ class Twice(Several):
         return {
             row["path"]: (row["folder"], row["verdict"].split()[0], row["reason"])
             for row in rows
-            if row["verdict"] not in ("undone", "prepared")
+            if row["verdict"] != "undone"
         }
 
     def undo_rows(self) -> dict[str, object]:
