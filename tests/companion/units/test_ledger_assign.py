@@ -47,6 +47,8 @@ class FilesTest(unittest.TestCase):
         several = [line(NAMELESS, 1), line(NAMELESS, 1), line(NAMELESS, 2, OTHER)]
         self.assertEqual(seen(several, NAMELESS[:0]), [([2, 1], False), ([1], False)])
         self.assertFalse(any(file.is_gone for file in files_of(several, ())))
+        other = line(NAMELESS, 2, OTHER)
+        self.assertEqual(len(seen([several[0], other._replace(message=other.message._replace(core=D))])), 2)
         # what it had once is another file than what it has
         self.assertEqual(len(seen([line(NAMELESS, 1, state=State.FORMER), line(NAMELESS, 2)])), 2)
 
