@@ -164,7 +164,6 @@ class Appending:
                 self.there.append(mail)
             else:
                 rest.append(mail)
-        size, entries = 0, []
         with self.draft() as draft:
             entries = self.drafted(draft, rest)
             size = draft.size if entries else 0
