@@ -197,7 +197,7 @@ def marked_as_deleted(home: Home) -> None:
     house = House(home)
     marks = b"0001", b"0009", b"0000"
     house.deliver([b"Subject: %s\nX-Mozilla-Status: %s\n\nyes\n" % (mark, mark) for mark in marks], ".new")
-    ran = [told(house.run(*words)) for words in [["--dry-run"], [], []]]
+    ran = [told(house.run(*words.split())) for words in ("--dry-run", "", "")]
     stays = Told("mail/new-back", "not-held", 0, ("M/.new/new/1.M1.host",))
     equal("two runs", ran[:2], [[Told("mail/new", messages=2), stays]] * 2)
     equal("a third one", ran[2], [Told("mail/new", messages=1, fields="X-Mozilla-Status")])
