@@ -31,6 +31,7 @@ from tests.support.fates.running import NOBODY, install, is_root
 from tests.support.fates.trees import of_a_tree, of_words
 from tests.support.fates.users import Accounts, accounts, of_users
 from tests.support.fates.world import World
+from tests.support.homes import fresh_folder, in_memory
 
 # how many worlds, and how many failing calls, the gate runs
 WORLDS, FAULTS = 12, 4
@@ -138,8 +139,9 @@ def row(place: House, make: Callable[[Stage], list[str]]) -> None:
 
 def faults(place: House) -> None:
     """Each call of the small tree fails once, each in a run of its own."""
-    home = place.clear()
-    wrong = wrong_calls(small_tree, home, place.top / "bin")
+    place.clear()
+    with fresh_folder(in_memory()) as top:
+        wrong = wrong_calls(small_tree, top, place.top / "bin")
     assert not wrong, "\n".join([f"{len(wrong)} differ", *some(wrong)])
 
 

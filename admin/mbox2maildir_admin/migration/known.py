@@ -4,6 +4,7 @@ import os
 from collections.abc import Container, Sequence
 from typing import NamedTuple, Optional
 
+from ..faults import reason_of_fault, why_left
 from ..ledger.history import Entry, Key, Note, Step, names_of
 from ..ledger.ledger import Ledger
 from ..ledger.lines import number_in
@@ -247,22 +248,18 @@ def is_replaced(line: Entry) -> bool:
 def without_lost(several: Sequence[Planned], record: Record, options: Options) -> list[Planned]:
     """Mailboxes, of which those are left that the record has nowhere, though the ledger of another folder than theirs
     has their mail. The commands for them have these options."""
-    new = {one.path for one in several if one.folder and not is_recorded(one, record)}
-    lost = unrecorded(record) if new else {}
+    lost: Optional[dict[str, list[bytes]]] = None
     found = []
     for one in several:
-        names = names_of(one.target or one.path) if lost and one.path in new else []
-        folders = [folder for name in names for folder in lost.get(name, ())]
-        if folders and one.folder not in folders:
-            words = [*options.words(), *words_of(folders[0]), operand(record.maildir)]
-            one = one.left_to_human(ELSEWHERE % folder_named(folders[0]), words)
+        try:
+            names = names_of(one.target or one.path) if one.folder else []
+        except OSError as fault:
+            one, names = one.left(why_left(fault, one.path), reason_of_fault(fault, one.path)), []
+        if names and not record.folders_with(names):
+            lost = unrecorded(record) if lost is None else lost
+            folders = [folder for name in names for folder in lost.get(name, ())]
+            if folders and one.folder not in folders:
+                words = [*options.words(), *words_of(folders[0]), operand(record.maildir)]
+                one = one.left_to_human(ELSEWHERE % folder_named(folders[0]), words)
         found.append(one)
     return found
-
-
-def is_recorded(one: Planned, record: Record) -> bool:
-    """Whether the record has a mailbox in any folder, as far as its path can be looked at."""
-    try:
-        return bool(record.folders_of(one.target or one.path))
-    except OSError:
-        return True

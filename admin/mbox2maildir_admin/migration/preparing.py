@@ -7,7 +7,6 @@ the mailbox was when it was read. The folder says what is prepared in it, wherev
 """
 import contextlib
 import functools
-import os
 import time
 from collections.abc import Iterator
 from dataclasses import replace

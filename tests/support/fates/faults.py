@@ -86,6 +86,7 @@ RIGHT = (
     Right("program.places_of_program", "mbox2maildir", "the program that is found is run next"),
     Right("migration.several.refuse", "b'tree/tmp'", "whoever reads the tree sees whether it is a Maildir"),
     Right("migration.places.recorded", "", "no folder is wanted for what holds no mail"),
+    Right("migration.known.without_lost", "", "nor another one than the ledgers say"),
     Right("migration.places.beside", NO_MAIL, "what holds no mail is no copy, and has none"),
 )
 
