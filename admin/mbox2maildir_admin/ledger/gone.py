@@ -4,7 +4,7 @@ import array
 import collections
 from collections.abc import Mapping
 
-from ..maildir.files import names_of, sum_of_names
+from ..maildir.files import names_of
 from ..maildir.traces import Traces, times_of
 from ..mbox.bases import Table, base_in, before_info
 from ..nexts import Remark
@@ -78,12 +78,3 @@ def gone_of(ledger: Ledger, number: int, begun_at: int) -> collections.Counter[b
     if len(after):
         gone += [places[1][place] for place in Traces(ledger.folder, after, batch.head.times, begun_at).may_be_gone()]
     return collections.Counter(digest_at(batch.cores, at) for at in gone)
-
-
-def sum_without(ledger: Ledger, number: int = 0) -> str:
-    """The sum of the names in a folder without those of files that runs were to place which were killed. A batch with
-    this number is about to end."""
-    path = ledger.open[number].path if number else None
-    numbers = {one for one, its in ledger.open.items() if its.path != path and one > ledger.last_end(its.path)}
-    begun = {one.name for _, one in ledger.messages(numbers) if one.word == PLACED} if numbers else set()
-    return sum_of_names(ledger.folder, begun.difference(ledger.names({number}) if begun else ()))

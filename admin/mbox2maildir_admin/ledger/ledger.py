@@ -12,7 +12,7 @@ was undone.
 import collections
 import copy
 import os
-from collections.abc import Container, Iterable, Iterator, Mapping
+from collections.abc import Container, Iterable, Iterator
 from typing import Optional
 
 from ..maildir.files import names_of
@@ -46,10 +46,9 @@ from .lines import (
 class Ledger:
     """What mailboxes brought into a folder, by their paths as the record spells them."""
 
-    def __init__(self, folder: bytes, verified: Optional[Mapping[int, str]] = None) -> None:
-        """Reads the ledger of a folder, which need not exist. Batches with these numbers count as ended, with these
-        sums of names: this run has verified them, and their disk is not synced yet. Raises Fault if others may have
-        written to it."""
+    def __init__(self, folder: bytes, verified: Iterable[int] = ()) -> None:
+        """Reads the ledger of a folder, which need not exist. Batches with these numbers count as ended: this run has
+        verified them, and their disk is not synced yet. Raises Fault if others may have written to it."""
         self.folder, self.is_made = folder, False
         self.number, self.size, self.last = "", 0, 0
         self.sources: dict[str, Source] = {}
@@ -58,11 +57,9 @@ class Ledger:
         self.batch: Optional[Batch] = None
         # the number of the first line that is damaged
         self.damage: Optional[int] = None
-        # the paths of those that have ended, and of those of mailboxes that were undone, by their numbers; and the sum
-        # of the names in the folder at the last end
+        # the paths of those that have ended, and of those of mailboxes that were undone, by their numbers
         self.ended: dict[int, str] = {}
         self.undone: dict[int, str] = {}
-        self.names_then = ""
         # the lines that it lacks, since it is older than an undo: they come before what is appended next
         self.lacking: list[bytes] = []
         # the paths of mailboxes that were moved from there, or undone, and have brought nothing since
@@ -82,8 +79,8 @@ class Ledger:
                 if not text.endswith(CUT + b"\n") and b"\0" not in text:
                     self.damage = first
             self.size, number = self.size + len(text), number + text.count(b"\n")
-        for batch, names in (verified or {}).items():
-            self.end(batch, names)
+        for batch in verified:
+            self.end(batch)
 
     def take_several(self, several: Several) -> bool:
         """Takes lines of messages, and returns whether they belong to a batch."""
@@ -105,7 +102,7 @@ class Ledger:
         elif placed:
             return self.take_all_placed(int(placed[1]))
         elif end:
-            return self.end(int(end[1]), (end[2] or b"").decode())
+            return self.end(int(end[1]))
         elif moved:
             self.rename(moved[1].decode(), moved[2].decode())
         elif undone:
@@ -120,12 +117,12 @@ class Ledger:
         batch.is_placed = True
         return True
 
-    def end(self, number: int, names: str = "") -> bool:
-        """Ends a batch, and returns whether it had all of its lines. The names in the folder have this sum then."""
+    def end(self, number: int) -> bool:
+        """Ends a batch, and returns whether it had all of its lines."""
         batch = self.open.pop(number, None)
         if batch is None or not batch.is_whole:
             return False
-        self.ended[number], self.names_then = batch.path, names
+        self.ended[number] = batch.path
         self.former.discard(batch.path)
         self.sources.setdefault(batch.path, Source()).take(batch)
         return True

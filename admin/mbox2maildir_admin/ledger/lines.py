@@ -35,7 +35,7 @@ BATCH = re.compile(
     rb"\t(\d{1,18})-([0-9a-f]{64})(?:-(\d{1,20}))?\t([!-~][ -~]*)\t([^\t]+)\Z"
 )
 ALL_PLACED = re.compile(rb"\+\t(\d{1,18})\Z")
-END = re.compile(rb"=\t(\d{1,18})(?:\t([0-9a-f]{32}))?\Z")
+END = re.compile(rb"=\t(\d{1,18})\Z")
 MOVED = re.compile(rb">\t([^\t]+)\t([^\t]+)\Z")
 UNDONE = re.compile(rb"-\t([^\t]+)\Z")
 # what ends a line that was cut: no line ends with a tab, so it becomes no other one
@@ -187,10 +187,9 @@ def note_all_placed(folder: bytes, number: int) -> None:
     append(folder, [b"+\t%d\n" % number], sync=False)
 
 
-def note_end(folder: bytes, number: int, names: str = "") -> int:
-    """Notes that a batch of the ledger of a folder was verified, and is on the disk, with the sum of the names in the
-    folder if only this program has given them since the batch before. Returns the ledger's size then."""
-    return append(folder, [b"\t".join([b"=", b"%d" % number, *filter(None, [names.encode()])]) + b"\n"])
+def note_end(folder: bytes, number: int) -> int:
+    """Notes that a batch of the ledger of a folder was verified, and is on the disk. Returns the ledger's size then."""
+    return append(folder, [b"=\t%d\n" % number])
 
 
 def put(number: int, piece: bytes) -> None:

@@ -47,8 +47,6 @@ class Verified(NamedTuple):
     batch: int = 0
     # whether its folder has a list of what was prepared there; without a batch it is only prepared
     is_prepared: bool = False
-    # the sum of the names in its folder, if only this program has given them since the batch before
-    names: str = ""
 
     def has_changed(self) -> bool:
         """Whether another file is at its path, or the same file has changed."""

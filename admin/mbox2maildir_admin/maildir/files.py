@@ -7,7 +7,6 @@ import time
 from collections.abc import Callable, Container, Iterator
 from typing import Optional
 
-from ..mbox.bases import before_info
 from ..mbox.files import BLOCK, REGULAR
 
 # how often a Maildir is listed at most, and for how many seconds the clock of a file system may stand still
@@ -38,14 +37,6 @@ def names_of(folder: bytes) -> Iterator[Named]:
         yield from paths_of(folder)
     except FileNotFoundError:
         pass
-
-
-def sum_of_names(folder: bytes, but: Container[bytes] = ()) -> str:
-    """A number by which one sees whether names in a folder have changed, but for some without their infos: the sum of
-    their digests, in 32 digits."""
-    paths = (path for name, path in names_of(folder) if not but or before_info(name) not in but)
-    several = (hashlib.blake2b(path[len(folder) :], digest_size=16).digest() for path in paths)
-    return "%032x" % (sum(int.from_bytes(digest, "big") for digest in several) % (1 << 128))
 
 
 def listings_of(maildir: bytes) -> Iterator[Iterator[Named]]:

@@ -132,7 +132,7 @@ class Conversion:
             return
         if verified.has_changed():
             raise Left(CHANGED_MEANWHILE, Reason.CHANGED)
-        self.record.add_step(Step.DONE, verified, note_end(verified.folder, verified.batch, verified.names))
+        self.record.add_step(Step.DONE, verified, note_end(verified.folder, verified.batch))
         if verified.is_prepared:
             drop_list(verified.folder)
 

@@ -46,9 +46,9 @@ class Migration:
         self.conversion = Conversion(program, root, record)
         # raises Left if the disk has no space for a mailbox; others at work may count on the same space
         self.want_room: Callable[[Need], None] = want_room
-        # the batches of each folder's ledger that were verified, and whose disk is not synced yet, with the sums of the
-        # names there; and the last ledger, while mailboxes go into its folder
-        self.verified: collections.defaultdict[bytes, dict[int, str]] = collections.defaultdict(dict)
+        # the batches of each folder's ledger that were verified, and whose disk is not synced yet; and the last ledger,
+        # while mailboxes go into its folder
+        self.verified: collections.defaultdict[bytes, set[int]] = collections.defaultdict(set)
         self.kept: Optional[Ledger] = None
 
     def work_for(self, parent: Parent) -> None:
@@ -129,8 +129,8 @@ class Migration:
         transfer.want_room = self.want_room
         ended = Ended(transfer.run(), transfer.verified)
         if ended.verified and ended.verified.batch:
-            verified[ended.verified.batch] = ended.verified.names
-            ledger.end(ended.verified.batch, ended.verified.names)
+            verified.add(ended.verified.batch)
+            ledger.end(ended.verified.batch)
         self.kept = None if ended.row.fate is Fate.LEFT else ledger
         return ended
 

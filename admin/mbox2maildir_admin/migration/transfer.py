@@ -3,7 +3,6 @@ is placed, dated, flagged and verified."""
 import collections
 import contextlib
 import functools
-import os
 import time
 from collections.abc import Callable, Iterator
 from dataclasses import replace
@@ -11,7 +10,7 @@ from typing import Any, Optional
 
 from ..faults import Fault, Left, Reason
 from ..kinds.look import Look, Read
-from ..ledger.gone import BACK, back_in, gone_before, gone_from, sum_without
+from ..ledger.gone import BACK, back_in, gone_before, gone_from
 from ..ledger.history import Step
 from ..ledger.ledger import Ledger
 from ..ledger.lines import Head
@@ -64,8 +63,6 @@ class Transfer:
         # raises Left if the disk has no space for a mailbox; others at work may count on the same space
         self.want_room: Callable[[Need], None] = want_room
         self.known = Known(self.record, ledger, opened)
-        # whether the names in the folder were those of the last end, when this began
-        self.is_unread = False
         # what was verified of it, which is to be noted once its disk is synced; and what is to be said of it
         self.verified: Optional[Verified] = None
         self.remarks: list[Remark] = [*opened.mailbox.remarks]
@@ -289,7 +286,7 @@ class Transfer:
         """The row of a mailbox that has nothing new. The ledger notes that it was read."""
         remarks = list(remarks_on_lost(match))
         if not self.how.dry:
-            self.verified = with_names(self.begin(contents, Placing(match), 0), self.ledger, self.is_unread)
+            self.verified = self.begin(contents, Placing(match), 0)
         return self.row_before(contents.words, len(contents.inventory), remarks)
 
     def take_steps(self, choice: Choice, contents: Contents, match: Match) -> Row:
@@ -318,7 +315,7 @@ class Transfer:
         if back:
             says = BACK % counted(min(back, len(contents.inventory)), "message")
             self.remarks.append(Remark("came-back", says))
-        self.verified = with_names(verified, self.ledger, self.is_unread)
+        self.verified = verified
         return self.row(choice.plan, then)
 
     def want_room_for(self, contents: Contents, placing: Placing) -> None:
@@ -335,7 +332,6 @@ class Transfer:
         opened, mailbox, match = self.opened, self.opened.mailbox, placing.match
         key, times, inode = mailbox.key(), times_of(opened.folder), mailbox.state.st_ino
         head = Head(placing.count_of_lines(), len(match.need), back, times, key, contents.words, self.path, inode)
-        self.is_unread = not self.ledger.ended or self.ledger.names_then == sum_without(self.ledger)
         number = self.ledger.begin(head, placing.lines())
         words = self.known.key, len(contents.inventory), unspelled(self.path), contents.words
         verified = Verified(*words, opened.folder, mailbox.state, self.ledger.number, number)
@@ -375,9 +371,3 @@ class Transfer:
         number = ledger.pending(self.path)
         # what came back in runs that were killed too was not said yet
         return back if number is None else back + ledger.open[number].head.back
-
-
-def with_names(verified: Verified, ledger: Ledger, is_unread: bool) -> Verified:
-    """A mailbox that was verified with the sum of the names in its folder, if only this program has given them so
-    far."""
-    return verified._replace(names=sum_without(ledger, verified.batch)) if is_unread else verified

@@ -3,10 +3,10 @@ import os
 import unittest
 from unittest import mock
 
-from mbox2maildir_admin.ledger.gone import back_in, gone_before, gone_from, gone_of, left_by_killed, sum_without
+from mbox2maildir_admin.ledger.gone import back_in, gone_before, gone_from, gone_of, left_by_killed
 from mbox2maildir_admin.ledger.ledger import Ledger
 from mbox2maildir_admin.ledger.lines import FOREIGN, LOST, SHARED, note_all_placed
-from mbox2maildir_admin.maildir.files import names_of, sum_of_names
+from mbox2maildir_admin.maildir.files import names_of
 from mbox2maildir_admin.maildir.traces import SECOND, times_of
 
 from tests.support.brought import BOX, OTHER, LedgerTest, body_of, line_of, named_of, short
@@ -154,17 +154,6 @@ class KilledTest(LedgerTest):
         self.place(FOUR)
         self.begin(BOX, line_of(ONE), need=1)
         self.assertEqual(left_by_killed(self.match(THREE)), 1)
-
-    def test_the_names_without_what_it_placed(self) -> None:
-        """What an earlier killed run placed was there when the mailbox was done since."""
-        self.begin(BOX, line_of(ONE), need=1)
-        self.bring(BOX, line_of(TWO))
-        for message in (ONE, TWO, FOUR):
-            self.place(message)
-        names = sum_of_names(self.folder)
-        self.begin(BOX, line_of(FOUR, FOREIGN), line_of(THREE), need=1)
-        self.place(THREE)
-        self.assertEqual(sum_without(Ledger(self.folder)), names)
 
     def test_equal_messages(self) -> None:
         lines = [line_of(ONE, name=named_of(ONE, count).decode()) for count in (1, 2, 3)]

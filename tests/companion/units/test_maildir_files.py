@@ -6,7 +6,7 @@ from typing import Optional
 from unittest import mock
 
 from mbox2maildir_admin.maildir import files
-from mbox2maildir_admin.maildir.files import digest_of, listings_of, names_of, paths_of, sum_of_names
+from mbox2maildir_admin.maildir.files import digest_of, listings_of, names_of, paths_of
 
 from tests.support.units import folder, make
 
@@ -56,19 +56,6 @@ class FilesTest(unittest.TestCase):
     def test_five_at_most(self) -> None:
         with mock.patch.object(files, "changed_at", side_effect=range(99)):
             self.assertEqual(len(list(listings_of(self.here))), 5)
-
-    def test_a_sum_of_names(self) -> None:
-        """It is another one once a file is renamed, is gone, or comes, and is that of `b2sum -l 128` for one file."""
-        sums = [sum_of_names(self.here)]
-        for old, new in ((b"/new/1", b"/cur/1:2,"), (b"/cur/1:2,", b"/cur/1:2,S"), (b"/cur/2:2,S", b"/tmp/2")):
-            os.rename(self.here + old, self.here + new)
-            sums.append(sum_of_names(self.here))
-        os.rename(self.here + b"/cur/1:2,S", self.here + b"/new/1")
-        self.assertEqual(sum_of_names(self.here), "5118f67f6647225778b31546ec21dc70")
-        self.assertEqual(len({*sums, sum_of_names(self.here)}), 5)
-        self.assertEqual(sum_of_names(self.here, {b"1"}), "0" * 32)
-        os.rename(self.here + b"/tmp/2", self.here + b"/cur/2:2,S")
-        self.assertEqual(sum_of_names(self.here), sums[0])
 
     def test_digests(self) -> None:
         make(self.here, {"large": b"x" * (3 << 20)})
