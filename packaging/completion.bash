@@ -32,7 +32,7 @@ _mbox2maildir_admin() {
         kind) options+=' --json' ;;
         verify) options+=' --json --all --users --maildir --tree --jobs --names --report' ;;
         back) options+=' --dry-run --moved --dovecot --now --json --report --users --maildir --tree --jobs --names' ;;
-        migrate) options+=' --prepare --unread --dry-run --folder --labels --label --again --dovecot --as --text --begin --of --drop-deleted --no-mail --now --any-disk --keep-envelopes --json --no-questions --report --undo --users --maildir --tree --jobs --names --list' ;;
+        migrate) options+=' --prepare --unread --dry-run --folder --labels --label --again --dovecot --as --text --begin --of --drop-deleted --no-mail --now --any-disk --json --no-questions --report --undo --users --maildir --tree --jobs --names --list' ;;
     esac
     for ((index = 2; index < COMP_CWORD; index++)); do
         case ${COMP_WORDS[index]} in

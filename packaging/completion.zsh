@@ -57,7 +57,6 @@ _mbox2maildir_admin() {
                 '--dovecot[write the files of Dovecot]' $decides \
                 '*--no-mail[pass over what is not known by its path]:pattern' '--now[wait for no quiet minute]' \
                 '--any-disk[migrate even where a power cut could take mail away]' \
-                '--keep-envelopes[keep the From_ lines in a file of each folder]' \
                 '--json[print objects of JSON]' '--no-questions[ask nothing on a terminal]' \
                 '--report[write these objects to a new file]:file:_files' '--users[migrate a spool, each mailbox as its user]' \
                 '--maildir[Maildir of each home]:name' '--tree[folder of mailboxes of each home]:name' \

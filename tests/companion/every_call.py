@@ -5,7 +5,6 @@ nothing more is to be done then, and the mailboxes can be undone.
 
 EVERY_CALL says which calls are tried: each one (1), or each third one (3). Otherwise each 17th one is.
 """
-import gzip
 import os
 import re
 import shutil
@@ -90,14 +89,6 @@ def of_a_tree(home: Home) -> None:
     home.write("mail/y", letters(1, 2, fields=RO))
 
 
-def one_kept(home: Home) -> None:
-    """The From_ lines of one are kept, and it grew."""
-    home.write("OLD", letters(0, 1))
-    home.done("OLD", words=["--keep-envelopes"])
-    home.write("OLD", letters(0, 1, 2))
-    home.write("READ", letters(1, 2, 3, fields=RO))
-
-
 def unchanged_of_a_server(home: Home) -> None:
     """A server's mailbox is as it was prepared, so that its text is not read again."""
     of_a_server(home)
@@ -108,7 +99,6 @@ FOLDER, PREPARE = ["--folder", "Archive"], ["--prepare", "--unread"]
 DEEDS = {
     "migrate": Deed([*FOLDER, "M", "OLD", "READ"], two_archives, ["READ", "OLD"]),
     "grown": Deed([*FOLDER, "M", "OLD", "READ"], one_grew, ["OLD", "READ"]),
-    "envelopes": Deed([*FOLDER, "--keep-envelopes", "M", "OLD", "READ"], one_kept, ["READ", "OLD"]),
     "dovecot": Deed(["--dovecot", "M", "OLD"], of_a_server, ["OLD"]),
     "tree": Deed(["--jobs", "1", "M", "mail"], of_a_tree, ["mail/x", "mail/y"]),
     "first_pass": Deed([*PREPARE, *FOLDER, "M", "OLD"], prepared, ["OLD"]),
@@ -126,17 +116,10 @@ Files = typing.Counter[tuple[str, int, str]]
 
 
 def files_of(home: Home) -> Files:
-    """The files of the mail, and the lines of kept envelopes."""
-    found = Counter(
+    """The files of the mail."""
+    return Counter(
         (path.parent.parent.name, number_of(path.read_bytes()), path.name.partition(":2,")[2]) for path in home.files()
     )
-    return found + envelopes_of(home)
-
-
-def envelopes_of(home: Home) -> Files:
-    """The lines of kept envelopes."""
-    paths = home.maildir.glob(".*/mbox2maildir-envelopes.gz")
-    return Counter((path.parent.name, 0, line.decode()) for path in paths for line in gzip.open(path))
 
 
 class Trial:
@@ -149,7 +132,6 @@ class Trial:
         self.kept = home.path.parent / "kept"
         shutil.rmtree(self.kept, ignore_errors=True)
         shutil.copytree(home.path, self.kept, copy_function=shutil.copy2)
-        self.kept_before = envelopes_of(home)
         ran, self.calls = killer.run(partial(home.place.run, self.words, BY_OTHERS))
         self.wants(ran.status == 0, "the command fails", ran)
         self.wants(bool(self.calls), "it makes no call", ran)
@@ -179,7 +161,6 @@ class Trial:
         killed, _ = self.killer.run(partial(home.place.run, self.words, BY_OTHERS), moment)
         self.wants(killed.status is None, f"{when}it is not killed", killed)
         self.killed += 1
-        self.wants(not self.kept_before - envelopes_of(home), f"{when}envelopes are lost", killed)
         then = home.place.run(self.words)
         is_over = "--undo" in self.words and then.status == 1
         self.wants(then.status == 0 or is_over, f"{when}it does not go on", then)

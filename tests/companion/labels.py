@@ -350,7 +350,7 @@ def words_that_do_not_go_together(home: Path) -> None:
         ),
         (
             ["--labels", "--folder", "x", "M", "t.mbox"],
-            "--labels does not go with --folder, --dovecot and --keep-envelopes",
+            "--labels does not go with --folder and --dovecot",
         ),
         (["--labels", "M", "tree"], "--labels needs a MAILBOX that is a file"),
         (["--labels=two", "M", "t.mbox"], "..."),

@@ -113,5 +113,18 @@ def rewritten_and_read_alike(home: Path) -> None:
     equal(f"what is there: {said}", subjects(home / "M"), ["one", "three", "two"])
 
 
+def decided_and_cut(home: Path) -> None:
+    """A mailbox that was done by an answer, and about which something is asked still, is done before once it has lost a
+    message, and its row says so."""
+    mailbox(home / "box", crlf(ONE) + TWO + b"From Tuesday on\n\nhi\n\n" + THREE)
+    (decide,) = (line for line in commands_in(run(["migrate", "M", "box"], home)[1]) if "--as unquoted" in line)
+    equal("the answer", run_printed(decide, home)[0], 0)
+    there = files(home)
+    mailbox(home / "box", crlf(ONE) + TWO + b"From Tuesday on\n\nhi\n")
+    row = "box -> INBOX: done before, 1 message gone from it that it had brought\n"
+    expect(["migrate", "M", "box"], home, 0, row + "1 mailbox: 1 done before\n")
+    equal("what is there", files(home), there)
+
+
 if __name__ == "__main__":
-    check_all(by_again, done_before, of_several, rewritten, rewritten_and_read_alike)
+    check_all(by_again, done_before, of_several, rewritten, rewritten_and_read_alike, decided_and_cut)

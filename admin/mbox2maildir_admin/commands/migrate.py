@@ -134,7 +134,7 @@ def options_of(given: argparse.Namespace, alone: bool) -> Options:
     jobs = jobs_in(given.jobs)
     spared, decision = tuple(map(os.fsencode, given.no_mail)), decision_of(given, alone)
     options = Options(given.dry_run, given.again, given.dovecot, given.folder, spared, given.now, decision, jobs=jobs)
-    options = replace(options, any_disk=given.any_disk, keep_envelopes=given.keep_envelopes, labels=labels_of(given))
+    options = replace(options, any_disk=given.any_disk, labels=labels_of(given))
     options = replace(options, prepare=given.prepare, unread=given.unread)
     return options if alone or not given.again else replace(options, again=False, again_rewritten=True)
 
@@ -158,8 +158,8 @@ def wrong_for_own(options: Options, of_users: UsersOptions, names: Sequence[byte
             yield "--folder needs a MAILBOX that is a file"
     if options.decision.of and not options.decision.alone:
         yield "--of, --text and --begin need exactly one MAILBOX, which is a file"
-    if options.labels and (options.folder is not None or options.dovecot or options.keep_envelopes):
-        yield "--labels does not go with --folder, --dovecot and --keep-envelopes"
+    if options.labels and (options.folder is not None or options.dovecot):
+        yield "--labels does not go with --folder and --dovecot"
     if options.labels and any(map(is_folder, names)):
         yield "--labels needs a MAILBOX that is a file"
 

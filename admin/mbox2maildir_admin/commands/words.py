@@ -138,7 +138,6 @@ def add_ways(add: Add) -> None:
     add("--now", action="store_true", help="do not wait until a mailbox was left alone for a minute")
     add("--folder", metavar="NAME", help="convert into this folder of MAILDIR")
     add("--dovecot", action="store_true", help="keep order, UIDs, keywords and subscriptions as Dovecot had them")
-    add("--keep-envelopes", action="store_true", help="keep the From_ lines in a compressed file of each folder")
     add("--jobs", metavar="N", help="migrate N folders at a time, with --users N users (otherwise up to 8)")
     add("--json", action="store_true", help="print one JSON object per line")
     add("--report", metavar="FILE", help="write these objects to a new file, too")

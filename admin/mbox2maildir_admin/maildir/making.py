@@ -17,7 +17,7 @@ MARK = b"maildirfolder"
 RECORD = b"mbox2maildir-record"
 # each of its folders may have a ledger of messages
 LEDGER = b"mbox2maildir-messages"
-# and a file of From_ lines
+# and a file of From_ lines, which no run makes any more
 ENVELOPES = b"mbox2maildir-envelopes.gz"
 # and a list of what is prepared there
 PREPARED = b"mbox2maildir-prepared"

@@ -217,8 +217,6 @@ class Options:
     undo: bool = False
     # whether a disk will do on which a power cut could take mail away
     any_disk: bool = False
-    # whether From_ lines are kept
-    keep_envelopes: bool = False
     # how folders are made of labels, if they are
     labels: Optional[Choosing] = None
     # whether mail is only prepared, and whether nobody reads it
@@ -237,7 +235,6 @@ class Options:
         }
         words = [word for word, is_given in given.items() if is_given]
         words += ["--now"] * self.now + ["--any-disk"] * self.any_disk
-        words += ["--keep-envelopes"] * self.keep_envelopes
         for pattern in self.no_mail:
             words += option("--no-mail", pattern)
         words += ["--again"] * again + self.decision.options() + (self.labels.words() if self.labels else [])
@@ -246,7 +243,7 @@ class Options:
     def of_next(self) -> "Options":
         """Those of a command for one of the mailboxes, which decides itself, and names its folder. A dry run's is
         dry."""
-        stay = Options(any_disk=self.any_disk, keep_envelopes=self.keep_envelopes, labels=self.labels)
+        stay = Options(any_disk=self.any_disk, labels=self.labels)
         stay = replace(stay, prepare=self.prepare, unread=self.unread)
         return replace(stay, dry=self.dry, dovecot=self.dovecot, no_mail=self.no_mail, now=self.now)
 
@@ -271,8 +268,6 @@ class How:
     again_rewritten: bool = False
     # whether a disk will do on which a power cut could take mail away
     any_disk: bool = False
-    # whether From_ lines are kept
-    keep_envelopes: bool = False
     # whether the mailbox goes into the folders of its labels
     is_labelled: bool = False
     # whether mail is only prepared
@@ -301,7 +296,7 @@ class How:
     def undo(self, root: bytes, opened: Opened, path: bytes = b"") -> Command:
         """The command that undoes a mailbox, or the one at a path."""
         given = {"decision": UNDECIDED, "dovecot": False, "no_mail": (), "any_disk": False, "labels": None}
-        return self.command(root, opened, path, undo=True, keep_envelopes=False, **given)
+        return self.command(root, opened, path, undo=True, **given)
 
 
 def may_write(folder: bytes) -> bool:

@@ -34,7 +34,6 @@ from .answers import AS_ANSWERED, answer_to, note_answer, note_empty, noted_last
 from .converting import SYNC_FAILED, Conversion
 from .cut import names_of_no_line, names_that_may_be_cut, want_none_cut
 from .finishing import finish
-from .keeping import keep_done, keep_new
 from .known import Known
 from .otherwise import as_before, contradicted, want_same_reading
 from .outcomes import Fate, Row, row_left
@@ -96,7 +95,6 @@ class Transfer:
         """Does what is left to do, and returns what became of the mailbox."""
         line = None if self.again else self.known.done_by(self.how.dry)
         if line:
-            keep_done(self.how, self.root, self.opened, line.plan)
             more, then = contradicted(self.how, self.root, self.opened, line)
             return replace(self.row_before(line.plan, line.messages, more), next=then)
         return self.choose()
@@ -131,7 +129,6 @@ class Transfer:
             before = as_before(self.opened, self.ledger, self.path, (self.disk, self.how.extra))
             if before:
                 words, more = before
-                keep_done(self.how, self.root, self.opened, words)
                 return self.row_before(words, self.known.last.messages if self.known.last else None, more)
         if self.how.decision != UNDECIDED:
             return None
@@ -328,7 +325,6 @@ class Transfer:
     def begin(self, contents: Contents, placing: Placing, back: int) -> Verified:
         """Notes in the ledger and in the record what is going to be brought."""
         self.record.make(self.opened.make_folder, self.ledger.make)
-        keep_new(self.how, self.opened, contents)
         opened, mailbox, match = self.opened, self.opened.mailbox, placing.match
         key, times, inode = mailbox.key(), times_of(opened.folder), mailbox.state.st_ino
         head = Head(placing.count_of_lines(), len(match.need), back, times, key, contents.words, self.path, inode)

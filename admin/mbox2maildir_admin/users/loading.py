@@ -16,7 +16,7 @@ OF_PYTHON = (
     "tempfile",
     "urllib.parse",
 )
-OF_PACKAGE = ("flags.gmail", "jobs.workers", "labels.remark", "ledger.envelopes", "readings.unpacking")
+OF_PACKAGE = ("flags.gmail", "jobs.workers", "labels.remark", "readings.unpacking")
 
 
 def load_for_children() -> None:

@@ -135,12 +135,6 @@ class UnchangedTest(PreparingTest):
             self.assertEqual(path.stat().st_mtime, before + 5 * 3600)
         time.tzset()
 
-    def test_from_lines_are_kept(self) -> None:
-        self.prepare(ONE + TWO)
-        with self.parsed():
-            self.finish(keep_envelopes=True)
-        self.assertTrue((self.maildir / "mbox2maildir-envelopes.gz").exists())
-
     def test_the_same_messages_in_another_order(self) -> None:
         """They are read again, since their dates and flags stand elsewhere."""
         wanted = self.outcome(self.finish(TWO + ONE))

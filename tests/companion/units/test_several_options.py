@@ -18,19 +18,17 @@ PART = with_length(A, MAY) + b"\n" + B + b"\n"
 
 class OptionsTest(HomeTest):
     def test_words(self) -> None:
-        options = Options(True, True, True, "x y", (b"*.junk", b"x"), True, any_disk=True, keep_envelopes=True)
-        words = "--dovecot --dry-run --now --any-disk --keep-envelopes --no-mail *.junk --no-mail x --again"
+        options = Options(True, True, True, "x y", (b"*.junk", b"x"), True, any_disk=True)
+        words = "--dovecot --dry-run --now --any-disk --no-mail *.junk --no-mail x --again"
         self.assertEqual((options.words(), Options().words()), ([*words.split(), "--folder", "x y"], []))
         self.assertEqual(Options(decision=Reading("mboxo")).words(), ["--as", "mboxo"])
         self.assertEqual(Options(no_mail=(b"-x",), undo=True).words(), ["--undo", "--no-mail=-x"])
 
     def test_words_of_the_next_command(self) -> None:
-        options = Options(True, True, True, "x y", (b"x",), True, Reading("mboxo"), any_disk=True, keep_envelopes=True)
-        self.assertEqual(
-            options.of_next().words(), "--dovecot --dry-run --now --any-disk --keep-envelopes --no-mail x".split()
-        )
+        options = Options(True, True, True, "x y", (b"x",), True, Reading("mboxo"), any_disk=True)
+        self.assertEqual(options.of_next().words(), "--dovecot --dry-run --now --any-disk --no-mail x".split())
         now = replace(options, dry=False).of_next()
-        self.assertEqual(now.words(), "--dovecot --now --any-disk --keep-envelopes --no-mail x".split())
+        self.assertEqual(now.words(), "--dovecot --now --any-disk --no-mail x".split())
 
     def left(self, *names: str, **options: Any) -> dict[str, str]:
         """The commands that are printed for what is left of these names."""
