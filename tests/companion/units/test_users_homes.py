@@ -67,8 +67,8 @@ class HomesTest(unittest.TestCase):
         teller = mock.Mock(spec=Teller)
         migrant.work_on([], Relay(teller, migrant), mock.Mock())
         ((row, _),) = [call[0] for call in teller.row.call_args_list]
-        self.assertEqual((row.path, row.folder, row.fate), (BOX, b".", Fate.PREPARED))
-        self.assertEqual(row.says, "no mailbox of this command goes there")
+        self.assertEqual((row.path, row.folder, row.fate), (BOX, b".", Fate.LEFT))
+        self.assertEqual(row.says, "it is only prepared, and no mailbox of this command goes there")
         first = replace(migrant, options=Options(prepare=True))
         self.assertEqual(self.migrated(first), ([], [], []))
         os.chmod(self.here + b"/Maildir/mbox2maildir-prepared", 0o666)
