@@ -31,19 +31,18 @@ _mbox2maildir_admin() {
         dates) options+=' --header' ;;
         kind) options+=' --json' ;;
         verify) options+=' --json --all --users --maildir --tree --jobs --names --report' ;;
-        back) options+=' --dry-run --moved --dovecot --now --json --report --users --maildir --tree --jobs --names' ;;
+        back) options+=' --dry-run --dovecot --now --json --report --users --maildir --tree --jobs --names' ;;
         migrate) options+=' --prepare --unread --dry-run --folder --labels --label --again --dovecot --as --text --begin --of --drop-deleted --no-mail --now --any-disk --json --no-questions --report --undo --users --maildir --tree --jobs --names --list' ;;
     esac
     for ((index = 2; index < COMP_CWORD; index++)); do
         case ${COMP_WORDS[index]} in
-            --as | --text | --begin | --of | --jobs | --output | -o | --folder | --maildir | --tree | --no-mail | --names | --moved | --report) ((index++)) ;;
+            --as | --text | --begin | --of | --jobs | --output | -o | --folder | --maildir | --tree | --no-mail | --names | --report) ((index++)) ;;
             -*) ;;
             *) ((++place)) ;;
         esac
     done
     case ${COMP_WORDS[1]},$place,$3 in
         *,--as) _mbox2maildir_offer -W 'mboxrd mboxo mboxcl mboxcl2 unquoted' -- "$2" ;;
-        *,--moved) _mbox2maildir_offer -W 'stay copy' -- "$2" ;;
         *,--text | *,--begin | *,--of | *,--jobs | *,--folder | *,--maildir | *,--tree | *,--no-mail) ;;
         *,--names | *,--report) _mbox2maildir_offer -A file -- "$2" ;;
         *) case ${COMP_WORDS[1]},$place,$2 in

@@ -82,7 +82,6 @@ complete -c mbox2maildir-admin -n '__mbox2maildir_at migrate 0 9999' -l jobs -x 
 complete -c mbox2maildir-admin -n '__mbox2maildir_at migrate 0 9999' -l names -r -F -d 'file with the names of users'
 complete -c mbox2maildir-admin -n '__mbox2maildir_at migrate 0 9999' -l list -d 'only print these users'
 complete -c mbox2maildir-admin -n '__mbox2maildir_at back 0 9999' -l dry-run -d 'print what would go back'
-complete -c mbox2maildir-admin -n '__mbox2maildir_at back 0 9999' -l moved -x -a 'stay copy' -d 'what becomes of what people moved'
 complete -c mbox2maildir-admin -n '__mbox2maildir_at back 0 9999' -l dovecot -d 'carry over UIDs, keywords and subscriptions'
 complete -c mbox2maildir-admin -n '__mbox2maildir_at back 0 9999' -l now -d 'wait for no quiet minute'
 complete -c mbox2maildir-admin -n '__mbox2maildir_at back 0 9999' -l report -r -F -d 'new file for objects of JSON'

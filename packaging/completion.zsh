@@ -65,7 +65,7 @@ _mbox2maildir_admin() {
                 ':Maildir, or old spool:_path_files -/' '*:mailbox:_files'
             ;;
         back)
-            _arguments '--help[print help]' '--dry-run[print what would go back]' '--moved[what people moved]:word:(stay copy)' \
+            _arguments '--help[print help]' '--dry-run[print what would go back]' \
                 '--dovecot[carry over UIDs, keywords and subscriptions]' '--now[wait for no quiet minute]' '--json[print objects of JSON]' \
                 '--report[write these objects to a new file]:file:_files' '--users[go back to a spool, each mailbox as its user]' \
                 '--maildir[Maildir of each home]:name' '--tree[folder of mailboxes of each home]:name' \

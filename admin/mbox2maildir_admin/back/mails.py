@@ -235,9 +235,3 @@ def sorted_mail(root: bytes, record: Record, say: Say = silent) -> Sorted:
         return Sorting(lines_about(root, record), mails_of(root, say)).run()
     except OSError as error:
         raise PlaceFault("%s: %s" % (named(error.filename or root), error.strerror), Reason.ERROR) from error
-
-
-def copied(found: Sorted) -> Sorted:
-    """The same, where what was moved goes back too."""
-    new = sorted([*found.new, *(mail for mail, _ in found.moved)], key=lambda mail: (mail.time, mail.name, mail.folder))
-    return found._replace(new=new, moved=[], deleted=[*found.deleted, *(slot for _, slot in found.moved)])

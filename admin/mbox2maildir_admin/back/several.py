@@ -26,7 +26,7 @@ from ..terminal import named, operand
 from ..units import counted
 from .appending import FULL
 from .beside import Beside
-from .mails import Mail, Sorted, copied, sorted_mail
+from .mails import Mail, Sorted, sorted_mail
 from .places import Names, Place, Places
 from .returning import Returning
 from .subscriptions import rows_of
@@ -51,15 +51,15 @@ FIRST = b""
 ASIDE = b".back"
 
 
-def bring_back(root: bytes, names: Sequence[bytes], how: How, copies: bool, observer: Observer) -> Next:
+def bring_back(root: bytes, names: Sequence[bytes], how: How, observer: Observer) -> Next:
     """Brings the mail back that is in a Maildir of the user who runs this, and did not come from the mailboxes at some
-    paths. What was moved in the Maildir goes back too if `copies` says so. Returns what moves the Maildir aside."""
+    paths. Returns what moves the Maildir aside."""
     if os.geteuid() == 0:
         # a symbolic link above it may lead elsewhere by then
         root = real_place(root)
         want_roots_alone(root)
     want_migrated(root)
-    return bring_all(Program(find_program()), root, Names(names), how, copies, observer)
+    return bring_all(Program(find_program()), root, Names(names), how, observer)
 
 
 def want_migrated(root: bytes) -> None:
@@ -68,12 +68,12 @@ def want_migrated(root: bytes) -> None:
         raise PlaceFault(NO_RECORD % named(root), Reason.NO_MAILDIR)
 
 
-def bring_all(program: Program, root: bytes, names: Names, how: How, copies: bool, observer: Observer) -> Next:
+def bring_all(program: Program, root: bytes, names: Names, how: How, observer: Observer) -> Next:
     """Does it by a program, whoever runs this, and whatever was migrated."""
     os.umask(0o077)
     with Record.open(root, not how.dry) as record:
         places = Places(root, record, names)
-        return Several(program, root, record, replace(how, trees=places.trees), observer).run(places, copies)
+        return Several(program, root, record, replace(how, trees=places.trees), observer).run(places)
 
 
 class Several:
@@ -84,14 +84,13 @@ class Several:
         # whether nothing is left, and the mailboxes to which mail would go back
         self.is_right, self.would = True, set[bytes]()
 
-    def run(self, places: Places, copies: bool) -> Next:
+    def run(self, places: Places) -> Next:
         """Brings back the mail of each folder, and tells its row."""
         say = Beat(functools.partial(self.observer.progress, named(self.root)))
         found = sorted_mail(self.root, self.record, say)
         self.observer.rest(named(self.root))
         if not self.how.dry:
             self.drop_locks(places, found)
-        found = copied(found) if copies else found
         mails, returned = by_folder(found.new), by_folder(found.returned)
         folders = list(self.folders(found, {*mails, *places.found}))
         self.observer.total += len(folders)

@@ -13,7 +13,6 @@ from .objects import ObjectReporter
 from .of_users import UsersOptions, jobs_in, wrong_for_homes, wrong_for_one
 from .running import run_reported
 from .spools import spool_of
-from .words import COPY
 
 
 def do_back(given: argparse.Namespace) -> Status:
@@ -22,7 +21,7 @@ def do_back(given: argparse.Namespace) -> Status:
     of_users = UsersOptions.of(given)
     for wrong in wrong_for_homes(of_users) if given.users else wrong_for_one(given, "jobs"):
         raise WrongOptions(wrong)
-    way = Way(How(given.dry_run, given.now, given.dovecot), given.moved == COPY)
+    way = Way(How(given.dry_run, given.now, given.dovecot))
     options = Options(dry=given.dry_run, now=given.now, dovecot=given.dovecot, jobs=jobs_in(given.jobs))
 
     def back(reporter: Reporter, tally: Tally) -> None:
@@ -30,7 +29,7 @@ def do_back(given: argparse.Namespace) -> Status:
             back_users(*spool_of(given), options, way, reporter, tally)
         else:
             root, *names = given.operands
-            reporter.then = bring_back(root, names, way.how, way.copies, reporter)
+            reporter.then = bring_back(root, names, way.how, reporter)
 
     reporter = (ObjectReporter if given.json else Reporter)(steps={}, task="bringing mail back")
     return run_reported(back, reporter, given.report, "the ledgers have what went back: run the same command again")

@@ -27,8 +27,6 @@ examples:
   # %s verify --users --tree mail /var/mail.old
 
 Exit status: 0 only if each message is there once."""
-# what becomes of messages that people moved to another folder
-STAY, COPY = MOVED = "stay", "copy"
 EXAMPLES_OF_BACK = """\
 examples:
   %s back --dry-run ~/Maildir ~/mail /var/mail/mia
@@ -212,13 +210,6 @@ def add_back(command_line: CommandLine) -> None:
     )
     add = command.add_argument
     add("--dry-run", action="store_true", help="print what would go back, and write nothing")
-    add(
-        "--moved",
-        choices=MOVED,
-        default=STAY,
-        help="messages that people moved to another folder: they stay in the mailbox that has them (stay), or go into "
-        "that of the other folder too (copy)",
-    )
     add(
         "--dovecot",
         action="store_true",

@@ -36,11 +36,9 @@ NO_INBOX = "the mailbox of the spool is left"
 
 
 class Way(NamedTuple):
-    """How the mail of users goes back, whether what they moved is copied, and the folder of their inboxes, unless
-    nothing is written."""
+    """How the mail of users goes back, and the folder of their inboxes, unless nothing is written."""
 
     how: How = How()
-    copies: bool = False
     inboxes: Optional[Inboxes] = None
 
 
@@ -89,7 +87,7 @@ class Returner(Migrant):
         keeper = Asking(relay.teller, program.alive, self.boxes)
         how = replace(self.way.how, keeper=keeper)
         names_back = Names(paths, self.tree, NO_INBOX)
-        relay.teller.next(bring_all(program, root, names_back, how, self.way.copies, relay))
+        relay.teller.next(bring_all(program, root, names_back, how, relay))
 
 
 def is_bare(path: bytes) -> bool:

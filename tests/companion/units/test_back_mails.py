@@ -2,7 +2,7 @@
 import os
 from collections.abc import Sequence
 
-from mbox2maildir_admin.back.mails import Mail, Slot, Sorted, Sorting, copied, mails_in, want_whole
+from mbox2maildir_admin.back.mails import Mail, Slot, Sorted, Sorting, mails_in, want_whole
 from mbox2maildir_admin.faults import Fault, Reason
 from mbox2maildir_admin.ledger.batches import Line, State
 from mbox2maildir_admin.ledger.ledger import Ledger
@@ -92,11 +92,6 @@ class SortingTest(LedgerTest):
     def test_what_is_new_comes_by_its_time(self) -> None:
         several = [mail(b"late", D, time=9), mail(b"early", D, time=1)]
         self.assertEqual([one.name for one in sorted_out([], several).new], [b"early", b"late"])
-
-    def test_what_was_moved_goes_back_too(self) -> None:
-        its = mail(folder=THERE)
-        found = copied(sorted_out([told()], [its]))
-        self.assertEqual(seen(found), ([its], [], [], [(HERE, C)], PATHS, []))
 
     def test_what_went_back_before(self) -> None:
         """What people moved after it went back is not counted: its keywords are those of another folder."""

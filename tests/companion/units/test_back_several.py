@@ -70,14 +70,14 @@ class BackHome(HomeTest):
         path.write_bytes(text)
         return path
 
-    def back(self, *names: str, copies: bool = False, **how: Any) -> list[Row]:
+    def back(self, *names: str, **how: Any) -> list[Row]:
         """Goes back into these mailboxes, and returns the rows."""
         paths = [os.fsencode(str(self.home / name)) for name in names or ("mail",)]
         listener = Listener()
         with Record.open(self.root, not how.get("dry")) as record:
             places = Places(self.root, record, Names(paths))
             given: dict[str, Any] = {"now": True, "trees": places.trees, **how}
-            Several(Function(), self.root, record, How(**given), listener).run(places, copies)
+            Several(Function(), self.root, record, How(**given), listener).run(places)
         return listener.rows
 
     def fates(self, rows: list[Row]) -> dict[str, tuple[Fate, object]]:
@@ -276,9 +276,6 @@ class BackTest(BackHome):
         rows = self.back()
         self.assertEqual(self.fates(rows)["mail/work"], (Fate.NOTHING_NEW, 0))
         self.assertEqual([one.word for row in rows for one in row.remarks], ["moved"])
-        rows = self.back(copies=True)
-        self.assertEqual(self.fates(rows), {"mail/sent": (Fate.NOTHING_NEW, 0), "mail/work": (Fate.BACK, 1)})
-        self.assertEqual(self.fates(self.back(copies=True))["mail/work"], (Fate.NOTHING_NEW, 0))
 
     def test_moved_to_a_folder_without_a_mailbox(self) -> None:
         self.write_box("mail/sent", ONE)
@@ -374,7 +371,7 @@ class BackTest(BackHome):
         reporter = Reporter(steps={})
         with printed(), Record.open(self.root) as record:
             one = Several(Function(), self.root, record, How(now=True), reporter)
-            one.run(Places(self.root, record, Names([os.fsencode(str(self.tree))])), False)
+            one.run(Places(self.root, record, Names([os.fsencode(str(self.tree))])))
         self.assertEqual(len(reporter.at_work), 0)
 
 
@@ -560,7 +557,7 @@ class PlacesTest(BackHome):
             paths = Names([os.fsencode(str(self.home / name)) for name in names])
             with Record.open(self.root, not is_dry) as record:
                 one = Several(Function(), self.root, record, How(is_dry, now=True), Listener())
-                aside = one.run(Places(self.root, record, paths), False)
+                aside = one.run(Places(self.root, record, paths))
             self.assertEqual("M.back-2" in repr(aside), is_right)
 
     def test_mail_without_a_length_came(self) -> None:
@@ -670,7 +667,7 @@ class PartsTest(HomeTest):
         with mock.patch.object(command, "do_back", return_value=Status.LATER) as done:
             self.assertEqual((name, task("given"), done.call_args), ("back", Status.LATER, mock.call("given")))
         with self.assertRaises(Fault) as raised:
-            several.bring_back(self.root, [], How(), False, Listener())
+            several.bring_back(self.root, [], How(), Listener())
         self.assertEqual(raised.exception.reason, Reason.NO_MAILDIR)
 
     def test_the_options_for_users(self) -> None:

@@ -41,7 +41,7 @@ MOST_LINES, MOST_MODULES = 300, 15
 # written side by side; which files stand for a message, rule after rule; the way of one mailbox, step after step, of
 # several, also back, and of all names of a tree; those steps, those of the way back, and the commands, each a module
 LONGER = {
-    "back.several": 308,
+    "back.several": 307,
     "ledger.ledger": 360,
     "ledger.match": 352,
     "migration.several": 319,
