@@ -98,7 +98,7 @@ def each_label_is_a_folder(home: Path) -> None:
     expect(LABELS, home, 0, rows.replace("would be ", "") + "10 mailboxes: 10 done\n")
     equal("the folders", folders_in(home / "M"), FOLDERS)
     equal("the flags", sorted(path.name[-4:] for path in (home / "M").rglob("cur/*")), [":2,F", ":2,S"])
-    lines = [line.split("\t") for line in (home / "M" / RECORD).read_text().splitlines()]
+    lines = [line.split("\t") for line in (home / "M" / RECORD).read_text().splitlines()[1:]]
     equal("what the record begins with", (lines[0][0], lines[0][7].count(" in=")), ("labels", len(FOLDERS)))
     equal("what is done", sorted(line[1] for line in lines if line[0] == "done"), sorted(one or "." for one in FOLDERS))
     expect(LABELS, home, 0, "10 mailboxes: 10 done before\n")

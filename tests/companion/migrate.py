@@ -42,6 +42,8 @@ DOUBLES = (
     "    this stores the messages that are nowhere: it brings back mail that was deleted, and doubles mail that was "
     "changed: 1 message:\n        mbox2maildir-admin migrate --again"
 )
+# the first line of a record
+VERSION_LINE = b"mbox2maildir-record\t1\n"
 
 
 def grow(path: Path, text: bytes) -> None:
@@ -256,7 +258,7 @@ def kinds(home: Path) -> None:
         )
         equal(
             f"{name}: its size in the record",
-            (home / f"M-{name}" / RECORD).read_text().split("\t")[2],
+            (home / f"M-{name}" / RECORD).read_text().splitlines()[1].split("\t")[2],
             str((home / name).stat().st_size),
         )
     assert "From the first of May" in file_of(home / "M-cl2", "one").read_text(), "a quoted line lost its message"
@@ -705,12 +707,45 @@ def records_of_others(home: Path) -> None:
             record.unlink()
     equal("the mailbox", (home / "box").read_bytes(), ONE)
     digest = hashlib.sha256(ONE).hexdigest()
-    record.write_bytes(
-        b"\xff\n\ndone\t.\nfroot\tloops\n" + f"done\t.\t{len(ONE)}\t{digest}\t1\t2025-03-03T10:00:00Z\tbo".encode()
-    )
+    line = f"done\t.\t{len(ONE)}\t{digest}\t1\t2025-03-03T10:00:00Z\tbo".encode()
+    record.write_bytes(VERSION_LINE + b"\xff\n\ndone\t.\nfroot\tloops\n" + line)
     record.chmod(0o600)
     done(home, "messages 1: done")
-    equal("the torn line is ended", record.read_text(errors="replace").split("\n")[5].split("\t")[0], "begun")
+    equal("the torn line is ended", record.read_text(errors="replace").split("\n")[6].split("\t")[0], "begun")
+
+
+def of_another_version(home: Path) -> None:
+    """A record or a ledger whose first line says that another version wrote it is refused with one sentence. Nothing is
+    written into it, and nothing else is done. Once it is moved away, what is there is not stored again."""
+    mailbox(home / "box", ONE + TWO)
+    says = (
+        "this version did not write it: finish with the version that did, or move this file away and run migrate with "
+    )
+    commands = (
+        "migrate",
+        "migrate --again",
+        "migrate --prepare --unread",
+        "migrate --dry-run",
+        "migrate --undo",
+        "back",
+    )
+    ledgers = (b"mbox2maildir\t%d\t%s\n" % (number, b"0" * 32) for number in (1, 3))
+    lines = [(RECORD, b"mbox2maildir-record\t2\n"), (RECORD, b""), *((LEDGER, line) for line in ledgers)]
+    for name, first in lines:
+        mailbox(home / "box", ONE + TWO)
+        expect(["migrate", "M", "box"], home, 0, None)
+        path = home / "M" / name
+        path.write_bytes(first + path.read_bytes().partition(b"\n")[2])
+        grow(home / "box", THREE)
+        before = {one: one.read_bytes() for one in (home / "M").rglob("*") if one.is_file()}
+        for words in commands:
+            status, out, err = run([*words.split(), "--now", "M", "box"], home)
+            equal(f"{words}: {out}{err}", (status, (out + err).count(f"M/{name}: {says}--again\n")), (1, 1))
+            equal(words, {one: one.read_bytes() for one in (home / "M").rglob("*") if one.is_file()}, before)
+        path.unlink()
+        expect(["migrate", "--again", "M", "box"], home, 0, None)
+        equal("what is there", subjects(home / "M"), ["one", "three", "two"])
+        shutil.rmtree(home / "M")
 
 
 def links(home: Path) -> None:
@@ -906,4 +941,5 @@ if __name__ == "__main__":
         refused,
         broken_off,
         session_ends,
+        of_another_version,
     )

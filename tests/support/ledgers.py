@@ -11,7 +11,7 @@ END = re.compile(rb"=\t\d+\n")
 # what is another one in each run: the number of a ledger, when a step was taken, and when names in `tmp`, `new` and
 # `cur` had changed
 CHANCE = re.compile(
-    rb"(?m)(?<=^mbox2maildir\t1\t)[0-9a-f]{32}|\b[0-9a-f]{32}(?=-\d+$)|\t\d+-\d+-\d+T[\d:]+Z|\b\d+,\d+,\d+\b"
+    rb"(?m)(?<=^mbox2maildir\t2\t)[0-9a-f]{32}|\b[0-9a-f]{32}(?=-\d+$)|\t\d+-\d+-\d+T[\d:]+Z|\b\d+,\d+,\d+\b"
 )
 
 
@@ -37,8 +37,8 @@ def wait_for_lock(maildir: Path) -> None:
 def as_if_killed(maildir: Path) -> None:
     """Takes back that any mailbox of a Maildir is done, as if its run had been killed once all mail was there."""
     record = maildir / RECORD
-    lines = record.read_bytes().splitlines(True)
-    record.write_bytes(b"".join(line for line in lines if line.startswith(b"begun\t")))
+    first, *lines = record.read_bytes().splitlines(True)
+    record.write_bytes(first + b"".join(line for line in lines if line.startswith(b"begun\t")))
     take_back_ends(maildir)
 
 

@@ -9,7 +9,7 @@ from typing import Any, Optional
 from unittest import mock
 
 from mbox2maildir_admin.ledger.history import Entry, Key, Step
-from mbox2maildir_admin.ledger.record import Record
+from mbox2maildir_admin.ledger.record import VERSION_LINE, Record
 from mbox2maildir_admin.maildir.making import RECORD
 from mbox2maildir_admin.mbox.locks import open_mailbox
 from mbox2maildir_admin.migration.outcomes import Observer, Row
@@ -161,14 +161,15 @@ class HomeTest(FolderTest):
         has no such ledger."""
         self.make_folders()
         record = self.maildir / RECORD.decode()
-        with open(str(record), "a", encoding="utf-8") as file:
+        with open(str(record), "ab+") as file:
+            file.write((VERSION_LINE + b"\n") * (not file.tell()))
             line = word, ".", str(len(text)), digest_of(text), str(messages), "2025-03-03T10:00:00Z", path
-            file.write("\t".join([*line, words, "0" * 32 + "-9"]) + "\n")
+            file.write("\t".join([*line, words, "0" * 32 + "-9\n"]).encode())
         record.chmod(0o600)
 
     def words(self) -> list[str]:
-        """The first words of the lines of the record."""
-        return [line.split("\t")[0] for line in (self.maildir / RECORD.decode()).read_text().splitlines()]
+        """The first words of the lines of the record, after that of its version."""
+        return [line.split("\t")[0] for line in (self.maildir / RECORD.decode()).read_text().splitlines()[1:]]
 
     def mail(self) -> list[bytes]:
         """The mail in the Maildir."""

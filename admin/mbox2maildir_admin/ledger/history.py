@@ -83,7 +83,7 @@ class Entry(NamedTuple):
 
     @classmethod
     def parse(cls, line: bytes) -> Optional["Entry"]:
-        """Reads a line; None if it is no line of a record, or has a word from another version."""
+        """Reads a line; None if it is no line of a mailbox."""
         found = LINE.match(line)
         what = BY_WORD.get(found.group(1).decode()) if found else None
         if not found or not what:
@@ -98,10 +98,6 @@ class Entry(NamedTuple):
         )
         self = self._replace(plan=plan.decode()) if plan else self
         return self._replace(ledger=ledger.decode(), size=int(length)) if ledger else self
-
-    def is_of_0(self) -> bool:
-        """Whether a version before 0.5.0 wrote the line: since then the line of a step names a ledger."""
-        return isinstance(self.what, Step) and not self.ledger
 
     def line(self) -> bytes:
         """The line as bytes."""

@@ -24,6 +24,7 @@ from .files import Hides, hides_none
 from .lines import (
     ALL_PLACED,
     BATCH,
+    BEGINS,
     CUT,
     END,
     HEAD,
@@ -294,7 +295,7 @@ class Ledger:
         def lines() -> Iterator[bytes]:
             if not self.number:
                 self.number = os.urandom(16).hex()
-                yield b"mbox2maildir\t1\t%s\n" % self.number.encode()
+                yield BEGINS + self.number.encode() + b"\n"
             yield from self.lacking
             self.lacking = []
             self.take(first)

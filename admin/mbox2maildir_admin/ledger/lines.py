@@ -23,7 +23,15 @@ NOBODYS = FOREIGN, RETURNED
 # stands for a name that a line cannot have
 NAMELESS = b"-"
 NAME = re.compile(rb"[!-~]+\Z")
-HEAD = re.compile(rb"mbox2maildir\t1\t([0-9a-f]{32})\Z")
+# what the first line of a ledger begins with: the number stands for the form of its lines
+BEGINS = b"mbox2maildir\t2\t"
+HEAD = re.compile(BEGINS + rb"([0-9a-f]{32})\Z")
+# the beginning of a ledger of another version, perhaps behind lines that were cut
+OF_ANOTHER = re.compile(rb"(?:.*\t\n)*(?!%s)mbox2maildir\t.*[^\t\n]\n" % BEGINS)
+BY_ANOTHER = (
+    "%s: this version did not write it: finish with the version that did, or move this file away and run migrate with "
+    "--again"
+)
 # `=` stands for the first digits of the name
 MESSAGE = re.compile(
     rb"^([psfbl])\t((?=[0-9a-f]{32})[!-~]+(?=\t=)|[!-~]+(?=\t[0-9a-f]))\t(=|[0-9a-f]{32})(?:\t([0-9a-f]{32}))?\n", re.M
@@ -234,6 +242,8 @@ def texts_in(folder: bytes, name: bytes = LEDGER) -> Iterator[bytes]:
         raise PlaceFault("%s: %s" % (named(path), error.strerror), Reason.LEDGER) from error
     with file:
         want_trusted(path, os.fstat(file.fileno()))
+        if name == LEDGER and OF_ANOTHER.match(file.peek(PIECE)):
+            raise PlaceFault(BY_ANOTHER % named(path), Reason.LEDGER)
         for lines in iter(lambda: file.readlines(PIECE), []):
             yield b"".join(lines[:-1] if not lines[-1].endswith(b"\n") else lines)
 

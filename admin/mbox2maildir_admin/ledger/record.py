@@ -19,13 +19,11 @@ from ..maildir.roots import make_alone
 from ..mbox.mailbox import is_still
 from ..terminal import named, spelled
 from .history import TIME, Entry, History, Key, Step, What
-from .lines import CUT
+from .lines import BY_ANOTHER, CUT
 
 MADE_MEANWHILE = "another migrate has made %s meanwhile: run the same command again"
-OF_0 = (
-    "%s: a version before 0.5.0 wrote it, which kept no ledgers of messages: finish with that version, or move this "
-    "file away and run migrate with --again"
-)
+# the first line says which version has written it
+VERSION_LINE = b"mbox2maildir-record\t1"
 # a larger file is no record; this is some 50,000 lines
 MOST = 1 << 23
 # what is escaped in the path of a line of the record
@@ -61,7 +59,7 @@ class Record(History):
         super().__init__()
         self.maildir, self.path = maildir, os.path.join(maildir, RECORD)
         self._number: Optional[int] = None
-        self.size, self.is_cut = 0, False
+        self.size, self.is_cut, self.has_head = 0, False, False
         self._gone: dict[str, list[Entry]] = {}
         # the lines that wait for the file to be made
         self.waiting: list[Entry] = []
@@ -181,15 +179,15 @@ class Record(History):
             ) from fault
 
     def read(self) -> None:
-        """Reads its lines. A last line that was cut does not count."""
+        """Reads its lines. Lines that were cut do not count. Raises Fault if another version has written it."""
         data = os.pread(self.number, MOST + 1, 0)
         self.size, self.is_cut = len(data), bool(data) and not data.endswith(b"\n")
-        for line in data.split(b"\n")[:-1]:
-            entry = Entry.parse(line)
-            if entry and entry.is_of_0():
-                raise PlaceFault(OF_0 % named(self.path), Reason.RECORD)
-            if entry:
-                self.take(entry)
+        lines = [line for line in data.split(b"\n")[:-1] if not line.endswith(CUT) and b"\0" not in line]
+        self.has_head = lines[:1] == [VERSION_LINE]
+        if lines and not self.has_head:
+            raise PlaceFault(BY_ANOTHER % named(self.path), Reason.RECORD)
+        for entry in filter(None, map(Entry.parse, lines)):
+            self.take(entry)
 
     def gone(self, place: str) -> list[Entry]:
         """The last lines of those mailboxes in a folder that were gone from it when this was asked first."""
@@ -227,7 +225,9 @@ class Record(History):
             return
         try:
             # if a full disk cut the line before, that is ended first, so that it becomes no other one
-            self.append((CUT + b"\n") * self.is_cut + b"".join(entry.line() for entry in entries))
+            begin = (CUT + b"\n") * self.is_cut + (VERSION_LINE + b"\n") * (not self.has_head)
+            self.append(begin + b"".join(entry.line() for entry in entries))
+            self.has_head = True
         except OSError as fault:
             raise PlaceFault("%s: %s" % (named(self.path), fault.strerror), Reason.RECORD) from fault
 

@@ -39,7 +39,7 @@ class EntryTest(unittest.TestCase):
         key = b".a\\b", 10, "a" * 64
         self.assertEqual(entry, (Note.NUMBERED, key, 3, "2025-03-03T10:00:00Z", "/box", None, "", 0))
         assert entry
-        self.assertEqual((entry.seconds(), entry.line(), entry.is_of_0()), (1740996000, line + b"\n", False))
+        self.assertEqual((entry.seconds(), entry.line()), (1740996000, line + b"\n"))
 
     def test_a_line_with_words(self) -> None:
         line = self.LINE.replace(b"done", b"answered") + b"\tmboxo text=7,9 crlf"
@@ -52,17 +52,7 @@ class EntryTest(unittest.TestCase):
         assert entry
         found = entry.what, entry.plan, entry.ledger, entry.size
         self.assertEqual(found, (Step.DONE, "mboxo text=7,9 crlf", "0123456789abcdef" * 2, 1234))
-        self.assertEqual((entry.line(), entry.is_of_0()), (self.STEP + b"\n", False))
-
-    def test_a_step_of_a_version_before(self) -> None:
-        """It names no ledger."""
-        for line in (self.LINE, self.LINE + b"\tmboxrd"):
-            entry = Entry.parse(line)
-            assert entry
-            self.assertTrue(entry.is_of_0(), line)
-        # a line of it that has a bare text is no line, and neither is one of a step that is gone
-        self.assertIsNone(Entry.parse(self.LINE + b"\tmboxrd dovecot\t7-" + b"b" * 64))
-        self.assertIsNone(Entry.parse(self.LINE.replace(b"done", b"converted")))
+        self.assertEqual(entry.line(), self.STEP + b"\n")
 
     def test_what_is_no_line(self) -> None:
         for wrong in (

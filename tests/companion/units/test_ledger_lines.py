@@ -41,7 +41,7 @@ TEXT = Head(3, 2, 1, (7, 8, 9), (10, "c" * 64), "mboxo text=7,9 crlf", "/a b/\u0
 BEGUN = b"@\t12\t3\t2\t1\t7,8,9\t10-" + b"c" * 64 + b"\tmboxo text=7,9 crlf\t" + "/a b/\u00e4\\x0a".encode()
 # a line of each sort
 LINES = (
-    b"mbox2maildir\t1\t" + b"0" * 32,
+    b"mbox2maildir\t2\t" + b"0" * 32,
     BEGUN,
     b"@\t12\t3\t2\t1\t\t10-" + b"c" * 64 + b"\tmboxrd\t/box",
     b"p\t" + NAME + b"\t=",

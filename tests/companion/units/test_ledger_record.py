@@ -8,7 +8,7 @@ from unittest.mock import patch
 
 from mbox2maildir_admin.faults import Fault, PlaceFault, Reason
 from mbox2maildir_admin.ledger.history import Note, Step
-from mbox2maildir_admin.ledger.record import MOST, Record, Verified, unspelled
+from mbox2maildir_admin.ledger.record import MOST, VERSION_LINE, Record, Verified, unspelled
 from mbox2maildir_admin.maildir.making import RECORD
 from mbox2maildir_admin.terminal import spelled
 
@@ -30,10 +30,10 @@ class RecordTest(FolderTest):
         """The last steps of the mailbox."""
         return [one.what for one in record.last_steps(b".") if isinstance(one.what, Step)]
 
-    def fill(self, text: bytes) -> Path:
-        """Gives the record this text."""
+    def fill(self, text: bytes, first: bytes = VERSION_LINE + b"\n") -> Path:
+        """Gives the record this text after its first line."""
         path = Path(os.fsdecode(self.here), RECORD.decode())
-        path.write_bytes(text)
+        path.write_bytes(first + text)
         path.chmod(0o600)
         return path
 
@@ -90,21 +90,24 @@ class RecordTest(FolderTest):
         with patch.object(Record, "lock", late), Record.open(self.here) as record:
             self.assertEqual(self.steps(record), [Step.DONE])
 
-    def test_a_record_of_a_version_before(self) -> None:
-        """It had no ledgers, so nobody knows which messages are there. What it notes of no mailbox says nothing."""
-        line = "\t".join(["%s", ".", "10", "a" * 64, "3", "2025-03-03T10:00:00Z", "/box%s"]) + "\n"
-        for step in ("begun", "done", "failed", "undoing"):
-            for words in ("", "\tmboxrd"):
-                self.fill((line % (step, words)).encode())
-                self.refused("a version before 0.5.0 wrote it, which kept no ledgers of messages: finish with that")
-        self.fill("".join(line % (note, "") for note in ("no-mail", "converted", "placing")).encode())
-        with Record.open(self.here) as record:
-            self.assertEqual(list(record.lines()), [])
+    def test_a_record_of_another_version(self) -> None:
+        """Its first line says so, and it stays as it is. What was cut before is no line."""
+        cut = VERSION_LINE[:9] + b"\t\n"
+        for first in (b"\n", b"mbox2maildir-record\t2\n", cut + VERSION_LINE + b"0\n", self.line() + b"\n"):
+            text = self.fill(self.line() + b"\n", first).read_bytes()
+            self.refused("this version did not write it: finish with the version that did")
+            self.assertEqual(self.fill(b"", text).read_bytes(), text)
+        for first in (cut, cut * 2 + VERSION_LINE + b"\t\n"):
+            self.fill(VERSION_LINE + b"\n" + self.line() + b"\n", first)
+            with Record.open(self.here) as record:
+                self.assertEqual(self.steps(record), [Step.DONE])
 
     def test_lines(self) -> None:
         with Record.open(self.here) as record:
             record.add(Note.NUMBERED, key_with(b".a\\b", 10, "a" * 64), 3, b"/a\\b\n")
-        words = Path(os.fsdecode(self.here), RECORD.decode()).read_text(encoding="utf-8").rstrip("\n").split("\t")
+        first, line, _ = Path(os.fsdecode(self.here), RECORD.decode()).read_text(encoding="utf-8").split("\n")
+        self.assertEqual(first.encode(), VERSION_LINE)
+        words = line.split("\t")
         self.assertEqual(words[:5] + words[6:], ["numbered", ".a\\b", "10", "a" * 64, "3", "/a\\\\b\\x0a"])
 
     def test_paths_of_lines(self) -> None:
@@ -177,7 +180,7 @@ class RecordTest(FolderTest):
             record.add_step(Step.FAILED, self.verified(), 90)
         path = Path(os.fsdecode(self.here), RECORD.decode())
         text = path.read_bytes()
-        for end in range(text.index(b"\n") + 1, len(text)):
+        for end in range(text.index(b"\n", len(VERSION_LINE) + 1) + 1, len(text)):
             path.write_bytes(text[:end])
             with patch("os.fsync"), Record.open(self.here) as record:
                 self.assertEqual(self.steps(record), [Step.DONE], end)
@@ -199,7 +202,7 @@ class RecordTest(FolderTest):
         return b"done\t.\t%d\t%s\t1\t2025-03-03T10:00:00Z\t/box\tmboxrd\t%s-9" % words
 
     def test_full(self) -> None:
-        self.fill(b"x" * (MOST - 1) + b"\n")
+        self.fill(b"x" * (MOST - len(VERSION_LINE) - 2) + b"\n")
         with Record.open(self.here) as record:
             self.assertRaisesRegex(Fault, "it is full", record.add, Step.BEGUN, self.KEY, 1, b"/box")
 
@@ -255,7 +258,9 @@ class RecordTest(FolderTest):
                 self.assertRaisesRegex(Fault, "No space left", record.add, Step.BEGUN, self.KEY, 1, b"/box")
             self.assertEqual(self.steps(record), [])
             record.add_step(Step.DONE, self.verified())
-        self.assertTrue(Path(os.fsdecode(self.here), RECORD.decode()).read_bytes().startswith(b"\t\ndone\t"))
+        self.assertTrue(
+            Path(os.fsdecode(self.here), RECORD.decode()).read_bytes().startswith(b"\t\n%s\ndone\t" % VERSION_LINE)
+        )
 
     def test_what_is_gone_from_its_path(self) -> None:
         """By the last line of each mailbox, as it is when that is asked first."""

@@ -166,7 +166,7 @@ class PlanTest(BecomesTest):
         self.fill(text)
         decision = Reading("mboxo", drop=True)
         self.became(Fate.DONE, "without 1 message marked as deleted", 1, "mboxo by --as", decision=decision)
-        lines = [line.split("\t") for line in (self.maildir / "mbox2maildir-record").read_text().splitlines()]
+        lines = [line.split("\t") for line in (self.maildir / "mbox2maildir-record").read_text().splitlines()[1:]]
         plan, answered = "mboxo dropped=1 drop-deleted", lines.pop(0)
         self.assertEqual(answered[0], "answered")
         self.assertRegex(answered[7], "^mboxo of=[0-9a-f]{16} drop-deleted$")
