@@ -23,7 +23,7 @@ _mbox2maildir_admin() {
     local place=0 index options=--help
     COMPREPLY=()
     if ((COMP_CWORD == 1)); then
-        _mbox2maildir_offer -W 'kind quote dates migrate verify back --help --version' -- "$2"
+        _mbox2maildir_offer -W 'kind quote dates migrate verify back explain --help --version' -- "$2"
         return
     fi
     case ${COMP_WORDS[1]} in
@@ -31,8 +31,8 @@ _mbox2maildir_admin() {
         dates) options+=' --header' ;;
         kind) options+=' --json' ;;
         verify) options+=' --json --all --users --maildir --tree --jobs --names --report' ;;
-        back) options+=' --dry-run --dovecot --now --json --report --users --maildir --tree --jobs --names' ;;
-        migrate) options+=' --prepare --unread --dry-run --folder --labels --label --again --dovecot --as --text --begin --of --drop-deleted --no-mail --now --any-disk --json --no-questions --report --undo --users --maildir --tree --jobs --names --list' ;;
+        back) options+=' --dry-run --dovecot --now --all --json --report --users --maildir --tree --jobs --names' ;;
+        migrate) options+=' --prepare --unread --dry-run --folder --labels --label --again --dovecot --as --text --begin --of --drop-deleted --no-mail --now --any-disk --all --json --no-questions --report --undo --users --maildir --tree --jobs --names --list' ;;
     esac
     for ((index = 2; index < COMP_CWORD; index++)); do
         case ${COMP_WORDS[index]} in

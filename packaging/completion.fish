@@ -48,6 +48,8 @@ complete -c mbox2maildir-admin -n __mbox2maildir_first -a dates -d 'give convert
 complete -c mbox2maildir-admin -n __mbox2maildir_first -a migrate -d 'do the whole migration of mailboxes into a Maildir'
 complete -c mbox2maildir-admin -n __mbox2maildir_first -a verify -d 'look whether each message is in the Maildir'
 complete -c mbox2maildir-admin -n __mbox2maildir_first -a back -d 'append what is new in a Maildir to the old mailboxes'
+complete -c mbox2maildir-admin -n __mbox2maildir_first -a explain -d 'say what the words of rows mean'
+complete -c mbox2maildir-admin -n '__mbox2maildir_at migrate 0 9999; or __mbox2maildir_at back 0 9999' -l all -d 'print whole rows'
 complete -c mbox2maildir-admin -n '__mbox2maildir_at kind 0 9999; or __mbox2maildir_at quote 0 0' -F
 complete -c mbox2maildir-admin -n '__mbox2maildir_at dates 1 9999; or __mbox2maildir_at verify 1 9999; or __mbox2maildir_at migrate 1 9999; or __mbox2maildir_at back 1 9999' -F
 complete -c mbox2maildir-admin -n '__mbox2maildir_at dates 0 0; or __mbox2maildir_at verify 0 0; or __mbox2maildir_at migrate 0 0; or __mbox2maildir_at back 0 0' -a '(__fish_complete_directories)'

@@ -26,6 +26,7 @@ _mbox2maildir_admin() {
         'migrate:do the whole migration of mailboxes into a Maildir'
         'verify:look whether each message is in the Maildir'
         'back:append what is new in a Maildir to the old mailboxes'
+        'explain:say what the words of rows mean'
     )
     if ((CURRENT == 2)); then
         [[ $PREFIX == -* ]] && offered=('--help:print help' '--version:print the version')
@@ -57,7 +58,7 @@ _mbox2maildir_admin() {
                 '--dovecot[write the files of Dovecot]' $decides \
                 '*--no-mail[pass over what is not known by its path]:pattern' '--now[wait for no quiet minute]' \
                 '--any-disk[migrate even where a power cut could take mail away]' \
-                '--json[print objects of JSON]' '--no-questions[ask nothing on a terminal]' \
+                '--all[print whole rows]' '--json[print objects of JSON]' '--no-questions[ask nothing on a terminal]' \
                 '--report[write these objects to a new file]:file:_files' '--users[migrate a spool, each mailbox as its user]' \
                 '--maildir[Maildir of each home]:name' '--tree[folder of mailboxes of each home]:name' \
                 '--jobs[how many folders or users at a time]:number' '--names[file with the names of users]:file:_files' \
@@ -66,7 +67,7 @@ _mbox2maildir_admin() {
             ;;
         back)
             _arguments '--help[print help]' '--dry-run[print what would go back]' \
-                '--dovecot[carry over UIDs, keywords and subscriptions]' '--now[wait for no quiet minute]' '--json[print objects of JSON]' \
+                '--dovecot[carry over UIDs, keywords and subscriptions]' '--now[wait for no quiet minute]' '--all[print whole rows]' '--json[print objects of JSON]' \
                 '--report[write these objects to a new file]:file:_files' '--users[go back to a spool, each mailbox as its user]' \
                 '--maildir[Maildir of each home]:name' '--tree[folder of mailboxes of each home]:name' \
                 '--jobs[how many users at a time]:number' '--names[file with the names of users]:file:_files' \

@@ -83,6 +83,10 @@ class Todo(Phrase):
 
     LEAVE = "leave", "leave it as it is"
     PASS_OVER = "pass-over", "if it holds no mail, pass over it by --no-mail"
+    PASS_OVER_ALONE = (
+        "pass-over-alone",
+        "something in it looks like mail: only if it holds none, pass over it by --no-mail",
+    )
     DOVEADM = "doveadm", "copy the account by `doveadm backup`, or over IMAP, because this is one file of several"
     FOLLOW = "migrate-target", "migrate what it points to"
     FOLLOW_INTO = "migrate-target-into", "migrate what it points to, with --folder NAME"

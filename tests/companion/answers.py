@@ -66,9 +66,10 @@ def want_shown(out: str, name: str, text: bytes) -> None:
 
 
 def run_printed(command: str, home: Path) -> tuple[int, str]:
-    """Runs a command as it is printed. Returns its status, and what it printed."""
+    """Runs a command as it is printed, but with whole rows. Returns its status, and what it printed."""
     env = {"PATH": f"{home}/bin:{os.environ['PATH']}", "LC_ALL": "C.UTF-8"}
-    ran = subprocess.run(["sh", "-c", command], cwd=home, env=env, capture_output=True, check=False)
+    whole = command.replace(" migrate ", " migrate --all ", 1)
+    ran = subprocess.run(["sh", "-c", whole], cwd=home, env=env, capture_output=True, check=False)
     assert b"Traceback" not in ran.stderr, ran.stderr
     return ran.returncode, (ran.stdout + ran.stderr).decode("utf-8", "replace")
 
@@ -160,11 +161,11 @@ def of_several(home: Path) -> None:
         ),
         (
             ["--as", "mboxo", "--text", "6", "--of", "1-a", "N", "odd", "one"],
-            "--of, --text and --begin need exactly one MAILBOX, ...",
+            "--text and --begin need exactly one MAILBOX, ...",
         ),
         (
             ["--as", "mboxo", "--text", "6", "--of", "1-a", "N", "tree"],
-            "--of, --text and --begin need exactly one MAILBOX, ...",
+            "--text and --begin need exactly one MAILBOX, ...",
         ),
     ):
         wrong_words(words, says, home)
@@ -489,7 +490,7 @@ def of_users(home: Path) -> None:
         status, out, _ = run(words, home)
         rows = [f"{name} -> INBOX: mboxcl2 by --as, messages 2: done" for name in (first, second)]
         equal("--users --as", (status, sorted(out.splitlines()[:-1])), (0, sorted(rows)))
-        says = "--of, --text, --begin and --drop-deleted do not go with --users"
+        says = "--drop-deleted needs --of to go with --users"
         wrong_words(["--users", "--drop-deleted", "more/spool"], says, home)
 
 

@@ -22,7 +22,7 @@ HELP = "mbox2maildir-admin: run this next: mbox2maildir-admin {}--help\n".format
 # the words of a command, what it prints of the error, and what is to be done next: a command, a task, or nothing. Each
 # says what happened, to what, and why
 ERRORS = [
-    ("", "the command is missing: kind, quote, dates, migrate, verify, back", HELP("")),
+    ("", "the command is missing: kind, quote, dates, migrate, verify, back, explain", HELP("")),
     ("help", "help: no such command", HELP("")),
     ("migrat M box", "migrat: no such command: did you mean migrate?", HELP("")),
     ("-V", "-V: no such option", HELP("")),

@@ -104,7 +104,7 @@ def names_in(maildir: Path) -> list[str]:
 def migrating(home: Path, *words: str) -> Iterator["subprocess.Popen[bytes]"]:
     """A migration that is running, in a process group of its own."""
     child = subprocess.Popen(
-        [str(ADMIN), "migrate", "--jobs", "8", *words],
+        [str(ADMIN), "migrate", "--all", "--jobs", "8", *words],
         cwd=str(home),
         stdout=subprocess.PIPE,
         stderr=subprocess.PIPE,
@@ -213,7 +213,7 @@ def without_their_parent(home: Path) -> None:
 def killed_at_once(home: Path) -> None:
     """Workers that are killed before they take a mailbox leave the mailboxes that are theirs, and none is started for
     these again. The next run goes on."""
-    texts, words = tree(home), ["migrate", "--jobs", "3", "M", "old"]
+    texts, words = tree(home), ["migrate", "--all", "--jobs", "3", "M", "old"]
     status, out, _ = run([sys.executable, "-I", "-S", "-B", "-c", CHILDLESS, ADMIN, *words], home)
     rows = [line for line in out.splitlines() if ": left (process): its process was killed by signal 9" in line]
     equal("status, and how many are left", (status, len(rows)), (1, FOLDERS + 1))

@@ -45,9 +45,11 @@ AS_TEXT = MAKES % f"({FROM_LINE} && sed '1s/^/>/' {{}})"
 RUN = "    run this next:\n        "
 # what may be no mailbox, to judge by its first line
 PASS_OVER = "    if it holds no mail, pass over it by --no-mail\n"
-ASK_FILE = f"    line 1 begins a mail:\n        {WITH_DATE}\n{PASS_OVER}"
+ALONE = "    something in it looks like mail: only if it holds none, pass over it by --no-mail\n"
+ASK_FILE = f"    line 1 begins a mail:\n        {WITH_DATE}\n{ALONE}"
 ASK_LINE = f"    line 1 begins a mail:\n        {WITH_DATE}\n    line 1 is text of a mail:\n        {AS_TEXT}\n"
 NOT_KNOWN = f"    find out what it is:\n        file {{}}\n{PASS_OVER}"
+LIKE_MAIL = f"    find out what it is:\n        file {{}}\n{ALONE}"
 BEFORE = "line 1: a byte order mark or blank lines stand before the text"
 
 
@@ -437,8 +439,8 @@ KINDS = [
     # a vCard (RFC 6350), a calendar (RFC 5545), YAML, settings, a note with two fields that mail has too, and accounts
     (b"BEGIN:VCARD\nVERSION:4.0\nFN:Mia\nEND:VCARD\n", "not known", NOT_KNOWN, 1, []),
     (b"BEGIN:VCALENDAR\r\nVERSION:2.0\r\nPRODID:x\r\nEND:VCALENDAR\r\n", "not known", NOT_KNOWN, 1, []),
-    (b"---\nname: mail\nfrom: settings\nhosts: 3\n", "not known", NOT_KNOWN, 1, []),
-    (b"Date: tomorrow\nSubject: milk\n\nand bread\n", "not known", NOT_KNOWN, 1, []),
+    (b"---\nname: mail\nfrom: settings\nhosts: 3\n", "not known", LIKE_MAIL, 1, []),
+    (b"Date: tomorrow\nSubject: milk\n\nand bread\n", "not known", LIKE_MAIL, 1, []),
     (b"root:x:0:0:root:/root:/bin/bash\nbin:x:2:2:bin:/bin:/bin/sh\n", "not known", NOT_KNOWN, 1, []),
     # From_ lines with dates of ISO 8601, with those of German and French, and with the numbers of Google Groups,
     # whoever the senders are; and a line of text that has none
@@ -591,7 +593,8 @@ def kinds(home: Path) -> None:
             if then.startswith("migrate"):
                 then = f"mbox2maildir-admin {then} MAILDIR {word}"
             label = "'it\\'s \\x09one.mbox'" if "\t" in name else name
-            wanted = f"{label}: {kind}\n" + "".join(f"    {line}\n" for line in lines) + labelled(then)
+            first = "    1 | ...\n" if kind == "not known" and not lines and text.split(b"\n")[0] else ""
+            wanted = f"{label}: {kind}\n{first}" + "".join(f"    {line}\n" for line in lines) + labelled(then)
             got, out, err = run(["kind", name], home)
             matches(f"kind of {text[:200]!r}", with_quotes(out), wanted)
             equal(f"kind of {text[:200]!r}: status and standard error", (got, err), (status, ""))
@@ -766,7 +769,7 @@ COPIES = [
         "--drop-deleted",
         B + b"X-Mozilla-Status: 0001\n\n",
     ),
-    (b"Subject: x\n\n", "", "\n...\n...\n..."),
+    (b"Subject: x\n\n", "", "\n    1 | Subject: x\n...\n...\n..."),
     (b"", "", b""),
 ]  # type: list[tuple[bytes, str, Union[bytes, str]]]
 

@@ -85,7 +85,7 @@ def each_label_is_a_folder(home: Path) -> None:
         f"t.mbox -> INBOX: {KIND}, messages 2: would be done, 1 message with flags of Gmail\n"
         f"t.mbox -> Archive: {KIND}, messages 1: would be done\n"
         f"t.mbox -> Drafts: {KIND}, messages 1: would be done\n"
-        f"t.mbox -> Gr&APwA3w-e: {KIND}, messages 1: would be done\n"
+        f"t.mbox -> Grüße: {KIND}, messages 1: would be done\n"
         f"t.mbox -> Junk: {KIND}, messages 1: would be done\n"
         f"t.mbox -> Sent: {KIND}, messages 1: would be done\n"
         f"t.mbox -> Trash: {KIND}, messages 1: would be done, 1 message with flags of Gmail\n"

@@ -299,7 +299,8 @@ def by_content(home: Path) -> None:
             "c.dat",
             b"hello\n",
             1,
-            " -> INBOX: not known: left (not-known)\n    find out what it is:\n        file c.dat\n    ...",
+            " -> INBOX: not known: left (not-known)\n    1 | hello\n    find out what it is:\n"
+            "        file c.dat\n    ...",
         ),
     ):
         mailbox(home / name, text)
@@ -354,13 +355,12 @@ def copies_beside(home: Path) -> None:
     mailbox(home / "box.gz", gzip.compress(text))
     words, move = ["migrate", "M", "box", "box.gz", "box.mboxrd"], "    if one is a copy, move it out of here\n"
     copies = [f"{name}: left (copy): box stands beside it\n{move}" for name in ("box.gz", "box.mboxrd")]
-    last = "  {0} left (copy): Another file stands beside it, and one of them may be a copy of the other.\n"
     command = "mbox2maildir-admin migrate --folder INBOX M box"
     row = f"box: left (copy): box.mboxrd and box.gz stand beside it\n{move}"
     row += f"    if none is a copy, run this next:\n        {command}\n"
-    expect(words, home, 1, "".join([row, *copies, last.format(3), "3 mailboxes: 3 left\n"]))
+    expect(words, home, 1, "".join([row, *copies, "3 mailboxes: 3 left\n"]))
     expect([*command.split()[1:2], "--as", "unquoted", *command.split()[2:]], home, 0, None)
-    expect(words, home, 1, "".join([*copies, last.format(2), "3 mailboxes: 1 done before, 2 left\n"]))
+    expect(words, home, 1, "".join([*copies, "3 mailboxes: 1 done before, 2 left\n"]))
     equal("what is there", len(list(mail_in(home / "M"))), 1)
     expect(
         ["migrate", "--folder", "Other", "M", "box.mboxrd"], home, 0, "box.mboxrd -> Other: ...: done\n1 mailbox: ...\n"

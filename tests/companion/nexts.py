@@ -210,7 +210,7 @@ def as_root_types_them(home: Path) -> None:
         own, name = home / "homes" / USERS[0], USERS[0]
         for path, text in (("mail/letter", MAIL), ("mail/one", ONE), ("mail/a.txt", b"hello\n")):
             theirs(mailbox(own / path, text), name)
-        command = f"exec runuser -u {name} -- mbox2maildir-admin migrate --now {own}/Maildir {own}/mail"
+        command = f"exec runuser -u {name} -- mbox2maildir-admin migrate --all --now {own}/Maildir {own}/mail"
         status, out, _ = run(["/bin/sh", "-c", command], home)
         commands = {row.name: row.command for row in rows_in(out) if row.below}
         equal("what is left", (status, sorted(commands)), (1, [f"{own}/mail/{one}" for one in ("a.txt", "letter")]))

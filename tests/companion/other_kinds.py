@@ -12,7 +12,7 @@ import tarfile
 import zipfile
 from pathlib import Path
 
-from tests.companion.kinds import NOT_KNOWN, labelled
+from tests.companion.kinds import LIKE_MAIL, NOT_KNOWN, labelled
 from tests.support.checks import equal, matches
 from tests.support.homes import check_all, expect, mail_in, run
 from tests.support.mail import A, B
@@ -204,7 +204,7 @@ KINDS = [
     (b"%PDF is a format\n", "not known", NOT_KNOWN),
     (b"lists/sheds\nSent\n", "not known", NOT_KNOWN),
     (b"6b08b5d0", "not known", NOT_KNOWN),
-    (b"V\t2\n\nlists\n\nFrom a\n", "not known", NOT_KNOWN),
+    (b"V\t2\n\nlists\n\nFrom a\n", "not known", LIKE_MAIL),
     (b'version="9"\nlogging="no"\nand then a text\n', "not known", NOT_KNOWN),
     (bytes.fromhex("040000002958081344f4a921d25dc8b2a1ca81ed6b08b5cf") + b"more", "not known", NOT_KNOWN),
     (b"-----BEGIN PGP PUBLIC KEY BLOCK-----\n\nmQEN\n", "not known", NOT_KNOWN),
@@ -229,7 +229,7 @@ NAMED = [
     ("a.lock", MBOX, "mboxrd or mboxo, messages 1"),
 ]
 # how many lines stand below those that have more than one
-BELOW = {"not known": 3, "mboxrd or mboxo, messages 1": 2}
+BELOW = {"not known": 4, "mboxrd or mboxo, messages 1": 2}
 NO_SENDER = b"From MAILER-DAEMON Thu Jan  1 00:00:00 1970"
 QUOTED = NO_SENDER + b"\nSubject: one\nFrom: a@b\n\nhello\n>From here on\n>>From there\n"
 # What a file holds, and what the printed command makes of it

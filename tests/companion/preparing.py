@@ -127,7 +127,7 @@ def left_over(home: Path) -> None:
         f"        mbox2maildir-admin migrate --undo --now --folder {name} M {home}/old/{name}\n"
         for name in "abc"
     )
-    expect(["migrate", "--now", "M", "old"], home, 1, f"{out}  3 left (prepared): ...\n3 mailboxes: 3 left\n")
+    expect(["migrate", "--now", "M", "old"], home, 1, f"{out}3 mailboxes: 3 left\n")
     (home / "old").rmdir()
     (home / "disk").rename(home / "old")
     status, out, _ = run(["migrate", "--now", "--folder", "a", "M", "old/a"], home)

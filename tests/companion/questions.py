@@ -18,6 +18,7 @@ from tests.support.homes import (
     run_whole,
     subjects,
     want_root,
+    with_rows,
 )
 from tests.support.ledgers import RECORD, without_chance
 from tests.support.mail import A, B, C, MAY, ONE
@@ -29,7 +30,8 @@ LINES = A + b"\nhello\n\nFrom Alice\nNote: x\n\n" + B + b"\nbye\n\n"
 WORD = C + b"\n" + MAY + b"\nyes\n\n"
 PROMPT = ", l): "
 QUESTION = """\
-question 1 of 1: box -> Old Mail: not quoted, messages 1: line 28: a line `From ` without a date at its end
+question 1 of 1: unclear: 1 mailbox (not quoted): does a mail begin at the line that is shown?
+  box  1 or 2 messages: line 28: a line `From ` without a date at its end: From the first of May we are here.
       25 | above
       26 | above
       27 | hello
@@ -51,7 +53,7 @@ CTRL_C, CTRL_D = "\x03", "\x04"
 
 def terminal_of(home: Path, *words: str) -> Terminal:
     """A terminal with the companion, or with another command."""
-    command = [f"{home}/bin/mbox2maildir-admin", *words] if words[0] == "migrate" else words
+    command = [f"{home}/bin/mbox2maildir-admin", *with_rows(words)] if words[0] == "migrate" else words
     return Terminal(command, home, PATH=f"{home}/bin:{os.environ['PATH']}")
 
 
@@ -74,7 +76,8 @@ def files_of(folder: Path) -> dict[str, bytes]:
 def letter_of(question: str, command: str) -> str:
     """The letter by which a question has this command."""
     lines = question.split("\n")
-    return lines[lines.index(f"        {command}") - 1].strip().split(":")[0]
+    before = lines[: lines.index(f"        {command}")]
+    return next(line for line in reversed(before) if not line.startswith("        ")).strip().split(":")[0]
 
 
 def rows_of(printed: str) -> list[str]:
@@ -159,7 +162,7 @@ def nobody_is_asked(home: Path) -> None:
 def what_was_typed_before_is_no_answer(home: Path) -> None:
     """What comes before a question is thrown away: a letter, and a second command that was pasted with the first."""
     boxes(home)
-    command = "mbox2maildir-admin migrate --now"
+    command = "mbox2maildir-admin migrate --all --now"
     with shell_of(home, f"read go; exec {command} M old") as terminal:
         terminal.type("go\na\na\n")
         said = terminal.until(PROMPT)
@@ -286,7 +289,7 @@ def several_at_a_time(home: Path) -> None:
         mailbox(home / f"old/{number}", WORD.replace(b"carla", b"carla%d" % number))
         mailbox(home / f"old/{number}.sure", ONE)
     with terminal_of(home, "migrate", "--now", "--jobs", "3", "M", "old") as terminal:
-        before, is_same, _ = terminal.until(PROMPT).partition("question 1 of 1: the same about 4 mailboxes\n")
+        before, is_same, _ = terminal.until(PROMPT).partition("question 1 of 1: unclear: 4 mailboxes ")
         assert is_same, before
         terminal.type("s\n")
         said = ""
@@ -320,7 +323,7 @@ def one_letter_for_all(home: Path) -> None:
     shutil.rmtree(home / "M")
     with terminal_of(home, *words) as terminal:
         said = terminal.until("(a, b, m, s, l): ")
-        assert "question 1 of 2: the same about 3 mailboxes\n  j/2005-March.gz -> Archive: " in said, said
+        assert "question 1 of 2: unclear: 3 mailboxes (not quoted, compressed by gzip): " in said, said
         for command in commands:
             assert f"        {command}\n" in said, said
         terminal.type(letter_of(said, commands[0]) + "\n")
@@ -330,7 +333,7 @@ def one_letter_for_all(home: Path) -> None:
     equal("status", status, 1)
     matches("the sums", rest.split("\n")[-2], "5 mailboxes: 4 done, 1 left; 4 messages, ...")
     ties = re.findall(r"\bof=(\w+)", (home / "M" / RECORD).read_text())
-    equal("the ties of the answers", ties, [re.findall(r" --of (\S+) ", command)[0] for command in commands])
+    equal("the ties of the answers", set(ties), {re.findall(r" --of (\S+) ", command)[0] for command in commands})
     mailbox(home / "copy", ONE)
     sums = run_whole(["migrate", "--folder", "Archive", "M", "copy", "one"], home)[1].split("\n")[-2]
     matches("the sums", sums, "2 mailboxes: 1 done, 1 done before; 1 message, 1 of them there already, ...")
@@ -342,17 +345,14 @@ def a_folder_is_asked_for(home: Path) -> None:
         mailbox(home / name, ONE.replace(b"one", name.encode()))
     with terminal_of(home, "migrate", "--now", "M", "sent", "mia", "mbox") as terminal:
         said = terminal.until("(a, b, s, l): ")
-        assert "question 1 of 1: the same about 2 mailboxes" in said, said
+        assert "question 1 of 1: no-folder: 2 mailboxes: " in said, said
         terminal.type("s\n")
-        for name, letter in (("sent", "a"), ("mbox", "b")):
+        for name, letter in (("mbox", "b"), ("sent", "a")):
             said = terminal.until("(a, b, l): ")
-            assert f": {name}: INBOX has or gets other mail, and mail programs keep a folder in a file" in said, said
+            assert f"  {name}  INBOX has or gets other mail, and mail programs keep a folder in a file" in said, said
             terminal.type(letter + "\n")
         status, rest = terminal.end()
-    wanted = [
-        "mbox -> INBOX: mboxrd or mboxo, messages 1: done, INBOX has the mail of .../mia too",
-        "3 mailboxes: 3 ...",
-    ]
+    wanted = ["sent -> sent: mboxrd or mboxo, messages 1: done", "3 mailboxes: 3 ..."]
     matches("the rows", "\n".join(rest.split("\n")[-3:-1]), "\n".join(wanted))
     equal(
         "status and folders", (status, subjects(home / "M"), subjects(home / "M/.sent")), (0, ["mbox", "mia"], ["sent"])

@@ -11,6 +11,7 @@ from tests.companion.spool import theirs, users
 from tests.support import accounts
 from tests.support.checks import equal, matches
 from tests.support.homes import check_all, expect, mail_in, mailbox, run, want_users
+from tests.support.printed import groups_in
 from tests.support.mail import ONE, THREE, TWO, bodies_of, numbered
 from tests.support.schema import wrong
 
@@ -41,13 +42,15 @@ def of_many(home: Path) -> None:
             next(mail_in(home / "homes" / name / "Maildir")).unlink()
         status, out, err = run(["verify", "--users", "spool"], home)
         equal("status and standard error", (status, err), (1, ""))
-        *lines, last = out.splitlines(True)
-        equal("the lines", sorted(lines), [f"{name}: not whole: INBOX: nowhere 1\n" for name in sorted(lacking)])
-        equal("the sum", last, sum_of % f"{COUNT - 3} whole, 3 not whole (3 nowhere)")
+        (group,) = groups_in(out)
+        equal("the group", group.title, "not whole: 3 mailboxes")
+        equal("its rows", group.rows, {f"{name} INBOX": "nowhere 1" for name in sorted(lacking)})
+        last = out.splitlines(True)[-1]
+        equal("the sum", last, sum_of % f"{COUNT - 3} whole, 3 not whole (3 nowhere), of 3 users")
         (home / "list").write_text("\n".join(sorted(lacking)[:2]), encoding="utf-8")
         status, out, err = run(["verify", "--users", "--names", "list", "--jobs", "1", "spool", names[0]], home)
-        equal("the first of a list", out.splitlines()[0], f"{sorted(lacking)[0]}: not whole: INBOX: nowhere 1")
-        wanted = "3 mailboxes: 1 whole, 2 not whole (2 nowhere); 3 users: 1 from the command line, 2 from list; ..."
+        equal("those of a list", [*groups_in(out)[0].rows], [f"{name} INBOX" for name in sorted(lacking)[:2]])
+        wanted = "3 mailboxes: 1 whole, 2 not whole (2 nowhere), of 2 users; 3 users: 1 from the command line, ..."
         matches("users of a list", out.splitlines()[-1], wanted)
 
 
@@ -61,8 +64,8 @@ def spool_of_three(home: Path) -> None:
 
 
 def each_reason(home: Path) -> None:
-    """A user has one line, which names each mailbox that is not whole, and why. What has no mail has a line only with
-    --all. Objects and reports follow the schema."""
+    """The last block names each mailbox that is not whole, and why. What has no mail has a line only with --all.
+    Objects and reports follow the schema."""
     want_users()
     with users(home):
         spool_of_three(home)
@@ -75,21 +78,23 @@ def each_reason(home: Path) -> None:
         before = snapshot(home)
         status, out, err = run([*TREE, "--report", "report", "spool"], home)
         equal("status and standard error", (status, err), (1, ""))
-        missing = f"mail/new: left (no-maildir): it was not migrated: {two}/Maildir/.new is no Maildir"
-        lines = [
-            "m61three: not whole: INBOX: of another owner 1\n",
-            f"m61two: not whole: INBOX: nowhere 1; mail/lists/sheds: other bytes 1, doubles 1; {missing}\n",
-            "nobody-at-all: not whole: left (no-user): no such user\n",
-        ]
-        *found, no_maildir, no_user, last = out.splitlines(True)
-        equal("the lines", sorted(found), lines)
-        equal("by reasons", [no_maildir[:23], no_user[:20]], ["  1 left (no-maildir): ", "  1 left (no-user): "])
+        wanted = {
+            "no-maildir": {"m61two mail/new": f"it was not migrated: {two}/Maildir/.new is no Maildir"},
+            "no-user": {"nobody-at-all": "no such user"},
+            "not whole": {
+                "m61three INBOX": "of another owner 1",
+                "m61two INBOX": "nowhere 1",
+                "m61two mail/lists/sheds": "other bytes 1; doubles 1",
+            },
+        }
+        equal("the groups", {one.word: one.rows for one in groups_in(out)}, wanted)
         counts = "1 double, 1 nowhere, 1 other-bytes, 1 other-owner"
-        equal("the sum", last, sums % f"7 mailboxes: 2 whole, 3 not whole ({counts}), 2 left")
-        as_objects(home, [line.partition(":")[0] for line in lines])
+        says = f"7 mailboxes: 2 whole, 3 not whole ({counts}), 2 left, of 3 users"
+        equal("the sum", out.splitlines(True)[-1], sums % says)
+        as_objects(home, ["m61three", "m61two", "nobody-at-all"])
         changed = {path for path, state in snapshot(home).items() if before.get(path) != state}
         equal("what was written", changed, {home / "report", home})
-        with_all(home, [*lines, "m61two mail/.subscriptions: no mail\n", "m61one -> INBOX: messages 1: whole\n"])
+        with_all(home, ["m61two mail/.subscriptions: no mail\n", "m61one -> INBOX: messages 1: whole\n"])
 
 
 def damage(home: Path, maildir: Path) -> None:
@@ -167,31 +172,32 @@ def rights(home: Path) -> None:
         def expect_line(wanted: str) -> None:
             status, out, err = run([*TREE, "spool", "m61one"], home)
             equal("status and standard error", (status, err), (1, ""))
-            matches("the line", out.splitlines()[0], f"m61one: not whole: {wanted}")
+            found = [f"{one.word}: {name}: {says}" for one in groups_in(out) for name, says in one.rows.items()]
+            matches("the lines", "; ".join(found), wanted)
 
-        expect_line(f"left (error): {file}: Permission denied")
+        expect_line(f"error: m61one: {file}: Permission denied")
         shutil.chown(file, "m61one", "m61one")
         expect([*TREE, "spool", "m61one"], home, 0, "1 mailbox: 1 whole; 1 user: ...\n")
         (one / "mail").mkdir()
         os.symlink(secret, one / "mail/Sent")
-        expect_line("mail/Sent: left (link): it is a symbolic link...")
+        expect_line("link: m61one mail/Sent: it is a symbolic link")
         shutil.rmtree(one / "mail")
         os.symlink(secret, one / "mail")
-        expect_line("mail: left (link): it is a symbolic link...")
+        expect_line("link: m61one mail: it is a symbolic link")
         (one / "mail").unlink()
         (one / "Maildir").rename(one / "away")
         os.symlink(home / "homes/m61two/Maildir", one / "Maildir")
-        expect_line("left (not-own): ...Maildir: it is a symbolic link...")
+        expect_line("not-own: m61one...: ...Maildir: it is a symbolic link...")
         (one / "Maildir").unlink()
         (one / "away").rename(one / "Maildir")
         shutil.chown(home / "spool/m61one", "m61two", "m61two")
-        expect_line("left (other-owner): it belongs to m61two")
+        expect_line("other-owner: m61one: it belongs to m61two")
         (home / "spool/m61one").unlink()
         os.symlink(secret, home / "spool/m61one")
-        expect_line("left (link): it is a symbolic link")
+        expect_line("link: m61one: it is a symbolic link")
         one.rename(home / "homes/gone")
         theirs(mailbox(home / "spool/m61three", THREE), "m61three")
-        expect_line("left (link): it is a symbolic link; mail: left (home): ...")
+        expect_line("link: m61one: it is a symbolic link; home: m61one mail: ...")
 
 
 def wrong_words(home: Path) -> None:

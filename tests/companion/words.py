@@ -11,10 +11,10 @@ from datetime import datetime, timezone
 from pathlib import Path
 from typing import Optional
 
-from tests.support.checks import equal, match_in
+from tests.support.checks import equal, match_in, matches
 from tests.support.homes import ADMIN, check_all, expect, files_of, mailbox, run, want_root
 from tests.support.mail import A, B, ONE
-from tests.support.printed import in_quotes, unquoted
+from tests.support.printed import in_quotes, objects_in, unquoted
 
 MANY = 40_000
 COMMANDS = "kind", "quote", "dates", "migrate", "verify"
@@ -279,16 +279,15 @@ def names_of_folders(home: Path) -> None:
         mailbox(home / "-old" / name, A + b"\n")
     wanted = {name: encoded(name if folder is None else folder) for name, folder in NAMES.items()}
     wanted.update((name, name) for name in ENCODED)
-    status, out, err = run(["migrate", "--", "M", "-old"], home)
-    equal("a tree: what is left", ([line for line in out.splitlines() if ": left (" in line], status, err), ([], 0, ""))
-    lines = "\n".join(map(unquoted, out.splitlines()))
-    found = dict(re.findall(r"(?m)^-old/(.*) -> (.*?): mboxrd or mboxo, messages 1: done", lines))
+    status, out, err = run(["migrate", "--json", "--", "M", "-old"], home)
+    *rows, sums = objects_in(out)
+    equal("a tree: what is left", ([row for row in rows if row["verdict"] != "done"], status, err), ([], 0, ""))
     equal(
         "the folders of a tree",
-        sorted(found.items()),
-        sorted((printed(name), printed(folder or "INBOX").replace(".", "/")) for name, folder in wanted.items()),
+        sorted((row["path"], row["folder"]) for row in rows),
+        sorted((f"-old/{name}", printed(folder or "INBOX").replace(".", "/")) for name, folder in wanted.items()),
     )
-    equal("the sum of a tree", out.splitlines()[-1], f"{len(wanted)} mailboxes: {len(wanted)} done")
+    matches("the sum of a tree", sums["says"], f"{len(wanted)} mailboxes: {len(wanted)} done; ...")
     counts = {folder: len(files_of(home / "M" / (folder and f".{folder}"))) for folder in wanted.values()}
     equal("messages of each folder", counts, dict.fromkeys(wanted.values(), 1))
     for word in ("verify", "dates"):

@@ -52,6 +52,7 @@ DIAGNOSTIC = re.compile(r'^\.It "(.*)"$', re.MULTILINE)
 ERRORS = re.compile(r"^## Errors of mbox2maildir$.*?(?=^## )", re.DOTALL | re.MULTILINE)
 REASONS = re.compile(r"^## Reasons why .*?(?=^#)", re.DOTALL | re.MULTILINE)
 REASON = re.compile(r'^\| <a id="([a-z-]+)"></a>`\1` \| ([^|]+) \| [^|]+ \|$', re.MULTILINE)
+REMARK = re.compile(r'\bRemark\("([a-z-]+)"')
 LATER = re.compile(r"^If nothing is left but what is (.*), the status is 75\.", re.MULTILINE)
 SYNOPSIS = re.compile(r"^\.Sh SYNOPSIS$(.*?)^\.Sh ", re.DOTALL | re.MULTILINE)
 OF_COMMAND = re.compile(r"^\.Cm (\w+)\n((?:(?!\.Nm\n).*\n)*)", re.MULTILINE)
@@ -216,9 +217,27 @@ def wrong_reasons() -> Iterator[str]:
     for name, found in (("the page of the manual", manual), ("docs/LEFT.md", REASON.findall(tables))):
         yield from (f"{name} does not tell of the reason {one}" for one in told if found.count(one) != 1)
         yield from (f"{name} tells of a reason that the companion has not: {one}" for one in found if one not in told)
+    meanings = importlib.import_module("mbox2maildir_admin.meanings")
+    for reason in reasons:
+        row = f'| <a id="{reason.word}"></a>`{reason.word}` | {reason.says} | {meanings.TO_DO[reason]} |'
+        if row not in tables.splitlines():
+            yield f"docs/LEFT.md has not this row, which `explain` has: {row}"
     later = [reason.word for reason in reasons if reason.status == 75]
     if SPAN.findall(match_in(LATER, text_of(LEFT))[1]) != later:
         yield f"docs/LEFT.md: another run settles {later}"
+
+
+def wrong_remarks() -> Iterator[str]:
+    """The schema has the words of remarks that the companion has, and no module has another one."""
+    sys.path.append(str(TOP / "admin"))
+    words = list(importlib.import_module("mbox2maildir_admin.meanings").REMARKS)
+    schema = json.loads(text_of(TOP / "docs/rows.schema.json"))["$defs"]["remark"]["enum"]
+    if schema != words:
+        yield f"docs/rows.schema.json has the remarks {schema}, and the companion has {words}"
+    for path in sorted(TOP.glob("admin/mbox2maildir_admin/**/*.py")):
+        for word in REMARK.findall(text_of(path)):
+            if word not in words:
+                yield f"{path.relative_to(TOP)}: `explain` does not have the remark {word}"
 
 
 def wrong_kinds() -> Iterator[str]:
@@ -300,6 +319,7 @@ if __name__ == "__main__":
         wrong_code,
         wrong_texts,
         wrong_reasons,
+        wrong_remarks,
         wrong_kinds,
         wrong_options,
         wrong_kit,

@@ -74,11 +74,18 @@ def run_whole(words: Sequence[Word], home: Path, **settings: str) -> tuple[int, 
     want_no_people(command)
     if not command[0].startswith(("/", "mbox2maildir")):
         command.insert(0, str(ADMIN))
+    if command[0] == str(ADMIN):
+        command[1:] = with_rows(command[1:])
     ran = subprocess.run(
         command, cwd=str(home), env=env, stdin=subprocess.DEVNULL, capture_output=True, timeout=PATIENCE, check=False
     )
     assert b"Traceback" not in ran.stderr, f"{command}: {decoded(ran.stderr)}"
     return ran.returncode, decoded(ran.stdout), decoded(ran.stderr)
+
+
+def with_rows(words: Sequence[str]) -> list[str]:
+    """The words of a command of the companion that prints a row for each mailbox, with all that is said of it."""
+    return [*words[:1], *["--all"] * (words[0] in ("migrate", "back")), *words[1:]] if words else []
 
 
 def expect(

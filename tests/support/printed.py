@@ -6,8 +6,8 @@ from typing import Any, NamedTuple
 
 # what stands before each line below a row, and before a command
 BELOW, COMMAND = "    ", "        "
-# what is said at the end of all that is left for one reason
-GROUP = re.compile(r"  (\d+) left \(([a-z-]+)\): [A-Z].*\.")
+# a name in the last block, and what stands behind it
+NAME = re.compile(r"\A((?:'(?:[^'\\]|\\.)*'|\S| (?! ))+)  +(.*)")
 
 
 def unquoted(text: str) -> str:
@@ -61,22 +61,55 @@ class Reply(NamedTuple):
         return int(words[0]) if len(words) == 2 and words[1].startswith("message") else -1
 
 
+class Group(NamedTuple):
+    """A group of the last block: its title, its mailboxes by their names with what is said of each, and what stands
+    below."""
+
+    title: str
+    rows: dict[str, str]
+    below: list[str]
+
+    @property
+    def word(self) -> str:
+        """The reason, or `look at`."""
+        return self.title.split(": ")[0]
+
+    @property
+    def commands(self) -> list[str]:
+        """The commands below it, each as it is typed."""
+        return Printed("", self.below).commands
+
+    def answers(self) -> list["Reply"]:
+        """The commands with what stands before them."""
+        return Printed("", self.below).answers()
+
+
+def groups_in(out: str) -> list[Group]:
+    """The groups of the last block."""
+    return [group_of(one.splitlines()) for one in re.findall(r"(?m)^\n(\S.*\n(?:  .*\n)+)", out)]
+
+
+def group_of(lines: list[str]) -> Group:
+    """A group, by its lines."""
+    found = Group(lines[0], {}, [])
+    for line in lines[1:]:
+        if line.startswith(BELOW):
+            found.below.append(line)
+        else:
+            name, _, says = re.sub(NAME, r"\1\0\2", line[2:]).partition("\0")
+            found.rows[unquoted(name)] = says
+    return found
+
+
 def rows_in(out: str) -> list[Printed]:
-    """The rows that were printed, and the line of the sums, without the groups before that."""
+    """The rows that were printed with --all, and the line of the sums."""
     rows: list[Printed] = []
     for line in out.splitlines():
         if line.startswith(BELOW):
             rows[-1].below.append(line)
-        elif not GROUP.fullmatch(line):
+        else:
             rows.append(Printed(line, []))
     return rows
-
-
-def groups_in(out: str) -> list[str]:
-    """The lines that say of all that is left for one reason what is to be done. They stand before the last line."""
-    groups = [line for line in out.splitlines() if GROUP.fullmatch(line)]
-    assert groups == out.splitlines()[-1 - len(groups) : -1]
-    return groups
 
 
 def row_in(out: str, name: str) -> Printed:

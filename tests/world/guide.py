@@ -42,7 +42,7 @@ from tests.support.printed import rows_in
 
 README, BACK = "README.md", "docs/BACK.md"
 PAGES = [README, *(f"docs/{name}.md" for name in ("OWN-MAIL", "SERVER", "FORMATS", "LEFT", "LEDGER")), BACK]
-BLOCK = re.compile(r"^ {4}[$#] .*\n(?: {4}.*\n)*", re.MULTILINE)
+BLOCK = re.compile(r"^ {4}[$#] .*\n(?: {4}.*\n|\n(?= {4}))*", re.MULTILINE)
 TOOLS = ["doveadm", "runuser", "strace"]
 # the folder of the mailboxes that the page names, which is below the home here
 SPOOL = "/var/mail"

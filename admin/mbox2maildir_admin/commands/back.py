@@ -4,7 +4,8 @@ import argparse
 from ..back.steps import How
 from ..back.several import bring_back
 from ..faults import Status
-from ..migration.rows import Reporter
+from ..migration.outcomes import Row
+from ..migration.rows import Reporter, Shows
 from ..migration.steps import Options
 from ..users.asked import Tally
 from ..users.going_back import Way, back_users
@@ -31,5 +32,6 @@ def do_back(given: argparse.Namespace) -> Status:
             root, *names = given.operands
             reporter.then = bring_back(root, names, way.how, reporter)
 
-    reporter = (ObjectReporter if given.json else Reporter)(steps={}, task="bringing mail back")
+    shows = Shows(Row.is_said if given.all else None, given.users, not given.dry_run)
+    reporter = (ObjectReporter if given.json else Reporter)(shows=shows, steps={}, task="bringing mail back")
     return run_reported(back, reporter, given.report, "the ledgers have what went back: run the same command again")

@@ -49,8 +49,9 @@ class Parser(argparse.ArgumentParser):
         sys.exit(2)
 
     def read(self, words: Iterable[str]) -> argparse.Namespace:
-        """The options that the words give, and `operands`: all other words, and whatever comes after `--`, as bytes."""
-        options: list[str] = []
+        """The options that the words give; `typed`, the words of each; and `operands`: all other words, and whatever
+        comes after `--`, as bytes."""
+        typed: list[list[str]] = []
         operands: list[str] = []
         rest = collections.deque(words)
         while rest:
@@ -61,8 +62,9 @@ class Parser(argparse.ArgumentParser):
             elif word == "-" or not word.startswith("-"):
                 operands.append(word)
             else:
-                options += self.option(word, rest)
-        given = self.parse_args(options)
+                typed.append(self.option(word, rest))
+        given = self.parse_args([word for words in typed for word in words])
+        given.typed = typed
         given.operands = list(map(os.fsencode, operands))
         return given
 

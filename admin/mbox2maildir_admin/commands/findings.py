@@ -5,7 +5,7 @@ from typing import Any, NamedTuple, Optional, Union
 
 from ..faults import Fault, complain_of
 from ..maildir.checking import Check, State
-from ..maildir.folders import folder_named
+from ..maildir.folders import folder_shown
 from ..mbox.lines import Said
 from ..migration.outcomes import Row, row_left
 from ..nexts import BELOW, NOTHING, Next, Quote, lines_below, objects_of
@@ -77,7 +77,7 @@ class Checked(NamedTuple):
     def who(self) -> str:
         """What its line begins with."""
         name = named(self.path)
-        return "%s -> %s" % (name, folder_named(self.folder)) if self.is_part else name
+        return "%s -> %s" % (name, folder_shown(self.folder)) if self.is_part else name
 
     def counts(self) -> dict[str, int]:
         """How many messages, files and lines there are of each sort, by its word."""
@@ -127,7 +127,8 @@ class Findings:
         """Takes what a file is."""
         put("%s: %s" % (named(found.path), found.line()))
         for remark in found.remarks:
-            put(BELOW + remark.sentence())
+            if remark.says:
+                put(BELOW + remark.sentence())
             put_below(found.shown_of(remark))
         put_below(found.quotes, found.next)
 
@@ -168,7 +169,7 @@ class ObjectFindings(Findings):
                 "messages": found.messages,
                 "most": found.messages if found.most is None else found.most,
                 "says": found.line(),
-                "remarks": [{"line": one.line or None, "says": one.sentence()} for one in found.remarks],
+                "remarks": [{"line": one.line or None, "says": one.sentence()} for one in found.remarks if one.says],
                 "lines": shown_lines([*quotes, *found.quotes]),
                 "next": objects_of(found.next),
             }

@@ -8,17 +8,23 @@ from .. import ADMIN
 from ..faults import Left, Reason, Status
 from ..looks import is_folder, is_surely, is_there
 from ..maildir.folders import folder_of, on_disk, why_no_folder
-from ..migration.outcomes import row_left
-from ..migration.rows import Reporter
+from ..migration.block import Typed
+from ..migration.outcomes import Row, row_left
+from ..migration.rows import Reporter, Shows
 from ..migration.steps import Options
 from ..nexts import run_next
-from ..terminal import has_terminal, named, operand
+from ..readings.reading import UNDECIDED
+from ..terminal import complain, has_terminal, named, operand
 from ..users.asked import Tally
 from .command_line import WrongOptions, want_operands
 from .deciding import decision_of, labels_of
 from .of_users import UsersOptions, jobs_in, wrong_for_homes
 from .running import Telling, run_reported
 
+# the options that answer questions about mailboxes, or can be given only once
+ANSWERS = ("--as", "--of", "--text", "--begin", "--drop-deleted", "--report")
+# what is said of ties that no question has
+UNMET = "--of %s: no question has this tie: it was answered before, or what is asked has changed"
 # what the last line says of what is only prepared
 ONLY_PREPARED = "nothing of it counts as done before migrate runs without --prepare"
 UNQUOTED = "its path was given as %d words, so nothing was migrated"
@@ -38,6 +44,9 @@ def do_migrate(given: argparse.Namespace) -> Status:
         tally.notes += [ONLY_PREPARED] * given.prepare
         task(reporter, tally)
         reporter.ask(lambda words: task_of(given.read(words))(reporter, tally))
+        unmet = [tie for tie in given.of.split(",") if tie not in reporter.ties]
+        if "," in given.of and unmet:
+            complain(UNMET % ",".join(map(named, unmet)))
 
     return run_reported(migrate, reporter, given.report, "what was done is in the record: run the same command again")
 
@@ -122,11 +131,19 @@ def reporter_of(given: argparse.Namespace) -> Reporter:
         from .objects import ObjectReporter
 
         return ObjectReporter()
+    shows = Shows(Row.is_said if given.all else None, given.users, not given.dry_run, typed_in(given))
     if given.no_questions or given.users or given.undo or given.dry_run or not has_terminal():
-        return Reporter()
+        return Reporter(shows=shows)
     from .questions import Asker
 
-    return Asker(given.operands[1:])
+    return Asker(given.operands[1:], shows=shows)
+
+
+def typed_in(given: argparse.Namespace) -> Typed:
+    """The command that was typed, without what answers questions."""
+    words = [words for words in given.typed if words[0].split("=")[0] not in ANSWERS]
+    takes_users = given.users and len(given.operands) == 1 and given.names is None
+    return Typed([word for several in words for word in several], given.operands, takes_users)
 
 
 def options_of(given: argparse.Namespace, alone: bool) -> Options:
@@ -136,6 +153,8 @@ def options_of(given: argparse.Namespace, alone: bool) -> Options:
     options = Options(given.dry_run, given.again, given.dovecot, given.folder, spared, given.now, decision, jobs=jobs)
     options = replace(options, any_disk=given.any_disk, labels=labels_of(given))
     options = replace(options, prepare=given.prepare, unread=given.unread)
+    if decision.of and not (alone or decision.text | decision.begin):
+        options = replace(options, decision=UNDECIDED, answer=decision)
     return options if alone or not given.again else replace(options, again=False, again_rewritten=True)
 
 
@@ -156,8 +175,8 @@ def wrong_for_own(options: Options, of_users: UsersOptions, names: Sequence[byte
             yield "--folder %s: %s" % (named(options.folder), why)
         if any(map(is_folder, names)):
             yield "--folder needs a MAILBOX that is a file"
-    if options.decision.of and not options.decision.alone:
-        yield "--of, --text and --begin need exactly one MAILBOX, which is a file"
+    if options.decision.text | options.decision.begin and not options.decision.alone:
+        yield "--text and --begin need exactly one MAILBOX, which is a file"
     if options.labels and (options.folder is not None or options.dovecot):
         yield "--labels does not go with --folder and --dovecot"
     if options.labels and any(map(is_folder, names)):
@@ -187,5 +206,7 @@ def wrong_for_users(options: Options, of_users: UsersOptions) -> Iterator[str]:
         yield "--folder does not go with --users"
     if options.labels:
         yield "--labels does not go with --users"
-    if options.decision.of or options.decision.drop:
-        yield "--of, --text, --begin and --drop-deleted do not go with --users"
+    if options.decision.text | options.decision.begin:
+        yield "--text and --begin do not go with --users"
+    if options.decision.drop:
+        yield "--drop-deleted needs --of to go with --users"

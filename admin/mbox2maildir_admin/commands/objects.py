@@ -75,6 +75,9 @@ class ObjectReporter(Reporter):
         """Prints what became of a mailbox."""
         self.print_object(object_of(row, user))
 
+    def ended(self, user: str) -> None:
+        """Prints nothing: each mailbox of the user has its object."""
+
     def print_sums(self, line: str) -> None:
         """Prints the sums, and the line that says them."""
         messages, size = self.amounts(*SUMMED)

@@ -1,25 +1,24 @@
 """The command `verify --users`: the mailboxes of many users, each compared with its Maildir with its user's rights."""
 import argparse
 import functools
-import itertools
 import os
-from collections.abc import Iterator, Sequence
+from collections.abc import Iterator
 from dataclasses import replace
-from typing import Optional, Union
+from typing import Union
 
 from .. import ADMIN
 from ..faults import Fault, Status
 from ..ledger.record import Record
 from ..looks import is_folder, is_link
-from ..maildir.folders import INBOX, folder_named
+from ..maildir.folders import INBOX
 from ..migration.outcomes import BY_RECORD, Fate, Row
 from ..migration.places import Pairs, Planned, recorded
-from ..migration.rows import Reporter
+from ..migration.rows import Reporter, Shows
 from ..migration.steps import Options
 from ..migration.trees import Tree, link_left
 from ..nexts import Remark, run_next
 from ..program import Program
-from ..terminal import LINE, NAMED, flush, named, operand, put
+from ..terminal import named, operand
 from ..units import Say
 from ..users.asked import Tally
 from ..users.homes import Kind, Migrant, Relay
@@ -42,14 +41,13 @@ SAYS = {
     "other-owner": "of another owner %d",
     "doubtful-line": "doubtful lines %d",
 }
-# the fates of mailboxes that have a place in the line of their user
-WRONG = Fate.LEFT, Fate.NOT_WHOLE
 
 
 def verify_users(given: argparse.Namespace) -> Status:
     """Says of which users not each message is in the Maildir, and returns the status."""
     (spool, asked), options = spool_of(given), Options(jobs=jobs_in(given.jobs))
-    reporter = ObjectReporter(steps={}, task=VERIFYING) if given.json else UserLines(given.all)
+    shows = Shows((lambda row: True) if given.all else None, is_of_users=True)
+    reporter = (ObjectReporter if given.json else Reporter)(shows=shows, steps={}, task=VERIFYING)
 
     def verify(reporter: Reporter, tally: Tally) -> None:
         migrate_users(spool, asked, options, reporter, tally, Kind(Verifier, "verify"))
@@ -131,52 +129,3 @@ def row_of(found: Checked, root: bytes) -> Row:
     remarks = tuple(Remark(word, says % counts[word]) for word, says in SAYS.items() if counts[word])
     then = run_next(ADMIN, "verify", operand(os.path.normpath(os.path.join(root, found.folder))), operand(found.path))
     return replace(row, fate=Fate.NOT_WHOLE, remarks=remarks, next=then)
-
-
-class UserLines(Reporter):
-    """Prints a line for each user whose mail is not whole. With `has_all` each name has a line, too."""
-
-    def __init__(self, has_all: bool) -> None:
-        super().__init__(steps={}, task=VERIFYING)
-        self.has_all = has_all
-        # what is wrong, by the users who have no line so far
-        self.wrong: dict[str, list[Row]] = {}
-
-    def print_row(self, row: Row, user: Optional[str]) -> None:
-        """Takes what became of a mailbox."""
-        if row.fate in WRONG:
-            self.wrong.setdefault(named(user or ""), []).append(row)
-        if self.has_all:
-            self.put_row(row, user)
-
-    def rest(self, who: str) -> None:
-        """Prints the line of a user of whom nothing follows."""
-        super().rest(who)
-        self.print_user(who)
-
-    def print_user(self, who: str) -> None:
-        """Prints the line of a user whose mail is not whole."""
-        rows = self.wrong.pop(who, [])
-        if rows:
-            LINE.clear()
-            put("%s: not whole: %s" % (who, whys_of(rows)))
-            flush()
-
-    def end(self, *more: str) -> Status:
-        """Prints the lines of those who had no process, and the sums."""
-        for who in [*self.wrong]:
-            self.print_user(who)
-        return super().end(*more)
-
-
-def whys_of(rows: Sequence[Row]) -> str:
-    """Why a user's mail is not whole: the first mailboxes, and how many more there are."""
-    more = ["%d more" % (len(rows) - NAMED)] if len(rows) > NAMED else []
-    return "; ".join([*map(why_of, itertools.islice(rows, NAMED)), *more])
-
-
-def why_of(row: Row) -> str:
-    """What is wrong with a mailbox. That of the spool has the name of its folder, if it has one."""
-    name = named(row.path) if row.path else folder_named(row.folder) if row.folder else ""
-    fate = "left (%s)" % row.word if row.word else ""
-    return ": ".join(filter(None, [name, fate, row.why, ", ".join(remark.says for remark in row.remarks)]))

@@ -139,6 +139,7 @@ def add_ways(add: Add) -> None:
     add("--jobs", metavar="N", help="migrate N folders at a time, with --users N users (otherwise up to 8)")
     add("--json", action="store_true", help="print one JSON object per line")
     add("--report", metavar="FILE", help="write these objects to a new file, too")
+    add("--all", action="store_true", help="print a line for each mailbox, with all that is said of it")
     add("--no-questions", action="store_true", help="ask nothing on a terminal, and print the answers as commands")
 
 
@@ -217,12 +218,25 @@ def add_back(command_line: CommandLine) -> None:
         "subscriptions",
     )
     add("--now", action="store_true", help="do not wait until a mailbox was left alone for a minute")
+    add("--all", action="store_true", help="print a line for each mailbox, with all that is said of it")
     add("--json", action="store_true", help="print one JSON object per line")
     add("--report", metavar="FILE", help="write these objects to a new file, too")
     add = command.add_argument_group("for many users, as root").add_argument
     add("--users", action="store_true", help="bring back the mail of each user, from the Maildir in the home")
     add_homes(add, "bring back to")
     add("--jobs", metavar="N", help="go back with N users at a time (otherwise up to 8)")
+
+
+def add_explain(command_line: CommandLine) -> None:
+    """Adds the command `explain`."""
+    command_line.add(
+        "explain",
+        task_named("explain"),
+        "print what the words of rows mean, and what to do",
+        "Prints what each WORD means that stands in brackets after `left`, or in the line `noted`, and what to do. "
+        "Without a WORD it prints all of them.",
+        usage=["[WORD]..."],
+    )
 
 
 # what adds each command, in the order of the help
@@ -233,4 +247,5 @@ ADDS: dict[str, Callable[[CommandLine], None]] = {
     "migrate": add_migrate,
     "verify": add_verify,
     "back": add_back,
+    "explain": add_explain,
 }

@@ -4,8 +4,8 @@ from collections.abc import Callable
 from typing import NamedTuple, Optional
 
 from ..mbox.dates import is_dated
-from ..mbox.files import LONG
-from ..mbox.lines import Said
+from ..mbox.files import BLOCK, LONG
+from ..mbox.lines import Said, cut
 from ..mbox.mailbox import Mailbox
 from ..mbox.parts import MARK, Part, parts_of
 from ..nexts import Does, Task, Todo
@@ -28,9 +28,15 @@ NO_FROM_LINE = "a line `From ` without a date at its end and without a header af
 WITH_FROM_LINE = "(" + FROM_LINE + " && %s) >{copy}"
 WITH_DATE = Makes("sed '1s/$/ Thu Jan  1 00:00:00 1970/' {} >{copy}", Does.FIRST_BEGINS)
 ASK_LINE: Recipe = (WITH_DATE, Makes(WITH_FROM_LINE % "sed '1s/^/>/' {}", Does.FIRST_IS_TEXT))
-PASS_OVER = Task(Todo.PASS_OVER)
-ASK_FILE: Recipe = (WITH_DATE, PASS_OVER)
-NOT_KNOWN: Recipe = (Looks("file {}"), PASS_OVER)
+NOT_KNOWN: Recipe = (Looks("file {}"), Task(Todo.PASS_OVER))
+# something in it looks like mail, so nobody passes over it together with others
+ALONE = Task(Todo.PASS_OVER_ALONE)
+ASK_FILE: Recipe = (WITH_DATE, ALONE)
+LIKE_MAIL: Recipe = (Looks("file {}"), ALONE)
+# a line of this form may be one of mail
+LINE_OF_MAIL = re.compile(
+    rb"(?m)^(?:>*From |(?i:From|Received|Date|Message-ID|Subject|Return-Path|MIME-Version)[ \t]*:)"
+)
 
 
 class Finding(NamedTuple):
@@ -65,9 +71,22 @@ def finding_of(mailbox: Mailbox, is_mark: Callable[[Part], bool]) -> Finding:
     if is_rest_of_from_line(text):
         found.insert(0, Said(Line(1), "this may be the rest of a From_ line", line))
     if not found:
-        return Finding("not known", NOT_KNOWN, Holds.UNKNOWN, [])
+        begins_so = [Said(Line(1), "", cut(head.split(b"\n")[0]))]
+        return Finding("not known", LIKE_MAIL if has_line_of_mail(mailbox) else NOT_KNOWN, Holds.UNKNOWN, begins_so)
     rest = "tail -c +%d {}" % (blanks + 1) if blanks else "cat {}"
     return Finding("damaged", (Makes(WITH_FROM_LINE % rest),), Holds.MAIL, found)
+
+
+def has_line_of_mail(mailbox: Mailbox) -> bool:
+    """Whether any line looks like a From_ line or like one of the header of a mail."""
+    reader, before = mailbox.again(), b""
+    while True:
+        block = reader.read(BLOCK)
+        if not block or LINE_OF_MAIL.search(before + block):
+            return bool(block)
+        # a line goes on in the next block; what `^` matches there is the beginning of one
+        before = block[max(0, len(block) - LONG) :]
+        before = before[before.find(b"\n") + 1 :] if b"\n" in before else b" "
 
 
 def first_from_line(mailbox: Mailbox, is_mark: Callable[[Part], bool]) -> Optional[Part]:

@@ -39,6 +39,11 @@ def folder_named(folder: bytes) -> str:
     return named(folder_name(folder))
 
 
+def folder_shown(folder: bytes) -> str:
+    """The same as a mail program shows it: no name that a reader gets is in modified UTF-7."""
+    return named(without_utf7(text_of(name_given(folder))))
+
+
 def folder_path(maildir: bytes, folder: bytes) -> bytes:
     """The path of a folder in a Maildir."""
     return maildir if folder == INBOX else os.path.join(maildir, folder)

@@ -47,7 +47,7 @@ class Said(NamedTuple):
 
     def sentence(self) -> str:
         """What is said, with the number of the line."""
-        return "line %d: %s" % (self.line, self.says) if self.line else self.says
+        return "line %d: %s" % (self.line, self.says) if self.line and self.says else self.says
 
     def quote(self) -> Optional[Quote]:
         """The line that is shown, if it is."""

@@ -62,6 +62,8 @@ class Row:
     spent: Optional[Spent] = None
     # whether it is on the way from the folder into the mailbox
     is_back: bool = False
+    # the tie of the answer for several mailboxes that decided about it, if one did
+    tie: str = ""
 
     @property
     def says(self) -> str:
@@ -82,7 +84,11 @@ class Row:
         """Whether the row is printed, and not only counted in the sum."""
         if self.fate == Fate.NO_MAIL:
             return BY_NO_MAIL in self.remarks
-        return self.fate not in (Fate.BEFORE, Fate.NOTHING_NEW, Fate.WHOLE) or bool(self.says)
+        return self.is_changed() or bool(self.says)
+
+    def is_changed(self) -> bool:
+        """Whether the run did something, or would do it."""
+        return self.fate not in (Fate.BEFORE, Fate.NOTHING_NEW, Fate.WHOLE, Fate.NO_MAIL)
 
 
 class Ended(NamedTuple):
@@ -117,6 +123,9 @@ class Observer:
 
     def row(self, row: Row, user: Optional[str] = None) -> None:
         """Takes what became of a mailbox, which may be that of a user."""
+
+    def ended(self, user: str) -> None:
+        """Takes that nothing follows of a user."""
 
 
 def with_name(row: Row, before: str) -> Row:

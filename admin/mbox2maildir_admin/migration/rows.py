@@ -2,16 +2,20 @@
 import collections
 import math
 import time
-from collections.abc import Callable, Iterator, Mapping, Sequence
+from collections.abc import Callable, Mapping, Sequence
+from dataclasses import replace
 from types import MappingProxyType
-from typing import Optional
+from typing import NamedTuple, Optional
 
+from .. import ADMIN
 from ..faults import Reason, Status
-from ..maildir.folders import folder_named
+from ..maildir.folders import folder_shown
+from ..meanings import Weight, weight_of
 from ..nexts import lines_below
 from ..progress import AtWork, Estimate, Progress, Task, duration, length
 from ..terminal import LINE, complain, flush, named, put
 from ..units import WAITING, counted
+from .block import Entry, Typed, groups_of, looks_of
 from .outcomes import Fate, Observer, Row
 
 # the mailboxes whose messages and bytes are summed up
@@ -19,6 +23,8 @@ SUMMED = (
     *(Fate.DONE, Fate.WOULD, Fate.PREPARED, Fate.WOULD_PREPARE),
     *(Fate.BACK, Fate.WOULD_BACK, Fate.WHOLE, Fate.NOT_WHOLE),
 )
+# the fates of mailboxes of which something is to be done
+WRONG = Fate.LEFT, Fate.NOT_WHOLE
 # the steps of a mailbox, by the first word of what is said of its progress
 STEPS = MappingProxyType({"reading": 1, "copying": 1, "looking": 2, "converting": 3, "dating": 4, "verifying": 5})
 
@@ -26,15 +32,35 @@ STEPS = MappingProxyType({"reading": 1, "copying": 1, "looking": 2, "converting"
 Run = Callable[[Sequence[str]], None]
 
 
+class Shows(NamedTuple):
+    """What is printed of rows: which ones whole, or as little of each as a reader needs; whether they are of many
+    users, and whether each of these has a line once nothing follows; and the command that runs, if it may be printed
+    again with answers."""
+
+    whole: Optional[Callable[[Row], bool]] = None
+    is_of_users: bool = False
+    has_users: bool = False
+    typed: Optional[Typed] = None
+
+
 class Reporter(Observer):
-    """Prints rows, and how far the mailboxes are. A migration has steps."""
+    """Prints rows, how far the mailboxes are, and last what is left. A migration has steps."""
 
     def __init__(
         self,
         clock: Callable[[], float] = time.monotonic,
         steps: Mapping[str, int] = STEPS,
         task: str = "migrating",
+        shows: Shows = Shows(Row.is_said),
     ) -> None:
+        self.shows = shows
+        # the rows that have their place in the last block; how many mailboxes have each remark that is counted; and, of
+        # each user who is at work, how many mailboxes have each fate
+        self.kept: list[Entry] = []
+        self.noted: collections.Counter[str] = collections.Counter()
+        self.users: dict[str, collections.Counter[Fate]] = {}
+        # the ties of answers for several mailboxes that decided about one
+        self.ties: set[str] = set()
         self.clock, self.start = clock, clock()
         self.counts: collections.Counter[Fate] = collections.Counter()
         # of the mailboxes that are left
@@ -90,6 +116,7 @@ class Reporter(Observer):
         if self.report:
             self.report.row(row, user)
         self.counts[row.fate] += 1
+        self.ties.add(row.tie)
         if row.left_for:
             self.reasons[row.left_for] += 1
         if row.fate is Fate.NOT_WHOLE:
@@ -111,9 +138,32 @@ class Reporter(Observer):
         """Asks nobody: what is left has its row."""
 
     def print_row(self, row: Row, user: Optional[str]) -> None:
-        """Prints what became of a mailbox, unless it is only counted in the sum."""
-        if row.is_said():
-            self.put_row(row, user)
+        """Prints what became of a mailbox, unless it is only counted. What is left, and what asks for a look, is kept
+        for the last block, but for that of a single mailbox."""
+        if self.shows.whole:
+            if self.shows.whole(row):
+                self.put_row(row, user)
+            return
+        if row.fate is not Fate.LEFT:
+            self.noted.update({one.word for one in row.remarks if weight_of(one.word) is Weight.COUNT})
+        looks = looks_of(row)
+        is_kept = row.fate in WRONG or bool(looks or row.next)
+        if self.shows.is_of_users:
+            self.users.setdefault(named(user or ""), collections.Counter())[row.fate] += 1
+        elif self.total == 1 and row.is_said():
+            self.put_row(replace(row, remarks=looks), None)
+            return
+        elif row.fate not in WRONG and row.is_changed():
+            self.put_row(replace(row, kind="", remarks=(), quotes=(), next=()), None)
+        if is_kept and row.fate is not Fate.NO_MAIL:
+            self.kept.append(Entry(row, user))
+
+    def ended(self, user: str) -> None:
+        """Prints what became of a user's mailboxes, if no terminal shows who is done."""
+        counts = self.users.pop(named(user), collections.Counter())
+        if self.shows.has_users and not (self.shows.whole or self.line.is_terminal):
+            put("%s: %s" % (named(user), "; ".join(sums_of(counts))))
+            flush()
 
     @staticmethod
     def put_row(row: Row, user: Optional[str]) -> None:
@@ -132,6 +182,8 @@ class Reporter(Observer):
             self.report.then = self.then
         is_reported = self.report is None or self.report.end_with((self.total, self.at_once), *more)
         sums = sums_of(self.counts, self.faults)
+        users = {one.user for one in self.kept if one.user is not None and one.row.fate in WRONG}
+        sums[0] += ", of %s" % counted(len(users), "user") if users else ""
         if self.total and not sum(self.counts.values()):
             # it was interrupted before the first one was done
             sums = ["0 of %d done" % self.total]
@@ -178,8 +230,15 @@ class Reporter(Observer):
 
     def print_sums(self, line: str) -> None:
         """Prints what is left, and below it the line with the sums."""
-        for group in groups_of(self.reasons):
-            put(group)
+        for group in groups_of(self.kept):
+            put("")
+            for below in group.lines(self.shows.typed):
+                put(below)
+        if self.kept:
+            put("")
+        if self.noted:
+            words = ", ".join("%s %d" % pair for pair in sorted(self.noted.items()))
+            put("noted, and nothing to do: %s (`%s explain WORD`)" % (words, ADMIN))
         put(line)
         for below in lines_below((), self.then, True):
             put(below)
@@ -191,7 +250,7 @@ def head_of(row: Row, user: Optional[str] = None) -> str:
     many messages it has."""
     count = None if row.fate is Fate.BEFORE else row.messages
     what = ", ".join(filter(None, [row.kind, "messages %d" % count if count is not None else ""]))
-    names = [label_of(row, user), folder_named(row.folder) if row.folder else ""]
+    names = [label_of(row, user), folder_shown(row.folder) if row.folder else ""]
     way = " -> ".join(filter(None, reversed(names) if row.is_back else names))
     return "%s: %s" % (way, what + ": " if what else "")
 
@@ -201,14 +260,6 @@ def label_of(row: Row, user: Optional[str]) -> str:
     if user is None:
         return named(row.path)
     return "%s %s" % (named(user), named(row.path)) if row.path else named(user)
-
-
-def groups_of(reasons: collections.Counter[Reason]) -> Iterator[str]:
-    """What is left, by its reasons: how many, and what serves all of them, without a name. Of a single one, its row
-    says it. No row begins with a blank, and what stands below one is indented further."""
-    if sum(reasons.values()) > 1:
-        for reason in filter(reasons.__getitem__, Reason):
-            yield ("  %d left (%s): %s %s" % (reasons[reason], reason.word, reason.says, reason.serves)).rstrip()
 
 
 def sums_of(counts: collections.Counter[Fate], faults: Mapping[str, int] = MappingProxyType({})) -> list[str]:

@@ -99,6 +99,7 @@ def run_all(
         how = How(options.dry, options.again, extra, spared, options.now, options.decision, options.of_next())
         how = replace(how, names=names, home=home.path if home else os.fsencode(os.path.expanduser("~")))
         how = replace(how, again_rewritten=options.again_rewritten, any_disk=options.any_disk, prepare=options.prepare)
+        how = replace(how, answer=options.answer)
         several = Several(Migration(program, root, record, how), names, observer, home, options)
         leftovers = Leftovers(record, root, names, options)
         for row in leftovers.rows(several.migrate(options.folder)):

@@ -219,6 +219,8 @@ class Options:
     any_disk: bool = False
     # how folders are made of labels, if they are
     labels: Optional[Choosing] = None
+    # what is decided about questions that have one of its ties, if several mailboxes are migrated
+    answer: Reading = UNDECIDED
     # whether mail is only prepared, and whether nobody reads it
     prepare: bool = False
     unread: bool = False
@@ -268,6 +270,8 @@ class How:
     again_rewritten: bool = False
     # whether a disk will do on which a power cut could take mail away
     any_disk: bool = False
+    # what is decided about questions that have one of its ties
+    answer: Reading = UNDECIDED
     # whether the mailbox goes into the folders of its labels
     is_labelled: bool = False
     # whether mail is only prepared

@@ -132,13 +132,14 @@ class Transfer:
                 return self.row_before(words, self.known.last.messages if self.known.last else None, more)
         if self.how.decision != UNDECIDED:
             return None
-        answer = answer_to(self.record, self.opened, question)
+        given = question.by_tie(self.how.answer)
+        answer = given or answer_to(self.record, self.opened, question)
         shown = None if answer else answer_shown(self.how, self.known, question)
         if not (answer or shown):
             return None
-        self.remarks.append(AS_ANSWERED if answer else AS_BROUGHT)
+        self.remarks += [] if given else [AS_ANSWERED if answer else AS_BROUGHT]
         self.how = replace(self.how, decision=answer or shown)
-        return self.run()
+        return replace(self.run(), tie=given.of if given else "")
 
     def asked(self, question: Question) -> Left:
         """What is left for a human to decide, with the commands that do so."""

@@ -94,6 +94,11 @@ class Question(Left):
         # returns a decision that is tied to this question
         self.tied: Callable[[Reading], Reading] = lambda decision: decision
 
+    def by_tie(self, answer: Reading) -> Optional[Reading]:
+        """What an answer for several mailboxes decides about this question; None unless it has its tie."""
+        found = self.tied(Reading(answer.word, drop=answer.drop))
+        return found if found.of and found.of in answer.of.split(",") else None
+
 
 def is_no_mail(path: bytes) -> bool:
     """Whether a file is known to hold no mail, by its name and its size, or as a lock of one line. A symbolic link is

@@ -10,7 +10,7 @@ from typing import NamedTuple, Optional
 
 from ..faults import Fault, Left, Reason
 from ..flags.dovecot_headers import internal_head
-from ..kinds.damage import NOT_KNOWN, PASS_OVER
+from ..kinds.damage import LIKE_MAIL, NOT_KNOWN
 from ..kinds.look import Look, Read
 from ..kinds.making import Looks, Makes, Recipe
 from ..kinds.others import Form, other_of
@@ -179,8 +179,8 @@ def recipe_for(left: Left, form: Form) -> Recipe:
     from .unpacking import BY_HAND, UNPACKERS
 
     by_hand, recipe = "%s <{}" % BY_HAND[form], left.recipe if isinstance(left, OtherKind) else ()
-    if recipe == NOT_KNOWN:
-        return Looks(by_hand + " | file -"), PASS_OVER
+    if recipe in (NOT_KNOWN, LIKE_MAIL):
+        return Looks(by_hand + " | file -"), *recipe[1:]
     makes = recipe[0] if recipe else None
     if isinstance(makes, Makes) and makes.if_packed and form in UNPACKERS:
         return (makes._replace(shell=makes.if_packed % UNPACKERS[form]),)

@@ -60,6 +60,7 @@ def migrate_takeouts(root: bytes, names: Sequence[bytes], options: Options, obse
     with Record.to_migrate(root, options.dry) as record:
         how = How(options.dry, options.again, now=options.now, decision=options.decision, names=names)
         how = replace(how, again_rewritten=options.again_rewritten, any_disk=options.any_disk, is_labelled=True)
+        how = replace(how, answer=options.answer)
         how = replace(how, options=options.of_next(), home=os.fsencode(os.path.expanduser("~")))
         migration = Migration(Program(find_program()), root, record, how)
         observer.total += len(names)
@@ -176,7 +177,7 @@ class Takeout:
                 except Question as question:
                     several = (opened._replace(name=name) for name in (Noted.of(line).folders if line else ()))
                     answers = (answer_to(self.record, one, question) for one in several)
-                    answer = next(filter(None, answers), None)
+                    answer = question.by_tie(self.how.answer) or next(filter(None, answers), None)
                     if is_last or not answer or self.how.decision != UNDECIDED:
                         raise self.asked(opened, question) from question
                     decision = answer

@@ -298,3 +298,4 @@ class Crew:
         if why and not (self.is_asked and os.WIFEXITED(status)):
             self.leave(child.whose.name, why, Reason.PROCESS)
         self.reporter.rest(named(child.whose.name))
+        self.reporter.ended(child.whose.name)

@@ -1,7 +1,6 @@
 """What a child tells root, in lines of JSON. Root trusts none of it, and prints it escaped."""
 import json
 import os
-import re
 import time
 from collections.abc import Mapping, Sequence
 from dataclasses import replace
@@ -9,6 +8,7 @@ from typing import Any, NamedTuple, Optional, Union
 
 from ..faults import Reason
 from ..kinds.making import with_aside
+from ..meanings import REMARKS
 from ..migration.outcomes import Fate, Observer, Row
 from ..nexts import WITH_FILES, Answer, Command, Does, Next, Quote, Remark, Task, Todo, task
 from ..progress import Spent
@@ -20,8 +20,6 @@ LONGEST = 1 << 16
 LONGEST_WHY = 1 << 13
 # how many remarks, lines and commands a row may have
 MOST = 64
-# the word of a remark
-WORD = re.compile(r"[a-z][a-z-]{0,39}\Z")
 # the highest number of messages or bytes
 HIGHEST = 1 << 63
 # how often a child tells how far it is, in seconds
@@ -103,7 +101,7 @@ def words_of_row(row: Row) -> list[Any]:
     reason = row.reason.word if row.reason else None
     known = [text_of(row.path), shown(row.folder), row.kind, row.messages, row.fate.value]
     told = [[list(one) for one in row.remarks], [list(one) for one in row.quotes], list(map(words_of_step, row.next))]
-    return [*known, row.why[:LONGEST_WHY], reason, row.size, *(row.spent or ()), *told]
+    return [*known, row.why[:LONGEST_WHY], reason, row.tie, row.size, *(row.spent or ()), *told]
 
 
 def words_of_step(step: Union[Answer, Task]) -> list[Any]:
@@ -130,12 +128,12 @@ def row_of(words: list[Any], whose: Whose) -> Row:
 
 def bare_row_of(words: list[Any]) -> Row:
     """Reads what a child told of a row alone."""
-    path, folder, kind, messages, fate, why, reason, size, *spent = words
+    path, folder, kind, messages, fate, why, reason, tie, size, *spent = words
     count, length = (None if number is None else number_of(number) for number in (messages, size))
     what = None if reason is None else Reason.by(reason)
     # a letter that stands for no byte raises an error
     path, folder = (name.encode("utf-8", "surrogateescape") for name in (path, folder))
-    row = Row(path, folder, shown(kind), count, Fate(fate), shown(why), what, length)
+    row = Row(path, folder, shown(kind), count, Fate(fate), shown(why), what, length, tie=shown(tie))
     return replace(row, spent=Spent(*map(number_of, spent))) if spent else row
 
 
@@ -158,7 +156,7 @@ def quote_of(line: object, text: str, is_around: object) -> Quote:
 
 def remark_of(word: str, says: str, there: object = 0, stands: object = 0) -> Remark:
     """Reads a remark that a child told."""
-    if not WORD.match(word):
+    if word not in REMARKS:
         raise ValueError("no word")
     return Remark(word, shown(says), number_of(there), number_of(stands))
 

@@ -53,6 +53,6 @@ class StatusTest(unittest.TestCase):
             self.assertEqual(cli.main(), 130)
 
     def test_each_command_is_there(self) -> None:
-        every = ["kind", "quote", "dates", "migrate", "verify", "back"]
+        every = ["kind", "quote", "dates", "migrate", "verify", "back", "explain"]
         for words, wanted in (("", every), ("--help kind", every), ("of", every), ("kind verify", ["kind"])):
             self.assertEqual(list(cli.command_line(words.split()).commands), wanted, words)

@@ -29,7 +29,7 @@ class FindingTest(unittest.TestCase):
         from_line = "From alva@example.org Mon Mar  3 09:12:44 2025"
         said = [Said(Line(2), "the mbox text begins here, at byte 7", from_line)]
         self.assertEqual(self.what(b"hello\n" + A), ("damaged", Holds.MAIL, said))
-        self.assertEqual(self.what(b"hello\n" + A, is_from_line=False), ("not known", Holds.UNKNOWN, []))
+        self.assertEqual(self.what(b"hello\n" + A, is_from_line=False)[:2], ("not known", Holds.UNKNOWN))
 
     def test_what_is_left_of_a_from_line(self) -> None:
         rest = "this may be the rest of a From_ line"
@@ -61,7 +61,7 @@ class FindingTest(unittest.TestCase):
             (b"X: a\n From: a\nDate: b\n", False),
         ):
             wanted = ("one mail without a From_ line", Holds.MAIL) if is_mail else ("not known", Holds.UNKNOWN)
-            self.assertEqual(self.what(header + b"\nmail\n"), (*wanted, []), header)
+            self.assertEqual(self.what(header + b"\nmail\n")[:2], wanted, header)
 
     def test_next_commands(self) -> None:
         """A copy lacks only NUL bytes and blanks, and begins with a From_ line."""

@@ -88,14 +88,14 @@ class CopyTest(FolderTest):
 
 class ChildTest(unittest.TestCase):
     def test_rows(self) -> None:
-        row = row_of(["\x1b[2J", ".", "a\nb", 3, "done", "\0", None, None, [], [], []], MIA)
+        row = row_of(["\x1b[2J", ".", "a\nb", 3, "done", "\0", None, "", None, [], [], []], MIA)
         self.assertEqual((row.path, row.kind, told(row)), (b"\x1b[2J", "a\\x0ab", "\\x00"))
         for words in (
             [],
-            ["", "", "", 1, "fine", "", None, None, [], [], []],
-            ["", "", "", "x", "done", "", None, None, [], [], []],
-            [[], "", "", 1, "done", "", None, None, [], [], []],
-            ["", "", "", 1, "done", "", "no reason", None, [], [], []],
+            ["", "", "", 1, "fine", "", None, "", None, [], [], []],
+            ["", "", "", "x", "done", "", None, "", None, [], [], []],
+            [[], "", "", 1, "done", "", None, "", None, [], [], []],
+            ["", "", "", 1, "done", "", "no reason", "", None, [], [], []],
         ):
             self.assertRaises((ValueError, AttributeError), row_of, words, MIA)
 
@@ -121,7 +121,7 @@ class ChildTest(unittest.TestCase):
         for piece in (
             b"x" * LONGEST,
             b"x\n",
-            b'["row"]\n{}\n7\n["row", "", ".", "", 1, "done", "", null, null, [], [], []]\n',
+            b'["row"]\n{}\n7\n["row", "", ".", "", 1, "done", "", null, "", null, [], [], []]\n',
             b'["end", 5]\n',
         ):
             os.write(tell, piece)

@@ -264,7 +264,7 @@ class LeftTest(unittest.TestCase):
         ask = (
             "line 1 begins a mail: d=$(mktemp -d BOX.XXXXXX) && sed '1s/$/ Thu Jan  1 00:00:00 1970/' BOX "
             '>"$d/copy" && mv -nT BOX "$d/original" && mv -nT "$d/copy" BOX; '
-            "next: if it holds no mail, pass over it by --no-mail"
+            "next: something in it looks like mail: only if it holds none, pass over it by --no-mail"
         )
         why = "line 1: a line `From ` without a date at its end and without a header after it"
         self.assertEqual(self.left(b"%PDF-1.4"), (NoMail, "no mail: PDF", ""))

@@ -20,7 +20,6 @@ from mbox2maildir_admin.progress import Spent, Task, duration
 from mbox2maildir_admin.users import children
 from mbox2maildir_admin.users.telling import Teller, Whose
 
-from tests.support.printed import groups_in, rows_in
 from tests.support.schema import wrong
 
 
@@ -108,23 +107,6 @@ class GroupsTest(unittest.TestCase):
             self.assertEqual(reporter.end(*more), status)
         return [call[0][0] for call in put.call_args_list]
 
-    def test_several_reasons(self) -> None:
-        """Each has its count, its sentence and what serves all of it, in the order of the table of reasons. Nothing is
-        said of a name."""
-        reasons: list[Optional[Reason]] = [*[Reason.LINK] * 2, None, *[Reason.NOT_KNOWN] * 3]
-        wanted = [
-            "  1 left (other): There is no word for it yet; the line says what it is.",
-            "  3 left (not-known): It is not known what it is. Those that hold no mail are passed over by --no-mail "
-            "PATTERN.",
-            "  2 left (link): It is a symbolic link, or its path within the home contains one.",
-            "7 mailboxes: 1 done, 6 left; 1 message, 9 bytes in 0 s; interrupted",
-        ]
-        self.assertEqual(self.end_of(reasons, Status.LEFT, "interrupted"), wanted)
-
-    def test_of_one_its_row_says_it(self) -> None:
-        for count, lines, status in ((0, 1, Status.WELL), (1, 1, Status.LATER), (2, 2, Status.LATER)):
-            self.assertEqual(len(self.end_of([Reason.LOCKED] * count, status)), lines)
-
     def test_the_status_is_that_of_the_worst_reason(self) -> None:
         """Another run settles what is locked or changed; a human everything else, as a full disk."""
         rows: list[tuple[list[Optional[Reason]], int]] = [
@@ -137,14 +119,6 @@ class GroupsTest(unittest.TestCase):
         ]
         for reasons, status in rows:
             self.end_of(reasons, Status(status))
-
-    def test_no_row_and_no_command_has_this_form(self) -> None:
-        """A group has two blanks before it: no row begins with one, and what stands below a row has four or more."""
-        out = "".join(line + "\n" for line in self.end_of(list(Reason), Status.LEFT))
-        self.assertEqual(len(groups_in(out)), len(Reason))
-        self.assertEqual([printed.below for printed in rows_in(out)], [[]])
-        for name in (b"  2 left (link): It is.", b" x", b"\t", b"  "):
-            self.assertFalse(reporting.head_of(Row(name, b"", "", 1, Fate.LEFT)).startswith(" "))
 
 
 class SumTest(unittest.TestCase):

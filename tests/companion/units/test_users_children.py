@@ -41,8 +41,8 @@ class ChildTest(unittest.TestCase):
             b'["row", "a", "b", "c", 1, "left", "", "no word", null, [], [], []]',
             b'["row", "a", "b", "c", 1, "left", "", "link", -1, [], [], []]',
             b'["row", "a", "b", "c", 1, "fine", "", null, null, [], [], []]',
-            b'["row", "a", "b", "c", Infinity, "done", "", null, null, [], [], []]',
-            b'["row", "\\ud800", "b", "\\ud800", 1, "done", "", null, null, [], [], []]',
+            b'["row", "a", "b", "c", Infinity, "done", "", null, "", null, [], [], []]',
+            b'["row", "\\ud800", "b", "\\ud800", 1, "done", "", null, "", null, [], [], []]',
             b'["at"]',
             b'["at", ["a"], 1, 2]',
             b'["at", "reading", Infinity, 1]',
@@ -55,9 +55,9 @@ class ChildTest(unittest.TestCase):
             b'["ask", "make", 0]',
             b'["then"]',
             b'["then", [["answer"]]]',
-            b'["row", "a", "b", "c", 1.5, "done", "", null, null, [], [], []]',
-            b'["row", "a", "b", "c", -1, "done", "", null, null, [], [], []]',
-            b'["row", "a", "b", "c", %s, "done", "", null, null, [], [], []]' % (b"9" * 400),
+            b'["row", "a", "b", "c", 1.5, "done", "", null, "", null, [], [], []]',
+            b'["row", "a", "b", "c", -1, "done", "", null, "", null, [], [], []]',
+            b'["row", "a", "b", "c", %s, "done", "", null, "", null, [], [], []]' % (b"9" * 400),
             b'["at", "%s"]' % (b"x" * LONGEST),
         )
         reporter = mock.Mock(spec=Reporter, wraps=Reporter())
@@ -74,7 +74,7 @@ class ChildTest(unittest.TestCase):
         reporter = mock.Mock(spec=Observer)
         self.child.take_line(b'["at", "reading", 1, 2]', reporter)
         reporter.progress.assert_called_once_with("mia", "reading", 1, 2)
-        self.child.take_line(b'["row", "mail/a", ".a", "", 1, "done", "", null, null, [], [], []]', reporter)
+        self.child.take_line(b'["row", "mail/a", ".a", "", 1, "done", "", null, "", null, [], [], []]', reporter)
         self.assertEqual(reporter.row.call_args[0][1], "mia")
         self.assertEqual(reporter.row.call_args[0][0].path, b"mail/a")
         self.child.take_line(b'["end", 1]', reporter)

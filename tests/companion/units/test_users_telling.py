@@ -36,12 +36,12 @@ class TellerTest(unittest.TestCase):
     def test_rows(self) -> None:
         self.teller.row(ROW)
         self.teller.end()
-        row = [".Sent", "mboxrd or mboxo", 3, "done", "", None, None, *NOTHING]
+        row = [".Sent", "mboxrd or mboxo", 3, "done", "", None, "", None, *NOTHING]
         self.assertEqual(self.lines(), [["row", "/home/mia/a\nb"] + row, ["end", 1]])
 
     def test_letters_that_are_none(self) -> None:
         self.teller.row(replace(ROW, kind="caf\udce9", why="\u65e5"))
-        row = [".Sent", "caf\udce9", 3, "done", "\u65e5", None, None, *NOTHING]
+        row = [".Sent", "caf\udce9", 3, "done", "\u65e5", None, "", None, *NOTHING]
         self.assertEqual(self.lines(), [["row", "/home/mia/a\nb"] + row])
 
     def test_a_long_row_fits(self) -> None:
@@ -97,26 +97,26 @@ class RowTest(unittest.TestCase):
         return row_of(json.loads(line.decode())[1:], whose)
 
     def test_a_row_comes_as_it_was_told(self) -> None:
-        words = ["mail/Sent", ".Sent", "mboxcl2", None, "left", "look at it", "unclear", 99, *NOTHING]
+        words = ["mail/Sent", ".Sent", "mboxcl2", None, "left", "look at it", "unclear", "", 99, *NOTHING]
         row = Row(b"mail/Sent", b".Sent", "mboxcl2", None, Fate.LEFT, "look at it", Reason.UNCLEAR, 99)
         self.assertEqual(row_of(words, MIA), row)
         more = replace(row, remarks=(Remark("grew", "it grew"),), quotes=(Quote(7, "From me"), Quote(8, "", True)))
         self.assertEqual(self.heard(more), more)
         spent = replace(more, spent=Spent(70, 3))
         self.assertEqual(self.heard(spent), spent)
-        self.assertRaises(ValueError, row_of, [*words[:8], 70, -3, *NOTHING], MIA)
-        self.assertRaises(TypeError, row_of, [*words[:8], 70, *NOTHING], MIA)
+        self.assertRaises(ValueError, row_of, [*words[:9], 70, -3, *NOTHING], MIA)
+        self.assertRaises(TypeError, row_of, [*words[:9], 70, *NOTHING], MIA)
 
     def test_a_path_comes_with_its_bytes(self) -> None:
         for path in (b"caf\xe9", "caf\u00e9\n".encode(), b"\\xe9", b""):
             self.assertEqual(self.heard(replace(ROW, path=path)).path, path)
         # a letter that stands for no byte
-        self.assertRaises(ValueError, row_of, ["\ud800", "", "", 1, "done", "", None, None, *NOTHING], MIA)
+        self.assertRaises(ValueError, row_of, ["\ud800", "", "", 1, "done", "", None, "", None, *NOTHING], MIA)
 
     def test_what_a_terminal_would_obey_is_escaped(self) -> None:
         bell = "\x1b]0;x\x07"
         more = [[["grew", bell]], [[7, bell, 1]], []]
-        row = row_of(["a", "b", "\x1b[2J", 1, "done", "\x07", None, None, *more], MIA)
+        row = row_of(["a", "b", "\x1b[2J", 1, "done", "\x07", None, "", None, *more], MIA)
         self.assertEqual((row.kind, row.why), ("\\x1b[2J", "\\x07"))
         self.assertEqual((row.remarks[0].says, row.quotes[0].text), ("\\x1b]0;x\\x07",) * 2)
 
@@ -177,7 +177,7 @@ class RowTest(unittest.TestCase):
             ([], [], [["what", "run", None, ["rm"], ""]]),
             ([], [], [["task", "leave", []]] * 65),
         ):
-            words = ["", "", "", 1, "left", "", None, None, remarks, quotes, then]
+            words = ["", "", "", 1, "left", "", None, "", None, remarks, quotes, then]
             with self.assertRaises((ValueError, TypeError, AttributeError, LookupError), msg=words):
                 row_of(words, MIA)
 

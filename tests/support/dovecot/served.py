@@ -162,7 +162,7 @@ class Case:
             if path.is_file() and "Maildir" not in path.parts:
                 os.utime(path, (time.time() - 3600,) * 2)
         names = names or ["inbox"] + ["mail"] * (len(self.folders) > 1)
-        return self.run("mbox2maildir-admin", "migrate", *(words or ["--dovecot"]), into, *names, **settings)
+        return self.run("mbox2maildir-admin", "migrate", "--all", *(words or ["--dovecot"]), into, *names, **settings)
 
     def after(self) -> Shown:
         """What Dovecot shows of the Maildir."""

@@ -1,4 +1,5 @@
 """Compares what a run did with what must become of the names of its world."""
+import base64
 import collections
 import os
 import re
@@ -94,7 +95,7 @@ class Comparison:
             yield f"{thing.shown}: {done} is wanted, and it has no row"
         if row and row.fate not in wanted:
             yield f"{thing.shown}: {done} is wanted: {row.line}"
-        elif row and row.folder not in (thing.folder, None if done == AGAIN else thing.folder):
+        elif row and row.folder not in (for_people(thing.folder), None if done == AGAIN else for_people(thing.folder)):
             yield f"{thing.shown}: the folder {thing.folder} is wanted: {row.line}"
         elif row and done != AGAIN and thing.says not in row.line:
             yield f"{thing.shown}: its row does not say {thing.says!r}: {row.line}"
@@ -205,3 +206,16 @@ def differences(world: World, is_dry: bool = False) -> list[str]:
     """Runs a world, after a run that makes nothing if that is wanted. Returns what is wrong."""
     wrong = [f"--dry-run: {line}" for line in wrong_dry_run(world)] if is_dry else []
     return wrong or list(wrong_runs(world))
+
+
+def for_people(folder: Optional[str]) -> Optional[str]:
+    """The name of a folder as a row prints it: without modified UTF-7, and without what a terminal would obey."""
+    if folder is None:
+        return None
+    text = re.sub("&([A-Za-z0-9+,]*)-", lambda found: of_base64(found[1]) if found[1] else "&", folder)
+    return "".join(one if one.isprintable() else "".join(map("\\x{:02x}".format, one.encode())) for one in text)
+
+
+def of_base64(text: str) -> str:
+    """The letters that modified UTF-7 writes so."""
+    return base64.b64decode(text.replace(",", "/") + "=" * (-len(text) % 4)).decode("utf-16-be")

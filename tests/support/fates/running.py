@@ -91,6 +91,7 @@ def migrate(world: World, options: Sequence[str] = (), start: Sequence[str] = ()
         *start,
         str(world.home.parent / "bin" / COMPANION),
         "migrate",
+        "--all",
         *options,
         *world.options,
         "--",

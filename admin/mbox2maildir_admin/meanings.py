@@ -1,0 +1,209 @@
+"""What the words of rows mean for a reader, and what to do: `explain` and docs/LEFT.md have it from here, and so has
+what is printed of a remark."""
+import enum
+
+from .faults import Reason
+
+
+class Weight(enum.Enum):
+    """What a remark asks of a reader: a look; nothing, but it is counted; or nothing, and only --all prints it."""
+
+    LOOK, COUNT, SILENT = "look", "count", "silent"
+
+
+# what is to be done about each reason why something is left, as docs/LEFT.md has it
+TO_DO = {
+    Reason.OTHER: "Read the line",
+    Reason.ERROR: (
+        "Make room, raise the quota, or correct the permissions. `folder call n failed` is one of [the program's "
+        "errors](#errors-of-mbox2maildir)"
+    ),
+    Reason.UNCLEAR: "Look at the line of mail, and run [the right command](#decisions)",
+    Reason.LABELS: "Its command. If there is none, migrate the mailbox without `--labels`",
+    Reason.OTHER_KIND: "Its command, which [makes a mailbox of it](FORMATS.md#files-of-another-format)",
+    Reason.NOT_KNOWN: (
+        "Its command, `file`, says more. If it holds no mail, add `--no-mail PATTERN`, once: later runs pass over the"
+        " file as long as its path and its bytes stay the same. PATTERN is a shell pattern for the path below MAILBOX"
+        " or below the home, such as `mail/notes.txt`. If PATTERN is the whole path of a file, that file is passed "
+        "over unless it is mbox text"
+    ),
+    Reason.PACKED: (
+        "Find a complete copy, [unpack it](FORMATS.md#compressed-files), or install the program that the line names"
+    ),
+    Reason.COPY: "[Move the copy away](FORMATS.md#copies), or its command",
+    Reason.LEFT_BEHIND: "Remove it",
+    Reason.LINK: (
+        "[Migrate what it leads to](FORMATS.md#symbolic-links). If it leads nowhere, remove it. In the spool, put the"
+        " file itself there. If the link stands for a Maildir or a folder of mailboxes, name the real one by "
+        "`--maildir` or `--tree`"
+    ),
+    Reason.MISSING: (
+        "Correct the name. If `back --users` finds nothing where a user's mailboxes were, take [that user](BACK.md) "
+        "back alone, by the paths where they are"
+    ),
+    Reason.WORDS: "Put the path in quotes. To name the files `a` and `b` beside a file `a b`, write `./a ./b`",
+    Reason.NO_FILE: "Remove it: a FIFO or a socket holds no mail",
+    Reason.HOLES: "Find a complete copy",
+    Reason.MAILDIR: "Its command, or move its files as the line says",
+    Reason.MH: "Its command, then move the folder away",
+    Reason.LOCKED: "End that program. A `.lock` file counts for 20 minutes",
+    Reason.CHANGED: "Stop that program",
+    Reason.NO_FOLDER: "Give it a folder by `--folder NAME`, or run one of its commands",
+    Reason.NOT_OWN: "Its command. If there is none, name a folder of the user's own, or run `migrate` as the owner",
+    Reason.NO_ROOM: "Make room, or raise the quota",
+    Reason.NO_SYNC: (
+        "A power cut could take its mail away. Name the Maildir by its path on another [file "
+        "system](LARGE.md#file-systems), or add `--any-disk`"
+    ),
+    Reason.PARTLY_THERE: (
+        "Restore the folder's [ledger](LEDGER.md). Otherwise its command, which stores what is nowhere, also what was"
+        " deleted"
+    ),
+    Reason.REWRITTEN: (
+        "More than a tenth of it was replaced. If it is another mailbox, give it a path of its own. Otherwise its "
+        "command"
+    ),
+    Reason.LEDGER: (
+        "Restore the newest `mbox2maildir-messages`; if others may write to it, look at it and `chmod 600` it; if "
+        "another version wrote it, finish with that version. Otherwise its command, which brings back deleted mail"
+    ),
+    Reason.ANOTHER_READING: (
+        "Its command. It either goes on as before, or undoes the mailbox. After an undo, migrate the mailbox as you "
+        "meant to"
+    ),
+    Reason.CUT: "Its command, which removes the file of the incomplete message. Then run `migrate` again",
+    Reason.NUMBERED: (
+        "Dovecot has given the folder UIDs, or the folder has another mailbox's UIDs, while this mailbox has UIDs of "
+        "its own. Its command migrates without `--dovecot`"
+    ),
+    Reason.PREPARED: "Its command. [A table](LARGE.md#prepare) has what can be prepared",
+    Reason.SUBSCRIPTIONS: "Its command, which adds the missing lines",
+    Reason.WRONG_LINES: "Give the numbers that `kind` prints",
+    Reason.MISREAD: "Run the same command again. If the reason is the same again, keep the file, and report it",
+    Reason.CONVERT_FAILED: (
+        "If it was killed, run the same command again. Otherwise look the program's line up in [its "
+        "errors](#errors-of-mbox2maildir), or install the program"
+    ),
+    Reason.SYNC_FAILED: "Remount the disk and check it, then run the command with `--again`",
+    Reason.NOT_VERIFIED: "Remove a second copy. For the rest see [`verify`](SERVER.md#afterwards)",
+    Reason.NOT_HELD: "The mail stays in the Maildir: copy by hand the files that the line names",
+    Reason.TORN: "The whole message was appended again. Remove the cut one, which begins at the line that is named",
+    Reason.UNDO: (
+        "Its command. If the ledger is older than the record, first run `migrate --again` for the mailbox that is "
+        "named"
+    ),
+    Reason.NO_MAILDIR: (
+        "Name another Maildir, or move away what is there. For `verify`, migrate the mailbox first. `back --users` "
+        "leaves users with mailboxes who were never migrated: name all others by `--names`"
+    ),
+    Reason.RECORD: (
+        "Look at `mbox2maildir-record`, and move it away if it is not yours. If its disk has no locks, migrate [onto "
+        "another disk](LARGE.md#nfs). If another version wrote it, as the line says, finish with that version, or "
+        "move it away and run `migrate --again`"
+    ),
+    Reason.NO_USER: "Find out whose mail it is. If it is nobody's, [move it away](SERVER.md#nobodys)",
+    Reason.SYSTEM_ACCOUNT: "Name it on the command line, or choose a Maildir for it, as the line says",
+    Reason.NO_MAILBOX: "Correct the name",
+    Reason.OTHER_OWNER: "In a spool, give the file to its user. Otherwise run `migrate` as the owner",
+    Reason.SAME_USER: (
+        "Its command, with a folder of your choice, such as `info` for a mailbox `info` that belongs to mia"
+    ),
+    Reason.HOME: "Mount it, or correct its owner or mode. If there is none, [make one](SERVER.md#nobodys)",
+    Reason.PROCESS: "Run the same command again",
+    Reason.DEFECT: "Report it, with the line",
+}
+# of each sort, the remarks by their words
+LOOK = {
+    "already-gone": "Messages that were to be removed were gone before.",
+    "beside": "Mail that went back stands in a mailbox beside this one, which could not take it.",
+    "came-back": "Mail that people had deleted may be there again. Look at the newest files of the folder.",
+    "contradicted": "It was done with another reading than this option names. To read it so, undo it first.",
+    "deleted-kept": "Not every message has Thunderbird's mark, so none was left out as deleted.",
+    "deleted-left-out": "Mail that Thunderbird had marked as deleted was left out.",
+    "double": "A message of it is there more than once.",
+    "doubtful-line": "Lines in it may begin messages that were not counted.",
+    "elsewhere": "It went into another folder before. Its command removes it there.",
+    "first-appears": "A message in which an IMAP server kept its own notes is now shown as mail. Delete it.",
+    "flags-differ": "A message has flags here that its file lacks, because another mailbox brought it.",
+    "folder-gone": "The folder was removed. If nobody meant that, migrate the mailbox with --again.",
+    "gone": "Mail that it brought was deleted in the Maildir.",
+    "gone-elsewhere": "Mail that another mailbox brought too was deleted in the Maildir. Its command brings it back.",
+    "kept-edited": "Somebody edited a file that was prepared. It stays beside the message: delete one of them.",
+    "kept-foreign": "Files stay that belong to no mailbox.",
+    "kept-former": "Messages stay that another mailbox brought too.",
+    "kept-lost": "Messages stay that are no longer in the mailbox.",
+    "kept-renamed": "Files stay that another program renamed.",
+    "kept-shared": "Messages stay that other mailboxes have too.",
+    "keywords-lost": "Dovecot keeps 26 keywords of a folder. The others are gone.",
+    "ledger-gone": "The ledger of the folder was removed. `verify` says whether all mail is there.",
+    "ledger-older": "The ledger is older than the record, as after a restored backup: mail may be missing.",
+    "mailbox-gone": "The mailbox was removed after it was prepared.",
+    "moved": "Mail that people moved to another folder stays in the mailbox that has it.",
+    "no-line-end": "Its last line has no line end. Check that the file is complete.",
+    "nowhere": "A message of it is not there.",
+    "only-prepared": "The folder is prepared, but no mailbox of this command goes there. Name its mailbox too.",
+    "other-bytes": "A file has other bytes than its message.",
+    "other-owner": "A file belongs to another user, who may be the only one who can read it.",
+    "power-cut": "On this disk, a power cut could take mail away.",
+    "removed": "Messages were removed.",
+    "unread": "Messages came unread, because no known label says that they were read. --label NAME=read says so.",
+    "uids-not-raised": "Clients could miss new mail. Run its command while Dovecot still has its old settings.",
+}
+COUNTED = {
+    "after-nulls": "NUL bytes before its text, as after a crash, were left out.",
+    "fields-left-out": "Header fields that a mail program or Dovecot writes for itself were left out.",
+    "flags": "Flags were taken from header fields of a mail program.",
+    "joined": "The folder has the mail of another mailbox too.",
+    "joins": "INBOX has the mail of another mailbox too.",
+    "keeps-quote": "A `>` before `From ` was taken for the mail's own, and stays. --as mboxcl removes it.",
+    "labelled": "It has Gmail's labels. With --labels, they become folders.",
+    "loses-quote": "A `>` before `From ` was taken for an escape, and removed. --as mboxo keeps that of `>>From `.",
+    "lost": "Mail that it brought is no longer in it. It stays in the Maildir.",
+    "marked": "Mail was placed beside a file of it that is marked as deleted.",
+    "name-before": "The folder had another name in Dovecot, which a Maildir cannot have.",
+    "new-uids": "Some messages have new UIDs: clients fetch them again.",
+    "no-uids": "No IMAP client has seen it so far, so there are no UIDs to keep.",
+    "old-lock": "A lock that nobody holds any more was passed over.",
+    "other-form": "Some of its mail is there with other `>` or line ends, from another mailbox.",
+    "other-programs": "Other programs had put mail into the folder. It stays.",
+    "regained": "Mail that was gone from it is in it again.",
+    "shared": "Another mailbox brought some of its mail too. It is there once.",
+    "there-already": "Some of its mail was there already.",
+    "uids-anew": "All messages have new UIDs: clients fetch them again.",
+    "uids-of-new": "Dovecot gives UIDs to what is new.",
+    "uids-raised": "The next UID was raised, so that none is given twice.",
+    "unlabelled": "A label was taken from mail in Gmail since. The mail stays in the folder.",
+    "without-date": "Some messages have no date: their files have today's.",
+    "without-uids": "Its UIDs are not kept: clients fetch its mail again.",
+}
+SILENT = {
+    "also-named": "Several names lead to it. It was done once.",
+    "as-answered": "It was read by the answer of an earlier run.",
+    "as-brought": "It was read as when it was done before.",
+    "by-no-mail": "It was passed over by --no-mail.",
+    "changed": "Messages stand in it that were changed in the Maildir. The last line counts them.",
+    "copy": "It is a copy of another file.",
+    "dated-by-header": "Files have the dates of the header Date, since their From_ lines have none.",
+    "deleted": "Messages stand in it that were deleted in the Maildir. The last line counts them.",
+    "grew": "It has new mail.",
+    "keywords-added": "Keywords were added.",
+    "kind": "What it is.",
+    "no-mail": "It holds no mail.",
+    "no-mail-noted": "An earlier run passed over it by --no-mail.",
+    "placed": "Messages that were nowhere were placed.",
+    "prepared-before": "Mail was there from an earlier pass.",
+    "same-file": "It is the same file as another one.",
+    "same-folder": "Labels that differ only in how they are written have one folder.",
+    "subscriptions": "Subscriptions were carried over.",
+    "without-internal": "The message in which Dovecot kept its own notes was left out.",
+}
+REMARKS = {
+    word: (weight, says)
+    for weight, words in ((Weight.LOOK, LOOK), (Weight.COUNT, COUNTED), (Weight.SILENT, SILENT))
+    for word, says in words.items()
+}
+
+
+def weight_of(word: str) -> Weight:
+    """What a remark of this word asks of a reader."""
+    return REMARKS[word][0]

@@ -1,0 +1,208 @@
+"""The last block of what is printed: what is left, and what asks for a look, in groups, each command once."""
+import glob
+from collections.abc import Iterable, Iterator, Sequence
+from typing import NamedTuple, Optional
+
+from .. import ADMIN
+from ..faults import Reason
+from ..maildir.folders import folder_shown
+from ..mbox.lines import AROUND
+from ..meanings import Weight, weight_of
+from ..nexts import BELOW, COMMAND, Answer, Command, Does, Quote, Remark, Task, Todo, lines_below
+from ..terminal import named, operand, option, text_of
+from ..units import counted
+from .outcomes import Fate, Row
+
+# how many mailboxes one answer is for at most, so that a human looks at each of them
+MOST_ALIKE = 20
+# how many of the other mailboxes of a group are named, and how many lines of a single one are shown
+SHOWN, SHOWN_LINES = 20, 2
+# the letters by which answers are chosen on a terminal
+LETTERS = "abcdefghijk"
+# the words with which the command of an answer begins
+MIGRATE = (ADMIN, "migrate")
+# answers that are about lines, and those that are about folders and not about what a text is
+ON_LINES = Does.BEGINS, Does.BELONGS, Does.BEGINS_DROP, Does.BELONGS_DROP
+FOLDERS = Does.OWN_FOLDER, Does.JOINS_INBOX, Does.LABEL_NONE, Does.LABEL_FOLDER, Does.LABEL_READ, Does.ALL, Does.ONE
+WITHIN = "  "
+
+
+class Typed(NamedTuple):
+    """The command that runs, without its answers to questions: its options, and its operands. Of many users it takes
+    the names of some, if it has none."""
+
+    options: Sequence[str]
+    operands: Sequence[bytes]
+    takes_users: bool = False
+
+    def command(self, options: Iterable[str], users: Iterable[str] = ()) -> Command:
+        """The same command with more options, for some users."""
+        names = dict.fromkeys(users) if self.takes_users else ()
+        return Command.of(*MIGRATE, *options, *self.options, *map(operand, self.operands), *names)
+
+
+class Entry(NamedTuple):
+    """A row that has its place in the block, and its user, if it is that of one of many."""
+
+    row: Row
+    user: Optional[str] = None
+
+    def name(self) -> str:
+        """The user and the mailbox, or INBOX for that of the spool."""
+        row = self.row
+        path = named(row.path) if row.path else folder_shown(row.folder) if row.folder else ""
+        return " ".join(filter(None, [named(self.user) if self.user is not None else "", path]))
+
+    def answers(self) -> list[Answer]:
+        """The answers to what is asked about it. There are none if nothing is asked about it."""
+        steps = (one for one in self.row.next if isinstance(one, Answer) and one.command.words[:2] == MIGRATE)
+        return [one for one in steps if self.row.reason is Reason.UNCLEAR or one.does in FOLDERS]
+
+    def question(self) -> object:
+        """What is the same in all rows of a group: why they are left, and what is to be done or answered."""
+        row, is_asked = self.row, bool(self.answers())
+        steps = [(one.todo,) if isinstance(one, Task) else (one.does, *decided(one)[:2]) for one in row.next]
+        return row.left_for, row.fate is Fate.NOT_WHOLE, is_asked and row.kind, *steps
+
+    def detail(self) -> str:
+        """What is said of it alone: how many messages its answers give, why it is left, and the line that this is
+        about."""
+        row, asked = self.row, [one for one in self.row.quotes if not one.is_around]
+        counts = dict.fromkeys(str(one.messages) for one in self.answers() if one.messages is not None)
+        several = ["%s messages" % " or ".join(counts)] if len(counts) > 1 else []
+        says = "; ".join(filter(None, [row.why, *(one.says for one in looks_of(row))]))
+        line = ["%s: %s" % (says or "line %d" % one.line, one.text) for one in asked[:1]]
+        return ": ".join(filter(None, [*several, *(line or [says])]))
+
+
+def looks_of(row: Row) -> tuple[Remark, ...]:
+    """The remarks that ask for a look."""
+    return tuple(one for one in row.remarks if weight_of(one.word) is Weight.LOOK)
+
+
+class Decided(NamedTuple):
+    """What an answer decides that serves other mailboxes too: the format, whether deleted mail is left out, and its
+    tie."""
+
+    word: str = ""
+    drop: bool = False
+    tie: str = ""
+
+
+def decided(answer: Answer) -> Decided:
+    """What an answer decides; nothing if it names lines."""
+    words = answer.command.words
+    if {"--text", "--begin"} & set(words):
+        return Decided()
+    word, tie = (words[words.index(name) + 1] if name in words else "" for name in ("--as", "--of"))
+    return Decided(word, "--drop-deleted" in words, tie)
+
+
+class Group(NamedTuple):
+    """Rows with the same question, by user and path."""
+
+    entries: Sequence[Entry]
+
+    @property
+    def row(self) -> Row:
+        """The first row."""
+        return self.entries[0].row
+
+    def lines(self, typed: Optional[Typed], is_asked: bool = False, has_quotes: bool = True) -> Iterator[str]:
+        """The lines of the group: of a single mailbox with the lines of mail that it is about, of several only where a
+        human asks for that. Where a human is asked, each answer has its letter."""
+        at_once = list(self.at_once(typed)) if typed and len(self.entries) > 1 else []
+        steps = at_once or list(self.steps(is_asked))
+        is_cut = not self.entries[0].answers() and (at_once or not any(line.startswith(COMMAND) for line in steps))
+        yield self.title()
+        named_here = self.entries[: SHOWN if is_cut else None]
+        width = min(40, max(len(one.name()) for one in named_here))
+        for one in named_here:
+            yield ("%s%-*s  %s" % (WITHIN, width, one.name(), one.detail())).rstrip()
+            if len(self.entries) == 1 or is_asked and has_quotes:
+                yield from lines_below(one.row.quotes if is_asked else first_of(one.row.quotes), ())
+        if len(named_here) < len(self.entries):
+            yield "%sand %d more (--all names them)" % (WITHIN, len(self.entries) - len(named_here))
+        yield from steps
+
+    def title(self) -> str:
+        """Why the rows are there, and how many they are."""
+        row, count = self.row, len(self.entries)
+        several = "%d mailbox%s" % (count, "" if count == 1 else "es")
+        if not row.left_for:
+            return "%s: %s" % (row.fate.value if row.fate is Fate.NOT_WHOLE else "look at", several)
+        if any(one.does in ON_LINES for one in self.entries[0].answers()):
+            return "%s: %s (%s): does a mail begin at the line that is shown?" % (row.word, several, row.kind)
+        return ("%s: %s: %s %s" % (row.word, several, row.left_for.says, row.left_for.serves)).rstrip()
+
+    def at_once(self, typed: Typed) -> Iterator[str]:
+        """What is to be done about all rows by one command, or by one for each answer; nothing if there is none."""
+        if self.row.reason is Reason.NOT_KNOWN and Task(Todo.PASS_OVER) in self.row.next:
+            yield BELOW + "if none of them holds mail, pass over all of them:"
+            yield COMMAND + typed.command(self.no_mail()).line()
+        answers = list(zip(*(one.answers() for one in self.entries)))
+        if all(decided(one).tie for several in answers for one in several):
+            users = [text_of(one.user) for one in self.entries if one.user is not None]
+            for several in answers:
+                word, drop, _ = decided(several[0])
+                ties = ",".join(dict.fromkeys(decided(one).tie for one in several))
+                words = ["--as", word] * bool(word) + ["--drop-deleted"] * drop + ["--of", ties]
+                yield "%s%s:" % (BELOW, together(several).sentence())
+                yield COMMAND + typed.command(words, users).line()
+
+    def no_mail(self) -> Iterator[str]:
+        """The options that pass over the files. Of many users they are patterns for paths below the home."""
+        for one in dict.fromkeys((entry.row.path, entry.user is None) for entry in self.entries):
+            path, is_own = one
+            yield from option("--no-mail", path if is_own else glob.escape(path))
+
+    def steps(self, is_asked: bool) -> Iterator[str]:
+        """What is to be done, step by step: each sentence once, with the command of each row."""
+        letters = iter(LETTERS) if is_asked else None
+        for several in zip(*(one.row.next for one in self.entries)):
+            answers = [one for one in several if isinstance(one, Answer)]
+            if answers:
+                letter = "%s: " % next(letters) if letters else ""
+                yield "%s%s%s:" % (BELOW, letter, together(answers).sentence())
+            else:
+                yield from dict.fromkeys(BELOW + one.sentence() for one in several)
+            yield from dict.fromkeys(COMMAND + one.command.line() for one in answers)
+
+
+def together(answers: Sequence[Answer]) -> Answer:
+    """The same answer to several questions, with how many messages it gives to all of them, if that is known."""
+    known = [one.messages for one in answers if one.messages is not None]
+    return answers[0]._replace(messages=sum(known) if len(known) == len(answers) else None)
+
+
+def first_of(quotes: Sequence[Quote]) -> Sequence[Quote]:
+    """The first lines that are asked about, with those around them."""
+    asked = [place for place, one in enumerate(quotes) if not one.is_around]
+    if len(asked) <= SHOWN_LINES:
+        return quotes
+    last = asked[SHOWN_LINES - 1]
+    return quotes[: min(last + AROUND + 1, asked[SHOWN_LINES])]
+
+
+def groups_of(entries: Iterable[Entry]) -> list[Group]:
+    """Rows by their reasons and questions; those that only ask for a look come last."""
+    places, groups = list(Reason), dict[str, list[Entry]]()
+    for one in sorted(entries, key=lambda one: (one.user or "", one.row.path)):
+        groups.setdefault(repr(one.question()), []).append(one)
+    found = sorted(groups.values(), key=lambda several: place_of(places, several[0].row))
+    return [
+        Group(several[at : at + most])
+        for several in found
+        for most in [most_of(several)]
+        for at in range(0, len(several), most)
+    ]
+
+
+def place_of(reasons: Sequence[Reason], row: Row) -> int:
+    """The place of a row among others, by its reason."""
+    return reasons.index(row.left_for) if row.left_for else len(reasons)
+
+
+def most_of(entries: Sequence[Entry]) -> int:
+    """How many of these rows are in one group at most."""
+    return MOST_ALIKE if entries[0].answers() else len(entries)

@@ -1,0 +1,198 @@
+#!/usr/bin/env python3
+"""The last block of what mbox2maildir-admin migrate prints: what is left and what asks for a look, in groups, each
+command once. The commands of groups are run as they are printed."""
+import json
+import os
+import subprocess
+from pathlib import Path
+
+from tests.companion.spool import theirs, users
+from tests.support.checks import equal, matches
+from tests.support.homes import ADMIN, check_all, expect, mail_in, mailbox, run, run_whole, want_users
+from tests.support.mail import A, B, C, ONE
+from tests.support.printed import groups_in
+from tests.support.schema import SCHEMA
+
+TITLE = "unclear: {} (not quoted): does a mail begin at the line that is shown?".format
+ASKED = "1 or 2 messages: line 5: a line `From ` without a date at its end: From the garden, {}"
+BELONGS, BEGINS = "this belongs to the mail above", "a mail begins here"
+
+
+def asked(number: int) -> bytes:
+    """A mailbox about which is asked whether a mail begins at its line 5."""
+    return C.replace(b"carla", b"carla%d" % number) + b"\nFrom the garden, %d\nyes\n\n" % number
+
+
+def few(words: list[str], home: Path) -> tuple[int, str, str]:
+    """Runs the companion as a person does, without whole rows."""
+    return run([str(home / "bin/mbox2maildir-admin"), *words], home)
+
+
+def printed(command: str, home: Path) -> tuple[int, str, str]:
+    """Runs a command as it is printed. Returns its status, and what it printed on both streams."""
+    env = {"PATH": f"{home}/bin:{os.environ['PATH']}", "LC_ALL": "C.UTF-8"}
+    ran = subprocess.run(["sh", "-c", command], cwd=home, env=env, capture_output=True, check=False)
+    return ran.returncode, ran.stdout.decode(), ran.stderr.decode()
+
+
+def one_mailbox(home: Path) -> None:
+    """A command with one mailbox prints its row, with what asks for a look in it, and no block."""
+    mailbox(home / "sound", ONE)
+    mailbox(home / "cut", ONE.rstrip(b"\n"))
+    mailbox(home / "asked", asked(1))
+    row = "{} -> INBOX: mboxrd or mboxo, messages 1: would be done{}\n1 mailbox: 1 would be done\n".format
+    for name, looks in (("sound", ""), ("cut", ", its last line has no line end: check that the file is complete")):
+        equal(name, few(["migrate", "--dry-run", "M", name], home), (0, row(name, looks), ""))
+    status, out, _ = few(["migrate", "--dry-run", "M", "asked"], home)
+    equal("a question: status, and groups", (status, groups_in(out)), (1, []))
+    matches("a question", out.splitlines()[0], "asked -> INBOX: not quoted, messages 1: left (unclear): line 5: ...")
+
+
+def groups(home: Path) -> None:
+    """Each mailbox that changed has a bare row, with its folder's name for people. What is left stands in the block
+    once: by its reason and its question, by its path, with one command for all of a group."""
+    for number in range(3):
+        mailbox(home / f"old/ask{number}", asked(number))
+    for name, text in (("sound", ONE), ("Gr&APwA3w-e", ONE), ("cut", ONE.rstrip(b"\n"))):
+        mailbox(home / "old" / name, text)
+    for name, text in (("notes", b"milk\nbread\n"), ("blob", b"\0\1\2"), ("draft", b"hello\nSubject: x\n")):
+        mailbox(home / "old" / name, text)
+    os.mkfifo(home / "old/pipe")
+    status, out, err = few(["migrate", "--now", "M", "old"], home)
+    equal("status and errors", (status, err), (1, ""))
+    rows = [
+        f"old/{name}: messages 1: done" for name in ("Gr&APwA3w-e -> Gr\u00fc\u00dfe", "cut -> cut", "sound -> sound")
+    ]
+    equal("rows", out.split("\n\n")[0].splitlines(), rows)
+    question, not_known, alone, no_file, look = groups_in(out)
+    equal("a question", question.title, TITLE("3 mailboxes"))
+    equal("its mailboxes", question.rows, {f"old/ask{number}": ASKED.format(number) for number in range(3)})
+    equal(
+        "its answers",
+        [reply.says for reply in question.answers()],
+        [f"{BELONGS}: 3 messages:", f"{BEGINS}: 6 messages:"],
+    )
+    equal("looks like mail", (alone.word, alone.rows), ("not-known", {"old/draft": "line 1: hello"}))
+    assert "--no-mail" not in "".join(alone.commands), alone
+    equal("not known", not_known.rows, {"old/blob": "line 1: \\x00\\x01\\x02", "old/notes": "line 1: milk"})
+    wanted = "mbox2maildir-admin migrate --no-mail old/blob --no-mail old/notes --now M old"
+    equal("its command", not_known.commands, [wanted])
+    equal("no file", (no_file.word, no_file.rows), ("no-file", {"old/pipe": "it is not a regular file"}))
+    equal("a look", (look.title, look.rows), ("look at: 1 mailbox", {"old/cut": look.rows["old/cut"]}))
+    last = out.splitlines()[-1]
+    equal("the sum", last, "10 mailboxes: 3 done, 7 left")
+    status, out, _ = printed(not_known.commands[0], home)
+    equal(
+        "what was passed over is left no more",
+        [one.word for one in groups_in(out)],
+        ["unclear", "not-known", "no-file"],
+    )
+
+
+def one_answer_for_many(home: Path) -> None:
+    """The command of a group decides about its questions, and about nothing else: a question without its tie is asked
+    as before, and a later run needs no answer. A tie that no question has is named."""
+    for number in range(3):
+        mailbox(home / f"old/ask{number}", asked(number))
+    mailbox(home / "old/quoted", A + b"\n>>From me\n>From you\n\n" + B + b"\nhello\n\n")
+    _, out, _ = few(["migrate", "--now", "M", "old"], home)
+    (question,) = groups_in(out)
+    begins = question.answers()[1].command
+    ties = begins.split("--of ")[1].split()[0]
+    first, second, third = ties.split(",")
+    status, out, err = printed(begins.replace(ties, f"{first},{third},0123456789abcdef"), home)
+    equal(
+        "two of three: status and what is left", (status, [[*one.rows] for one in groups_in(out)]), (1, [["old/ask1"]])
+    )
+    matches("two of three", out.splitlines()[-1], "4 mailboxes: 2 done, 1 done before, 1 left; ...")
+    matches("a tie of nothing", err, "mbox2maildir-admin: --of 0123456789abcdef: no question has this tie: ...\n")
+    folders = {number: len(list(mail_in(home / f"M/.ask{number}"))) for number in (0, 2)}
+    equal("their messages", folders, {0: 2, 2: 2})
+    _, out, _ = run(["migrate", "--now", "M", "old"], home)
+    assert f"--of {second} " in out and "--of" not in out.replace(f"--of {second} ", ""), out
+    mailbox(home / "old/ask1", asked(1) + b"From the shed\n\n")
+    status, out, err = printed(begins.replace(ties, f"{second},{first}"), home)
+    matches(
+        "a question that has changed",
+        err,
+        f"mbox2maildir-admin: --of {second},{first}: no question has this tie: ...\n",
+    )
+    assert "line 5: " in out and status == 1, out
+    expect(["migrate", "--as", "mboxo", "--of", "1,2", "--text", "3", "M", "old"], home, 2, "", None)
+
+
+def many_of_one_kind(home: Path) -> None:
+    """A question is asked about at most twenty mailboxes at once, and all of these are named; of what is left for
+    another reason twenty are named, and the others counted."""
+    for number in range(21):
+        mailbox(home / f"old/ask{number:02}", asked(number))
+    for number in range(23):
+        mailbox(home / f"old/pipe{number:02}", ONE)
+        (home / f"old/pipe{number:02}").unlink()
+        os.mkfifo(home / f"old/pipe{number:02}")
+    _, out, _ = few(["migrate", "--dry-run", "--now", "M", "old"], home)
+    first, second, pipes = groups_in(out)
+    equal("how many", [len(one.rows) for one in (first, second)], [20, 1])
+    equal("titles", [first.title, second.title], [TITLE("20 mailboxes"), TITLE("1 mailbox")])
+    assert pipes.title.startswith("no-file: 23 mailboxes: "), pipes.title
+    assert "\n  old/pipe19  it is not a regular file\n  and 3 more (--all names them)\n" in out, out
+    whole = run(["migrate", "--dry-run", "--now", "M", "old"], home)[1]
+    equal("with --all", whole.count("left (no-file)"), 23)
+
+
+def of_users(home: Path) -> None:
+    """With --users a group is sorted by user, and its command names them. Each user has a line once nothing follows,
+    but not in a rehearsal."""
+    want_users()
+    with users(home):
+        for number, name in enumerate(("m61one", "m61two", "m61three")):
+            theirs(mailbox(home / "spool" / name, asked(number) if number else ONE), name)
+        (home / "spool").chmod(0o711)
+        words = ["migrate", "--users", "--now", "spool"]
+        _, out, _ = few([*words[:2], "--dry-run", *words[2:]], home)
+        assert out.startswith("\nunclear: "), out
+        status, out, err = few(words, home)
+        equal("status and errors", (status, err), (1, ""))
+        lines = sorted(out.split("\n\n")[0].splitlines())
+        left = "{}: 1 mailbox: 1 left".format
+        equal("the lines of users", lines, ["m61one: 1 mailbox: 1 done", left("m61three"), left("m61two")])
+        (group,) = groups_in(out)
+        equal("its mailboxes", [*group.rows], ["m61three INBOX", "m61two INBOX"])
+        command = group.answers()[0].command
+        assert command.endswith(" --users --now spool m61three m61two"), command
+        status, out, _ = printed(command, home)
+        equal("by that command", (status, groups_in(out)), (0, []))
+        expect(words, home, 0, "3 mailboxes: 3 done before; ...\n")
+
+
+def words_of_rows(home: Path) -> None:
+    """`explain` has each word of the schema, in its order, and names a word that is none."""
+    status, out, err = few(["explain"], home)
+    words = [*SCHEMA["$defs"]["reason"]["enum"], *SCHEMA["$defs"]["remark"]["enum"]]
+    equal("all words", (status, [line.split(": ")[0] for line in out.splitlines()], err), (0, words, ""))
+    status, out, err = few(["explain", "locked", "lockd"], home)
+    equal("a word", (status, out[:14]), (1, "locked: left: "))
+    matches("no word", err, "mbox2maildir-admin: lockd: no such word: ...\n")
+
+
+def output_that_ends(home: Path) -> None:
+    """Nothing that was said to be done is lost if the output takes no more."""
+    for number in range(3):
+        mailbox(home / f"old/{number}", ONE)
+    env = {"PATH": f"{home}/bin:{os.environ['PATH']}", "LC_ALL": "C.UTF-8"}
+    ran = subprocess.run(
+        ["sh", "-c", "mbox2maildir-admin migrate --now M old | head -n 1"],
+        cwd=home,
+        env=env,
+        check=False,
+        capture_output=True,
+    )
+    said = ran.stdout.decode()
+    assert said.startswith("old/0 -> 0: messages 1: done"), said
+    again = [json.loads(line) for line in run_whole([ADMIN, "migrate", "--json", "M", "old"], home)[1].splitlines()]
+    fates = {row["path"]: row["verdict"] for row in again if row["type"] == "row"}
+    equal("what was said to be done", fates["old/0"], "done before")
+
+
+if __name__ == "__main__":
+    check_all(one_mailbox, groups, one_answer_for_many, many_of_one_kind, of_users, words_of_rows, output_that_ends)
