@@ -101,5 +101,5 @@ def before(mailbox: Mailbox, offset: int) -> list[bytes]:
 def from_on(mailbox: Mailbox, offset: int) -> list[bytes]:
     """The rest of the line of an offset, and the lines after it up to a line `From `, without empty ones at the end."""
     own, end, rest = mailbox.at(offset, NEAR).partition(b"\n")
-    lines = FIELDS.sub(b"", (end + rest).split(b"\n" + FROM)[0]).split(b"\n")[1:][:AROUND]
+    lines = FIELDS.sub(b"", (end + rest).split(b"\n" + FROM, 1)[0]).split(b"\n")[1:][:AROUND]
     return [own, *b"\n".join(lines).rstrip(b"\n").split(b"\n")]
