@@ -593,8 +593,9 @@ def kinds(home: Path) -> None:
             if then.startswith("migrate"):
                 then = f"mbox2maildir-admin {then} MAILDIR {word}"
             label = "'it\\'s \\x09one.mbox'" if "\t" in name else name
-            first = "    1 | ...\n" if kind == "not known" and not lines and text.split(b"\n")[0] else ""
-            wanted = f"{label}: {kind}\n{first}" + "".join(f"    {line}\n" for line in lines) + labelled(then)
+            if kind == "not known" and not lines and text.split(b"\n")[0]:
+                kind += "\n    1 | ..."
+            wanted = f"{label}: {kind}\n" + "".join(f"    {line}\n" for line in lines) + labelled(then)
             got, out, err = run(["kind", name], home)
             matches(f"kind of {text[:200]!r}", with_quotes(out), wanted)
             equal(f"kind of {text[:200]!r}: status and standard error", (got, err), (status, ""))

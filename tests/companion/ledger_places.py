@@ -30,6 +30,7 @@ from tests.support.archives import (
 )
 from tests.support.cases import Failed
 from tests.support.checks import equal
+from tests.support.homes import hand_over
 from tests.support.ledgers import as_if_killed
 from tests.support.mail import digest_of
 from tests.support.rewriting.runs import Kill
@@ -806,6 +807,7 @@ def rule_9_a_record_was_lost_and_a_folder_renamed(home: Home) -> None:
         home.has(*FIVE, 6, why=row)
     # a copy of a folder has its ledger too
     shutil.copytree(str(home.folder(name)), str(home.folder("Copy")))
+    hand_over(home.folder("Copy"))
     (home.maildir / RECORD).unlink()
     home.done("OLD")
     home.has(*FIVE, 6, name=name)

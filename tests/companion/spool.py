@@ -17,7 +17,7 @@ from tests.support.checks import TOP, equal, match_in, matches, text_of
 from tests.support.homes import ADMIN, check_all, expect, mailbox, run, subjects, want_users
 from tests.support.ledgers import RECORD
 from tests.support.mail import ONE, THREE, TWO, numbered
-from tests.support.printed import groups_in, row_in, rows_in
+from tests.support.printed import row_in, rows_in
 from tests.support.schema import wrong
 
 USERS = ["m61one", "m61two", "m61three"]

@@ -14,7 +14,7 @@ from typing import Optional
 from tests.support.checks import equal, match_in, matches
 from tests.support.homes import ADMIN, check_all, expect, files_of, mailbox, run, want_root
 from tests.support.mail import A, B, ONE
-from tests.support.printed import in_quotes, objects_in, unquoted
+from tests.support.printed import in_quotes, objects_in
 
 MANY = 40_000
 COMMANDS = "kind", "quote", "dates", "migrate", "verify"

@@ -16,7 +16,7 @@ from pathlib import Path
 from tests.support.cases import LeftOut, run_cases
 from tests.support.checks import PATIENCE, TOP, equal
 
-WORDS = ["back", "dates", "kind", "migrate", "quote", "verify"]
+WORDS = ["back", "dates", "explain", "kind", "migrate", "quote", "verify"]
 # a line whose last word is completed, and what is offered
 LINES = [
     ("mbox2maildir ", ["convert", "list", "rewrite"]),

@@ -95,7 +95,7 @@ def mutt_without_a_server(home: Path) -> None:
         "    it becomes this folder:\n        mbox2maildir-admin migrate --folder {0} Maildir {0}\n"
         "    its mail joins that of INBOX:\n        mbox2maildir-admin migrate --folder INBOX Maildir {0}\n"
     )
-    end = "  2 left (no-folder): ...\n3 mailboxes: 1 done, 2 left\n"
+    end = "3 mailboxes: 1 done, 2 left\n"
     row = "mail/mia -> INBOX: mboxrd or mboxo, messages 1: done\n"
     play(
         home,

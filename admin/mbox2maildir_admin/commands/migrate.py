@@ -44,7 +44,7 @@ def do_migrate(given: argparse.Namespace) -> Status:
         tally.notes += [ONLY_PREPARED] * given.prepare
         task(reporter, tally)
         reporter.ask(lambda words: task_of(given.read(words))(reporter, tally))
-        unmet = [tie for tie in given.of.split(",") if tie not in reporter.ties]
+        unmet = [tie for tie in given.of.split(",") if tie not in reporter.kept.ties]
         if "," in given.of and unmet:
             complain(UNMET % ",".join(map(named, unmet)))
 

@@ -83,10 +83,10 @@ class Record(History):
     def to_migrate(cls, maildir: bytes, dry: bool) -> Iterator["Record"]:
         """The same for a migration. A Maildir that is not there is made later, once a mailbox was read; a dry run makes
         nothing."""
-        is_there = has_begun(maildir) and not dry
-        if is_there:
+        is_open = has_begun(maildir) and not dry
+        if is_open:
             make_alone(maildir)
-        with cls.open(maildir, is_there) as record:
+        with cls.open(maildir, is_open) as record:
             yield record
 
     @property

@@ -10,7 +10,6 @@ from ..mbox.lines import AROUND
 from ..meanings import Weight, weight_of
 from ..nexts import BELOW, COMMAND, Answer, Command, Does, Quote, Remark, Task, Todo, lines_below
 from ..terminal import named, operand, option, text_of
-from ..units import counted
 from .outcomes import Fate, Row
 
 # how many mailboxes one answer is for at most, so that a human looks at each of them
@@ -158,11 +157,10 @@ class Group(NamedTuple):
 
     def steps(self, is_asked: bool) -> Iterator[str]:
         """What is to be done, step by step: each sentence once, with the command of each row."""
-        letters = iter(LETTERS) if is_asked else None
-        for several in zip(*(one.row.next for one in self.entries)):
+        for letter, several in zip(LETTERS, zip(*(one.row.next for one in self.entries))):
             answers = [one for one in several if isinstance(one, Answer)]
             if answers:
-                letter = "%s: " % next(letters) if letters else ""
+                letter = "%s: " % letter if is_asked else ""
                 yield "%s%s%s:" % (BELOW, letter, together(answers).sentence())
             else:
                 yield from dict.fromkeys(BELOW + one.sentence() for one in several)

@@ -2,11 +2,14 @@
 from collections.abc import Iterator, Sequence
 from typing import Optional
 
+from ..flags.lacking import lacking_flags
 from ..ledger.gone import left_by_killed
 from ..ledger.ledger import Ledger
+from ..ledger.lines import PLACED
 from ..ledger.match import Match
 from ..ledger.record import unspelled
 from ..maildir.folders import INBOX
+from ..mbox.bases import BASE
 from ..mbox.inventory import Inventory
 from ..nexts import Remark
 from ..readings.reading import Reading
@@ -39,6 +42,19 @@ def remarks_on(one: Bringing, match: Match, ledger: Ledger, dry: bool) -> Iterat
     ):
         if count:
             yield Remark(word, says % counted(count, "message"), count if word == THERE else 0)
+    yield from remarks_on_flags_that_differ(one, match)
+
+
+def remarks_on_flags_that_differ(one: Bringing, match: Match) -> Iterator[Remark]:
+    """What is to be said of messages whose files, which others brought, lack flags."""
+    full = one.contents.full
+    found = ((place, BASE.match(its.name)) for place, its in match.found.items() if its.word != PLACED)
+    offsets = {base[0]: full.offsets[place] for place, base in found if base}
+    if not offsets:
+        return
+    count = lacking_flags(one.opened.folder, full.mailbox, offsets.get, one.contents.is_bare)
+    if count:
+        yield Remark("flags-differ", "%s of these with flags in it that the file lacks" % counted(count, "message"))
 
 
 def remarks_on_new(match: Match) -> Iterator[Remark]:

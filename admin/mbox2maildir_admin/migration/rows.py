@@ -3,7 +3,7 @@ import collections
 import math
 import time
 from collections.abc import Callable, Mapping, Sequence
-from dataclasses import replace
+from dataclasses import dataclass, field, replace
 from types import MappingProxyType
 from typing import NamedTuple, Optional
 
@@ -43,6 +43,18 @@ class Shows(NamedTuple):
     typed: Optional[Typed] = None
 
 
+@dataclass
+class Kept:
+    """What is kept of rows: those that have their place in the last block; how many mailboxes have each remark that is
+    counted; of each user who is at work, how many mailboxes have each fate; and the ties of answers for several
+    mailboxes that decided about one."""
+
+    entries: list[Entry] = field(default_factory=list)
+    noted: collections.Counter[str] = field(default_factory=collections.Counter)
+    users: dict[str, collections.Counter[Fate]] = field(default_factory=dict)
+    ties: set[str] = field(default_factory=set)
+
+
 class Reporter(Observer):
     """Prints rows, how far the mailboxes are, and last what is left. A migration has steps."""
 
@@ -54,13 +66,7 @@ class Reporter(Observer):
         shows: Shows = Shows(Row.is_said),
     ) -> None:
         self.shows = shows
-        # the rows that have their place in the last block; how many mailboxes have each remark that is counted; and, of
-        # each user who is at work, how many mailboxes have each fate
-        self.kept: list[Entry] = []
-        self.noted: collections.Counter[str] = collections.Counter()
-        self.users: dict[str, collections.Counter[Fate]] = {}
-        # the ties of answers for several mailboxes that decided about one
-        self.ties: set[str] = set()
+        self.kept = Kept()
         self.clock, self.start = clock, clock()
         self.counts: collections.Counter[Fate] = collections.Counter()
         # of the mailboxes that are left
@@ -116,7 +122,7 @@ class Reporter(Observer):
         if self.report:
             self.report.row(row, user)
         self.counts[row.fate] += 1
-        self.ties.add(row.tie)
+        self.kept.ties.add(row.tie)
         if row.left_for:
             self.reasons[row.left_for] += 1
         if row.fate is Fate.NOT_WHOLE:
@@ -145,22 +151,22 @@ class Reporter(Observer):
                 self.put_row(row, user)
             return
         if row.fate is not Fate.LEFT:
-            self.noted.update({one.word for one in row.remarks if weight_of(one.word) is Weight.COUNT})
+            self.kept.noted.update({one.word for one in row.remarks if weight_of(one.word) is Weight.COUNT})
         looks = looks_of(row)
         is_kept = row.fate in WRONG or bool(looks or row.next)
         if self.shows.is_of_users:
-            self.users.setdefault(named(user or ""), collections.Counter())[row.fate] += 1
+            self.kept.users.setdefault(named(user or ""), collections.Counter())[row.fate] += 1
         elif self.total == 1 and row.is_said():
             self.put_row(replace(row, remarks=looks), None)
             return
         elif row.fate not in WRONG and row.is_changed():
             self.put_row(replace(row, kind="", remarks=(), quotes=(), next=()), None)
         if is_kept and row.fate is not Fate.NO_MAIL:
-            self.kept.append(Entry(row, user))
+            self.kept.entries.append(Entry(row, user))
 
     def ended(self, user: str) -> None:
         """Prints what became of a user's mailboxes, if no terminal shows who is done."""
-        counts = self.users.pop(named(user), collections.Counter())
+        counts = self.kept.users.pop(named(user), collections.Counter())
         if self.shows.has_users and not (self.shows.whole or self.line.is_terminal):
             put("%s: %s" % (named(user), "; ".join(sums_of(counts))))
             flush()
@@ -182,7 +188,7 @@ class Reporter(Observer):
             self.report.then = self.then
         is_reported = self.report is None or self.report.end_with((self.total, self.at_once), *more)
         sums = sums_of(self.counts, self.faults)
-        users = {one.user for one in self.kept if one.user is not None and one.row.fate in WRONG}
+        users = {one.user for one in self.kept.entries if one.user is not None and one.row.fate in WRONG}
         sums[0] += ", of %s" % counted(len(users), "user") if users else ""
         if self.total and not sum(self.counts.values()):
             # it was interrupted before the first one was done
@@ -230,14 +236,14 @@ class Reporter(Observer):
 
     def print_sums(self, line: str) -> None:
         """Prints what is left, and below it the line with the sums."""
-        for group in groups_of(self.kept):
+        for group in groups_of(self.kept.entries):
             put("")
             for below in group.lines(self.shows.typed):
                 put(below)
-        if self.kept:
+        if self.kept.entries:
             put("")
-        if self.noted:
-            words = ", ".join("%s %d" % pair for pair in sorted(self.noted.items()))
+        if self.kept.noted:
+            words = ", ".join("%s %d" % pair for pair in sorted(self.kept.noted.items()))
             put("noted, and nothing to do: %s (`%s explain WORD`)" % (words, ADMIN))
         put(line)
         for below in lines_below((), self.then, True):

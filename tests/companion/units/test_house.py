@@ -4,7 +4,6 @@ import collections
 import functools
 import importlib
 import inspect
-import re
 import typing
 import unittest
 from collections.abc import Iterable, Iterator, Mapping, Sequence

@@ -58,7 +58,8 @@ class MatchedTest(LedgerTest):
             (True, Source(), True, ["would place 1 message", *there]),
         )
         for again, source, dry, says in rows:
-            match, one = self.match(ONE + TWO), SimpleNamespace(again=again, opened=SimpleNamespace(name=b"."))
+            match, contents = self.match(ONE + TWO), SimpleNamespace(full=None)
+            one = SimpleNamespace(again=again, opened=SimpleNamespace(name=b"."), contents=contents)
             other = mock.Mock(count=lambda: 1)
             ledger: Any = SimpleNamespace(sources={OTHER: other} if source == OTHER else {match.path: source})
             ledger.sources = ledger.sources if source else {}

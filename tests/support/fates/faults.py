@@ -224,7 +224,7 @@ class EachCall(Attempt):
     def outcome(self, world: World, fault: Fault) -> Outcome:
         """Runs a world in which one call fails, or none."""
         self.desk.fault = fault
-        ran = self.desk.run_any("migrate", *world.options, "--", *map(os.fsdecode, world.words))
+        ran = self.desk.run_any("migrate", "--all", *world.options, "--", *map(os.fsdecode, world.words))
         return Outcome(*ran)
 
     def faults(self) -> list[Fault]:

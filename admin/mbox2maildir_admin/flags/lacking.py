@@ -1,0 +1,46 @@
+"""Flags of messages that the files lack which stand for them, since another mailbox brought these."""
+import functools
+from collections.abc import Callable, Iterator
+from typing import Optional
+
+from ..maildir.files import names_of
+from ..mbox.bases import OWN, before_info
+from ..mbox.mailbox import Mailbox
+from ..units import Offset
+from .dovecot_headers import Field, fields_of, flags_of, header_at, marks_of
+from .renaming import INFO
+
+# the offset of a message by the base of its file; None if there is none
+OffsetOf = Callable[[bytes], Optional[int]]
+
+
+def lacking_flags(folder: bytes, mailbox: Mailbox, offset_of: OffsetOf, is_bare: bool) -> int:
+    """How many messages, whose offsets are given by the bases of their files, have a flag in their headers that their
+    files lack. `is_bare` says whether bare text was converted, which decides the flags that they got."""
+    return sum(not now <= letters for letters, now in known_in(folder, mailbox, offset_of, is_bare))
+
+
+def known_in(
+    folder: bytes, mailbox: Mailbox, offset_of: OffsetOf, is_bare: bool
+) -> Iterator[tuple[frozenset[str], frozenset[str]]]:
+    """The letters of flags of each file of these messages, and those that the header of its message gives."""
+    for name, _ in names_of(folder):
+        base, info = OWN.match(name), name[len(before_info(name)) :]
+        offset = offset_of(base[0]) if base else None
+        if offset is not None and (not info or info.startswith(INFO)):
+            now = flags_in(header_at(mailbox, Offset(offset)), is_bare)
+            yield frozenset(info[len(INFO) :].decode("latin-1")), now
+
+
+def flags_in(header: bytes, is_bare: bool) -> frozenset[str]:
+    """The letters of the flags in a header."""
+    # much mail has none, and it takes long to look for fields
+    if b"status" not in header.lower():
+        return frozenset()
+    return flags_by(tuple(one for one in fields_of(header) if one.name in (b"status", b"x-status")), is_bare)
+
+
+@functools.lru_cache(maxsize=1024)
+def flags_by(fields: tuple[Field, ...], is_bare: bool) -> frozenset[str]:
+    """The letters of the flags that fields give. Messages share few of them."""
+    return frozenset(flags_of(marks_of(fields, {}), is_bare))
