@@ -806,8 +806,7 @@ def rule_9_a_record_was_lost_and_a_folder_renamed(home: Home) -> None:
         home.done("OLD")
         home.has(*FIVE, 6, why=row)
     # a copy of a folder has its ledger too
-    shutil.copytree(str(home.folder(name)), str(home.folder("Copy")))
-    hand_over(home.folder("Copy"))
+    hand_over(Path(shutil.copytree(str(home.folder(name)), str(home.folder("Copy")))))
     (home.maildir / RECORD).unlink()
     home.done("OLD")
     home.has(*FIVE, 6, name=name)
