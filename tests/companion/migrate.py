@@ -154,7 +154,10 @@ def known_by_its_mail(home: Path) -> None:
     done(home, "messages 3: done, it grew by 1 message")
     mailbox(home / "box", looked(ONE, TWO, THREE))
     mailbox(home / "copy", looked(ONE, TWO, THREE))
-    row = "copy -> INBOX: mboxrd or mboxo, messages 3: done, 3 messages there already, from .../box\n"
+    row = (
+        "copy -> INBOX: mboxrd or mboxo, messages 3: done, 3 messages there already, from .../box; "
+        "3 messages of these with flags in it that the file lacks\n"
+    )
     expect(["migrate", "M", "box", "copy"], home, 0, row + "2 mailboxes: 1 done, ...\n")
     equal("what is there", subjects(home / "M"), ["one", "three", "two"])
     for text, gone in ((looked(ONE, THREE), 1), (THREE, 1), (looked(THREE), 0)):
