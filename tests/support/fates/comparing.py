@@ -35,11 +35,11 @@ class Comparison:
         for choice in self.world.choices:
             self.compare(choice)
         self.wrong += self.wrong_sum()
-        left = self.world.count(Fate.LEFT)
-        # another run settles what is locked
+        left, done = self.world.count(Fate.LEFT), self.world.count(Fate.DONE)
+        # another run settles what is locked, and nothing is well where there was no mailbox
         is_later = set(WORDS.findall(self.outcome.output)) == {"locked"}
-        if self.outcome.status != (0 if not left else LATER if is_later else 1):
-            self.wrong.append(f"status {self.outcome.status}, where {left} are left")
+        if self.outcome.status != (0 if done and not left else LATER if is_later else 1):
+            self.wrong.append(f"status {self.outcome.status}, where {left} are left, and {done} done")
         return self.wrong
 
     def compare(self, choice: Choice) -> None:

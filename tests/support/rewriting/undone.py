@@ -37,6 +37,9 @@ class Undone(Trial):
         self.options = ["--dovecot"] * (self.draw.random() < 0.25)
         # what happened to it, or to another mailbox, before it is undone
         self.hindrance, self.is_looked_at, self.missing = "", False, ""
+        # what that other mailbox had; and what each has in the folder: all of it once a run has ended, and by one that
+        # was killed what was there then
+        self.had, self.brought = Counter(), {}  # type: Contents, dict[str, Contents]
         # what files held that somebody has edited since: these count as there
         self.edited = Counter()  # type: Contents
 
@@ -64,6 +67,11 @@ class Undone(Trial):
         for number, file in self.files().items():
             if number not in self.known:
                 self.known[number] = File(file.mail, name)
+        if ran.status is None:
+            there = Counter(content(file.mail) for file in self.files().values())
+            self.brought[name] = Counter(self.messages(name)) & there
+        elif ran.status == 0:
+            self.brought[name] = Counter(self.messages(name))
         is_partly_there = ran.status == 1 and "--again" in ran.output and not options
         return self.one(name, options=["--again"]) if is_partly_there else ran
 
@@ -107,7 +115,7 @@ class Undone(Trial):
         way = self.draw.choice(ways)
         path = self.home / name
         if way == "is missing":
-            self.missing = name
+            self.missing, self.had = name, Counter(self.messages(name))
             path.unlink()
         elif way == "was looked at":
             self.rewrite([by_dovecot])
@@ -138,7 +146,7 @@ class Undone(Trial):
                     self.one(name)
             self.change_files()
             # what belongs to others stays, whatever is changed now
-            others = {name: Counter(self.messages(name)) for name in names if self.is_recorded(name)}
+            others = {name: self.brought[name] for name in names if self.is_recorded(name)}
             self.hinder(names)
             self.undo(others)
         except AssertionError as failed:
@@ -196,8 +204,8 @@ class Undone(Trial):
     def wrong_so_far(self, others: dict[str, Contents]) -> list[str]:
         """What was removed and must stay: what others placed, and as many files of a message as another has."""
         there, wrong = self.files(), []  # type: dict[int, File], list[str]
-        mine, missing, its = Counter(self.messages(INBOX)), others.get(self.missing), INBOX
-        if missing is not None and not missing - mine:
+        its = INBOX
+        if self.missing and not self.had - Counter(self.messages(INBOX)):
             # nothing tells it from that mailbox, which was given its name and grew
             self.noted["it has all that a missing mailbox had"] += 1
             its = self.missing
