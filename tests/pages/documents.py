@@ -120,15 +120,13 @@ def wrong_picture() -> Iterator[str]:
 
 
 def wrong_reading() -> Iterator[str]:
-    """What docs/PROMISES.md tells its reader to read is there: files of a folder with what they define, or what is in a
-    file."""
-    for place, words, says in files_to_read():
+    """What docs/PROMISES.md tells its reader to read is there: files of a folder, or what is in a file."""
+    for place, words in files_to_read():
         path, named = TOP / place, SPAN.findall(words)
         files = [path / f"{word}.antt" for word in named] if path.is_dir() else [path]
         yield from (f"docs/PROMISES.md: {file.relative_to(TOP)} is not there" for file in files if not file.is_file())
-        text = "".join(text_of(file) for file in files if file.is_file())
-        sought = SPAN.findall(says) if path.is_dir() else [*named, *SPAN.findall(says)]
-        yield from (f"docs/PROMISES.md: {place} has no {word}" for word in sought if word not in text)
+        if path.is_file():
+            yield from (f"docs/PROMISES.md: {place} has no {word}" for word in named if word not in text_of(path))
 
 
 def wrong_code() -> Iterator[str]:

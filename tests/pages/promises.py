@@ -1,12 +1,10 @@
-"""Holds docs/PROMISES.md to the sources: what it names is there, and each must-fail edit is named.
+"""Holds docs/PROMISES.md to the sources: what it names is there, and each must-fail edit is under a promise.
 
-The table at its end has a row for each promise, which is a heading of the third level, in the page's order. It names
-what carries the promise: public calls with the clauses of their contracts, as `call: clause, clause`, or a call alone
-for a clause without a name; or records of specs/ that contracts cite, with their fields, as `Record: field`. A call of
-a type or a trait is named with it, as `Folder::list`. Edits are named by their mistakes: the file of one is named for
-the function that it changes and the mistake, as `Splitter.new.begins_refused.edit`. The column Test of a table names
-tests, as `name in crate` or `name in file`. Whatever else a page calls by words with underscores between them, but for
-the commands that it shows, or by a capital word between backquotes, is to be somewhere in the sources.
+A promise is a heading of the third level. tests/pages/carried.txt says, in the page's order, what carries each promise.
+A call of a type or a trait is named with it, as `Folder::list`. The file of an edit is named for the function that it
+changes and the mistake, as `Splitter.new.begins_refused.edit`. Whatever else a page calls by words with underscores
+between them, but for the commands that it shows, or by a capital word between backquotes, is to be somewhere in the
+sources.
 """
 import re
 from collections.abc import Iterator
@@ -27,9 +25,6 @@ COMMANDS = re.compile(r"^ {4}.*$", re.MULTILINE)
 PROMISE = re.compile(r"^### (.*)$", re.MULTILINE)
 RECORD = re.compile(r"^pub record (\w+).*?\bwhere$(.*?)(?=^\S|\Z)", re.DOTALL | re.MULTILINE)
 FIELD = re.compile(r"^  pub (\w+) :", re.MULTILINE)
-TEST = re.compile(r"\b(\w+(?:(?:, | and )\w+)*) in `([^`]+)`")
-TABLE_OF_TESTS = re.compile(r"^\| \w+ \| Test \|\n((?:\|.*\n)+)", re.MULTILINE)
-SHOWN_BY = re.compile(r"^\|.* \| (.*) \|$", re.MULTILINE)
 
 
 def records() -> dict[str, list[set[str]]]:
@@ -66,33 +61,18 @@ def clauses() -> dict[str, list[set[str]]]:
 
 def wrong_carriers() -> Iterator[str]:
     """What is said to carry a promise is a record with these fields, or a public call with these clauses."""
-    says = " ".join(says for _, says, _ in carriers())
     given = {**clauses(), **records()}
     crates = {path.name for path in TOP.glob("crates/*")}
-    for span in SPAN.findall(says):
-        name, _, parts = span.partition(": ")
+    for call in (call for _, calls, _ in carriers() for call in calls):
+        name, _, parts = call.partition(": ")
         if name not in crates and not any(set(parts.split(", ")) <= found for found in given.get(name, [])):
-            yield f"`{span}` carries nothing: no public contract or record has it"
-
-
-def wrong_tests() -> Iterator[str]:
-    """A test that a row of a table names is in the file that the row names."""
-    tables = TABLE_OF_TESTS.findall(text_of(PROMISES))
-    if not tables:
-        yield "docs/PROMISES.md has no test"
-    for names, place in TEST.findall("\n".join(SHOWN_BY.findall("".join(tables)))):
-        crate = TOP / "crates" / place / "src"
-        files = [*crate.glob("**/*.rt")] if crate.exists() else [TOP / place]
-        words = {word for path in files for word in re.findall(r"\w+", f"{path.stem} {text_of(path)}")}
-        yield from (f"the test {name} is not in {place}" for name in NAME.findall(names) if name not in words)
+            yield f"`{call}` carries nothing: no public contract or record has it"
 
 
 def wrong_edits() -> Iterator[str]:
     """An edit that names no function, or one that is not there; two of the same name; one that is under no promise, or
     missing."""
-    edits, named = sorted(TOP.glob("crates/*/must-fail/*.edit")), {
-        edit for _, _, by in carriers() for edit in SPAN.findall(by)
-    }
+    edits, named = sorted(TOP.glob("crates/*/must-fail/*.edit")), {edit for *_, edits in carriers() for edit in edits}
     calls = {call for owner, name in functions() for call in (name, f"{owner}::{name}")}
     seen = {}  # type: dict[str, str]
     for path in edits:
@@ -126,13 +106,13 @@ def wrong_names() -> Iterator[str]:
         yield from (f"{page.relative_to(TOP)}: {name} is nowhere in the sources" for name in sorted(unknown))
 
 
-def wrong_rows() -> Iterator[str]:
-    """Each promise of the page has its row, and the rows are in the same order."""
-    promises, rows = PROMISE.findall(text_of(PROMISES)), [promise for promise, _, _ in carriers()]
-    if promises != rows or not rows:
-        yield "docs/PROMISES.md: the promises and the rows of their table are not the same:"
-        yield differ("\n".join(rows), "\n".join(promises))
+def wrong_order() -> Iterator[str]:
+    """The promises of the page are those of the list, in the same order."""
+    promises, listed = PROMISE.findall(text_of(PROMISES)), [promise for promise, _, _ in carriers()]
+    if promises != listed or not listed:
+        yield "the promises of docs/PROMISES.md and of tests/pages/carried.txt are not the same:"
+        yield differ("\n".join(listed), "\n".join(promises))
 
 
 if __name__ == "__main__":
-    find_nothing(wrong_rows, wrong_carriers, wrong_tests, wrong_edits, wrong_names)
+    find_nothing(wrong_order, wrong_carriers, wrong_edits, wrong_names)

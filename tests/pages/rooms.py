@@ -144,11 +144,9 @@ def wrong_list() -> Iterator[str]:
     to read, or from what carries the promises on delivery and on the whole program."""
     specs, parts = Specs(), PARTS.findall(text_of(TOP / "docs/PROMISES.md"))
     promises = PROMISE.findall("".join(parts))
-    carry = {
-        name for promise, says, _ in carriers() if promise in promises for name in re.findall(r"`([\w:]*\w)", says)
-    }
+    carry = {call.split(": ")[0] for promise, calls, _ in carriers() if promise in promises for call in calls}
     start = {definition: "docs/PROMISES.md" for definition in specs.files if definition.split(".")[-1] in carry}
-    named = {(place, word) for place, says, _ in files_to_read() for word in re.findall(r"`(\w+)`", says)}
+    named = {(place, word) for place, says in files_to_read() for word in re.findall(r"`(\w+)`", says)}
     for place, text, scope in public_contracts():
         if tuple(place.split(": ")) in named or place.split(": ")[1] in carry:
             start.update((definition, place) for definition in specs.cited(text, scope))

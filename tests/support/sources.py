@@ -1,5 +1,5 @@
 """What the sources of the crates say: their items, each with its head, and the contracts of their functions; and what
-docs/PROMISES.md says of them in tables."""
+docs/PROMISES.md says of them, with the list beside it of what carries its promises."""
 import re
 from collections.abc import Iterator
 from pathlib import Path
@@ -19,10 +19,9 @@ EXPORT = re.compile(r"^pub use ((?:\w+::)*\w+)::(?:\{([^}]*)\}|(\w+));", re.MULT
 PUBLIC_MODULE = re.compile(r"^pub mod (\w+);", re.MULTILINE)
 # a function with its contract, up to the line in which its body begins, or a semicolon
 FUNCTION = re.compile(r"^ *(pub )?(?:pub\(crate\) )?fn (\w+)(?:.*\n)*?(?:.*;|.*\{\}|(?! *ensures).*\{)$", re.MULTILINE)
-TABLE_OF_PROMISES = re.compile(r"^\| Promise \| Carried by \| Edits \|\n((?:\|.*\n)+)", re.MULTILINE)
-CARRIED = re.compile(r"^\| \[(.*?)\]\(#.*?\) \| (.*?) \| (.*?) ?\|$", re.MULTILINE)
-READING = re.compile(r"^\| In \| Read \| For \|\n((?:\|.*\n)+)", re.MULTILINE)
-TO_READ = re.compile(r"^\| `([^`]+)` \| ([^|]*) \| ([^|]*) \|$", re.MULTILINE)
+CARRIED = re.compile(r"^(\S.*)\n {4}by: (.*\n(?: {8}.*\n)*)(?: {4}edits: (.*\n(?: {8}.*\n)*))?", re.MULTILINE)
+READING = re.compile(r"^\| In \| Read \|\n((?:\|.*\n)+)", re.MULTILINE)
+TO_READ = re.compile(r"^\| `([^`]+)` \| ([^|]*) \|$", re.MULTILINE)
 GHOST = re.compile(r"^ *ghost (?!use ).*?[;,]$", re.DOTALL | re.MULTILINE)
 
 
@@ -95,14 +94,17 @@ def public_contracts() -> Iterator[tuple[str, str, dict[str, str]]]:
                     yield f"{file.relative_to(TOP)}: {name}", contract, scope
 
 
-def files_to_read() -> list[tuple[str, str, str]]:
-    """The rows of the list in docs/PROMISES.md: a file or a folder, what is to be read there, and what for."""
+def files_to_read() -> list[tuple[str, str]]:
+    """The rows of the list in docs/PROMISES.md: a file or a folder, and what is to be read there."""
     return TO_READ.findall("".join(READING.findall(text_of(TOP / "docs/PROMISES.md"))))
 
 
-def carriers() -> list[tuple[str, str, str]]:
-    """The rows of its last table: a promise, what carries it, and its edits."""
-    return CARRIED.findall("".join(TABLE_OF_PROMISES.findall(text_of(TOP / "docs/PROMISES.md"))))
+def carriers() -> list[tuple[str, list[str], list[str]]]:
+    """The promises of tests/pages/carried.txt, each with what carries it, and with its edits."""
+    return [
+        (promise, " ".join(by.split()).split("; "), re.findall(r"\w+", edits))
+        for promise, by, edits in CARRIED.findall(text_of(TOP / "tests/pages/carried.txt"))
+    ]
 
 
 def functions() -> Iterator[tuple[str, str]]:
