@@ -65,12 +65,9 @@ def full_row(one: Measured) -> List[object]:
 
 PAGE = """# Comparison with other converters
 
-This page is the output of `python3 -m bench.peers build/mbox2maildir`. It was measured on {day} with {machine}.
-Each converter was called as its own documentation says, with the same mailbox. This mailbox is an mboxrd of
-{messages} messages: {escaped} of them have a line that begins with `From `, and {flagged} have flags in `Status` and
-`X-Status`.
-
-{versions}
+`python3 -m bench.peers build/mbox2maildir` prints this page. It was measured on {day} with {machine}. Each converter was
+called as its own documentation says, with the same mboxrd of {messages} messages: {escaped} of them have a line that begins
+with `From `, and {flagged} have flags in `Status` and `X-Status`. The packages: {versions}.
 {missing}
 ## One run
 
@@ -83,33 +80,31 @@ Each file is counted in one of these columns:
 - *Other*: the message has other bytes.
 - *Broken*: the file ends too early, or holds no message.
 
-*Lost* counts messages without a file, and *Doubled* messages with several files. {flagged} messages have flags: *Flags*
-counts how many of them kept theirs.
+*Lost* counts messages without a file, *Doubled* messages with several, and *Flags* messages that kept their flags.
 
 {plain}
-The times were measured on a disk in memory, where a sync costs nothing. Compare them only roughly: on a real disk
-`convert` waits for the sync of each file, and most others sync no file.
+The disk was in memory, where a sync costs nothing. On a real disk `convert` waits for the sync of each file, and most
+others sync no file.
 
 ## Killed, and the same command again
 
-Each converter ran {kills} times. Each time it was killed at a different moment, with all processes that it had started.
-These moments are spread over its run. After each kill, the same command ran to its end. If a run ended before its
-moment came, another run took its place. The columns are totals over the {kills} runs.
+Each converter was killed at {kills} moments that are spread over its run, with all processes that it had started. After
+each kill, the same command ran to its end. The columns are totals.
 
 {killed}
 ## A full disk
 
-The disk became full when about half of the mail was there. The column *Status* shows the status of that run. Then
-there was room again, and the same command ran once more.
+The disk became full when about half of the mail was there (*Status* is that of this run). Then there was room again, and
+the same command ran once more.
 
 {full}
 ## What others do better
 
-- `doveadm backup` keeps keywords, and the UIDs that Dovecot's mbox driver gave. `convert` keeps neither.
-  `mbox2maildir-admin migrate --dovecot` keeps both.
+- `doveadm backup` keeps keywords, and the UIDs that Dovecot's mbox driver gave. Of this project's commands, only
+  `mbox2maildir-admin migrate --dovecot` does.
 - `doveadm backup` compares both sides, so you can start it again. But like `doveadm import`, it writes `X-UID` fields
-  into the old mailbox. A kill during that write left some messages twice in the old mailbox. After a later kill,
-  `doveadm backup` did not start again: `INBOX can't be deleted`.
+  into the old mailbox. A kill during that write left some messages twice there. After a later kill, the command did
+  not start again: `INBOX can't be deleted`.
 - `mutt`, Dovecot's commands, Python and Mail::Box read many formats. `convert` reads one.
 - A converter that syncs no file is faster on a disk. It promises nothing about a power cut.
 """
@@ -124,8 +119,8 @@ def page(corpus: Corpus, measured: Sequence[Measured], versions: Mapping[str, st
         "escaped": len(corpus.escaped()),
         "flagged": len(corpus.flagged()),
         "kills": len(measured[0].killed) if measured else 0,
-        "versions": table(["Package", "Version"], sorted(versions.items())),
-        "missing": "Left out, since this machine does not have them: %s.\n" % ", ".join(missing) if missing else "",
+        "versions": ", ".join("%s %s" % one for one in sorted(versions.items())),
+        "missing": "This machine does not have %s.\n" % ", ".join(missing) if missing else "",
         "plain": table(
             [
                 "Converter",
