@@ -4,8 +4,8 @@ shows is in the sources, each file of which begins with a line that says what is
 in the files that it has a reader read, and each file that reaches the machine; the texts that the program tells are
 those of the page of the manual and of docs/LEFT.md, and so are the reasons of the companion, with the words of its
 schema, its options, and what it calls files that are not mbox text; the pages of the manual please mandoc;
-docs/PROMISES.md names the kit of `rt version`; and README.md has the best and the worst of docs/COMPARISON.md. What
-wants a tool that is missing is left out."""
+docs/PROMISES.md names the kit of `rt version`; README.md has the best and the worst of docs/COMPARISON.md; and pages
+have what the tests of machines type from them. What wants a tool that is missing is left out."""
 import importlib
 import json
 import os
@@ -19,6 +19,7 @@ from pathlib import Path
 
 from tests.support.cases import LeftOut, find_nothing
 from tests.support.checks import TOP, match_in, text_of
+from tests.support.machine import page as machine
 from tests.support.sources import files_to_read
 
 PAGES = [*sorted(TOP.glob("*.md")), *sorted(TOP.glob("docs/*.md"))]
@@ -66,6 +67,7 @@ KILLED = re.compile(r"^## Killed, .*?(?=^## )", re.DOTALL | re.MULTILINE)
 WHY = re.compile(r"^## Why not another tool$.*?(?=^## )", re.DOTALL | re.MULTILINE)
 ROWS = re.compile(r"^\| .*", re.MULTILINE)
 OTHER = re.compile(r"^(\| [^*|]+ \| (\d+) of \d+ \| (\d+) \| (\d+) \|.*)$", re.MULTILINE)
+TYPED = re.compile(r"""\b(SERVER|REFERENCE)\.(line|span|block|cells)\((["'])(.+?)\3\)""")
 KIT = re.compile(r"^ {6}(rattle-kit-\S+ logic \S+)$", re.MULTILINE)
 
 
@@ -292,6 +294,18 @@ def wrong_comparison() -> Iterator[str]:
             yield f"README.md does not say: {text}"
 
 
+def wrong_commands() -> Iterator[str]:
+    """What the tests of machines look up on pages by its text is there, as one command, span, block or row."""
+    found = [match for path in TOP.glob("tests/support/machine/*.py") for match in TYPED.findall(text_of(path))]
+    if not found:
+        yield "the tests of machines look up nothing"
+    for page, kind, _, part in sorted(found):
+        try:
+            getattr(getattr(machine, page), kind)(part)
+        except AssertionError as fault:
+            yield str(fault)
+
+
 def wrong_manuals() -> Iterator[str]:
     """What mandoc finds in the pages of the manual. It is no fault of theirs which other pages are installed here."""
     for page in MANUALS:
@@ -322,5 +336,6 @@ if __name__ == "__main__":
         wrong_options,
         wrong_kit,
         wrong_comparison,
+        wrong_commands,
         wrong_manuals,
     )
