@@ -11,7 +11,7 @@ from functools import partial
 
 from tests.support.archives import Home, Rule, fresh, letters, mail_of, number_of
 from tests.support.cases import Failed, run_cases
-from tests.support.rewriting.runs import Ran
+from tests.support.running import Run
 from tests.support.wayback.dialects import DIALECTS, Dialect, bare, parted
 from tests.support.wayback.histories import BESIDE, Appended, History, flags_of, shown_of, tail_of, text_at
 from tests.support.wayback.programs import Deliver, listed_in, numbers_of
@@ -33,7 +33,7 @@ class Trial:
         """The mailboxes by their folders."""
         return {folder: text_at(self.home.path / path) for folder, path in self.history.paths().items()}
 
-    def wants(self, is_right: bool, what: str, *ran: Ran) -> None:
+    def wants(self, is_right: bool, what: str, *ran: Run) -> None:
         """Fails if something is not right."""
         if not is_right:
             raise Failed("\n".join([what, *(f"{one.status}: {one.output}" for one in ran)]))
@@ -47,7 +47,7 @@ class Trial:
             found[folder] = [shown_of(*one, keeper) for one in self.dialect_of(folder).read(tail)]
         return found
 
-    def check(self, ran: Ran) -> None:
+    def check(self, ran: Run) -> None:
         """Each message is in one mailbox, with its bytes."""
         self.wants(ran.status == 0, "status", ran)
         rest = Counter(self.history.appended(one) for one in self.any_of)
@@ -68,7 +68,7 @@ class Trial:
             count += sum(more.values())
         self.wants(count == len(self.any_of) - spare, f"{count} of {len(self.any_of)}", ran)
 
-    def check_numbers(self, ran: Ran) -> None:
+    def check_numbers(self, ran: Run) -> None:
         """No UID means one message in the Maildir, and another one in the mailbox; each that was given is known."""
         history = self.history
         for folder, text in self.texts().items():
@@ -110,7 +110,7 @@ class Trial:
         """The names of all mail in the Maildir."""
         return sorted(str(path) for path in self.home.maildir.glob("**/*") if path.parent.name in ("new", "cur"))
 
-    def check_migrated(self, folder: str, text: bytes, ran: Ran) -> None:
+    def check_migrated(self, folder: str, text: bytes, ran: Run) -> None:
         """A new Maildir has the mail of a mailbox, with its flags."""
         history = self.history
         keeper, place = history.keeper_of(folder), history.place_of(folder)

@@ -7,11 +7,10 @@ from collections.abc import Iterable, Iterator, Mapping, Sequence
 from pathlib import Path
 from typing import NamedTuple, Optional
 
-from tests.support.archives import Home, Row, letter, letters, run_rules, texts_of
+from tests.support.archives import Home, letter, letters, run_rules, texts_of
 from tests.support.checks import equal
-from tests.support.rewriting.runs import Ran
+from tests.support.running import Row, Run
 from tests.support.wayback.dialects import DIALECTS, bare
-from tests.support.wayback.histories import rows_of
 from tests.support.wayback.programs import KEEPERS, Keeper
 
 # first lines that are no header
@@ -106,7 +105,7 @@ class House:
         equal("what is empty", [path for path, text in texts.items() if not text], [])
         return told(ran)
 
-    def run(self, *words: str) -> Ran:
+    def run(self, *words: str) -> Run:
         """Runs the way back."""
         return self.home.place.run(["back", "--json", "--now", *self.words, *words, "M", "spool", "mail"])
 
@@ -116,14 +115,12 @@ class House:
         mails = {path: [bare(one) for _, one in DIALECTS["mboxrd"].read(text)] for path, text in found.items()}
         equal("the mail", mails, {path: [*map(bare, several)] for path, several in wanted.items()})
         ran = self.home.place.run(["migrate", "--json", "--now", "N", "spool", "mail"])
-        equal("a new Maildir", (ran.status, [row["reason"] for row in rows_of(ran) if row["reason"]]), (0, []))
+        equal("a new Maildir", (ran.status, [row["reason"] for row in ran.rows if row["reason"]]), (0, []))
 
 
-def told(ran: Ran) -> list[Told]:
+def told(ran: Run) -> list[Told]:
     """What the rows of a run say about which there is something to say."""
-    rows = [
-        Told(row["path"], row["reason"] or "", row["messages"], files_in(row), fields_in(row)) for row in rows_of(ran)
-    ]
+    rows = [Told(row["path"], row["reason"] or "", row["messages"], files_in(row), fields_in(row)) for row in ran.rows]
     return sorted(row for row in rows if row.reason or row.messages)
 
 
@@ -258,7 +255,7 @@ def subscriptions(home: Home) -> None:
         file.write(b"INBOX\nnew\nlists\tone\nempty\nstays\nnowhere\n")
     ran = house.run("--dry-run"), house.run()
     equal("the list", house.texts()["mail/.subscriptions"], b"a\nelsewhere\nINBOX\nnew\nlists/one\n")
-    says = [rows_of(one)[-1]["remarks"][0]["says"] for one in ran]
+    says = [one.rows[-1]["remarks"][0]["says"] for one in ran]
     equal("what is said", says, ["subscribed to 5 folders"] * 2)
 
 

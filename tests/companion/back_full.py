@@ -16,7 +16,7 @@ from tests.support.archives import fresh
 from tests.support.cases import Failed, run_cases
 from tests.support.homes import want_users
 from tests.support.mounts import mount
-from tests.support.rewriting.runs import Ran
+from tests.support.running import Run
 from tests.support.wayback.dialects import DIALECTS
 from tests.support.wayback.histories import History
 
@@ -56,7 +56,7 @@ class Full:
         state = os.statvfs(place)
         (place / FILLER).write_bytes(b"\0" * state.f_frsize * max(0, state.f_bavail - room))
 
-    def want_nothing_cut(self, ran: Ran) -> None:
+    def want_nothing_cut(self, ran: Run) -> None:
         """Whatever is in the mailboxes is whole, and what is missing is said."""
         for folder, several in self.trial.added().items():
             wanted = {*self.trial.sure.get(folder.rstrip("!"), {}), *map(self.history.appended, self.trial.any_of)}

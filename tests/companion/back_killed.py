@@ -22,7 +22,7 @@ from tests.companion.back import Trial
 from tests.support.archives import fresh
 from tests.support.cases import Failed, run_cases
 from tests.support.kills import Killer, Moment, start_anew
-from tests.support.rewriting.runs import BY_OTHERS
+from tests.support.running import BY_OTHERS
 from tests.support.wayback.dialects import DIALECTS
 from tests.support.wayback.histories import History, text_at
 from tests.support.wayback.programs import with_fields
@@ -60,7 +60,7 @@ class Killed:
         self.bring()
         when = f"killed before call {moment.number}, {self.calls[moment.number - 1]}, {moment}: "
         killed, _ = self.killer.run(partial(self.home.place.run, self.trial.words, BY_OTHERS), moment)
-        self.trial.wants(killed.status is None, f"{when}it is not killed", killed)
+        self.trial.wants(killed.is_killed, f"{when}it is not killed", killed)
         try:
             self.trial.check(self.home.place.run(self.trial.words))
             self.trial.wants(not self.litter(), f"{when}left behind: {self.litter()}")
@@ -72,7 +72,7 @@ class Killed:
         """Kills it at a moment. A program delivers mail then, before the command is given again."""
         self.bring()
         killed, _ = self.killer.run(partial(self.home.place.run, self.trial.words, BY_OTHERS), moment)
-        self.trial.wants(killed.status is None, "it is not killed", killed)
+        self.trial.wants(killed.is_killed, "it is not killed", killed)
         when = f"killed before call {moment.number}, {self.calls[moment.number - 1]}, {moment}, and mail came: "
         path, mail = self.delivery(draw)
         with open(path, "ab") as file:

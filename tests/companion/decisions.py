@@ -6,8 +6,7 @@ word is the mail that it was given, unless the row says otherwise. Each command 
 forced; the Maildir then has what the splitter has. `trees` and `users` try several mailboxes in this way, and `mutated`
 texts that no program wrote. By hand `python3 -B -m tests.companion.decisions --seed N --count N [--jobs N] [CASE]`
 tries that many: mailboxes by all writers in turn, `trees`, spools of `users`, or `mutated` texts. For what differs it
-prints the seed. The environment's ADMIN may name the folder of another companion.
-"""
+prints the seed."""
 import argparse
 import signal
 import subprocess
@@ -23,7 +22,7 @@ from tests.support.accounts import take_own
 from tests.support.cases import run_cases
 from tests.support.checks import TOP, equal
 from tests.support.decisions.mutating import seconds_of, wrong_of
-from tests.support.decisions.running import Desk
+from tests.support.decisions.running import Trials
 from tests.support.decisions.several import wrong_in_tree, wrong_with_users
 from tests.support.decisions.trial import Trial
 from tests.support.fates.users import accounts
@@ -67,7 +66,7 @@ def some(lines: Iterable[str]) -> list[str]:
     return [f"    {line if len(line) < 900 else line[:900] + ' ...'}" for line in list(lines)[:LINES]]
 
 
-def wrong_mailboxes(desk: Desk, seeds: range, name: str = "") -> Iterator[str]:
+def wrong_mailboxes(desk: Trials, seeds: range, name: str = "") -> Iterator[str]:
     """What is wrong with the mailboxes of these seeds. Each is tried by two words. If all writers take turns, what was
     seen is printed."""
     seen = Counter()  # type: typing.Counter[str]
@@ -82,7 +81,7 @@ def wrong_mailboxes(desk: Desk, seeds: range, name: str = "") -> Iterator[str]:
         print(*(f"{count} {what}" for what, count in sorted(seen.items())), sep="; ", flush=True)
 
 
-def wrong_trees(desk: Desk, seeds: range) -> Iterator[str]:
+def wrong_trees(desk: Trials, seeds: range) -> Iterator[str]:
     """What is wrong with trees."""
     for seed in seeds:
         lines = wrong_in_tree(desk, seed)
@@ -90,7 +89,7 @@ def wrong_trees(desk: Desk, seeds: range) -> Iterator[str]:
             yield "\n".join([f"seed {seed}:", *some(lines)])
 
 
-def wrong_spools(desk: Desk, seeds: range) -> Iterator[str]:
+def wrong_spools(desk: Trials, seeds: range) -> Iterator[str]:
     """What is wrong with spools."""
     want_users()
     with accounts(desk.home.parent / "homes") as who:
@@ -100,7 +99,7 @@ def wrong_spools(desk: Desk, seeds: range) -> Iterator[str]:
                 yield "\n".join([f"seed {seed}:", *some(lines)])
 
 
-def wrong_texts(desk: Desk, seeds: range) -> Iterator[str]:
+def wrong_texts(desk: Trials, seeds: range) -> Iterator[str]:
     """What is wrong with mutated texts."""
     desk.clear()
     return wrong_of(seeds, desk.home)
@@ -133,9 +132,9 @@ def times(folder: Path) -> None:
         print(f"{word}: {len(text)} bytes {one:.2f} s, doubled {two / one:.2f} times", flush=True)
 
 
-def by_hand(desk: Desk, case: str, seeds: range) -> int:
+def by_hand(desk: Trials, case: str, seeds: range) -> int:
     """Tries this many of a case, prints what is wrong, and returns the status."""
-    cases: dict[str, Callable[[Desk, range], Iterator[str]]]
+    cases: dict[str, Callable[[Trials, range], Iterator[str]]]
     cases = {"mailboxes": wrong_mailboxes, "trees": wrong_trees, "users": wrong_spools, "mutated": wrong_texts}
     take_own()
     count = 0
@@ -171,7 +170,7 @@ def main() -> None:
         sys.exit(in_jobs(sys.argv[1:], options.seed, options.count, options.jobs))
     signal.signal(signal.SIGTERM, lambda *_: sys.exit(1))
     with fresh_folder(in_memory()) as top:
-        desk = Desk(top / "home", top / "bin")
+        desk = Trials(top / "home", top / "bin")
         if options.count:
             case = sys.argv[1] if sys.argv[1:] else "mailboxes"
             sys.exit(by_hand(desk, case, range(options.seed, options.seed + options.count)))

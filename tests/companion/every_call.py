@@ -19,7 +19,7 @@ from typing import NamedTuple
 from tests.support.archives import RO, Home, fresh, letter, letters, number_of
 from tests.support.cases import Failed, run_cases
 from tests.support.kills import Killer, Moment, start_anew
-from tests.support.rewriting.runs import BY_OTHERS, Ran
+from tests.support.running import BY_OTHERS, Run
 
 STEP = int(os.environ.get("EVERY_CALL") or 17)
 SAID_BACK = re.compile(r"(\d+) messages? that had been deleted or moved came back|(\d+) [^;]*came back")
@@ -140,7 +140,7 @@ class Trial:
         # how many were killed, and how many of these said that mail came back, though nobody deleted any
         self.killed, self.said_back = 0, 0
 
-    def wants(self, is_right: bool, what: str, *ran: Ran) -> None:
+    def wants(self, is_right: bool, what: str, *ran: Run) -> None:
         """Fails if something is not right."""
         if not is_right:
             raise Failed("\n".join([what, *(f"{one.status}: {one.output}" for one in ran)]))
@@ -159,7 +159,7 @@ class Trial:
         shutil.copytree(self.kept, home.path, copy_function=shutil.copy2)
         home.place.own(home.path, *home.path.rglob("*"))
         killed, _ = self.killer.run(partial(home.place.run, self.words, BY_OTHERS), moment)
-        self.wants(killed.status is None, f"{when}it is not killed", killed)
+        self.wants(killed.is_killed, f"{when}it is not killed", killed)
         self.killed += 1
         then = home.place.run(self.words)
         is_over = "--undo" in self.words and then.status == 1

@@ -4,8 +4,7 @@
 The case `worlds` makes random worlds, each with a list of what must become of its names, and migrates them. Rows, sums,
 status and Maildirs are compared with that list. In the cases `faults` and `some_faults` one call of the system fails in
 each run. All other cases are worlds that are not drawn. For a world that differs the seed is printed, and `--seed N
---count 1 worlds` makes it again. The environment's ADMIN may name the folder of another companion, or an installed
-program, which is tried instead, but for `faults`.
+--count 1 worlds` makes it again.
 """
 import argparse
 import contextlib
@@ -27,11 +26,10 @@ from tests.support.checks import TOP
 from tests.support.fates.comparing import differences
 from tests.support.fates.faults import Attempt, a_spool, small_tree, with_left, wrong_calls
 from tests.support.fates.rows import ROWS, Stage
-from tests.support.fates.running import NOBODY, install, is_root
 from tests.support.fates.trees import of_a_tree, of_words
 from tests.support.fates.users import Accounts, accounts, of_users
 from tests.support.fates.world import World
-from tests.support.homes import fresh_folder, in_memory
+from tests.support.homes import fresh_folder, in_memory, install, is_root
 
 # how many worlds, and how many failing calls, the gate runs
 WORLDS, FAULTS = 12, 4
@@ -104,7 +102,7 @@ def play(place: House, seeds: range) -> int:
     wrong = 0
     for seed in seeds:
         world = world_of(seed, place.clear(), place.users())
-        world.finish((NOBODY, NOBODY) if is_root() and not world.is_for_users else None)
+        world.finish()
         lines = differences(world, is_dry=seed % 4 == 0)
         if lines:
             words = " ".join(map(repr, [*world.options, *world.words]))

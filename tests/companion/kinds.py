@@ -11,8 +11,9 @@ from typing import Union
 
 from tests.support.cases import LeftOut
 from tests.support.checks import equal, matches
-from tests.support.homes import ADMIN, check_all, decoded, expect, run, want_root
+from tests.support.homes import ADMIN, check_all, expect, run, want_root
 from tests.support.mail import A, B, MAY, with_length
+from tests.support.running import decoded
 
 # a second message with a right length
 C = with_length(B, b"yes\n") + b"\n"

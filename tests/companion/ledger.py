@@ -18,7 +18,6 @@ from tests.support.archives import (
     letter,
     letters,
     mail_of,
-    objects,
     run_rules,
     texts_of,
     want_offered,
@@ -189,7 +188,7 @@ def rule_2_verified(home: Home) -> None:
     home.write("MORE", letters(1, 1, 1, 2))
     for name, deleted, wanted in (("OTHER", (), (2, 1, 0)), ("MORE", (), (3, 2, 1)), ("OTHER", (1, 1), (1, 0, 1))):
         home.take(*deleted)
-        counts = next(objects(home.place.run(["verify", "--json", "M/.Archive", name]).output))["counts"]
+        counts = home.place.run(["verify", "--json", "M/.Archive", name]).objects[0]["counts"]
         if tuple(counts[one] for one in ("there", "without-fields", "nowhere")) != wanted:
             raise Failed(f"{name} {deleted}: {counts}")
 

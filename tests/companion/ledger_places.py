@@ -17,7 +17,6 @@ from tests.support.archives import (
     RO,
     Home,
     Outcome,
-    Row,
     Rule,
     letter,
     letters,
@@ -33,7 +32,7 @@ from tests.support.checks import equal
 from tests.support.homes import hand_over
 from tests.support.ledgers import as_if_killed
 from tests.support.mail import digest_of
-from tests.support.rewriting.runs import Kill
+from tests.support.running import NEVER, Kill, Row
 
 SEEDS = int(os.environ.get("LEDGER_SEEDS", "8"))
 FIVE = range(5)
@@ -184,7 +183,7 @@ def rule_1_nobody_deleted(home: Home) -> None:
         for is_last in (False, False, False, True):
             home.write("OLD", letters(*numbers))
             is_killed = not is_last and draw.random() < 0.5
-            ran = home.run("OLD", kill=Kill(event=draw.randint(10, 260)) if is_killed else Kill())
+            ran = home.run("OLD", kill=Kill(event=draw.randint(10, 260)) if is_killed else NEVER)
             if "came back" in ran.text:
                 raise Failed(f"{seed}: {ran.text}")
             read_or_rename(home, draw)

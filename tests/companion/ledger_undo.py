@@ -29,7 +29,7 @@ from tests.support.archives import (
     want_said,
 )
 from tests.support.cases import Failed
-from tests.support.rewriting.runs import Kill
+from tests.support.running import Kill
 
 SEEDS = int(os.environ.get("LEDGER_SEEDS", "8"))
 

@@ -25,11 +25,12 @@ from tests.support.checks import (
     without_progress,
     without_work,
 )
-from tests.support.homes import ADMIN, Word, check_all, expect, files_of, mail_in, mailbox, run, run_whole, subjects
+from tests.support.homes import ADMIN, check_all, expect, files_of, mail_in, mailbox, run, run_whole, subjects
 from tests.support.ledgers import LEDGER, RECORD
 from tests.support.mail import A, B, C, MAY, ONE, THREE, TWO, numbered, with_length
 from tests.support.printed import commands_in, row_in
 from tests.support.processes import wait_for
+from tests.support.running import Word
 
 AGAIN = ("--again", "M", "box")
 # what is said of a mailbox all of whose five messages were replaced

@@ -7,12 +7,13 @@ import sys
 from collections.abc import Callable, Iterator, Sequence
 from functools import partial
 from pathlib import Path
-from typing import Any, Optional
+from typing import Any
 
 from tests.support.archives import Home, fresh, letters
 from tests.support.cases import Failed, run_cases
 from tests.support.checks import PATIENCE, equal
-from tests.support.rewriting.runs import Kill, Place
+from tests.support.copies import Copies
+from tests.support.running import OWNER, Kill
 
 # the words of each command; new mail has come into the mailboxes and into the Maildir M, P was prepared before, and
 # nothing of N is there
@@ -33,17 +34,16 @@ PLACED = re.compile(r"/[0-9a-f]{64}\.\d")
 NEW, SECRET = b"Subject: new\n\nnew\n", b"secret\n"
 
 
-class Watched(Place):
+class Watched(Copies):
     """A place in which is seen what the companion opens."""
 
-    def __init__(self, place: Place, log: Path) -> None:
-        super().__init__(place.home, place.programs)
+    def __init__(self, place: Copies, log: Path) -> None:
+        super().__init__(place.home, place.programs, OWNER)
         self.log = log
         log.touch()
         log.chmod(0o666)
 
-    def become(self, words: Sequence[str], out: int, event: Optional[int]) -> None:
-        """Notes each name that it opens."""
+    def main(self) -> int:
         number = os.open(self.log, os.O_WRONLY | os.O_TRUNC)
 
         def note(what: str, given: Any) -> None:
@@ -52,7 +52,7 @@ class Watched(Place):
 
         add: Any = getattr(sys, "addaudithook")
         add(note)
-        super().become(words, out, event)
+        return super().main()
 
     def opened(self, words: Sequence[str]) -> list[str]:
         """The names below the home that a command opens."""
@@ -122,7 +122,7 @@ def attempt(world: World, words: Sequence[str], name: str, make: Callable[[Path]
     world.plant(name, make)
     before, boxes = [*world.mail()], world.boxes()
     ran = world.home.place.run(words, LIMIT)
-    if ran.status is None or "(defect)" in ran.output:
+    if ran.is_killed or "(defect)" in ran.output:
         raise Failed(f"it does not end, or fails: {ran.status}: {ran.output}")
     lost = [text for text in before if text not in [*world.mail()] and "--undo" not in words]
     equal("lost mail", lost, [])

@@ -8,7 +8,6 @@ from pathlib import Path
 
 from tests.support.checks import equal, matches, without_work
 from tests.support.homes import (
-    OWNER,
     check_all,
     expect,
     hand_over,
@@ -23,6 +22,7 @@ from tests.support.homes import (
 from tests.support.ledgers import RECORD, without_chance
 from tests.support.mail import A, B, C, MAY, ONE
 from tests.support.printed import row_in, rows_in
+from tests.support.running import OWNER
 from tests.support.terminals import Terminal
 
 # mailboxes about whose lines only a human can decide: by their numbers, or by a word

@@ -23,8 +23,7 @@ from pathlib import Path
 
 from tests.support.cases import Failed, LeftOut, run_cases
 from tests.support.dovecot.server import Dovecot, is_there
-from tests.support.fates.running import install
-from tests.support.homes import fresh_folder, in_memory
+from tests.support.homes import fresh_folder, in_memory, install
 from tests.support.rewriting.killed import Killed
 from tests.support.rewriting.passes import Passes
 from tests.support.rewriting.several import Several

@@ -9,9 +9,9 @@ from functools import partial
 from pathlib import Path
 from random import Random
 
-from tests.support.archives import ENDED, Home, fresh, number_of, objects
+from tests.support.archives import ENDED, Home, fresh, number_of
 from tests.support.cases import Failed, run_cases
-from tests.support.rewriting.runs import Kill
+from tests.support.running import NEVER, Kill
 from tests.support.takeouts import Folders, Message, Model, later, takeout_of, text_of
 
 SEEDS = int(os.environ.get("TAKEOUT_SEEDS", "16"))
@@ -42,13 +42,13 @@ class World:
         """Fails with what was done."""
         raise Failed("\n".join([f"seed {self.seed}: {why}", *self.told]))
 
-    def run(self, name: str, *words: str, kill: Kill = Kill()) -> int:
+    def run(self, name: str, *words: str, kill: Kill = NEVER) -> int:
         """Runs the companion, and returns its status; -1 if it was killed."""
         ran = self.home.run(name, words=words, kill=kill)
         self.told.append(ran.text)
-        if ran.status == 0 and any(row["verdict"] not in ENDED for row in objects(ran.text) if row["type"] == "row"):
+        if ran.status == 0 and any(row["verdict"] not in ENDED for row in ran.rows.values()):
             self.fail("status 0, but something is not done")
-        return -1 if ran.status is None else ran.status
+        return -1 if ran.is_killed else ran.status
 
     def there(self) -> Folders:
         """What each folder has."""

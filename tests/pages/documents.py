@@ -205,7 +205,6 @@ def wrong_texts() -> Iterator[str]:
 
 def wrong_reasons() -> Iterator[str]:
     """The reasons have the words and the sentences of the companion."""
-    sys.path.append(str(TOP / "admin"))
     reasons = importlib.import_module("mbox2maildir_admin.faults").Reason
     told = [(reason.word, reason.says) for reason in reasons]
     manual = [(word, " ".join(says.split())) for word, says in REASON_ITEM.findall(text_of(MANUAL_OF_ADMIN))]
@@ -229,7 +228,6 @@ def wrong_reasons() -> Iterator[str]:
 
 def wrong_remarks() -> Iterator[str]:
     """The schema has the words of remarks that the companion has, and no module has another one."""
-    sys.path.append(str(TOP / "admin"))
     words = list(importlib.import_module("mbox2maildir_admin.meanings").REMARKS)
     schema = json.loads(text_of(TOP / "docs/rows.schema.json"))["$defs"]["remark"]["enum"]
     if schema != words:
@@ -242,7 +240,6 @@ def wrong_remarks() -> Iterator[str]:
 
 def wrong_kinds() -> Iterator[str]:
     """The page of the manual has the kinds of files that are not mbox text, and of dates, in the companion's words."""
-    sys.path.append(str(TOP / "admin"))
     others = importlib.import_module("mbox2maildir_admin.kinds.others").OTHERS
     endings = importlib.import_module("mbox2maildir_admin.kinds.undated").Ending
     section = " ".join(match_in(KINDS, text_of(MANUAL_OF_ADMIN))[1].split())

@@ -96,7 +96,6 @@ def check_text(text: bytes, maildir: Path) -> None:
 
 def companion() -> Readers:
     """The companion's readers of a text, as modules."""
-    sys.path.insert(0, str(TOP / "admin"))
     return [
         importlib.import_module(f"mbox2maildir_admin.mbox.{name}") for name in ("files", "mailbox", "parts", "messages")
     ]

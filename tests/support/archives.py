@@ -15,12 +15,12 @@ from collections.abc import Callable, Iterable, Iterator, Mapping, Sequence
 from contextlib import contextmanager, suppress
 from functools import partial
 from pathlib import Path
-from typing import Any, NamedTuple
+from typing import NamedTuple
 
 from tests.support.cases import Failed, run_cases
-from tests.support.fates.running import install
-from tests.support.homes import fresh_folder, in_memory
-from tests.support.rewriting.runs import Kill, Place, Ran
+from tests.support.copies import Copies
+from tests.support.homes import fresh_folder, in_memory, install
+from tests.support.running import NEVER, OWNER, Kill, Row, Run
 
 RECORD, LEDGER = "mbox2maildir-record", "mbox2maildir-messages"
 ID = re.compile(rb"(?m)^Message-ID: <(\d+)@example.com>")
@@ -30,7 +30,6 @@ TEN = list(range(10))
 ENDED = ("done", "done before", "undone", "no mail")
 
 Numbers = typing.Counter[int]
-Row = dict[str, Any]
 
 
 def letter(number: int, fields: bytes = b"", body: bytes = b"") -> bytes:
@@ -88,12 +87,12 @@ PROGRAMS = {
 
 
 class Outcome:
-    """How a run ended: its status, None if it was killed; what it printed; and its rows by the paths of mailboxes."""
+    """How a run ended: its status, what it printed, and its rows by the paths of mailboxes."""
 
-    def __init__(self, words: Sequence[str], ran: Ran) -> None:
-        self.status = ran.status
+    def __init__(self, words: Sequence[str], ran: Run) -> None:
+        self.status, self.is_killed = ran.status, ran.is_killed
         self.text = f"$ {' '.join(words)} -> {ran.status}\n{ran.output}"
-        self.rows = {str(row["path"]): row for row in objects(ran.output) if row["type"] == "row"}
+        self.rows = {str(row["path"]): row for row in ran.rows}
 
     def __getitem__(self, name: str) -> Row:
         """The row of a mailbox."""
@@ -107,7 +106,7 @@ class Home:
 
     def __init__(self, path: Path, programs: Path) -> None:
         self.path, self.maildir = path, path / "M"
-        self.place = Place(path, programs)
+        self.place = Copies(path, programs, OWNER, TZ="UTC")
         # what each run is told
         self.words = []  # type: list[str]
 
@@ -127,11 +126,11 @@ class Home:
         os.utime(str(path), (time.time() - 3600,) * 2)
         return name
 
-    def run(self, *names: str, words: Sequence[str] = (), kill: Kill = Kill()) -> Outcome:
+    def run(self, *names: str, words: Sequence[str] = (), kill: Kill = NEVER) -> Outcome:
         """Migrates mailboxes, or does with them what the words say."""
         words = ["migrate", "--json", "--now", *self.words, *words, "M", *names]
         ran = Outcome(words, self.place.run(words, kill))
-        if ran.status is None:
+        if ran.is_killed:
             self.wait_for_orphans()
         return ran
 
@@ -219,13 +218,6 @@ class Home:
 
 
 Rule = Callable[[Home], None]
-
-
-def objects(out: str) -> Iterator[Row]:
-    """The objects of JSON in what was printed."""
-    for line in out.splitlines():
-        if line.startswith("{") and line.endswith("}"):
-            yield json.loads(line)
 
 
 def texts_of(row: Row) -> str:

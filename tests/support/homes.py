@@ -2,33 +2,24 @@
 import os
 import pwd
 import shutil
-import subprocess
 import tempfile
 import time
 from collections.abc import Callable, Iterator, Mapping, Sequence
 from contextlib import contextmanager
 from functools import partial
 from pathlib import Path
-from typing import Optional, Union
+from typing import Optional
 
 from tests.support import accounts
 from tests.support.cases import LeftOut, run_cases
-from tests.support.checks import PATIENCE, TOP, equal, match_in, matches, program, without_progress, without_work
+from tests.support.checks import TOP, equal, match_in, matches, program, without_progress, without_work
 from tests.support.dovecot.settings import settings_here
+from tests.support.running import COMPANION, OWNER, Desk, Word
 
-ADMIN = TOP / "admin/mbox2maildir-admin"
+ADMIN = TOP / "admin" / COMPANION
 PACKAGE = TOP / "admin/mbox2maildir_admin"
-# the owner of the mail, as whom programs run if root tests: a user that each system has
-OWNER = "nobody"
 # a disk in memory, and the room that tests want there
 MEMORY, ROOM = "/dev/shm", 1 << 28
-
-Word = Union[str, Path]
-
-
-def decoded(output: bytes) -> str:
-    """What a program printed, as text from which the bytes can be had again."""
-    return output.decode(errors="surrogateescape")
 
 
 def is_root() -> bool:
@@ -69,18 +60,12 @@ def run(words: Sequence[Word], home: Path, **settings: str) -> tuple[int, str, s
 
 def run_whole(words: Sequence[Word], home: Path, **settings: str) -> tuple[int, str, str]:
     """The same, with everything that it prints."""
-    env = {"PATH": f"{home}/bin:{os.environ['PATH']}", "LC_ALL": "C.UTF-8", **settings}
-    command = [str(word) for word in words]
-    want_no_people(command)
-    if not command[0].startswith(("/", "mbox2maildir")):
-        command.insert(0, str(ADMIN))
-    if command[0] == str(ADMIN):
+    want_no_people(words)
+    desk = Desk(home, None, "", **settings)
+    command = desk.command(words)
+    if str(words[0]) == str(ADMIN) or len(command) > len(words):
         command[1:] = with_rows(command[1:])
-    ran = subprocess.run(
-        command, cwd=str(home), env=env, stdin=subprocess.DEVNULL, capture_output=True, timeout=PATIENCE, check=False
-    )
-    assert b"Traceback" not in ran.stderr, f"{command}: {decoded(ran.stderr)}"
-    return ran.returncode, decoded(ran.stdout), decoded(ran.stderr)
+    return desk.run(command)
 
 
 def with_rows(words: Sequence[str]) -> list[str]:

@@ -25,20 +25,10 @@ from pathlib import Path
 
 from tests.support.cases import run_cases
 from tests.support.checks import PATIENCE, TOP, WORK, differ, equal, match_in, matches, text_of
-from tests.support.homes import (
-    OWNER,
-    as_owner,
-    decoded,
-    fresh_home,
-    hand_over,
-    install,
-    is_root,
-    meets_people,
-    own_dovecot,
-    script,
-)
+from tests.support.homes import as_owner, fresh_home, hand_over, install, is_root, meets_people, own_dovecot, script
 from tests.support.mail import A, B, MAY, with_length
 from tests.support.printed import rows_in
+from tests.support.running import OWNER, decoded
 
 README, BACK = "README.md", "docs/BACK.md"
 PAGES = [README, *(f"docs/{name}.md" for name in ("OWN-MAIL", "SERVER", "FORMATS", "LEFT", "LEDGER")), BACK]

@@ -26,8 +26,9 @@ from typing import IO, Optional, TypeVar, Union
 from tests.support.cases import LeftOut, run_cases
 from tests.support.checks import TOP, differ, equal, match_in, text_of
 from tests.support.dovecot.settings import settings_here
-from tests.support.homes import OWNER, as_owner, fresh_home, hand_over, install, mail_in, own_dovecot
+from tests.support.homes import as_owner, fresh_home, hand_over, install, mail_in, own_dovecot
 from tests.support.printed import commands_in
+from tests.support.running import OWNER
 
 PAGE = text_of(TOP / "docs/FORMATS.md")
 # a program that never ends is left out; on a machine that has much to do, others end late

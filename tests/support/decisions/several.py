@@ -6,10 +6,10 @@ import shutil
 from collections.abc import Sequence
 from pathlib import Path
 from random import Random
-from typing import Any
 
-from tests.support.decisions.running import Desk
+from tests.support.decisions.running import Trials
 from tests.support.decisions.trial import answers_in
+from tests.support.running import Row
 from tests.support.splitter import WORDS, contradictions, has_sure_lengths, split, without_deleted
 from tests.support.writers import WRITERS
 from tests.support.writers.letters import letters
@@ -25,16 +25,14 @@ def drawn(draw: Random) -> tuple[str, Written]:
     return name, WRITERS[name](draw, letters(draw, 4))
 
 
-def wrong_in_tree(desk: Desk, seed: int) -> list[str]:
+def wrong_in_tree(desk: Trials, seed: int) -> list[str]:
     """What is wrong if a word is said for a folder of mailboxes."""
     draw = Random(f"tree {seed}")
     word, boxes = draw.choice(WORDS), dict(drawn(draw) for _ in range(6))
     desk.clear()
     for name, written in boxes.items():
         desk.write(f"old/a-{name}", written.text)
-    rows = {
-        row.get("path", ""): row for row in desk.run("migrate", "--now", "--json", "--as", word, "M", "old").objects()
-    }
+    rows = {row["path"]: row for row in desk.run(["migrate", "--now", "--json", "--as", word, "M", "old"]).rows}
     wrong = []
     for name, written in boxes.items():
         row = rows[f"old/a-{name}"]
@@ -43,7 +41,7 @@ def wrong_in_tree(desk: Desk, seed: int) -> list[str]:
     return wrong
 
 
-def wrong_row(text: bytes, word: str, row: dict[str, Any], mail: Sequence[bytes]) -> list[str]:
+def wrong_row(text: bytes, word: str, row: Row, mail: Sequence[bytes]) -> list[str]:
     """What is wrong with the row of a mailbox for which a word was said as for several, and with its mail."""
     lines, is_damaged = contradictions(text, word), DAMAGE.search(text.lstrip(b"\0")) is not None
     messages = split(text, "mboxrd")
@@ -61,13 +59,13 @@ def wrong_row(text: bytes, word: str, row: dict[str, Any], mail: Sequence[bytes]
     return [] if tuple(sorted(wanted)) == tuple(mail) else ["the mail is not the splitter's"]
 
 
-def is_printed(word: str, row: dict[str, Any]) -> bool:
+def is_printed(word: str, row: Row) -> bool:
     """Whether a word by which the same lines begin messages is one of the answers that a row prints."""
     same = next(some for some in (("mboxrd", "mboxo"), ("mboxcl", "mboxcl2"), ("unquoted",)) if word in some)
     return any(one.word in same and not one.mail | one.begin for one in answers_in(row))
 
 
-def wrong_with_users(desk: Desk, users: Sequence[str], seed: int) -> list[str]:
+def wrong_with_users(desk: Trials, users: Sequence[str], seed: int) -> list[str]:
     """What is wrong in a spool of these users. Root runs what is printed for each user that is left."""
     draw, boxes = Random(f"users {seed}"), {}
     desk.clear(as_root=True)
@@ -82,11 +80,11 @@ def wrong_with_users(desk: Desk, users: Sequence[str], seed: int) -> list[str]:
         (spool / user).chmod(0o600)
         for path in (home, spool / user):
             shutil.chown(str(path), account.pw_uid, account.pw_gid)
-    rows = desk.run("migrate", "--users", "--now", "--json", "spool", *users).objects()
-    return [line for row in rows if row["type"] == "row" for line in wrong_user(desk, row, boxes[row["user"]])]
+    rows = desk.run(["migrate", "--users", "--now", "--json", "spool", *users]).rows
+    return [line for row in rows for line in wrong_user(desk, row, boxes[row["user"]])]
 
 
-def wrong_user(desk: Desk, row: dict[str, Any], written: Written) -> list[str]:
+def wrong_user(desk: Trials, row: Row, written: Written) -> list[str]:
     """What is wrong with the mail of a user that is done, or with the commands that are printed for one that is
     left."""
     wrong, answers = [], answers_in(row)
@@ -102,5 +100,5 @@ def wrong_user(desk: Desk, row: dict[str, Any], written: Written) -> list[str]:
         wanted = split(written.text, answer.word or "mboxrd", answer.mail, answer.begin)
         wanted = without_deleted(wanted) if answer.drops else wanted
         if ran.status or desk.mail(str(maildir)) != tuple(sorted(wanted)):
-            wrong.append(f"{answer.command}: {ran.output}{ran.errors}")
+            wrong.append(f"{answer.command}: {ran.output}")
     return wrong if answers else [f"left without a command: {row['says']}"]

@@ -3,10 +3,11 @@ gives that they print, and with what each forced word gives."""
 import re
 import shlex
 from collections.abc import Sequence
-from typing import Any, NamedTuple, Optional
+from typing import NamedTuple, Optional
 
-from tests.support.decisions.running import Desk
-from tests.support.printed import COMMAND, typed
+from tests.support.decisions.running import Trials
+from tests.support.printed import COMMAND
+from tests.support.running import Row
 from tests.support.splitter import WORDS, begins_dated, contradictions, lines_of, quoted_lines, split, without_deleted
 from tests.support.writers.programs import Written
 
@@ -40,11 +41,9 @@ def answer_of(command: str) -> Answer:
     return Answer(command, word, numbers(words, "--text"), numbers(words, "--begin"), "--drop-deleted" in words)
 
 
-def answers_in(row: dict[str, Any]) -> list[Answer]:
+def answers_in(row: Row) -> list[Answer]:
     """The commands of a row, as root types those of a user."""
-    answers = [one for one in row["next"] if "answer" in one]
-    who = ["" if one["user"] in (None, "root") else f"runuser -u {one['user']} -- " for one in answers]
-    return [answer_of(by + typed(one))._replace(messages=one["messages"]) for by, one in zip(who, answers)]
+    return [answer_of(command)._replace(messages=count) for command, count in row.answers.items()]
 
 
 def answers_below(out: str) -> list[Answer]:
@@ -60,7 +59,7 @@ def unquoted(message: bytes) -> bytes:
 class Trial:
     """A mailbox of a writer in a folder of its own, and what is wrong with it."""
 
-    def __init__(self, desk: Desk, written: Written) -> None:
+    def __init__(self, desk: Trials, written: Written) -> None:
         self.desk, self.written, self.text = desk, written, written.text
         self.wrong: list[str] = []
         # what was seen, for the figures
@@ -75,10 +74,10 @@ class Trial:
         self.desk.clear()
         self.desk.write("box", self.text)
 
-    def migrate(self, *options: str) -> dict[str, Any]:
+    def migrate(self, *options: str) -> Row:
         """Migrates the mailbox into a new Maildir, and returns the row."""
         self.begin()
-        return self.desk.run("migrate", "--now", "--json", *options, "M", "box").row()
+        return self.desk.run(["migrate", "--now", "--json", *options, "M", "box"]).row
 
     def run(self, words: Sequence[str], in_shell: bool) -> list[str]:
         """Tries it without a word, and by some words. Returns what is wrong. Printed commands are run by a shell, or in
@@ -99,7 +98,7 @@ class Trial:
     def look(self) -> None:
         """What `kind` counts is what a word gives."""
         self.begin()
-        said = self.desk.run("kind", "box").output
+        said = self.desk.run(["kind", "box"]).out
         found = COUNTS.search(said)
         if not found:
             self.wrong.append(f"kind counts no messages: {said}")
@@ -114,7 +113,7 @@ class Trial:
         """How many messages the text has by each word, and in truth."""
         return frozenset([*(len(split(self.text, word)) for word in WORDS), len(self.written.pieces)])
 
-    def done(self, row: dict[str, Any]) -> None:
+    def done(self, row: Row) -> None:
         """What is done without a word is the mail that the writer was given, or the row says what is not."""
         mail, pieces = self.desk.mail(), self.written.pieces
         self.note("done")
@@ -134,7 +133,7 @@ class Trial:
         else:
             self.wrong.append(f"done, with `>` lost or more, and nothing is said: {row}: {strange[:1]}")
 
-    def says_quotes(self, row: dict[str, Any]) -> bool:
+    def says_quotes(self, row: Row) -> bool:
         """Whether a row says that the `>` of some lines are doubtful: of as many as the splitter counts."""
         says, counts = SAID_QUOTES.findall(row["says"]), quoted_lines(self.text)
         for count, word in says:
@@ -142,7 +141,7 @@ class Trial:
                 self.wrong.append(f"it says {count} lines as {word}, and there are {counts[word]}: {row}")
         return bool(says)
 
-    def left(self, row: dict[str, Any], in_shell: bool) -> None:
+    def left(self, row: Row, in_shell: bool) -> None:
         """Each command that is printed gives what the splitter has. By one of them the mail is as it was given, or the
         lines are shown that are in question."""
         self.note("left")
@@ -162,10 +161,10 @@ class Trial:
     def answered(self, answer: Answer, in_shell: bool) -> tuple[bytes, ...]:
         """Runs a printed command, and returns what it gave."""
         self.begin()
-        ran = self.desk.in_shell(answer.command) if in_shell else self.desk.run(*shlex.split(answer.command)[1:])
+        ran = self.desk.in_shell(answer.command) if in_shell else self.desk.run(shlex.split(answer.command)[1:])
         mail = self.desk.mail()
         if ran.status:
-            self.wrong.append(f"{answer.command}: {ran.output}{ran.errors}")
+            self.wrong.append(f"{answer.command}: {ran.output}")
         elif mail != self.by(answer.word or "mboxrd", answer.mail, answer.begin, answer.drops):
             self.wrong.append(f"{answer.command}: the mail is not the splitter's: {ran.output}")
         self.note("printed commands")
@@ -180,7 +179,7 @@ class Trial:
         messages = split(self.text, word, mail, begin)
         return tuple(sorted(without_deleted(messages) if drops else messages))
 
-    def shown(self, row: dict[str, Any]) -> None:
+    def shown(self, row: Row) -> None:
         """The lines of a row are those of the text: whole, or their beginning, or what stands late in one, or a part of
         that."""
         lines = lines_of(self.text)

@@ -14,17 +14,18 @@ from random import Random
 from typing import NamedTuple
 
 from tests.support.checks import LATER
-from tests.support.decisions.running import Desk
+from tests.support.copies import Copies
 from tests.support.fates import texts
 from tests.support.fates.comparing import FIRST, Comparison, files_of, folder_on_disk
 from tests.support.fates.failing import counter, put_in_place
 from tests.support.fates.names import name
-from tests.support.fates.running import COMPANION, NOBODY, Outcome, is_root, migrate
+from tests.support.fates.running import Outcome, migrate
 from tests.support.fates.stores import maildir, mh_folder
 from tests.support.fates.texts import Fate
 from tests.support.fates.trees import ready
 from tests.support.fates.users import TREE, Accounts
 from tests.support.fates.world import INBOX, Branch, Thing, World
+from tests.support.running import COMPANION, OWNER
 
 START = Path(__file__).with_name("failing.py")
 ERRORS = [errno.EIO, errno.EACCES, errno.ENOMEM, errno.ESTALE]
@@ -157,7 +158,7 @@ class Attempt:
         world = self.make(Random(9), self.home)
         # several at a time make other calls in each run, and in another order
         world.options += ["--jobs", "1"]
-        world.finish((NOBODY, NOBODY) if is_root() and not world.is_for_users else None)
+        world.finish()
         return world
 
     def run(self, fault: Fault = NONE) -> tuple[World, Outcome, list[Call]]:
@@ -198,7 +199,7 @@ class Attempt:
         return told(fault, failed, wrong)
 
 
-class FailingDesk(Desk):
+class FailingDesk(Copies):
     """Runs the companion in copies of this process, in which a call fails. The calls are noted in a file."""
 
     log, fault = "", NONE
@@ -215,8 +216,8 @@ class EachCall(Attempt):
 
     def __init__(self, make: Make, home: Path, programs: Path) -> None:
         super().__init__(make, home)
-        self.desk = FailingDesk(home, programs)
-        self.desk.log, self.desk.is_root_at_work = str(self.log), not is_root()
+        self.desk = FailingDesk(home, programs, OWNER)
+        self.desk.log = str(self.log)
         self.met: set[Right] = set()
         # else each copy would have to move what is collected
         gc.freeze()
@@ -224,7 +225,7 @@ class EachCall(Attempt):
     def outcome(self, world: World, fault: Fault) -> Outcome:
         """Runs a world in which one call fails, or none."""
         self.desk.fault = fault
-        ran = self.desk.run_any("migrate", "--all", *world.options, "--", *map(os.fsdecode, world.words))
+        ran = self.desk.run_any(["migrate", "--all", *world.options, "--", *map(os.fsdecode, world.words)])
         return Outcome(*ran)
 
     def faults(self) -> list[Fault]:

@@ -13,7 +13,7 @@ from tests.support.cases import LeftOut
 from tests.support.fates import texts
 from tests.support.fates.comparing import AGAIN, Comparison, differences, things_done, wrong_maildirs
 from tests.support.fates.names import name
-from tests.support.fates.running import NOBODY, is_root, migrate
+from tests.support.fates.running import migrate
 from tests.support.fates.stores import index_of, maildir, mh_folder
 from tests.support.fates.texts import Content, Fate
 from tests.support.fates.trees import ready
@@ -39,7 +39,7 @@ class Stage:
 
     def finish(self) -> World:
         """Ends the making."""
-        self.world.finish((NOBODY, NOBODY) if is_root() and not self.world.is_for_users else None)
+        self.world.finish()
         return self.world
 
     def wrong(self) -> list[str]:

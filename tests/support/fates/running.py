@@ -1,22 +1,14 @@
 """Runs of the companion in a world, and what they print: rows and a last line."""
 import os
 import re
-import shutil
-import subprocess
-from collections.abc import Callable, Sequence
-from pathlib import Path
+from collections.abc import Sequence
 from typing import NamedTuple, Optional
 
-from tests.support.checks import PATIENCE, TOP, program
 from tests.support.fates.world import Thing, World
-from tests.support.homes import open_to_others, want_no_people
+from tests.support.homes import want_no_people
 from tests.support.printed import rows_in, unquoted
+from tests.support.running import OWNER, Desk
 
-# the folder of the companion; the environment may name another one to be tested, or an installed program, which runs in
-# its place with the mbox2maildir beside it
-ADMIN = Path(os.environ.get("ADMIN") or TOP / "admin")
-COMPANION = "mbox2maildir-admin"
-NOBODY = 65534
 FATE = re.compile(r"(?:\A|: )(done before|done|would be done|left|no mail)(?=\Z|[:,;]| \()")
 PARTS = r"(?:, )?(?:\d+ [a-z][a-z ]*?)"
 LAST = re.compile(
@@ -60,60 +52,15 @@ class Outcome:
         return int(self.sum[word] or 0) if self.sum else 0
 
 
-def install(folder: Path) -> None:
-    """Copies the program and the companion into a folder that others may read. For what is installed it makes a link
-    there."""
-    folder.mkdir(parents=True)
-    if ADMIN.is_file():
-        os.symlink(str(ADMIN), str(folder / COMPANION))
-        return
-    shutil.copy(program(), str(folder / "mbox2maildir"))
-    shutil.copytree(str(ADMIN), str(folder / "admin"))
-    os.symlink(f"admin/{COMPANION}", str(folder / COMPANION))
-    open_to_others(folder)
-
-
-def is_root() -> bool:
-    """Whether root runs the test. Then a run is another user's, to whom the modes of files apply."""
-    return os.geteuid() == 0
-
-
-def as_user() -> None:
-    """Gives up root's rights."""
-    os.setgroups([])
-    os.setgid(NOBODY)
-    os.setuid(NOBODY)
-
-
 def migrate(world: World, options: Sequence[str] = (), start: Sequence[str] = (), **settings: str) -> Outcome:
     """Runs `migrate` in a world, as its user."""
-    words = [
-        *start,
-        str(world.home.parent / "bin" / COMPANION),
-        "migrate",
-        "--all",
-        *options,
-        *world.options,
-        "--",
-        *map(os.fsdecode, world.words),
-    ]
+    words = ["migrate", "--all", *options, *world.options, "--", *map(os.fsdecode, world.words)]
     want_no_people(words)
-    prepare: Optional[Callable[[], None]] = None if world.is_for_users or not is_root() else as_user
-    places = {"PATH": f"{world.home.parent}/bin:{os.environ['PATH']}", "LC_ALL": "C.UTF-8", "HOME": str(world.home)}
-    done = subprocess.run(
-        words,
-        cwd=str(world.home),
-        env={**places, **settings},
-        input=world.input,
-        stdout=subprocess.PIPE,
-        stderr=subprocess.PIPE,
-        timeout=PATIENCE,
-        check=False,
-        preexec_fn=prepare,
+    desk = Desk(
+        world.home, world.home.parent / "bin", "" if world.is_for_users else OWNER, HOME=str(world.home), **settings
     )
-    return Outcome(
-        done.returncode, done.stdout.decode(errors="surrogateescape"), done.stderr.decode(errors="surrogateescape")
-    )
+    ran = desk.run_any([*start, *desk.command(words)], given=world.input)
+    return Outcome(*ran)
 
 
 def rows_of(world: World, outcome: Outcome, wrong: list[str]) -> list[Row]:

@@ -10,6 +10,7 @@ from typing import Optional
 
 from tests.support.fates.names import Name, name
 from tests.support.fates.texts import Content, Fate
+from tests.support.homes import hand_over
 
 # how old a file is, in seconds: nobody has written to it for a while, and a lock of that age does not count
 OLD, FRESH = 3600, 60
@@ -91,12 +92,10 @@ class World:
         """How many names must have this fate."""
         return sum(choice.count(fate) for choice in self.choices)
 
-    def finish(self, owner: Optional[tuple[int, int]] = None) -> None:
+    def finish(self) -> None:
         """Gives files to their owners, and takes rights away."""
-        if owner:
-            for folder, _, names in os.walk(os.fsencode(self.home)):
-                for path in [folder, *(os.path.join(folder, one) for one in names)]:
-                    os.chown(path, *owner, follow_symlinks=False)
+        if not self.is_for_users:
+            hand_over(self.home)
         for path, user, group in self.owners:
             os.chown(path, user, group, follow_symlinks=False)
         for path, mode in reversed(self.modes):

@@ -9,7 +9,7 @@ from typing import Optional
 from tests.support.archives import LEDGER, RECORD
 from tests.support.rewriting.letters import content, drawn
 from tests.support.rewriting.rewriters import BY_HAND, BY_PROGRAM, appended_unquoted
-from tests.support.rewriting.runs import Kill
+from tests.support.running import Kill
 from tests.support.rewriting.trees import INBOX, Box, Tree
 
 # what a backup has, by the parts that come from it alone

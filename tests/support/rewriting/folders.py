@@ -11,9 +11,10 @@ from collections import Counter
 from collections.abc import Iterable, Iterator, Mapping
 from pathlib import Path
 
-from tests.support.archives import Row, texts_of
+from tests.support.archives import texts_of
 from tests.support.rewriting.letters import content
 from tests.support.rewriting.ledger import INTERNAL
+from tests.support.running import Row
 
 ID = re.compile(rb"(?mi)^Message-ID: *<([^>]*)>")
 Counts = typing.Counter[bytes]
@@ -176,5 +177,5 @@ class Folders:
 
 def numbers_in(row: Row) -> list[int]:
     """The numbers that a row says, besides those of names."""
-    text = re.sub(r"[^\s'\"]*/[^\s'\"]*", "", texts_of({**row, "next": None}))
+    text = re.sub(r"[^\s'\"]*/[^\s'\"]*", "", texts_of(Row(row, next=None)))
     return [int(number) for number in re.findall(r"(?<![\w.])\d+(?![\w.])", text)]

@@ -9,7 +9,7 @@ from tests.support.dovecot.server import Dovecot
 from tests.support.ledgers import LEDGER, RECORD
 from tests.support.rewriting.deeds import compressed, copied_mailbox, kept_mailbox, moved_message, put, rewritten
 from tests.support.rewriting.rewriters import Mailbox, by_procmail
-from tests.support.rewriting.runs import Kill
+from tests.support.running import NEVER, Kill
 from tests.support.rewriting.same import Twice
 from tests.support.rewriting.trees import INBOX, Box, told
 
@@ -117,7 +117,7 @@ class Passes(Twice):
         what, commands = f"{'first' if '--prepare' in words else 'last'} passes", self.commands()
         at = self.draw.randrange(len(commands)) if is_killed else -1
         for number, command in enumerate(commands):
-            kill = self.kill() if number == at else Kill()
+            kill = self.kill() if number == at else NEVER
             ran, rows = self.carry_out([*self.words, *words, *command], kill)
             self.wrong += [
                 f"a first pass: {told(row)}"
@@ -125,12 +125,12 @@ class Passes(Twice):
                 if row["verdict"] == "done" and PREPARE[0] in words
             ]
             self.noted[what] += 1
-            self.noted[f"{what} killed"] += ran.status is None
-            if ran.status is None:
+            self.noted[f"{what} killed"] += ran.is_killed
+            if ran.is_killed:
                 break
         self.draw.seed(later)
         self.likely = 0.0
-        return ran.status is not None
+        return not ran.is_killed
 
     def kill(self) -> Kill:
         """A moment of a run."""

@@ -6,10 +6,10 @@ import time
 from collections.abc import Callable, Iterable, Sequence
 from pathlib import Path
 
-from tests.support.archives import Row, objects, texts_of
+from tests.support.archives import texts_of
 from tests.support.dovecot.server import Dovecot
 from tests.support.rewriting.rewriters import appended
-from tests.support.rewriting.runs import Kill, Ran
+from tests.support.running import NEVER, Kill, Row, Run
 from tests.support.rewriting.several import Several
 from tests.support.rewriting.trees import told
 
@@ -72,14 +72,14 @@ class Twice(Several):
         # the folders of the mailboxes that are left, also by one `migrate`: what was prepared there stays so
         self.left = set()  # type: set[str]
 
-    def carry_out(self, words: Sequence[str], kill: Kill = Kill()) -> tuple[Ran, dict[str, Row]]:
+    def carry_out(self, words: Sequence[str], kill: Kill = NEVER) -> tuple[Run, dict[str, Row]]:
         ran = self.place.run_later(["migrate", "--json", "--now", *words], kill, self.meanwhile)
-        rows = {str(row["path"]): row for row in objects(ran.output) if row["type"] == "row"}
-        how = f" ({kill})" if kill != Kill() else ""
+        rows = {str(row["path"]): row for row in ran.rows}
+        how = f" ({kill})" if kill != NEVER else ""
         self.story.append(f"$ {' '.join(words)}{how} -> {ran.status}")
         self.story += [f"  {told(row)}" for row in rows.values()] or [ran.output.strip()]
         self.noted["runs"] += 1
-        if ran.status not in (None, 0, 1):
+        if not ran.is_killed and ran.status not in (0, 1):
             self.wrong.append(f"status {ran.status}")
         return ran, rows
 

@@ -1,11 +1,11 @@
 """Several mailboxes over many runs, between which people and programs are at work, until everything is done."""
 from collections.abc import Sequence
 
-from tests.support.archives import Row
 from tests.support.rewriting.deeds import do_something
 from tests.support.rewriting.ledger import INTERNAL
 from tests.support.rewriting.letters import content
 from tests.support.rewriting.trees import Tree
+from tests.support.running import Row
 from tests.support.splitter import split
 
 # how often what is printed is followed

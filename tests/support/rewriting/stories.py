@@ -4,9 +4,11 @@ import re
 import time
 from collections.abc import Callable, Iterator, Sequence
 
+from tests.support.copies import Copies
 from tests.support.rewriting.letters import KINDS, Letter
 from tests.support.rewriting.rewriters import by_dovecot, deleted_by_dovecot, numbered, saved_by_dovecot
-from tests.support.rewriting.runs import BY_OTHERS, Place, Ran, commands_of
+from tests.support.rewriting.runs import commands_of
+from tests.support.running import BY_OTHERS, OWNER, Run
 from tests.support.rewriting.trial import QUIET, Trial
 
 
@@ -45,7 +47,7 @@ class Story:
         self.trial.place.own(self.box.path)
         self.trial.taken_text()
 
-    def done(self, *options: str) -> Ran:
+    def done(self, *options: str) -> Run:
         """Makes a run that must do everything."""
         ran = self.trial.migrate(options)
         assert ran.status == 0, f"status {ran.status}: {ran.output}"
@@ -66,8 +68,10 @@ class Story:
             (programs / PROGRAM).unlink()
             (programs / PROGRAM).write_text(STOPS % (str(self.trial.place.programs / PROGRAM), count), encoding="utf-8")
             (programs / PROGRAM).chmod(0o755)
-        ran = Place(self.trial.home, programs).run(["migrate", *options, "Maildir", "inbox"], BY_OTHERS)
-        assert ran.status is None and self.count() == count, f"{self.count()} files, status {ran.status}: {ran.output}"
+        ran = Copies(self.trial.home, programs, OWNER, TZ="UTC").run(
+            ["migrate", *options, "Maildir", "inbox"], BY_OTHERS
+        )
+        assert ran.is_killed and self.count() == count, f"{self.count()} files, status {ran.status}: {ran.output}"
         self.ledger.look()
 
 

@@ -8,13 +8,13 @@ from collections.abc import Sequence
 from pathlib import Path
 from typing import NamedTuple, Optional
 
-from tests.support.archives import Row, objects
+
 from tests.support.dovecot.server import Dovecot
 from tests.support.rewriting.folders import Counts, Folders
 from tests.support.rewriting.ledger import INTERNAL
 from tests.support.rewriting.letters import KINDS, content, without
 from tests.support.rewriting.rewriters import USER, Mailbox
-from tests.support.rewriting.runs import Kill, Ran
+from tests.support.running import NEVER, Kill, Row, Run
 from tests.support.rewriting.trial import Trial
 from tests.support.splitter import WORDS, is_from, split
 
@@ -132,7 +132,7 @@ class Tree(Trial):
         name = box.path[: -len(".gz")] if box.path.endswith(".gz") else box.path
         return self.folder or ("INBOX" if name == INBOX else name.split("/", 1)[1])
 
-    def carry_out(self, words: Sequence[str], kill: Kill = Kill()) -> tuple[Ran, dict[str, Row]]:
+    def carry_out(self, words: Sequence[str], kill: Kill = NEVER) -> tuple[Run, dict[str, Row]]:
         """Runs the companion, and looks at what it did."""
         for box in self.boxes:
             text = self.text_of(box)
@@ -141,14 +141,14 @@ class Tree(Trial):
                     self.folders.bytes |= {one, without(one)}
             self.folders.see(box.number, self.target(box), self.mail_of(box))
         ran = self.place.run(["migrate", "--json", "--now", *words], kill)
-        rows = {str(row["path"]): row for row in objects(ran.output) if row["type"] == "row"}
+        rows = {str(row["path"]): row for row in ran.rows}
         self.see_folders(rows)
-        how = f" ({kill})" if kill != Kill() else ""
+        how = f" ({kill})" if kill != NEVER else ""
         self.story.append(f"$ {' '.join(words)}{how} -> {ran.status}")
         self.story += [f"  {told(row)}" for row in rows.values()] or [ran.output.strip()]
-        self.wrong += self.folders.ran(rows, ran.status is None)
+        self.wrong += self.folders.ran(rows, ran.is_killed)
         self.noted["runs"] += 1
-        self.noted["kills"] += ran.status is None
+        self.noted["kills"] += ran.is_killed
         self.check(ran, rows)
         return ran, rows
 
@@ -159,13 +159,13 @@ class Tree(Trial):
             if row and row["folder"] and row["folder"] != self.target(box):
                 self.folders.see(box.number, row["folder"], self.mail_of(box))
 
-    def check(self, ran: Ran, rows: dict[str, Row]) -> None:
+    def check(self, ran: Run, rows: dict[str, Row]) -> None:
         """What is done is there, unless people took it away, which is said."""
-        if ran.status not in (None, 0, 1):
+        if not ran.is_killed and ran.status not in (0, 1):
             self.wrong.append(f"status {ran.status}")
         for box in self.boxes:
             row = rows.get(box.path)
-            if row and row["verdict"] in ENDED and ran.status is not None:
+            if row and row["verdict"] in ENDED and not ran.is_killed:
                 self.wrong += self.folders.missing(row, self.counts_of(box))
 
     def run_all(self, *words: str) -> dict[str, Row]:

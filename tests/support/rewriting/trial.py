@@ -11,12 +11,13 @@ from collections.abc import Sequence
 from pathlib import Path
 from random import Random
 
+from tests.support.copies import Copies
 from tests.support.dovecot.server import Dovecot
-from tests.support.fates.running import COMPANION
 from tests.support.rewriting.ledger import Ledger, readings
 from tests.support.rewriting.letters import KINDS, content
 from tests.support.rewriting.rewriters import USER, Mailbox, Rewriter, by_dovecot, there
-from tests.support.rewriting.runs import Kill, Place, Ran, commands_of
+from tests.support.rewriting.runs import commands_of
+from tests.support.running import COMPANION, NEVER, OWNER, Kill, Run
 from tests.support.splitter import is_from
 
 RECORD = "mbox2maildir-record"
@@ -40,7 +41,7 @@ class Trial:
     def __init__(self, server: Dovecot, programs: Path, seed: int) -> None:
         self.draw, self.seed, self.server = Random(f"rewritten {seed}"), seed, server
         self.home = Path(server.home(USER))
-        self.place = Place(self.home, programs)
+        self.place = Copies(self.home, programs, OWNER, TZ="UTC")
         self.box = Mailbox(self.home / "inbox", self.draw.choice(KINDS), server, self.draw, [])
         self.ledger = Ledger(self.home / "Maildir")
         self.wrong = []  # type: list[str]
@@ -97,22 +98,22 @@ class Trial:
         found = readings(text) if not text or is_from(text) else {}
         return {word for word, messages in found.items() if sent.issuperset(messages)}
 
-    def migrate(self, options: Sequence[str], kill: Kill = Kill()) -> Ran:
+    def migrate(self, options: Sequence[str], kill: Kill = NEVER) -> Run:
         """Runs `migrate`, and looks at the files."""
         return self.run(["migrate", *options, "Maildir", "inbox"], kill)
 
     def meanwhile(self) -> None:
         """What happens while a run is at work."""
 
-    def run(self, words: Sequence[str], kill: Kill = Kill(), in_shell: str = "") -> Ran:
+    def run(self, words: Sequence[str], kill: Kill = NEVER, in_shell: str = "") -> Run:
         """Runs the companion, and looks at the files."""
         ran = self.place.in_shell(in_shell) if in_shell else self.place.run_later(words, kill, self.meanwhile)
         self.said += ran.output
-        how = f" ({kill})" if kill != Kill() else ""
+        how = f" ({kill})" if kill != NEVER else ""
         self.story.append(f"$ {in_shell or ' '.join(words)}{how} -> {ran.status}: {ran.output.strip()}")
         self.wrong += self.ledger.wrong_files()
         self.noted["runs"] += 1
-        self.noted["kills"] += ran.status is None
+        self.noted["kills"] += ran.is_killed
         return ran
 
     def bring_to(self, state: str, options: Sequence[str]) -> None:
@@ -150,7 +151,7 @@ class Trial:
             place = next((at for at, line in enumerate(lines) if line.startswith("done\t")), len(lines))
             record.write_text("".join(lines[:place]))
 
-    def ends(self, ran: Ran) -> None:
+    def ends(self, ran: Run) -> None:
         """If a run ended with status 0, everything is there."""
         if ran.status == 0:
             self.wrong += self.ledger.wrong_end(self.said)
@@ -214,7 +215,7 @@ class Trial:
             self.wrong.append(str(failed))
         return self.wrong
 
-    def follow(self, ran: Ran, options: Sequence[str], depth: int) -> None:
+    def follow(self, ran: Run, options: Sequence[str], depth: int) -> None:
         """Runs each command that is printed in place of another, and then `migrate` again."""
         self.ends(ran)
         if ran.status == 0:
@@ -244,7 +245,7 @@ class Trial:
         if len(self.wrong) == wrong:
             del self.story[story:]
 
-    def run_command(self, command: str, options: Sequence[str]) -> Ran:
+    def run_command(self, command: str, options: Sequence[str]) -> Run:
         """Runs a command as it was printed. After one of another program `migrate` follows."""
         words = shlex.split(command)
         if "--undo" in words:
@@ -283,7 +284,7 @@ class Trial:
         if self.ledger.counts() != before:
             self.wrong.append("done, and a further run places more")
 
-    def note_end(self, ran: Ran, depth: int) -> None:
+    def note_end(self, ran: Run, depth: int) -> None:
         """Counts how it ended."""
         self.ended = self.ended or ("at once" if depth == 1 else "by a copied command")
         what = "done before" if "done before" in ran.output else "done"
@@ -293,7 +294,7 @@ class Trial:
         """How the history ended, and what was asked."""
         return ": ".join(filter(None, [self.ended or "never", self.asked]))
 
-    def note_left(self, ran: Ran) -> None:
+    def note_left(self, ran: Run) -> None:
         """Counts what was left without a command."""
         self.noted["left without a command: " + reason_of(ran.output)] += 1
 

@@ -11,7 +11,7 @@ from tests.support.dovecot.server import Dovecot
 from tests.support.rewriting.ledger import Contents
 from tests.support.rewriting.letters import content
 from tests.support.rewriting.rewriters import by_dovecot
-from tests.support.rewriting.runs import Kill, Ran
+from tests.support.running import NEVER, Kill, Run
 from tests.support.rewriting.trial import RECORD, WORD, Trial, reason_of
 from tests.support.splitter import split
 
@@ -60,7 +60,7 @@ class Undone(Trial):
         """The messages of a mailbox, whoever rewrote it."""
         return [content(one) for one in split(self.text(name), self.box.kind.replace("crlf", "mboxrd"))]
 
-    def one(self, name: str, kill: Kill = Kill(), options: Sequence[str] = ()) -> Ran:
+    def one(self, name: str, kill: Kill = NEVER, options: Sequence[str] = ()) -> Run:
         """Migrates a mailbox. Files that are new then belong to its run."""
         ran = self.place.run(["migrate", *self.options * (name == INBOX), *options, "Maildir", name], kill)
         self.story.append(f"$ migrate {' '.join(options)} {name} {kill} -> {ran.status}: {ran.output.strip()}")
@@ -178,21 +178,21 @@ class Undone(Trial):
         """Undoes it, with kills at random moments, until it ends."""
         kills = self.draw.randint(0, 4)
         for number in range(kills + RUNS):
-            kill = self.moment() if number < kills else Kill()
+            kill = self.moment() if number < kills else NEVER
             ran = self.place.run(["migrate", "--undo", "Maildir", INBOX], kill)
             self.story.append(f"$ migrate --undo {kill} -> {ran.status}: {ran.output.strip()}")
-            self.noted["kills"] += ran.status is None
+            self.noted["kills"] += ran.is_killed
             self.noted["runs"] += 1
             self.wrong += self.wrong_so_far(others)
             if ran.status == 0 and not self.is_looked_at:
                 self.wrong += self.wrong_when_undone(others)
-            if ran.status == 0 or kill == Kill():
+            if ran.status == 0 or kill == NEVER:
                 self.note_undone(ran)
                 break
         if ran.status == 0:
             self.once_more(others)
 
-    def note_undone(self, ran: Ran) -> None:
+    def note_undone(self, ran: Run) -> None:
         """Counts how it ended."""
         says = ran.output.replace("\n", " / ")
         self.ended = "at once" if ran.status == 0 else ""

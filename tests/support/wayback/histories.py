@@ -10,9 +10,9 @@ from pathlib import Path
 from random import Random
 from typing import NamedTuple, Optional
 
-from tests.support.archives import Home, objects
+from tests.support.archives import Home
 from tests.support.cases import Failed
-from tests.support.rewriting.runs import Ran
+from tests.support.running import Run
 from tests.support.wayback.dialects import DIALECTS, bare, field_of, parted
 from tests.support.wayback.programs import KEEPERS, Deliveries, Keeper, with_fields, with_numbers
 
@@ -135,7 +135,7 @@ class History:
         fields = [KEEPERS[program].fields(number, its) for number, its in enumerate(flags, 1)]
         return [with_fields(*pair) for pair in zip(messages, fields)]
 
-    def migrate(self, maildir: str) -> list[Ran]:
+    def migrate(self, maildir: str) -> list[Run]:
         """Migrates each mailbox, and must be done."""
         several = []
         for words in self.commands(maildir):
@@ -329,8 +329,3 @@ def flags_of(message: bytes, keeper: Optional[Keeper], by_dovecot: bool) -> str:
     value = field_of(message, b"Status") + field_of(message, b"X-Status")
     flags = {flag for letter, flag in LETTERS.items() if letter in value and (flag != "D" or by_dovecot)}
     return "".join(sorted({*flags, *((keeper.flags(message) or "") if keeper else "")}))
-
-
-def rows_of(ran: Ran) -> list[dict[str, typing.Any]]:
-    """The rows that were printed."""
-    return [row for row in objects(ran.output) if row["type"] == "row"]

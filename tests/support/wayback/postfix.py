@@ -14,7 +14,7 @@ from random import Random
 
 from tests.support.cases import Failed, LeftOut
 from tests.support.checks import PATIENCE
-from tests.support.fates.running import NOBODY
+from tests.support.accounts import NOBODY
 from tests.support.homes import fresh_folder, in_memory
 from tests.support.wayback.programs import Deliver
 

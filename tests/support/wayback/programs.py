@@ -7,9 +7,9 @@ from pathlib import Path
 from typing import NamedTuple, Optional
 
 from tests.support.cases import Failed
+from tests.support.copies import Copies
 from tests.support.dovecot.settings import settings_here
 from tests.support.homes import own_dovecot
-from tests.support.rewriting.runs import Place
 from tests.support.wayback.dialects import field_of, parted
 
 # by their pages: the bits of X-Mozilla-Status, of X-Evolution, and the labels of Gmail
@@ -135,7 +135,7 @@ def listed_in(folder: Path, number_of: Callable[[bytes], int]) -> Optional[Numbe
 class Deliveries:
     """What delivers into a Maildir as its owner."""
 
-    def __init__(self, place: Place, maildir: Path) -> None:
+    def __init__(self, place: Copies, maildir: Path) -> None:
         self.place, self.maildir = place, maildir
 
     def programs(self) -> list[Deliver]:
