@@ -45,6 +45,19 @@ def rule_1_killed_under_a_name_that_it_had(home: Home) -> None:
     home.has(0, why=row)
 
 
+def rule_1_killed_again(home: Home) -> None:
+    """A run with --again is killed that has nothing to place. The mailbox gets one more of a message that it has twice,
+    whose last two have the names of the files that are there: it is there three times."""
+    home.write("OLD", letters(0, 0))
+    home.done("OLD")
+    home.done("OLD", words=["--again"])
+    for path in home.ledger(), home.maildir / RECORD:
+        path.write_bytes(b"".join(path.read_bytes().splitlines(True)[:-1]))
+    home.write("OLD", letter(0) + letter(0, RO) + letter(0))
+    row = home.done("OLD")["OLD"]
+    home.has(0, 0, 0, why=row)
+
+
 def rule_1_killed_and_taken_by_another(home: Home) -> None:
     """A run was killed once all was placed. Another mailbox takes a file of it, and its row says so, whatever became of
     the message in the first one."""
@@ -566,6 +579,7 @@ def rule_5_in_several_forms(home: Home) -> None:
 
 RULES = [
     rule_1_killed_under_a_name_that_it_had,
+    rule_1_killed_again,
     rule_1_killed_and_taken_by_another,
     rule_2_the_fields_of_another_mailbox,
     rule_2_only_the_cores_are_equal,

@@ -10,7 +10,7 @@ from ..mbox.bases import Table, base_in, before_info
 from ..nexts import Remark
 from ..units import counted
 from .ledger import Ledger
-from .lines import LOST, PLACED, digest_at
+from .lines import LOST, digest_at
 from .match import Match
 
 GONE = "%d of the %d messages that were placed in its folder are gone, or another program renamed them"
@@ -43,7 +43,7 @@ def left_by_killed(match: Match) -> int:
     ledger, path = match.ledger, match.path
     if ledger.pending(path) is None:
         return 0
-    placed = {one.name for one in ledger.intended(path, ledger.last_end(path)) if one.word == PLACED}
+    placed = {one.name for one in ledger.intended(path, is_new=True)}
     placed.difference_update(match.taken(), ledger.names())
     return len(match.files.present(placed))
 

@@ -227,13 +227,12 @@ class Ledger:
                 yield number, several, first
                 first -= len(several.names)
 
-    def messages(
-        self, numbers: Container[int], cores: Optional[Container[bytes]] = None
-    ) -> Iterator[tuple[int, Brought]]:
-        """The lines of messages in batches with these numbers, or those with one of these cores, with their numbers."""
-        for number, several, _ in self.pieces():
+    def messages(self, numbers: Container[int], is_new: bool = False) -> Iterator[tuple[int, Brought]]:
+        """The lines of messages in batches with these numbers, with their numbers; or those of messages that were to be
+        placed."""
+        for number, several, first in self.pieces() if numbers else ():
             if number in numbers:
-                yield from ((number, one) for one in several.messages(cores))
+                yield from ((number, one) for at, one in several.counted() if at >= first or not is_new)
 
     def entries(self, cores: Optional[Container[bytes]]) -> Iterator[Line]:
         """The lines of messages that have one of these cores; of all messages without them."""
@@ -258,10 +257,12 @@ class Ledger:
         """The number of the last batch of a mailbox that has ended; 0 if none has."""
         return max((number for number, its in self.ended.items() if its == path), default=0)
 
-    def intended(self, path: str, after: int = 0) -> Iterator[Brought]:
-        """The lines of a mailbox whose batches have not ended, of those after this number."""
+    def intended(self, path: str, is_new: bool = False) -> Iterator[Brought]:
+        """The lines of a mailbox whose batches have not ended; or those of messages that were to be placed since its
+        last one that has."""
+        after = self.last_end(path) if is_new else 0
         numbers = {number for number, batch in self.open.items() if batch.path == path and number > after}
-        return (one for _, one in self.messages(numbers)) if numbers else iter(())
+        return (one for _, one in self.messages(numbers, is_new))
 
     def placed_last(self, path: str) -> list[Brought]:
         """The message that each batch of a mailbox was to place last."""

@@ -20,7 +20,7 @@ from .assign import File, Offer, files_of, offers
 from .batches import Line, State
 from .files import Files
 from .ledger import Ledger
-from .lines import FOREIGN, NAMELESS, PLACED, SHARED, Brought, counted_in, word_for_others
+from .lines import FOREIGN, NAMELESS, SHARED, Brought, counted_in, word_for_others
 
 # tells whether a message is marked as deleted in its mailbox
 IsDeleted = Callable[[Place], bool]
@@ -160,8 +160,8 @@ class Match:
         looking."""
         table, there = self.inventory.table, self.files.there
         new = self.new if len(self.new) == len(self.inventory) else set(self.new)
-        for one in self.ledger.intended(self.path, self.ledger.last_end(self.path)):
-            place = table.own_place(one.name) if one.word == PLACED else None
+        for one in self.ledger.intended(self.path, is_new=True):
+            place = table.own_place(one.name)
             if place is not None and there[place] and place in new:
                 self.mine[place] = 1
         if any(self.mine):

@@ -349,17 +349,17 @@ class PathsTest(LedgerTest):
     def test_the_last_batch_without_an_end(self) -> None:
         self.bring(BOX, line_of(ONE))
         self.assertIsNone(Ledger(self.folder).pending(BOX))
-        self.begin(BOX, line_of(TWO))
+        self.begin(BOX, line_of(TWO), need=1)
         self.begin(OTHER, line_of(TWO))
-        last = self.begin(BOX, line_of(TWO), line_of(THREE))
+        last = self.begin(BOX, line_of(TWO), line_of(THREE), need=1)
         ledger = Ledger(self.folder)
         self.assertEqual((last, ledger.pending(BOX), ledger.pending(OTHER), ledger.pending(THIRD)), (4, 4, 3, None))
         # all that was begun is intended, and once the last one has ended, nothing is pending
         self.assertEqual([one.core for one in ledger.intended(BOX)], [CORES[TWO], CORES[TWO], CORES[THREE]])
-        self.assertEqual([one.core for one in ledger.intended(BOX, 2)], [CORES[TWO], CORES[THREE]])
+        self.assertEqual([one.core for one in ledger.intended(BOX, is_new=True)], [CORES[TWO], CORES[THREE]])
         note_end(self.folder, last)
         ledger = Ledger(self.folder)
-        self.assertIsNone(ledger.pending(BOX))
+        self.assertEqual((ledger.pending(BOX), list(ledger.intended(BOX, is_new=True))), (None, []))
         # what an earlier run was going to place, before one that has ended
         states = {one.state for one in ledger.entries({CORES[TWO]}) if one.path == BOX}
         self.assertEqual(states, {State.HELD, State.DROPPED})

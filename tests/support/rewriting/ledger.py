@@ -108,8 +108,10 @@ class Ledger:
         self.look()
 
     def take_undone(self) -> None:
-        """All that a mailbox brought was undone. What its owner had removed may be there again then."""
+        """All that a mailbox brought was undone. What its owner had removed may be there again then, and nothing that
+        came back before is said any more."""
         self.taken.clear()
+        self.back = 0
         self.look()
 
     def bring(self, name: str, mail: bytes) -> None:

@@ -8,11 +8,12 @@ from pathlib import Path
 from typing import NamedTuple
 
 from tests.support.dovecot.server import Dovecot
+from tests.support.ledgers import LEDGER, RECORD
 from tests.support.rewriting.ledger import Contents
 from tests.support.rewriting.letters import content
 from tests.support.rewriting.rewriters import by_dovecot
+from tests.support.rewriting.trial import WORD, Trial, reason_of
 from tests.support.running import NEVER, Kill, Run
-from tests.support.rewriting.trial import RECORD, WORD, Trial, reason_of
 from tests.support.splitter import split
 
 INBOX = "inbox"
@@ -128,9 +129,9 @@ class Undone(Trial):
         self.hindrance = f"{'it' if name == INBOX else 'another'} {way}" if way else ""
 
     def is_recorded(self, name: str) -> bool:
-        """Whether the record names a mailbox."""
-        record = self.home / "Maildir" / RECORD
-        return record.exists() and f"/{name}\t" in record.read_text().replace("\n", "\t")
+        """Whether the record or the ledger names a mailbox."""
+        several = [path for one in (RECORD, LEDGER) for path in self.home.glob(f"Maildir/{one}")]
+        return any(f"/{name}\t" in path.read_text().replace("\n", "\t") for path in several)
 
     def try_all(self) -> list[str]:
         """Undoes it. Returns what is wrong."""
