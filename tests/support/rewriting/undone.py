@@ -68,7 +68,7 @@ class Undone(Trial):
         for number, file in self.files().items():
             if number not in self.known:
                 self.known[number] = File(file.mail, name)
-        if ran.status is None:
+        if ran.is_killed:
             there = Counter(content(file.mail) for file in self.files().values())
             self.brought[name] = Counter(self.messages(name)) & there
         elif ran.status == 0:
@@ -142,7 +142,7 @@ class Undone(Trial):
             for name in self.draw.sample([INBOX, *names], 1 + len(names)):
                 if self.draw.random() < 0.3:
                     kill = self.moment()
-                    self.noted["kills of migrate"] += self.one(name, kill).status is None
+                    self.noted["kills of migrate"] += self.one(name, kill).is_killed
                 if self.draw.random() < 0.8:
                     self.one(name)
             self.change_files()
