@@ -1,15 +1,7 @@
-"""The list of what `migrate --prepare` has placed in a folder.
+"""The list of what `migrate --prepare` has placed in a folder; docs/LEDGER.md has its lines.
 
 It stands beside the ledger until the mailbox of the folder is done, or all of this is removed. Its files are copies of
-a mailbox as it was when it was read, and nobody reads them yet. A pass begins with a line `@`: the mailbox's size and
-SHA-256, the state of its file, how many messages it has, the words by which it is read, its tree, and its path. A line
-`p` has the name of a file, and is on the disk before the file is. Once all files were verified, and their disk was
-synced, the list is written anew: with the inode, the size and the ctime of each file, its folder and its info, and a
-line `=`. A file that still has these is not read again. If each message of the text has such a file, they stand in its
-order, with what else is known of them, and a line `&` has the rest that is known of the text. A line `t` says how many
-milliseconds it took to read that. A line `>` says that `migrate` has begun to finish it, in a batch of the ledger, so
-files may have flags. A line `!` says that a sync failed, and a line `/` that the folder was made for this. A line `<`
-says that the folder was done, and is only prepared again.
+a mailbox as it was when it was read, and nobody reads them yet. A line of a file is on the disk before the file is.
 """
 import array
 import itertools
