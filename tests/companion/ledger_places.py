@@ -164,34 +164,6 @@ def rule_1_a_file_counts_once(home: Home) -> None:
         home.has(1, 1, 2, why=(event, row))
 
 
-def read_or_rename(home: Home, draw: Random) -> None:
-    """Readers read mail, and another program gives files names of its own. Nobody deletes any."""
-    for path in home.files():
-        deed = draw.random()
-        if deed < 0.2:
-            path.rename(path.parent.parent / f"cur/17{draw.randint(0, 99999)}.host:2,S")
-        elif deed < 0.5 and path.parent.name == "new":
-            path.rename(path.parent.parent / "cur" / (path.name + ":2,S"))
-
-
-def rule_1_nobody_deleted(home: Home) -> None:
-    """A mailbox with equal messages grows, runs are killed, and mail is read. No row says that mail came back."""
-    for seed in range(20, 20 + 4 * SEEDS):
-        draw = Random(seed)
-        home.begin()
-        numbers = [draw.choice([5, 5, 5, 6]) for _ in range(draw.randint(1, 4))]
-        for is_last in (False, False, False, True):
-            home.write("OLD", letters(*numbers))
-            is_killed = not is_last and draw.random() < 0.5
-            ran = home.run("OLD", kill=Kill(event=draw.randint(10, 260)) if is_killed else NEVER)
-            if "came back" in ran.text:
-                raise Failed(f"{seed}: {ran.text}")
-            read_or_rename(home, draw)
-            if not is_last and draw.random() < 0.6:
-                numbers += [draw.choice([5, 5, 6]) for _ in range(draw.randint(1, 2))]
-        home.has(*numbers, why=(seed, ran.text))
-
-
 def rule_3_filed_into_another_folder(home: Home) -> None:
     """A reader deletes a message of one folder, and files one of another folder there. Both rows say what is gone."""
     home.begin("--jobs", "1")
@@ -952,7 +924,6 @@ RULES = [
     rule_1_deleted_at_once,
     rule_1_said_by_later_runs,
     rule_1_a_file_counts_once,
-    rule_1_nobody_deleted,
     rule_1_killed_and_moved,
     rule_3_filed_into_another_folder,
     rule_4_a_renamed_file,

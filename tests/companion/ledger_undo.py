@@ -1,15 +1,10 @@
 #!/usr/bin/env -S python3 -B
 """What `migrate` makes of mailboxes that share messages: overlapping archives, equal mailboxes, and their undo. Each
 message is there as often as the mailbox has it that has it most often, and no undo takes what another mailbox brought.
-
-The environment's LEDGER_SEEDS says how many random worlds are tried of each kind.
 """
 import itertools
 import os
-import re
-from collections import Counter
 from collections.abc import Sequence
-from random import Random
 
 from tests.support.archives import (
     PROGRAMS,
@@ -17,21 +12,16 @@ from tests.support.archives import (
     RO,
     TEN,
     Home,
-    Numbers,
     Rule,
     letter,
     letters,
     mail_of,
-    most,
-    number_of,
     run_rules,
     texts_of,
     want_said,
 )
 from tests.support.cases import Failed
 from tests.support.running import Kill
-
-SEEDS = int(os.environ.get("LEDGER_SEEDS", "8"))
 
 
 def equal_mailboxes(home: Home, undone: Sequence[str], is_one_command: bool, fields: bytes) -> None:
@@ -473,172 +463,6 @@ def rule_7_in_any_order(home: Home) -> None:
         home.has(*range(50), *range(60, 100))
 
 
-class Boxes:
-    """Mailboxes with any of so many messages, some of them several times, with any fields, in any order."""
-
-    def __init__(self, home: Home, seed: int, kinds: int = 8) -> None:
-        self.home, self.kinds, self.draw, self.story = home, kinds, Random(f"boxes {seed}"), [f"seed {seed}"]
-        self.boxes = {name: self.some(0, 9) for name in self.draw.sample(["A", "B", "C", "D", "E"], 4)}
-        # what each has brought, once a run has ended; and what readers have deleted
-        self.brought = {}  # type: dict[str, list[int]]
-        self.taken = Counter()  # type: Numbers
-
-    def some(self, least: int, most_of_all: int) -> list[int]:
-        """Some messages."""
-        return [self.draw.randrange(self.kinds) for _ in range(self.draw.randint(least, most_of_all))]
-
-    def write(self) -> None:
-        """Writes each mailbox, in another order, with other fields."""
-        fields = [b"", RO, b"X-UID: 3\n", b"X-Evolution: 00000001-0010\n", b"X-Mozilla-Status: 0001\n"]
-        for name, numbers in self.boxes.items():
-            self.draw.shuffle(numbers)
-            self.home.write(name, b"".join(letter(number, self.draw.choice(fields)) for number in numbers))
-
-    def migrate(self) -> None:
-        """Migrates some of them, in one command or in several."""
-        names = self.draw.sample(list(self.boxes), self.draw.randint(1, len(self.boxes)))
-        self.story.append(f"migrates {names}: {({name: sorted(self.boxes[name]) for name in names})}")
-        for several in [names] if self.draw.random() < 0.5 else [[name] for name in names]:
-            self.story.append(self.home.done(*several).text)
-        self.brought.update((name, list(self.boxes[name])) for name in names)
-        self.check()
-
-    def migrate_all(self) -> None:
-        """Migrates all of them, in one command."""
-        self.story.append(self.home.done(*self.boxes).text)
-        self.brought = {name: list(numbers) for name, numbers in self.boxes.items()}
-        self.check()
-
-    def grow(self) -> None:
-        """Mail comes."""
-        for numbers in self.boxes.values():
-            if self.draw.random() < 0.4:
-                numbers += self.some(1, 3)
-
-    def undo(self) -> None:
-        """One of them is undone."""
-        name = self.draw.choice([name for name in self.brought if self.brought[name]] or [""])
-        if name:
-            self.story.append(self.home.undo(name).text)
-            del self.brought[name]
-            self.check()
-
-    def undo_counted(self) -> None:
-        """The same, where another program has renamed files: an undo does not know these, so they may stay, but its row
-        counts them, and people remove them then."""
-        name = self.draw.choice([name for name in self.brought if self.brought[name]])
-        row = self.home.undo(name)[name]
-        del self.brought[name]
-        self.story.append(f"undone {name}: {row['says']}")
-        more = self.home.numbers() - most(self.brought.values())
-        kept = [remark["says"] for remark in row["remarks"] if remark["remark"] in ("already-gone", "kept-renamed")]
-        if sum(more.values()) > sum(int(number) for says in kept for number in re.findall(r"\d+", says)):
-            raise Failed(f"too many {dict(more)}: {self.story}")
-        for number in more.elements():
-            next(path for path in self.home.those(number) if path.name.startswith("17")).unlink()
-        self.check()
-
-    def kill(self) -> None:
-        """A run is killed at a random moment. What it has placed by then may be there."""
-        names = self.draw.sample(list(self.boxes), self.draw.randint(1, len(self.boxes)))
-        by_event = self.draw.random() < 0.5
-        kill = Kill(event=self.draw.randint(1, 300)) if by_event else Kill(call=self.draw.randint(1, 80))
-        ran = self.home.run(*names, kill=kill)
-        self.story.append(f"killed {kill}: {({name: sorted(self.boxes[name]) for name in names})} {ran.text}")
-
-    def check(self) -> None:
-        """Each message is there as often as the mailbox brought it that brought it most often, but for what readers
-        have deleted."""
-        wanted = most(self.brought.values()) - self.taken
-        self.home.has(*wanted.elements(), why="\n".join(self.story))
-
-    def read(self, renames: float = 0, deletes: float = 0) -> None:
-        """Readers read mail, and perhaps delete some, while other programs may give files names of their own."""
-        for path in self.home.files():
-            deed, number = self.draw.random(), number_of(path.read_bytes())
-            if deed < renames:
-                path.rename(path.parent.parent / f"cur/17{self.draw.randint(0, 99999)}.host:2,S")
-                self.story.append(f"renamed {number}: {path.name[:8]}{path.name[64:]}")
-            elif deed < 0.4 and path.parent.name == "new":
-                path.rename(path.parent.parent / "cur" / (path.name + ":2,S"))
-            elif deed > 1 - deletes:
-                path.unlink()
-                self.taken[number] += 1
-                self.story.append(f"deleted {number}: {path.name[:8]}{path.name[64:]}")
-
-
-def as_often_as_one_has_it(home: Home) -> None:
-    """Random mailboxes are migrated in any order, rewritten, grow, and are undone."""
-    for seed in range(SEEDS):
-        home.begin()
-        boxes = Boxes(home, seed)
-        for _ in range(3):
-            boxes.write()
-            boxes.migrate()
-            if boxes.draw.random() < 0.5:
-                boxes.undo()
-            boxes.grow()
-        while any(boxes.brought.values()):
-            boxes.undo()
-
-
-def as_often_as_one_has_it_after_kills(home: Home) -> None:
-    """The same, with runs that are killed."""
-    for seed in range(SEEDS):
-        home.begin()
-        boxes = Boxes(home, 10000 + seed)
-        for _ in range(boxes.draw.randint(1, 4)):
-            boxes.write()
-            boxes.kill()
-            if boxes.draw.random() < 0.3:
-                boxes.grow()
-        boxes.write()
-        boxes.migrate_all()
-        boxes.undo()
-
-
-def as_often_as_one_has_it_among_readers(home: Home) -> None:
-    """The same, while readers read and delete mail and other programs rename files: what was deleted stays so."""
-    for seed in range(SEEDS):
-        home.begin()
-        boxes = Boxes(home, 20000 + seed)
-        for _ in range(5):
-            boxes.write()
-            boxes.migrate()
-            boxes.read(0.15, 0.07)
-            boxes.grow()
-
-
-def as_often_as_one_has_it_among_renames(home: Home) -> None:
-    """The same with undos, while readers read mail and other programs rename files."""
-    for seed in range(SEEDS):
-        home.begin()
-        boxes = Boxes(home, 40000 + seed, 2)
-        for _ in range(5):
-            boxes.write()
-            boxes.migrate()
-            boxes.read(0.3)
-            if any(boxes.brought.values()) and boxes.draw.random() < 0.6:
-                boxes.undo_counted()
-            boxes.grow()
-
-
-def as_often_as_one_has_it_among_readers_after_kills(home: Home) -> None:
-    """The same, with runs that are killed, while readers only read."""
-    for seed in range(SEEDS):
-        home.begin()
-        boxes = Boxes(home, 30000 + seed)
-        for _ in range(4):
-            boxes.write()
-            (boxes.kill if boxes.draw.random() < 0.6 else boxes.migrate_all)()
-            if boxes.home.maildir.exists():
-                boxes.read()
-            if boxes.draw.random() < 0.5:
-                boxes.grow()
-        boxes.write()
-        boxes.migrate_all()
-
-
 RULES = [
     rule_6_equal_mailboxes,
     rule_6_after_a_killed_run,
@@ -666,11 +490,6 @@ RULES = [
     rule_6_by_a_link,
     rule_7_archives_that_overlap,
     rule_7_in_any_order,
-    as_often_as_one_has_it,
-    as_often_as_one_has_it_after_kills,
-    as_often_as_one_has_it_among_readers,
-    as_often_as_one_has_it_among_renames,
-    as_often_as_one_has_it_among_readers_after_kills,
 ]  # type: list[Rule]
 
 if __name__ == "__main__":

@@ -2,7 +2,6 @@
 
 A message is known by its Message-ID, whatever mail programs have written into its header.
 """
-import collections
 import fcntl
 import json
 import os
@@ -11,7 +10,7 @@ import shutil
 import time
 import typing
 from collections import Counter
-from collections.abc import Callable, Iterable, Iterator, Mapping, Sequence
+from collections.abc import Callable, Iterator, Mapping, Sequence
 from contextlib import contextmanager, suppress
 from functools import partial
 from pathlib import Path
@@ -247,14 +246,6 @@ def want_offered(row: Row, option: str) -> None:
 def mail_of(text: bytes) -> list[bytes]:
     """The mail of a mailbox of letters without lines `From `, as a file of a Maildir has it."""
     return [piece.split(b"\n", 1)[1][:-1] for piece in re.split(rb"(?m)^(?=From )", text) if piece]
-
-
-def most(several: Iterable[Iterable[int]]) -> Numbers:
-    """Each number as often as it is in the one that has it most often."""
-    found: Numbers = collections.Counter()
-    for numbers in several:
-        found |= Counter(numbers)
-    return found
 
 
 @contextmanager

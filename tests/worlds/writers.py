@@ -1,12 +1,14 @@
-"""Fourteen writers of mailboxes. If a docstring says so, what its writer does to lines `From ` and to lengths was
-measured: the program of Debian 12 was given messages with such lines, with lengths right and wrong, with CR LF, empty,
-and without an end. For the others it is what their documentation says."""
+"""Writers of mailboxes. Each turns the same letters into an mbox text, as a program, or a way of using one, does. If a
+docstring says so, what its writer does to lines `From ` and to lengths was measured: the program of Debian 12 was given
+messages with such lines, with lengths right and wrong, with CR LF, empty, and without an end. For the others it is what
+their documentation says. The last three are what happens to mailboxes: a crash leaves NUL bytes, a line loses its end,
+and a sender lies."""
 import re
 from collections.abc import Callable, Sequence
 from random import Random
 from typing import NamedTuple
 
-from tests.support.writers.letters import Mail, asctime
+from tests.worlds.letters import Letter, asctime
 
 QUOTED_FROM = re.compile(rb"^>From ", re.M)
 QUOTED_MORE = re.compile(rb"^>(>*From )", re.M)
@@ -54,7 +56,7 @@ class Written(NamedTuple):
         return tuple(piece.message for piece in self.pieces)
 
 
-Writer = Callable[[Random, Sequence[Mail]], Written]
+Writer = Callable[[Random, Sequence[Letter]], Written]
 
 
 def ended(text: bytes) -> bytes:
@@ -62,7 +64,7 @@ def ended(text: bytes) -> bytes:
     return text if text.endswith(b"\n") else text + b"\n"
 
 
-def without_cr(mail: Mail) -> Mail:
+def without_cr(mail: Letter) -> Letter:
     """A message without the CR before its line ends."""
     return mail._replace(body=mail.body.replace(b"\r\n", b"\n"))
 
@@ -107,7 +109,7 @@ def mboxrd_of(lines: Sequence[bytes], wholes: Sequence[bytes]) -> Written:
     return Written("mboxrd", tuple(piece_of(line, in_mboxrd(one), one) for line, one in zip(lines, several)))
 
 
-def postfix(draw: Random, mails: Sequence[Mail]) -> Written:
+def postfix(draw: Random, mails: Sequence[Letter]) -> Written:
     """Postfix, Exim, OpenSMTPD and Python: an mboxo. Measured of Python 3.11, which quotes `From ` in the whole
     message, gives a last line its end, and leaves a length as it is."""
     blanks = draw.choice([b" ", b"  "])
@@ -115,19 +117,19 @@ def postfix(draw: Random, mails: Sequence[Mail]) -> Written:
     return mboxo_of([b"From " + one.sender + blanks + asctime(one.when) for one in mails], wholes)
 
 
-def qmail(_: Random, mails: Sequence[Mail]) -> Written:
+def qmail(_: Random, mails: Sequence[Letter]) -> Written:
     """qmail-local, fdm, getmail and maildrop: an mboxrd. Measured of maildrop 2.9.3, which quotes in the whole message,
     its header too, and leaves a length as it is."""
     lines = [b"From " + one.sender.replace(b" ", b"-") + b" " + asctime(one.when) for one in mails]
     return mboxrd_of(lines, [b"Delivered-To: mia@vm\n" + one.whole for one in mails])
 
 
-def with_field(mail: Mail, length: int) -> bytes:
+def with_field(mail: Letter, length: int) -> bytes:
     """A header that has a length."""
     return mail.header + b"Content-Length: %d\n" % length
 
 
-def procmail(draw: Random, mails: Sequence[Mail]) -> Written:
+def procmail(draw: Random, mails: Sequence[Letter]) -> Written:
     """procmail: an inbox to which some mails came with a length. Measured of procmail 3.22: mail without one is quoted
     as an mboxo, and a message without a body gets no additional blank line. If mail came with a length that is too
     long, procmail writes the right one, with as many digits, and quotes nothing within it."""
@@ -146,7 +148,7 @@ def procmail(draw: Random, mails: Sequence[Mail]) -> Written:
     return Written("mboxcl2", tuple(pieces))
 
 
-def mutt(draw: Random, mails: Sequence[Mail]) -> Written:
+def mutt(draw: Random, mails: Sequence[Letter]) -> Written:
     """mutt and neomutt, for mail of a Maildir or a server: an mboxcl2. Measured of mutt 2.2.12 and neomutt 20220429:
     they write a right length into each message, `Lines: 0` if it is 0, and no blank line after a message whose last
     line has no end."""
@@ -159,7 +161,7 @@ def mutt(draw: Random, mails: Sequence[Mail]) -> Written:
     return Written("mboxcl2", tuple(pieces))
 
 
-def mutt_of_a_spool(draw: Random, mails: Sequence[Mail]) -> Written:
+def mutt_of_a_spool(draw: Random, mails: Sequence[Letter]) -> Written:
     """mutt, neomutt and Dovecot, for mail that they copied out of a spool, and mutt when it writes a spool anew: an
     mboxcl. Measured of mutt 2.2.12, neomutt 20220429 and Dovecot 2.3.19 over a spool of Python's: the lines stay quoted
     as they were, and each message gets a length that is right for that."""
@@ -169,7 +171,7 @@ def mutt_of_a_spool(draw: Random, mails: Sequence[Mail]) -> Written:
     return Written("mboxcl", tuple(Piece(piece.text, one, one) for piece, one in zip(read.pieces, messages)))
 
 
-def dovecot(draw: Random, mails: Sequence[Mail]) -> Written:
+def dovecot(draw: Random, mails: Sequence[Letter]) -> Written:
     """Dovecot, by IMAP or its delivery: an mboxcl2. Measured of Dovecot 2.3.19: it writes CR LF as LF, gives a last
     line its end, and an empty body a blank line. A folder that was empty once begins with a message of Dovecot's own,
     which has no length."""
@@ -189,7 +191,7 @@ def dovecot(draw: Random, mails: Sequence[Mail]) -> Written:
     return Written("mboxcl2", tuple(pieces))
 
 
-def git(draw: Random, mails: Sequence[Mail]) -> Written:
+def git(draw: Random, mails: Sequence[Letter]) -> Written:
     """git, mailutils and mairix: nothing is quoted. Measured of git 2.39.5, format-patch, and of mailutils 3.15, mail.
     A dated From_ line in the mail with a header after it is left out, since nothing tells it from a message."""
     form, pieces = draw.randrange(3), []
@@ -204,7 +206,7 @@ def git(draw: Random, mails: Sequence[Mail]) -> Written:
     return Written("unquoted", tuple(pieces))
 
 
-def export(draw: Random, mails: Sequence[Mail]) -> Written:
+def export(draw: Random, mails: Sequence[Letter]) -> Written:
     """Exports and scripts of people's own: nothing is quoted, and From_ lines have no date that is known. They have
     Google Groups' numbers, dates of ISO 8601, or nothing."""
     form, pieces = draw.randrange(3), []
@@ -223,7 +225,7 @@ def with_crlf(written: Written) -> Written:
     )
 
 
-def thunderbird(draw: Random, mails: Sequence[Mail]) -> Written:
+def thunderbird(draw: Random, mails: Sequence[Letter]) -> Written:
     """Thunderbird: an mboxrd, with fields that have its flags, as 153 writes it, by the guide. In a third of them the
     lines end in CR LF, and in some there is mail that is marked as deleted."""
     marks = [0, 1, 3, 5, 9] if draw.random() < 0.2 else [0, 1, 3, 5]
@@ -233,7 +235,7 @@ def thunderbird(draw: Random, mails: Sequence[Mail]) -> Written:
     return with_crlf(written) if draw.random() < 0.3 else written
 
 
-def evolution(draw: Random, mails: Sequence[Mail]) -> Written:
+def evolution(draw: Random, mails: Sequence[Letter]) -> Written:
     """Evolution: an mboxo, with a field that has its numbers and flags."""
     wholes = [
         one.header + b"X-Evolution: %08x-%04x\n" % (number, draw.choice([0, 0x10, 0x11])) + b"\n" + one.body
@@ -242,7 +244,7 @@ def evolution(draw: Random, mails: Sequence[Mail]) -> Written:
     return mboxo_of([b"From " + one.sender + b" " + asctime(one.when) for one in mails], wholes)
 
 
-def takeout(draw: Random, mails: Sequence[Mail]) -> Written:
+def takeout(draw: Random, mails: Sequence[Letter]) -> Written:
     """Gmail's Takeout: an mboxrd, as the guide reads it, with labels; mostly with CR LF."""
     lines, wholes = [], []
     for one in map(without_cr, mails):
@@ -254,12 +256,12 @@ def takeout(draw: Random, mails: Sequence[Mail]) -> Written:
     return with_crlf(written) if draw.random() < 0.7 else written
 
 
-def public_inbox(_: Random, mails: Sequence[Mail]) -> Written:
+def public_inbox(_: Random, mails: Sequence[Letter]) -> Written:
     """public-inbox: an mboxrd whose From_ lines have no date of their own."""
     return mboxrd_of([b"From mboxrd@z Thu Jan  1 00:00:00 1970"] * len(mails), [one.whole for one in mails])
 
 
-def sendmail(draw: Random, mails: Sequence[Mail]) -> Written:
+def sendmail(draw: Random, mails: Sequence[Letter]) -> Written:
     """Old sendmail and Solaris' mail.local, over UUCP: an mboxcl2 with `>From ` in the header, one for each machine
     that the message came by."""
     pieces = []
@@ -274,7 +276,7 @@ def sendmail(draw: Random, mails: Sequence[Mail]) -> Written:
     return Written("mboxcl2", tuple(pieces))
 
 
-def lengths_of_senders(draw: Random, mails: Sequence[Mail]) -> list[Mail]:
+def lengths_of_senders(draw: Random, mails: Sequence[Letter]) -> list[Letter]:
     """Mail of which some has the length that its sender gave it: that of the body that was sent, with LF or CR LF, or a
     wrong one, since a machine on its way wrote the mail anew."""
     several = []
@@ -285,6 +287,69 @@ def lengths_of_senders(draw: Random, mails: Sequence[Mail]) -> list[Mail]:
     return several
 
 
-def inbox(draw: Random, mails: Sequence[Mail]) -> Written:
+def inbox(draw: Random, mails: Sequence[Letter]) -> Written:
     """An inbox to which some mails came with a length, by Postfix or by maildrop: these leave the length, and quote."""
     return draw.choice([postfix, postfix, qmail])(draw, lengths_of_senders(draw, mails))
+
+
+def crashed(draw: Random, mails: Sequence[Letter]) -> Written:
+    """A spool with NUL bytes before a message, as a machine leaves them that loses its power while it writes."""
+    written = draw.choice([postfix, qmail])(draw, mails)
+    place = draw.randrange(len(mails))
+    pieces = list(written.pieces)
+    nulls = bytes(draw.choice([1, 7, 512, 4096]))
+    pieces[place] = pieces[place]._replace(text=nulls + pieces[place].text)
+    return Written(written.word, tuple(pieces))
+
+
+def joined(draw: Random, mails: Sequence[Letter]) -> Written:
+    """Two mailboxes one after the other (`cat a b`), the first of which had lost the end of its last line. No such line
+    is only `>`: a From_ line after it would look like a quoted one."""
+    written = draw.choice([postfix, qmail, evolution, git])(draw, mails)
+    pieces = list(written.pieces)
+    place = draw.randrange(len(pieces))
+    if place + 1 < len(pieces) and pieces[place].text.rstrip(b"\n").rpartition(b"\n")[2].strip(b"> \t-"):
+        pieces[place] = without_end(pieces[place])
+    return Written(written.word, tuple(pieces))
+
+
+def lied(draw: Random, mails: Sequence[Letter]) -> Written:
+    """An inbox of Postfix, in which a sender gave a length that leads over the next messages to a From_ line."""
+    written = postfix(draw, mails)
+    pieces = list(written.pieces)
+    first = draw.randrange(len(pieces))
+    last = draw.randrange(first, len(pieces))
+    body = pieces[first].text.partition(b"\n\n")[2] + b"".join(piece.text for piece in pieces[first + 1 : last + 1])
+    field = b"\nContent-Length: %d\n\n" % (len(body) - 1)
+    pieces[first] = Piece(*(text.replace(b"\n\n", field, 1) for text in pieces[first]))
+    return Written(written.word, tuple(pieces))
+
+
+def without_end(piece: Piece) -> Piece:
+    """A message that has lost the line ends after it."""
+    lost = [text.rstrip(b"\n") for text in (piece.text, piece.message, piece.sent)]
+    return Piece(lost[0], *(text + b"\n" for text in lost[1:]))
+
+
+WRITERS: dict[str, Writer] = {
+    one.__name__: one
+    for one in (
+        postfix,
+        qmail,
+        procmail,
+        mutt,
+        mutt_of_a_spool,
+        dovecot,
+        git,
+        export,
+        thunderbird,
+        evolution,
+        takeout,
+        public_inbox,
+        sendmail,
+        inbox,
+        crashed,
+        joined,
+        lied,
+    )
+}

@@ -1,0 +1,55 @@
+"""The kinds of random worlds, and how many of each the suite tries."""
+from collections.abc import Callable, Iterable
+from typing import NamedTuple
+
+from tests.support.cases import Failed
+from tests.worlds import decisions, labels, mutated, shared, stray
+from tests.worlds.stage import Stage
+
+# how many lines are printed of what is wrong with a world, and how long one may be
+LINES, LONGEST = 6, 900
+
+
+class Kind(NamedTuple):
+    """A kind: what plays the world of a seed, and tells what is wrong with it; and how many the suite tries."""
+
+    play: Callable[[Stage, int], Iterable[str]]
+    tried: int
+
+
+KINDS = {
+    # one mailbox of a program, several in a tree, and users in a spool, that are decided about
+    "decisions": Kind(decisions.one_mailbox, 85),
+    "said_of_trees": Kind(decisions.in_a_tree, 6),
+    "said_of_users": Kind(decisions.in_a_spool, 2),
+    # texts that no program wrote
+    "mutated": Kind(mutated.one_text, 1000),
+    # Takeouts, which go into folders by the labels of their messages
+    "labels": Kind(labels.one_world, 16),
+    # mailboxes that share messages
+    "shared": Kind(shared.one_world, 30),
+    # texts and names of strangers
+    "stray": Kind(stray.one_world, 30),
+}
+
+
+def wrong_with(kind: Kind, stage: Stage, seed: int) -> list[str]:
+    """What is wrong with the world of a seed, and what was done in it."""
+    stage.steps.clear()
+    try:
+        lines = list(kind.play(stage, seed))
+    except (AssertionError, Failed) as failed:
+        lines = [str(failed)]
+    some = [line if len(line) < LONGEST else line[:LONGEST] + " ..." for line in lines[:LINES]]
+    return [*some, *(["by:", *stage.steps] if lines and stage.steps else [])]
+
+
+def told_of(name: str, stage: Stage, seeds: Iterable[int]) -> int:
+    """Plays the worlds of these seeds, prints what is wrong with each, and returns with how many something is."""
+    wrong = 0
+    for seed in seeds:
+        lines = wrong_with(KINDS[name], stage, seed)
+        if lines:
+            wrong += 1
+            print(f"{name}, seed {seed}:", *lines, sep="\n    ", flush=True)
+    return wrong
