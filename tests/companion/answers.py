@@ -1,18 +1,17 @@
 #!/usr/bin/env -S python3 -B
 """What a human decides about mailboxes. Each answer that mbox2maildir-admin migrate prints is run as it is printed, by
 the owner of the mail, and by root for mailboxes of a spool. It must give what was said of it."""
-import os
 import re
 import shutil
-import subprocess
 from collections.abc import Callable
 from pathlib import Path
+from typing import Optional
 
 from tests.companion.spool import USERS, theirs, users
 from tests.support.checks import equal, match_in, matches
-from tests.support.homes import check_all, expect, mailbox, mail_in, run, subjects, want_users
+from tests.support.homes import by_json, check_all, expect, mailbox, mail_in, run, run_printed, subjects, want_users
 from tests.support.mail import A, B, MAY, ONE, TWO, with_length
-from tests.support.printed import Reply, commands_in, row_in, rows_in
+from tests.support.running import Row
 
 PART = with_length(A, MAY) + b"\n" + B + b"\n"
 # a mailbox, and how many messages the answers give
@@ -40,9 +39,9 @@ SINGLE = {
 }
 
 
-def answers_in(out: str, name: str) -> list[tuple[str, int]]:
-    """The commands that are printed as answers below the row of a mailbox, and how many messages each is to give."""
-    return [(one.command, one.messages) for one in row_in(out, name).answers() if one.messages >= 0]
+def answers_in(words: list[str], home: Path, path: str = "box", user: Optional[str] = None) -> list[tuple[str, int]]:
+    """The commands that are printed as answers for a mailbox, and how many messages each is to give."""
+    return [*by_json(words, home).of(path, user).answers.items()]
 
 
 def tie_in(command: str) -> str:
@@ -52,31 +51,28 @@ def tie_in(command: str) -> str:
     return found[1]
 
 
-def want_shown(out: str, name: str, text: bytes) -> None:
-    """Below the row of a mailbox stand the lines that are asked about, and up to three before and after each."""
+def want_shown(row: Row, name: str, text: bytes) -> None:
+    """A row has the lines that are asked about, and up to three before and after each."""
     lines = ["", *text.decode("latin-1").split("\n")]
-    found = re.findall(r"(?m)^    ([> ]) (\d+) \| ?(.*)$", "\n".join(row_in(out, name).below))
-    asked = [int(number) for mark, number, _ in found if mark == ">"]
+    asked = [one["line"] for one in row["lines"] if not one["around"]]
     equal(f"{name}: how many lines are asked about", 1 <= len(asked) <= 6, True)
-    for mark, number, line in found:
-        equal(f"{name}: line {number} is near", min(abs(int(number) - one) for one in asked) <= 3, True)
-        if lines[int(number)].isprintable():
-            equal(f"{name}: line {number}", line, lines[int(number)][:72].rstrip())
-    equal(f"{name}: a look with another program", "sed" in out, False)
+    for number, line in ((one["line"], one["text"]) for one in row["lines"]):
+        equal(f"{name}: line {number} is near", min(abs(number - one) for one in asked) <= 3, True)
+        if lines[number].isprintable():
+            equal(f"{name}: line {number}", line, lines[number][:72].rstrip())
+    equal(f"{name}: a look with another program", any("sed" in one for one in row.commands), False)
 
 
-def run_printed(command: str, home: Path) -> tuple[int, str]:
-    """Runs a command as it is printed, but with whole rows. Returns its status, and what it printed."""
-    env = {"PATH": f"{home}/bin:{os.environ['PATH']}", "LC_ALL": "C.UTF-8"}
-    whole = command.replace(" migrate ", " migrate --all ", 1)
-    ran = subprocess.run(["sh", "-c", whole], cwd=home, env=env, capture_output=True, check=False)
-    assert b"Traceback" not in ran.stderr, ran.stderr
-    return ran.returncode, (ran.stdout + ran.stderr).decode("utf-8", "replace")
+def want_row(command: str, home: Path, verdict: str, count: int) -> Row:
+    """A printed command ends well, with one row, which says this, and this many messages."""
+    ran = run_printed(command, home, "--json")
+    equal(f"{command}: {ran.output}", (ran.status, ran.row["verdict"], ran.row["messages"]), (0, verdict, count))
+    return ran.row
 
 
 def wrong_words(words: list[str], says: str, home: Path) -> None:
     """Words that do not go together are refused with this line."""
-    status, out, err = run(["migrate", *words], home)
+    status, out, err = run(["migrate", "--all", *words], home)
     equal(f"{words}", (status, out), (2, ""))
     matches(f"{words}: what is said", err.splitlines()[0], f"mbox2maildir-admin: {says}")
 
@@ -86,22 +82,20 @@ def of_ones_own(home: Path) -> None:
     for name, (text, wanted) in TEXTS.items():
         mailbox(home / name, text)
         path = f"./{name}" if name.startswith("-") else name
-        status, out, _ = run(["migrate", "--now", "--folder", "Old", "M", "--", path], home)
-        found = answers_in(out, path)
-        equal(f"{name}: status, and what is to be given", (status, tuple(count for _, count in found)), (1, wanted))
-        want_shown(out, path, text)
-        for command, count in found:
-            status, said = run_printed(command, home)
-            matches(command, said, f"{path} -> Old: ..., messages {count}: done...\n1 mailbox: 1 done; ...\n")
-            equal(f"{command}: status and files", (status, len(list(mail_in(home / "M/.Old")))), (0, count))
+        ran = by_json(["migrate", "--now", "--folder", "Old", "M", "--", path], home)
+        found = ran.of(path).answers
+        equal(f"{name}: status, and what is to be given", (ran.status, (*found.values(),)), (1, wanted))
+        want_shown(ran.of(path), path, text)
+        for command, count in found.items():
+            want_row(command, home, "done", count)
+            equal(f"{command}: files", len(list(mail_in(home / "M/.Old"))), count)
             equal(f"{command}: verified", run(["verify", "M/.Old", "--", path], home)[0], 0)
             shutil.rmtree(home / "M")
     for name, (text, count) in SINGLE.items():
         mailbox(home / name, text)
-        out = run(["migrate", "--now", "M", name], home)[1]
-        equal(f"{name}: what is to be given", [given for _, given in answers_in(out, name)], [count])
-        status, said = run_printed(row_in(out, name).command, home)
-        matches(name, said, f"{name} -> INBOX: mboxrd by --as, messages {count}: done...\n1 mailbox: 1 done; ...\n")
+        ((command, given),) = answers_in(["migrate", "--now", "M", name], home, name)
+        equal(f"{name}: what is to be given", given, count)
+        equal(f"{name}: its kind", want_row(command, home, "done", count)["kind"], "mboxrd by --as")
         shutil.rmtree(home / "M")
 
 
@@ -110,16 +104,12 @@ def of_dry_runs(home: Path) -> None:
     for name, (text, wanted) in {**TEXTS, **{name: (text, (n,)) for name, (text, n) in SINGLE.items()}}.items():
         mailbox(home / name, text)
         path = f"./{name}" if name.startswith("-") else name
-        out = run(["migrate", "--dry-run", "--now", "M", "--", path], home)[1]
-        found = answers_in(out, path)
+        found = answers_in(["migrate", "--dry-run", "--now", "M", "--", path], home, path)
         equal(f"{name}: what is to be given", tuple(count for _, count in found), wanted)
         for command, count in found:
             matches(f"{name}: the options", command, "mbox2maildir-admin migrate --dry-run --now ...")
-            status, said = run_printed(command, home)
-            matches(
-                command, said, f"{path} -> INBOX: ..., messages {count}: would be done...\n1 mailbox: 1 would be ...\n"
-            )
-            equal(f"{command}: status, and whether it made something", (status, (home / "M").exists()), (0, False))
+            want_row(command, home, "would be done", count)
+            equal(f"{command}: whether it made something", (home / "M").exists(), False)
 
 
 def of_several(home: Path) -> None:
@@ -128,9 +118,9 @@ def of_several(home: Path) -> None:
     quoted = A + b"\n>From x\n>>From y\n\n"
     for name, text in (("tree/quoted", quoted), ("tree/part", PART), ("tree/cl2", with_length(A, MAY)), ("one", ONE)):
         mailbox(home / name, text)
-    status, out, _ = run(["migrate", "--now", "--as", "mboxo", "M", "tree", "one"], home)
-    equal("--as mboxo: status", status, 1)
-    answers = answers_in(out, "tree/part")
+    ran = by_json(["migrate", "--now", "--as", "mboxo", "M", "tree", "one"], home)
+    equal("--as mboxo: status", ran.status, 1)
+    answers = [*ran.of("tree/part").answers.items()]
     tie = tie_in(answers[0][0])
     command = "mbox2maildir-admin migrate --now --as {} --of {} --folder part M tree/part"
     equal(
@@ -138,19 +128,18 @@ def of_several(home: Path) -> None:
         answers,
         [(command.format(word, tie), n) for word, n in (("mboxo", 3), ("mboxcl2", 2), ("unquoted", 2))],
     )
-    rows = [re.sub(r"left \(.*", "left", row.line) for row in rows_in(out)]
     equal(
         "--as mboxo",
-        sorted(rows[:-1]),
+        sorted((row["path"], row["folder"], row["kind"], row["messages"], row["verdict"]) for row in ran.rows),
         [
-            "one -> INBOX: mboxo by --as, messages 1: done",
-            "tree/cl2 -> cl2: mboxcl2, quoted, messages 1: done",
-            "tree/part -> part: mboxcl2 in part, messages 2: left",
-            "tree/quoted -> quoted: mboxo by --as, messages 1: done",
+            ("one", "INBOX", "mboxo by --as", 1, "done"),
+            ("tree/cl2", "cl2", "mboxcl2, quoted", 1, "done"),
+            ("tree/part", "part", "mboxcl2 in part", 2, "left"),
+            ("tree/quoted", "quoted", "mboxo by --as", 1, "done"),
         ],
     )
-    equal("the answer", run_printed(answers[1][0], home)[0], 0)
-    expect(["migrate", "M", "tree", "one"], home, 0, "4 mailboxes: 4 done before\n")
+    equal("the answer", run_printed(answers[1][0], home).status, 0)
+    expect(["migrate", "--all", "M", "tree", "one"], home, 0, "4 mailboxes: 4 done before\n")
     body = next(mail_in(home / "M/.quoted")).read_bytes()
     equal("mboxo keeps what has two", body, quoted.split(b"\n", 1)[1][:-1].replace(b"\n>From", b"\nFrom"))
 
@@ -189,12 +178,12 @@ def after_a_rehearsal(home: Path) -> None:
         text = TEXTS[name][0]
         for number, (change, holds) in enumerate(LATER):
             mailbox(home / "box", text)
-            out = run(["migrate", "--now", "--dry-run", "M", "box"], home)[1]
-            answers = [(one, count) for one, count in answers_in(out, "box") if " --text " not in one]
+            found = answers_in(["migrate", "--now", "--dry-run", "M", "box"], home)
+            answers = [(one, count) for one, count in found if " --text " not in one]
             mailbox(home / "box", change(text))
             for answer, count in answers:
                 what = f"{name}, change {number}: {answer}"
-                status, said = run_printed(answer.replace(" --dry-run", ""), home)
+                status, said, _ = run_printed(answer.replace(" --dry-run", ""), home)
                 mail = len(list(mail_in(home / "M"))) if (home / "M").exists() else 0
                 new = change(text).count(b"Subject") - text.count(b"Subject")
                 equal(f"{what}: {said}", (status, mail), (0, count + new) if holds else (1, 0))
@@ -202,7 +191,7 @@ def after_a_rehearsal(home: Path) -> None:
                     match_in(
                         r": left \(unclear\): what is asked about it has changed since this was answered: line ", said
                     )
-                    equal(f"{what}: the answers now: {said}", len(answers_in(said, "box")) >= 2, True)
+                    equal(f"{what}: the answers now: {said}", said.count(" --of ") >= 2, True)
                 shutil.rmtree(home / "M", ignore_errors=True)
 
 
@@ -212,9 +201,9 @@ def of_what_was_shown(home: Path) -> None:
     text = A + b"\n" + b"hello\n" * 20 + MAY + B + b"\n"
     for before, after, holds in ((b"hello\nhello\n", b"hallo\nhello\n", True), (b"hello\nFrom", b"hallo\nFrom", False)):
         mailbox(home / "box", text)
-        answer, count = answers_in(run(["migrate", "--now", "--dry-run", "M", "box"], home)[1], "box")[0]
+        answer, count = answers_in(["migrate", "--now", "--dry-run", "M", "box"], home)[0]
         mailbox(home / "box", text.replace(before, after, 1))
-        status, said = run_printed(answer.replace(" --dry-run", ""), home)
+        status, said, _ = run_printed(answer.replace(" --dry-run", ""), home)
         equal(f"{after!r}: {said}", (status, "since this was answered" in said), (0, False) if holds else (1, True))
         equal(f"{after!r}: the mail", len(list(mail_in(home / "M"))) if holds else 0, count if holds else 0)
         shutil.rmtree(home / "M", ignore_errors=True)
@@ -232,10 +221,10 @@ def of_numbers(home: Path) -> None:
         (twice, twice.replace(b"From: alva@example.org\n", b"", 1), False),
     ):
         mailbox(home / "box", before)
-        answer, count = answers_in(run(["migrate", "--now", "M", "box"], home)[1], "box")[0]
+        answer, count = answers_in(["migrate", "--now", "M", "box"], home)[0]
         equal(f"{answer}: lines", " --text " in answer, True)
         mailbox(home / "box", after)
-        status, said = run_printed(answer, home)
+        status, said, _ = run_printed(answer, home)
         wanted = (0, count + 1) if holds else (1, 0)
         equal(f"{answer}: {said}", (status, len(list(mail_in(home / "M"))) if holds else 0), wanted)
         shutil.rmtree(home / "M", ignore_errors=True)
@@ -255,17 +244,17 @@ def without_asking_again(home: Path) -> None:
     for name, text in (("in part", PART), ("not quoted", TEXTS["not quoted"][0]), ("lines", lines)):
         for place in (0, 1):
             mailbox(home / "box", text)
-            command, count = answers_in(run(["migrate", "--now", "M", "box"], home)[1], "box")[place]
+            command, count = answers_in(["migrate", "--now", "M", "box"], home)[place]
             rehearsal = command.replace("migrate ", "migrate --dry-run ")
-            equal(f"{rehearsal}: status", run_printed(rehearsal, home)[0], 0)
+            equal(f"{rehearsal}: status", run_printed(rehearsal, home).status, 0)
             equal(f"{name}: what a rehearsal makes", (home / "M").exists(), False)
-            equal(f"{command}: status", run_printed(command, home)[0], 0)
+            equal(f"{command}: status", run_printed(command, home).status, 0)
             (note,) = notes_in(home)
             matches(f"{name}: the note", note, "box ... of=...")
             for number, (change, holds) in enumerate([LATER[0], LATER[-1]]):
                 what = f"{name} by {command}, change {number}"
                 mailbox(home / "box", change(text))
-                status, out, _ = run(["migrate", "--now", "M", "box"], home)
+                status, out, _ = run(["migrate", "--all", "--now", "M", "box"], home)
                 equal(
                     f"{what}: {out}", (status, "as it was answered before" in out), (0, True) if holds else (1, False)
                 )
@@ -280,16 +269,16 @@ def after_an_undo(home: Path) -> None:
     """What was undone is asked again. An answer that names lines holds too when they have got other numbers."""
     text = A + b"\n>From x\nFrom the first\nhello\n\n" + B + b"\n"
     mailbox(home / "box", text)
-    command, count = answers_in(run(["migrate", "--now", "M", "box"], home)[1], "box")[0]
-    equal(f"{command}: lines and status", (" --text 6 " in command, run_printed(command, home)[0]), (True, 0))
+    command, count = answers_in(["migrate", "--now", "M", "box"], home)[0]
+    equal(f"{command}: lines and status", (" --text 6 " in command, run_printed(command, home).status), (True, 0))
     expect(["migrate", "--now", "--undo", "M", "box"], home, 0, None)
     equal("after an undo", run(["migrate", "--now", "M", "box"], home)[0], 1)
-    equal(f"{command}: status", run_printed(command, home)[0], 0)
+    equal(f"{command}: status", run_printed(command, home).status, 0)
     noted = text.replace(b"\n\n", b"\n" + NOTED + b"\n", 1)
     mailbox(home / "box", noted + NEW)
     shutil.rmtree(home / "M/new")
     (home / "M/new").mkdir()
-    status, out, _ = run(["migrate", "--now", "--again", "M", "box"], home)
+    status, out, _ = run(["migrate", "--all", "--now", "--again", "M", "box"], home)
     equal(f"with other numbers: {out}", (status, len(list(mail_in(home / "M")))), (0, count + 1))
 
 
@@ -312,13 +301,13 @@ def of_several_that_are_done(home: Path) -> None:
         mailbox(home / "tree" / name, text)
         if name == "done":
             expect(["migrate", "M", "tree"], home, 0, None)
-    status, out, _ = run(["migrate", "--as", "mboxo", "M", "tree"], home)
-    equal(f"of several: {out}", (status, rows_in(out)[1].line), (0, "tree/new -> new: mboxo by --as, messages 1: done"))
-    done = row_in(out, "tree/done")
-    says = "tree/done -> done: done before, it was read as mboxrd, and --as mboxo gives other messages"
-    equal(f"the one that is done: {out}", (done.line, done.below), (says, []))
-    out = run(["migrate", "--as", "mboxo", "--folder", "done", "M", "tree/done"], home)[1]
-    equal("alone", row_in(out, "tree/done").command, "mbox2maildir-admin migrate --undo --folder done M tree/done")
+    ran = by_json(["migrate", "--as", "mboxo", "M", "tree"], home)
+    done, new = ran.of("tree/done"), ran.of("tree/new")
+    equal("of several", (ran.status, new["kind"], new["messages"], new["verdict"]), (0, "mboxo by --as", 1, "done"))
+    says = "it was read as mboxrd, and --as mboxo gives other messages"
+    equal("the one that is done", (done["verdict"], done["says"], done["next"]), ("done before", says, []))
+    alone = by_json(["migrate", "--as", "mboxo", "--folder", "done", "M", "tree/done"], home).row
+    equal("alone", alone.command, "mbox2maildir-admin migrate --undo --folder done M tree/done")
 
 
 def marked(*messages: str) -> bytes:
@@ -327,9 +316,11 @@ def marked(*messages: str) -> bytes:
     return b"".join(head + b"X-Mozilla-Status: %04d\n\nhello\n\n" % mark for head, mark in heads)
 
 
-def drops(answer: Reply) -> tuple[bool, int]:
-    """Whether an answer leaves deleted mail out, and how many messages it gives."""
-    return "--drop-deleted" in answer.command, answer.messages
+def drops(words: list[str], home: Path) -> list[tuple[bool, int]]:
+    """Whether each answer leaves deleted mail out, and how many messages it gives. The mailbox is left."""
+    ran = by_json(words, home)
+    equal("status", ran.status, 1)
+    return [("--drop-deleted" in command, count) for command, count in ran.row.answers.items()]
 
 
 def deleted_since(home: Path) -> None:
@@ -337,7 +328,7 @@ def deleted_since(home: Path) -> None:
     was never brought is asked about without this option, and an undo removes all that was brought."""
     for number in range(2):
         box = home / f"box{number}"
-        plain = ["migrate", "--folder", box.name, "M", box.name]
+        plain = ["migrate", "--all", "--folder", box.name, "M", box.name]
         drop = [*plain[:1], "--drop-deleted", *plain[1:]]
         mailbox(box, marked("one", "two", "three"))
         expect([plain, drop][number], home, 0, "...messages 3: done...\n...\n")
@@ -346,39 +337,34 @@ def deleted_since(home: Path) -> None:
         out = "done before, without 1 message marked as deleted; 1 message gone from it that it had brought"
         expect(drop, home, 0, f"{box.name} -> {box.name}: {out}\n1 mailbox: 1 done before\n")
         mailbox(box, marked("one", "-two", "three", "four", "-five"))
-        status, out, _ = run(plain, home)
-        answers = list(map(drops, row_in(out, box.name).answers()))
-        equal(f"what was never brought: {out}", (status, answers), (1, [(True, 3), (False, 5)]))
+        equal("what was never brought", drops(plain, home), [(True, 3), (False, 5)])
         out = "...: done, without 2 messages marked as deleted; it grew by 1 message...\n...\n"
         expect(drop, home, 0, out)
         equal("the mail", subjects(home / "M" / f".{box.name}"), ["four", "one", "three", "two"])
         mailbox(box, marked("one", "-two", "three", "four", "-five", "-six"))
-        status, out, _ = run(plain, home)
-        equal(f"more of that: {out}", (status, len(row_in(out, box.name).answers())), (1, 2))
+        equal("more of that", len(drops(plain, home)), 2)
         expect(["migrate", "--undo", *plain[1:]], home, 0, "...: undone, removed 4 messages\n...\n")
 
 
 def deleted_mail_that_was_kept(home: Path) -> None:
     """Where deleted mail was kept, this answer comes first when it is asked again."""
     box = mailbox(home / "box", marked("one", "-two"))
-    expect(["migrate", "--as", "mboxrd", "M", "box"], home, 0, "...messages 2: done...\n...\n")
+    expect(["migrate", "--all", "--as", "mboxrd", "M", "box"], home, 0, "...messages 2: done...\n...\n")
     mailbox(box, marked("one", "-two", "-three"))
-    out = run(["migrate", "M", "box"], home)[1]
-    equal(out, list(map(drops, row_in(out, "box").answers())), [(False, 3), (True, 1)])
+    equal("the answers", drops(["migrate", "M", "box"], home), [(False, 3), (True, 1)])
 
 
 def all_mail_deleted(home: Path) -> None:
     """A mailbox whose mail is all marked as deleted is done before in a later run, and can be undone. Then it is asked
     again."""
     mailbox(home / "box", marked("-one", "-two"))
-    says, drop = "without 2 messages marked as deleted", ["migrate", "--drop-deleted", "M", "box"]
+    says, drop = "without 2 messages marked as deleted", ["migrate", "--all", "--drop-deleted", "M", "box"]
     expect(drop, home, 0, f"box -> INBOX: Thunderbird's, messages 0: done, {says}\n1 mailbox: 1 done\n")
-    for words in (drop, ["migrate", "M", "box"]):
+    for words in (drop, ["migrate", "--all", "M", "box"]):
         expect(words, home, 0, f"box -> INBOX: done before, {says}\n1 mailbox: 1 done before\n")
     out = "box -> INBOX: messages 0: undone, removed 0 messages\n1 mailbox: 1 undone\n"
-    expect(["migrate", "--undo", "M", "box"], home, 0, out)
-    status, out, _ = run(["migrate", "M", "box"], home)
-    equal(out, (status, list(map(drops, row_in(out, "box").answers()))), (1, [(True, 0), (False, 2)]))
+    expect(["migrate", "--all", "--undo", "M", "box"], home, 0, out)
+    equal("the answers", drops(["migrate", "M", "box"], home), [(True, 0), (False, 2)])
 
 
 def by_what_it_brought(home: Path) -> None:
@@ -386,10 +372,9 @@ def by_what_it_brought(home: Path) -> None:
     answer. If new mail has such a line too, a human is asked."""
     text = with_length(A, MAY) + b"\n"
     mailbox(home / "box", text)
-    expect(["migrate", "--now", "M", "box"], home, 0, "box -> INBOX: mboxcl2, quoted, messages 1: done\n...\n")
+    expect(["migrate", "--all", "--now", "M", "box"], home, 0, "box -> INBOX: mboxcl2, quoted, messages 1: done\n...\n")
     mailbox(home / "box", text + NEW + B + b"\nyes\nFrom me to you.\n\n")
-    status, out, _ = run(["migrate", "--now", "M", "box"], home)
-    equal(f"a line in new mail: {out}", (status, len(answers_in(out, "box"))), (1, 2))
+    equal("a line in new mail", len(answers_in(["migrate", "--now", "M", "box"], home)), 2)
     mailbox(home / "box", text + NEW)
     said = "as the messages show that it brought; it grew by 1 message\n...\n"
     for words, wanted in (
@@ -398,7 +383,7 @@ def by_what_it_brought(home: Path) -> None:
         (["--no-questions"], f"box -> INBOX: mboxcl2 by --as, messages 2: done, {said}"),
         (["--no-questions"], "1 mailbox: 1 done before\n"),
     ):
-        expect(["migrate", "--now", *words, "M", "box"], home, 0, wanted)
+        expect(["migrate", "--all", "--now", *words, "M", "box"], home, 0, wanted)
     bodies = [one.read_bytes().split(b"\n\n", 1)[1] for one in mail_in(home / "M")]
     equal("the mail", sorted(bodies), sorted([MAY, b"hello\n"]))
     equal("the notes", notes_in(home), [])
@@ -415,9 +400,10 @@ def of_words_that_were_typed(home: Path) -> None:
     equal("what each is for", len({tie for note in notes for tie in re.findall(r"\bof=(\w+)", note)}), 2)
     mailbox(home / "tree/part", PART + NEW)
     mailbox(home / "tree/more", PART.replace(b"hello", b"hallo") + B + b"\nyes\nFrom me to you.\n\n")
-    status, out, _ = run(["migrate", "--now", "M", "tree"], home)
-    rows = [re.sub(r" -> .*?, messages \d+: (left|done)\b.*", r": \1", row.line) for row in rows_in(out)]
-    equal(f"without the word: {out}", (status, sorted(rows[:-1])), (1, ["tree/more: left", "tree/part: done"]))
+    ran = by_json(["migrate", "--now", "M", "tree"], home)
+    there = sorted((row["path"], row["verdict"]) for row in ran.rows)
+    wanted = [("tree/more", "left"), ("tree/part", "done"), ("tree/sure", "done before")]
+    equal("without the word", (ran.status, there), (1, wanted))
 
 
 def of_lengths(home: Path) -> None:
@@ -425,36 +411,36 @@ def of_lengths(home: Path) -> None:
     printed."""
     mailbox(home / "tree/part", PART)
     mailbox(home / "tree/sent", A + b"\n" + MAY + b"\n>From x\n\n")
-    part = "tree/part -> part: mboxcl2 by --as, messages 2: done\n"
-    sums = {"tree": "2 mailboxes: 1 done, 1 left...\n", "tree/sent": "1 mailbox: 1 left\n"}
-    for path, before in (("tree", part), ("tree/sent", "")):
-        status, out, _ = run(["migrate", "--now", "--as", "mboxcl2", "M", path], home)
-        lines = "".join(row.line + "\n" for row in rows_in(out))
-        matches(
-            path, lines, f"{before}tree/sent -> ...: not quoted, messages 1: left (unclear): line 6: ...\n{sums[path]}"
+    for path in ("tree", "tree/sent"):
+        ran = by_json(["migrate", "--now", "--as", "mboxcl2", "M", path], home)
+        if path == "tree":
+            part = ran.of("tree/part")
+            equal("what it decides", (part["kind"], part["messages"], part["verdict"]), ("mboxcl2 by --as", 2, "done"))
+        sent = ran.of("tree/sent")
+        equal(f"{path}: what is left", (sent["kind"], sent["messages"], sent["reason"]), ("not quoted", 1, "unclear"))
+        equal(
+            f"{path}: status, line and counts",
+            (ran.status, sent["says"][:7], [*sent.answers.values()]),
+            (1, "line 6:", [1, 2]),
         )
-        answers = answers_in(out, "tree/sent")
-        equal(f"{path}: status and counts", (status, [count for _, count in answers]), (1, [1, 2]))
-        status, said = run_printed(answers[0][0].replace(" migrate ", " migrate --dry-run "), home)
-        matches(answers[0][0], said, "tree/sent -> ...: mboxo by --as, messages 1: would be done\n...\n")
+        command = next(iter(sent.answers)).replace(" migrate ", " migrate --dry-run ")
+        equal("its kind", want_row(command, home, "would be done", 1)["kind"], "mboxo by --as")
 
 
 def without_numbers(home: Path) -> None:
     """If --dovecot can't keep the numbers, the command that is printed migrates without it."""
     for name in ("one", "tree/Old Mail"):
         mailbox(home / name, ONE + TWO)
-    words = ["migrate", "--dovecot", "--now", "--as", "mboxo", "M", "one", "tree"]
+    words = ["migrate", "--all", "--dovecot", "--now", "--as", "mboxo", "M", "one", "tree"]
     for folder in ("M", "M/.Old Mail"):
         (home / folder).mkdir(parents=True)
         for sub in ("new", "cur", "tmp"):
             (home / folder / sub).mkdir()
         (home / folder / "dovecot.index.log").write_bytes(b"")
-    status, out, _ = run(words, home)
-    equal("--dovecot: status, and the last line", (status, out.splitlines()[-1]), (1, "2 mailboxes: 2 left"))
-    for command in commands_in(out):
-        status, said = run_printed(command, home)
-        matches(command, said, "...: mboxo by --as, messages 2: done...\n1 mailbox: 1 done; ...\n")
-        equal(f"{command}: status", status, 0)
+    ran = by_json(words, home)
+    equal("--dovecot: status, and the sums", (ran.status, ran.sums["says"]), (1, "2 mailboxes: 2 left"))
+    for command in (one for row in ran.rows for one in row.commands):
+        equal(f"{command}: its kind", want_row(command, home, "done", 2)["kind"], "mboxo by --as")
     expect(words, home, 0, "...\n...\n2 mailboxes: 2 done before\n")
 
 
@@ -467,26 +453,23 @@ def of_users(home: Path) -> None:
         theirs(mailbox(home / "spool" / second, ONE), second)
         theirs(mailbox(home / "homes" / first / "mail/Old Mail", TEXTS["odd"][0]), first)
         (home / "spool").chmod(0o711)
-        words = ["migrate", "--users", "--tree", "mail", "--now", "spool", first, second]
-        out = run([*words, "--dry-run"], home)[1]
-        for name, count in ((f"{first} -> INBOX", 2), (f"{first} mail/Old Mail", 1)):
-            command, _ = answers_in(out, name)[0]
-            status, said = run_printed(command, home)
-            matches(command, said, f"...messages {count}: would be done...\n1 mailbox: 1 would be done; ...\n")
+        words = ["migrate", "--all", "--users", "--tree", "mail", "--now", "spool", first, second]
+        for path, count in (("", 2), ("mail/Old Mail", 1)):
+            command, _ = answers_in([*words, "--dry-run"], home, path, first)[0]
+            want_row(command, home, "would be done", count)
             equal(f"{command}: what it made", list((home / "homes" / first).glob("Maildir")), [])
-        status, out, _ = run(words, home)
-        matches("--users", out.splitlines()[-1], "3 mailboxes: 1 done, 2 left; ...")
-        for name, count in ((f"{first} -> INBOX", 2), (f"{first} mail/Old Mail", 1)):
-            command, given = answers_in(out, name)[0]
-            status, said = run_printed(command, home)
-            matches(command, said, f"...messages {count}: done...\n1 mailbox: 1 done; ...\n")
-            equal(f"{command}: what was said, and the status", (given, status), (count, 0))
+        ran = by_json(words, home)
+        matches("--users", ran.sums["says"], "3 mailboxes: 1 done, 2 left; ...")
+        for path, count in (("", 2), ("mail/Old Mail", 1)):
+            command, given = next(iter(ran.of(path, first).answers.items()))
+            want_row(command, home, "done", count)
+            equal(f"{command}: what was said", given, count)
         expect(words, home, 0, "3 mailboxes: 3 done before; ...\n")
         # a word for all of them
         theirs(mailbox(home / "more/spool" / first, PART), first)
         theirs(mailbox(home / "more/spool" / second, ONE + TWO), second)
         (home / "more/spool").chmod(0o711)
-        words = ["migrate", "--users", "--now", "--maildir", "New", "--as", "mboxcl2", "more/spool"]
+        words = ["migrate", "--all", "--users", "--now", "--maildir", "New", "--as", "mboxcl2", "more/spool"]
         status, out, _ = run(words, home)
         rows = [f"{name} -> INBOX: mboxcl2 by --as, messages 2: done" for name in (first, second)]
         equal("--users --as", (status, sorted(out.splitlines()[:-1])), (0, sorted(rows)))

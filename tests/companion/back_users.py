@@ -14,15 +14,16 @@ from pathlib import Path
 from tests.companion.spool import theirs, users
 from tests.support import accounts
 from tests.support.checks import PATIENCE, TOP, equal, match_in, matches, text_of
-from tests.support.homes import ADMIN, check_all, expect, mailbox, run, script, want_users
+from tests.support.homes import check_all, expect, mailbox, run, script, want_users
 from tests.support.mail import ONE, THREE, TWO
+from tests.support.running import Desk
 from tests.support.schema import wrong
 
 NAMES = ["m61one", "m61two", "m61three"]
 NEW = b"Return-Path: <boris@example.com>\nSubject: since\n\nFrom here\n"
 # how a mailbox in mboxrd has it after its From_ line
 BACK = b"Return-Path: <boris@example.com>\nSubject: since\n\n>From here\n\n"
-WORDS = ["back", "--users", "--now", "--tree", "mail", "spool"]
+WORDS = ["back", "--all", "--users", "--now", "--tree", "mail", "spool"]
 # the group of a spool, to which no user belongs
 GROUP = "mail"
 
@@ -212,7 +213,7 @@ def without_mailboxes(home: Path) -> None:
 def in_nobodys_way(home: Path) -> None:
     """An account without a mailbox and a Maildir, such as that of virtual users, is on no list, and left by no
     run, even if Dovecot has made its folder of mailboxes."""
-    own, words = home / "homes/m61vmail", ["migrate", "--users", "--tree", "mail", "spool"]
+    own, words = home / "homes/m61vmail", ["migrate", "--all", "--users", "--tree", "mail", "spool"]
     several = [[*words, "--now"], ["verify", *words[1:]], WORDS]
 
     def is_listed() -> bool:
@@ -314,9 +315,7 @@ def killed(home: Path) -> None:
         wait, at_work = home / "wait", home / "homes/m61one/at-work"
         at_list(home, f"echo $PPID >{at_work}; mv {at_work} {at_work}.now; while [ -e {wait} ]; do sleep 0.05; done")
         wait.touch()
-        words = [str(ADMIN), *WORDS, "m61one"]
-        env = {"PATH": f"{home}/bin:{os.environ['PATH']}", "LC_ALL": "C.UTF-8"}
-        with subprocess.Popen(words, cwd=home, env=env, stdout=subprocess.DEVNULL) as root:
+        with Desk(home).start([*WORDS, "m61one"], subprocess.DEVNULL) as root:
             wait_for(Path(f"{at_work}.now").exists)
             os.kill(root.pid, signal.SIGKILL)
         lock, other = home / "spool/m61one.lock", [*WORDS[:2], "--dry-run", *WORDS[2:], "m61two"]
@@ -324,7 +323,7 @@ def killed(home: Path) -> None:
         equal("the lock while the child is at work", lock.exists(), True)
         os.kill(int(text_of(Path(f"{at_work}.now"))), signal.SIGKILL)
         wait.unlink()
-        words = ["migrate", "--users", "--now", "--dry-run", "--maildir", "M", "spool", "m61one"]
+        words = ["migrate", "--all", "--users", "--now", "--dry-run", "--maildir", "M", "spool", "m61one"]
         wait_for(lambda: "lock was left by a `back` that was killed" in run(words, home)[1])
         expect(other, home, 0, None)
         equal("the lock after a dry run", lock.exists(), True)

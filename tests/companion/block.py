@@ -1,14 +1,12 @@
 #!/usr/bin/env python3
 """The last block of what mbox2maildir-admin migrate prints: what is left and what asks for a look, in groups, each
 command once. The commands of groups are run as they are printed."""
-import json
 import os
-import subprocess
 from pathlib import Path
 
 from tests.companion.spool import theirs, users
 from tests.support.checks import equal, matches
-from tests.support.homes import ADMIN, check_all, expect, mail_in, mailbox, run, run_whole, want_users
+from tests.support.homes import by_json, check_all, expect, mail_in, mailbox, run, run_printed, want_users
 from tests.support.mail import A, B, C, ONE
 from tests.support.printed import groups_in
 from tests.support.schema import SCHEMA
@@ -23,18 +21,6 @@ def asked(number: int) -> bytes:
     return C.replace(b"carla", b"carla%d" % number) + b"\nFrom the garden, %d\nyes\n\n" % number
 
 
-def few(words: list[str], home: Path) -> tuple[int, str, str]:
-    """Runs the companion as a person does, without whole rows."""
-    return run([str(home / "bin/mbox2maildir-admin"), *words], home)
-
-
-def printed(command: str, home: Path) -> tuple[int, str, str]:
-    """Runs a command as it is printed. Returns its status, and what it printed on both streams."""
-    env = {"PATH": f"{home}/bin:{os.environ['PATH']}", "LC_ALL": "C.UTF-8"}
-    ran = subprocess.run(["sh", "-c", command], cwd=home, env=env, capture_output=True, check=False)
-    return ran.returncode, ran.stdout.decode(), ran.stderr.decode()
-
-
 def one_mailbox(home: Path) -> None:
     """A command with one mailbox prints its row, with what asks for a look in it, and no block."""
     mailbox(home / "sound", ONE)
@@ -42,8 +28,8 @@ def one_mailbox(home: Path) -> None:
     mailbox(home / "asked", asked(1))
     row = "{} -> INBOX: mboxrd or mboxo, messages 1: would be done{}\n1 mailbox: 1 would be done\n".format
     for name, looks in (("sound", ""), ("cut", ", its last line has no line end: check that the file is complete")):
-        equal(name, few(["migrate", "--dry-run", "M", name], home), (0, row(name, looks), ""))
-    status, out, _ = few(["migrate", "--dry-run", "M", "asked"], home)
+        equal(name, run(["migrate", "--dry-run", "M", name], home), (0, row(name, looks), ""))
+    status, out, _ = run(["migrate", "--dry-run", "M", "asked"], home)
     equal("a question: status, and groups", (status, groups_in(out)), (1, []))
     matches("a question", out.splitlines()[0], "asked -> INBOX: not quoted, messages 1: left (unclear): line 5: ...")
 
@@ -58,7 +44,7 @@ def groups(home: Path) -> None:
     for name, text in (("notes", b"milk\nbread\n"), ("blob", b"\0\1\2"), ("draft", b"hello\nSubject: x\n")):
         mailbox(home / "old" / name, text)
     os.mkfifo(home / "old/pipe")
-    status, out, err = few(["migrate", "--now", "M", "old"], home)
+    status, out, err = run(["migrate", "--now", "M", "old"], home)
     equal("status and errors", (status, err), (1, ""))
     rows = [
         f"old/{name}: messages 1: done" for name in ("Gr&APwA3w-e -> Gr\u00fc\u00dfe", "cut -> cut", "sound -> sound")
@@ -81,7 +67,7 @@ def groups(home: Path) -> None:
     equal("a look", (look.title, look.rows), ("look at: 1 mailbox", {"old/cut": look.rows["old/cut"]}))
     last = out.splitlines()[-1]
     equal("the sum", last, "10 mailboxes: 3 done, 7 left")
-    status, out, _ = printed(not_known.commands[0], home)
+    status, out, _ = run_printed(not_known.commands[0], home)
     equal(
         "what was passed over is left no more",
         [one.word for one in groups_in(out)],
@@ -95,12 +81,12 @@ def one_answer_for_many(home: Path) -> None:
     for number in range(3):
         mailbox(home / f"old/ask{number}", asked(number))
     mailbox(home / "old/quoted", A + b"\n>>From me\n>From you\n\n" + B + b"\nhello\n\n")
-    _, out, _ = few(["migrate", "--now", "M", "old"], home)
+    _, out, _ = run(["migrate", "--now", "M", "old"], home)
     (question,) = groups_in(out)
     begins = question.answers()[1].command
     ties = begins.split("--of ")[1].split()[0]
     first, second, third = ties.split(",")
-    status, out, err = printed(begins.replace(ties, f"{first},{third},0123456789abcdef"), home)
+    status, out, err = run_printed(begins.replace(ties, f"{first},{third},0123456789abcdef"), home)
     equal(
         "two of three: status and what is left", (status, [[*one.rows] for one in groups_in(out)]), (1, [["old/ask1"]])
     )
@@ -108,10 +94,10 @@ def one_answer_for_many(home: Path) -> None:
     matches("a tie of nothing", err, "mbox2maildir-admin: --of 0123456789abcdef: no question has this tie: ...\n")
     folders = {number: len(list(mail_in(home / f"M/.ask{number}"))) for number in (0, 2)}
     equal("their messages", folders, {0: 2, 2: 2})
-    _, out, _ = run(["migrate", "--now", "M", "old"], home)
+    _, out, _ = run(["migrate", "--all", "--now", "M", "old"], home)
     assert f"--of {second} " in out and "--of" not in out.replace(f"--of {second} ", ""), out
     mailbox(home / "old/ask1", asked(1) + b"From the shed\n\n")
-    status, out, err = printed(begins.replace(ties, f"{second},{first}"), home)
+    status, out, err = run_printed(begins.replace(ties, f"{second},{first}"), home)
     matches(
         "a question that has changed",
         err,
@@ -130,13 +116,13 @@ def many_of_one_kind(home: Path) -> None:
         mailbox(home / f"old/pipe{number:02}", ONE)
         (home / f"old/pipe{number:02}").unlink()
         os.mkfifo(home / f"old/pipe{number:02}")
-    _, out, _ = few(["migrate", "--dry-run", "--now", "M", "old"], home)
+    _, out, _ = run(["migrate", "--dry-run", "--now", "M", "old"], home)
     first, second, pipes = groups_in(out)
     equal("how many", [len(one.rows) for one in (first, second)], [20, 1])
     equal("titles", [first.title, second.title], [TITLE("20 mailboxes"), TITLE("1 mailbox")])
     assert pipes.title.startswith("no-file: 23 mailboxes: "), pipes.title
     assert "\n  old/pipe19  it is not a regular file\n  and 3 more (--all names them)\n" in out, out
-    whole = run(["migrate", "--dry-run", "--now", "M", "old"], home)[1]
+    whole = run(["migrate", "--all", "--dry-run", "--now", "M", "old"], home)[1]
     equal("with --all", whole.count("left (no-file)"), 23)
 
 
@@ -149,9 +135,9 @@ def of_users(home: Path) -> None:
             theirs(mailbox(home / "spool" / name, asked(number) if number else ONE), name)
         (home / "spool").chmod(0o711)
         words = ["migrate", "--users", "--now", "spool"]
-        _, out, _ = few([*words[:2], "--dry-run", *words[2:]], home)
+        _, out, _ = run([*words[:2], "--dry-run", *words[2:]], home)
         assert out.startswith("\nunclear: "), out
-        status, out, err = few(words, home)
+        status, out, err = run(words, home)
         equal("status and errors", (status, err), (1, ""))
         lines = sorted(out.split("\n\n")[0].splitlines())
         left = "{}: 1 mailbox: 1 left".format
@@ -160,17 +146,17 @@ def of_users(home: Path) -> None:
         equal("its mailboxes", [*group.rows], ["m61three INBOX", "m61two INBOX"])
         command = group.answers()[0].command
         assert command.endswith(" --users --now spool m61three m61two"), command
-        status, out, _ = printed(command, home)
+        status, out, _ = run_printed(command, home)
         equal("by that command", (status, groups_in(out)), (0, []))
-        expect(words, home, 0, "3 mailboxes: 3 done before; ...\n")
+        expect(["migrate", "--all", *words[1:]], home, 0, "3 mailboxes: 3 done before; ...\n")
 
 
 def words_of_rows(home: Path) -> None:
     """`explain` has each word of the schema, in its order, and names a word that is none."""
-    status, out, err = few(["explain"], home)
+    status, out, err = run(["explain"], home)
     words = [*SCHEMA["$defs"]["reason"]["enum"], *SCHEMA["$defs"]["remark"]["enum"]]
     equal("all words", (status, [line.split(": ")[0] for line in out.splitlines()], err), (0, words, ""))
-    status, out, err = few(["explain", "locked", "lockd"], home)
+    status, out, err = run(["explain", "locked", "lockd"], home)
     equal("a word", (status, out[:14]), (1, "locked: left: "))
     matches("no word", err, "mbox2maildir-admin: lockd: no such word: ...\n")
 
@@ -179,19 +165,10 @@ def output_that_ends(home: Path) -> None:
     """Nothing that was said to be done is lost if the output takes no more."""
     for number in range(3):
         mailbox(home / f"old/{number}", ONE)
-    env = {"PATH": f"{home}/bin:{os.environ['PATH']}", "LC_ALL": "C.UTF-8"}
-    ran = subprocess.run(
-        ["sh", "-c", "mbox2maildir-admin migrate --now M old | head -n 1"],
-        cwd=home,
-        env=env,
-        check=False,
-        capture_output=True,
-    )
-    said = ran.stdout.decode()
+    said = run_printed("mbox2maildir-admin migrate --now M old | head -n 1", home).out
     assert said.startswith("old/0 -> 0: messages 1: done"), said
-    again = [json.loads(line) for line in run_whole([ADMIN, "migrate", "--json", "M", "old"], home)[1].splitlines()]
-    fates = {row["path"]: row["verdict"] for row in again if row["type"] == "row"}
-    equal("what was said to be done", fates["old/0"], "done before")
+    again = by_json(["migrate", "M", "old"], home)
+    equal("what was said to be done", again.of("old/0")["verdict"], "done before")
 
 
 if __name__ == "__main__":

@@ -60,7 +60,7 @@ def places(maildir: Path) -> list[str]:
 def migrates(home: Path, text: bytes, row: str, words: Sequence[str] = ()) -> None:
     """Migrates a mailbox, and expects this row."""
     mailbox(home / "box", text)
-    expect(["migrate", *words, "M", "box"], home, 0, f"box -> INBOX: {row}\n1 mailbox: ...\n")
+    expect(["migrate", "--all", *words, "M", "box"], home, 0, f"box -> INBOX: {row}\n1 mailbox: ...\n")
 
 
 def kept_flags(home: Path) -> None:
@@ -71,7 +71,7 @@ def kept_flags(home: Path) -> None:
         migrates(home, text, f"{says}: would be done, {count} messages with flags of {program}", ["--dry-run"])
         migrates(home, text, f"{says}: done, {count} messages with flags of {program}")
         equal(f"the flags of {program}", places(home / "M"), [place for _, place in rows])
-        expect(["migrate", "M", "box"], home, 0, "1 mailbox: 1 done before\n")
+        expect(["migrate", "--all", "M", "box"], home, 0, "1 mailbox: 1 done before\n")
         expect(["verify", "M", "box"], home, 0, None)
         (home / "M").rename(home / program)
 

@@ -9,13 +9,11 @@ from functools import partial
 from pathlib import Path
 from typing import NamedTuple
 
-from tests.companion.answers import run_printed
 from tests.support.cases import run_cases
 from tests.support.checks import equal
-from tests.support.homes import at_home, mail_in, mailbox, run
+from tests.support.homes import at_home, mail_in, mailbox, run, run_printed
 from tests.support.ledgers import as_if_killed
 from tests.support.mail import B, C, ONE, THREE
-from tests.support.printed import commands_in
 
 # how many runs a mailbox gets until all is done
 RUNS = 8
@@ -85,14 +83,14 @@ def run_to_the_end(home: Path, command: str) -> list[str]:
     Returns what was printed."""
     said = []  # type: list[str]
     for _ in range(RUNS):
-        status, out = run_printed(command, home)
-        said.append(f"$ {command}: {status}: {out}")
-        if not status:
+        ran = run_printed(command, home, "--json")
+        said.append(f"$ {command}: {ran.status}: {ran.output}")
+        if not ran.status:
             return said
-        found = [one for one in commands_in(out) if not one.startswith("sed ")]
+        found = ran.row.commands
         assert found, said
         if found[0].startswith("rm "):
-            equal(f"{said}", run_printed(found[0], home), (0, ""))
+            equal(f"{said}", run_printed(found[0], home), (0, "", ""))
         else:
             command = found[0]
     raise AssertionError(f"it does not end: {said}")

@@ -3,7 +3,6 @@ import gzip
 import json
 import os
 import signal
-import subprocess
 import sys
 from pathlib import Path
 
@@ -11,6 +10,7 @@ from tests.support.checks import equal, matches
 from tests.support.homes import ADMIN, check_all, expect, mailbox, run
 from tests.support.mail import ONE
 from tests.support.printed import rows_in
+from tests.support.running import Desk
 
 # a line that may begin a message, which only a human can decide
 UNCLEAR = ONE + b"From Tuesday on we are here\n\nbye\n\n"
@@ -130,13 +130,7 @@ def empty_operands(home: Path) -> None:
 def interrupted_while_it_waits(home: Path) -> None:
     """The sum counts the mailbox that was not begun."""
     mailbox(home / "box", ONE, 0)
-    with subprocess.Popen(
-        [ADMIN, "migrate", "M", "box"],
-        cwd=home,
-        env={**os.environ, "PATH": f"{home}/bin:{os.environ['PATH']}"},
-        stdout=subprocess.PIPE,
-        stderr=subprocess.PIPE,
-    ) as child:
+    with Desk(home).start(["migrate", "M", "box"]) as child:
         assert child.stdout and child.stderr
         matches("what is said of the wait", child.stderr.readline().decode(), "mbox2maildir-admin: box: waiting...\n")
         child.send_signal(signal.SIGINT)
@@ -170,7 +164,7 @@ def no_maildir_without_a_mailbox(home: Path) -> None:
         "M photos --dovecot",
         "M unclear notes --jobs 2",
     ):
-        status, out, _ = run(["migrate", "--now", *words.split()], home)
+        status, out, _ = run(["migrate", "--all", "--now", *words.split()], home)
         equal(f"{words}: status, and what is there", (status, sorted(path.name for path in home.iterdir())), (1, there))
         equal(f"{words}: what is in the folder", list((home / "There").iterdir()), [])
         assert out, f"{words}: nothing was said"
@@ -198,7 +192,7 @@ def a_maildir_with_a_mailbox(home: Path) -> None:
             ("notes box --no-mail notes", 0, 1),
         )
     ):
-        got, _, err = run(["migrate", "--now", f"M{number}", *words.split()], home)
+        got, _, err = run(["migrate", "--all", "--now", f"M{number}", *words.split()], home)
         equal(f"{words}: status and errors", (got, err), (status, ""))
         equal(f"{words}: messages", len(list((home / f"M{number}").rglob("new/*"))), count)
     # what was noted before the Maildir was made is in the record
@@ -216,9 +210,9 @@ def what_is_missing(home: Path) -> None:
     found = [(row["path"], row["verdict"], row["reason"]) for row in rows[:-1]]
     wanted = [("none", "left", "missing"), ("box/x", "left", "missing"), ("box", "done", None)]
     equal("rows", (status, found), (1, wanted))
-    expect(["migrate", "M", "folder"], home, 1, "no mailboxes\n")
+    expect(["migrate", "--all", "M", "folder"], home, 1, "no mailboxes\n")
     left = "none -> INBOX: left (missing): ...\n...\n...\n1 mailbox: 1 left\n"
-    expect(["migrate", "--undo", "M", "none"], home, 1, left)
+    expect(["migrate", "--all", "--undo", "M", "none"], home, 1, left)
 
 
 def not_in_quotes(home: Path) -> None:
@@ -237,14 +231,14 @@ def not_in_quotes(home: Path) -> None:
             f"{RUN}mbox2maildir-admin migrate {command}\n"
             for path, count in paths.items()
         )
-        got, said, _ = run(["migrate", *given.split()], home)
+        got, said, _ = run(["migrate", "--all", *given.split()], home)
         equal(
             f"{given}: status, and what is said",
             (got, said.startswith(out), len(rows_in(said))),
             (1, True, len(paths) + 1),
         )
         equal(f"{given}: what was made", [path.name for path in home.iterdir() if path.name in ("M", "My")], [])
-    both = run(["migrate", "--now", "--folder", "Both", "M", "./a", "./b"], home)
+    both = run(["migrate", "--all", "--now", "--folder", "Both", "M", "./a", "./b"], home)
     equal("two files beside it", (both[0], both[1].splitlines()[-1]), (0, "2 mailboxes: 2 done"))
 
 
@@ -252,12 +246,10 @@ def on_an_older_python(home: Path) -> None:
     """The companion ends with one line, whatever its words are. No part of it is loaded before."""
     code = "import runpy, sys; sys.version_info = (3, 8, 18); sys.argv = sys.argv[1:]; runpy.run_path(sys.argv[0])"
     for words in ("kind box", "--help", ""):
-        ran = subprocess.run(
-            [sys.executable, "-c", code, ADMIN, *words.split()], cwd=home, capture_output=True, check=False
-        )
+        status, out, err = run([sys.executable, "-c", code, ADMIN, *words.split()], home)
         says = f"mbox2maildir-admin: this is Python 3.8; next: run it by Python 3.9 or newer, such as: ... {ADMIN} ..."
-        equal(f"{words}: status and output", (ran.returncode, ran.stdout), (1, b""))
-        matches(f"{words}: errors", ran.stderr.decode(), says + "\n")
+        equal(f"{words}: status and output", (status, out), (1, ""))
+        matches(f"{words}: errors", err, says + "\n")
 
 
 if __name__ == "__main__":

@@ -57,7 +57,7 @@ def what_is_there(home: Path) -> None:
     """Each mailbox has an object with its counts, and with what is nowhere, has other bytes or is there twice."""
     for name, text in (("a", ONE + TWO), ("b", TWO)):
         mailbox(home / "old" / name, text)
-    expect(["migrate", "--now", "M", "old"], home, 0, "...\n...\n2 mailboxes: 2 done\n")
+    expect(["migrate", "--all", "--now", "M", "old"], home, 0, "...\n...\n2 mailboxes: 2 done\n")
     whole = objects(["verify", "M", "old"], home)
     equal(
         "if all is there",

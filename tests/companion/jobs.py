@@ -22,6 +22,7 @@ from tests.support.homes import ADMIN, check_all, mail_in, mailbox, run, script,
 from tests.support.ledgers import LEDGER, RECORD, wait_for_lock, without_chance
 from tests.support.mail import ONE, TWO, bodies_of, digest_of
 from tests.support.processes import wait_for
+from tests.support.running import Desk
 from tests.support.terminals import Terminal
 
 FOLDERS, MESSAGES = 6, 60
@@ -65,7 +66,8 @@ def as_one_at_a_time(home: Path) -> None:
     mailbox(home / "inbox", ONE)
     mailbox(home / "more", TWO)
     outputs = [
-        run(["migrate", "--jobs", str(jobs), f"M{jobs}", "inbox", "old", "more"], home)[:2] for jobs in (1, 3, 8)
+        run(["migrate", "--all", "--jobs", str(jobs), f"M{jobs}", "inbox", "old", "more"], home)[:2]
+        for jobs in (1, 3, 8)
     ]
     equal(
         "what is said with 3 and 8 jobs",
@@ -86,7 +88,7 @@ def largest_first(home: Path) -> None:
     """The largest mailboxes begin first, and each is noted as done when it is. Rows come in the order of names."""
     for number in range(FOLDERS):
         mailbox(home / f"old/f{number}", text_of(number, 4**number))
-    words = ["migrate", "--jobs", "2", "M", "old"]
+    words = ["migrate", "--all", "--jobs", "2", "M", "old"]
     _, out, _ = run(words, home)
     equal("rows", [line.split(" ", 1)[0] for line in out.splitlines()[:-1]], [f"old/f{n}" for n in range(FOLDERS)])
     lines = [line.split("\t")[:2] for line in (home / "M" / RECORD).read_text(encoding="utf-8").splitlines()]
@@ -103,14 +105,7 @@ def names_in(maildir: Path) -> list[str]:
 @contextmanager
 def migrating(home: Path, *words: str) -> Iterator["subprocess.Popen[bytes]"]:
     """A migration that is running, in a process group of its own."""
-    child = subprocess.Popen(
-        [str(ADMIN), "migrate", "--all", "--jobs", "8", *words],
-        cwd=str(home),
-        stdout=subprocess.PIPE,
-        stderr=subprocess.PIPE,
-        env={**os.environ, "PATH": f"{home}/bin:{os.environ['PATH']}"},
-        start_new_session=True,
-    )
+    child = Desk(home).start(["migrate", "--all", "--jobs", "8", *words])
     try:
         yield child
     finally:
@@ -283,7 +278,7 @@ def kill_several(home: Path, folder: Path, disk: Disk) -> None:
         for _ in range(draw.randint(1, 3)):
             said += kill_one(home, maildir, draw, deleted, disk)
         disk.empty()
-        status, out, _ = run(["migrate", "--jobs", "8", maildir, "old"], home)
+        status, out, _ = run(["migrate", "--all", "--jobs", "8", maildir, "old"], home)
         assert status == 1 and out.splitlines()[-1].endswith("1 left; 1 other file: no mail"), out
         for name, text in texts.items():
             check_folder(folder_of(maildir, name), name, text, deleted[folder_of(maildir, name).name], said + out)
@@ -336,7 +331,7 @@ def full_disk(home: Path) -> None:
         for number in range(4):
             mailbox(home / f"old/f{number}", text_of(number, 200))
         mailbox(home / "old/large", ONE.rstrip(b"\n") + b"\n" + b"x" * 9000000 + b"\n\n")
-        status, out, _ = run(["migrate", "--jobs", "8", disk / "M", "old"], home)
+        status, out, _ = run(["migrate", "--all", "--jobs", "8", disk / "M", "old"], home)
         rows = [line for line in out.splitlines() if ": left (" in line]
         equal(
             "status, and what is left",
@@ -352,7 +347,7 @@ def one_of_two_fits(home: Path) -> None:
     with small_disk(home) as disk:
         for number in range(2):
             mailbox(home / f"old/f{number}", text_of(number, 850))
-        status, out, _ = run(["migrate", "--jobs", "2", disk / "M", "old"], home)
+        status, out, _ = run(["migrate", "--all", "--jobs", "2", disk / "M", "old"], home)
         rows = [line for line in out.splitlines() if ": left (no-room): not enough space in " in line]
         equal("status, and what is left", (status, len(rows)), (1, 1))
         counts = Counter(path.parent.parent.name for path in (disk / "M").glob(".f*/*/*"))

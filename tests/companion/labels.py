@@ -17,7 +17,7 @@ from tests.support.mail import ONE
 from tests.support.printed import row_in
 from tests.support.terminals import Terminal
 
-LABELS = ["migrate", "--labels", "M", "t.mbox"]
+LABELS = ["migrate", "--all", "--labels", "M", "t.mbox"]
 KIND = "Gmail's Takeout"
 # what is said of messages, if no label shows what was read
 UNREAD = (
@@ -93,7 +93,9 @@ def each_label_is_a_folder(home: Path) -> None:
         f"t.mbox -> a-b: {KIND}, messages 2: would be done, its labels are a.b and a-b\n"
         f"t.mbox -> 'bills, old': {KIND}, messages 1: would be done\n"
     )
-    expect(["migrate", "--labels", "--dry-run", "M", "t.mbox"], home, 0, f"{rows}10 mailboxes: 10 would be done\n")
+    expect(
+        ["migrate", "--all", "--labels", "--dry-run", "M", "t.mbox"], home, 0, f"{rows}10 mailboxes: 10 would be done\n"
+    )
     equal("whether --dry-run made anything", (home / "M").exists(), False)
     expect(LABELS, home, 0, rows.replace("would be ", "") + "10 mailboxes: 10 done\n")
     equal("the folders", folders_in(home / "M"), FOLDERS)
@@ -143,7 +145,7 @@ def a_label_is_asked_about(home: Path) -> None:
     )
     expect(LABELS, home, 1, out)
     equal("whether anything was made", (home / "M").exists(), False)
-    words = [str(home / "bin/mbox2maildir-admin"), *LABELS]
+    words = [str(home / "bin/mbox2maildir-admin"), "migrate", *LABELS[2:]]
     with Terminal(words, home, PATH=f"{home}/bin:{os.environ['PATH']}") as terminal:
         terminal.until("(a, b, c, l): ")
         terminal.type("a\n")
@@ -186,13 +188,13 @@ def a_label_says_what_was_read(home: Path) -> None:
     row += f"t.mbox -> Archive: {KIND}, messages 1: done\n"
     row += f"t.mbox -> Sent: {KIND}, messages 1: done, {UNREAD.format(1)}\n"
     row += "".join(f"t.mbox -> {label}: {KIND}, messages 1: done, {UNREAD.format(1)}\n" for label in "xyz")
-    expect(["migrate", "--labels", "P", "t.mbox"], home, 0, row + "6 mailboxes: 6 done\n")
+    expect(["migrate", "--all", "--labels", "P", "t.mbox"], home, 0, row + "6 mailboxes: 6 done\n")
     said = [word for pair in ("x=read", "y=unread", "z=starred") for word in ("--label", pair)]
-    expect([*LABELS[:2], *said, "Q", "t.mbox"], home, 0, None)
+    expect([*LABELS[:3], *said, "Q", "t.mbox"], home, 0, None)
     equal("what was said", flags_in(home / "Q"), {"one": "S", "four": "F"})
     equal("folders", folders_in(home / "Q"), {"": ["one", "two"], ".Archive": ["three"], ".Sent": ["four"]})
     out = f"t.mbox -> INBOX: {KIND}, messages 4: done, {UNREAD.format(3)}; labelled Sent 1: ...\n1 mailbox: 1 done\n"
-    expect(["migrate", "O", "t.mbox"], home, 0, out)
+    expect(["migrate", "--all", "O", "t.mbox"], home, 0, out)
 
 
 def a_label_gives_no_folder(home: Path) -> None:
@@ -233,7 +235,7 @@ def a_later_takeout(home: Path) -> None:
     expect(LABELS, home, 0, "2 mailboxes: 2 done before\n")
     row = "beside -> INBOX: ...: done, 2 messages there already, from .../t.mbox\n"
     out = f"{row}beside -> Sent: ...\n2 mailboxes: 2 done\n"
-    expect(["migrate", "--labels", "M", "beside"], home, 0, out)
+    expect(["migrate", "--all", "--labels", "M", "beside"], home, 0, out)
     equal("the folders", folders_in(home / "M"), there)
     takeout(home, [("one", "Work,Opened"), ("two", "Sent,Work"), ("three", "Inbox"), ("four", "Sent")], "beside")
     out = (
@@ -241,7 +243,7 @@ def a_later_takeout(home: Path) -> None:
         "beside -> Sent: ...: done, it grew by 1 message\n"
         f"beside -> Work: {KIND}, messages 2: done, 1 message with flags of Gmail\n3 mailboxes: 2 done, 1 done before\n"
     )
-    expect(["migrate", "--labels", "M", "beside"], home, 0, out)
+    expect(["migrate", "--all", "--labels", "M", "beside"], home, 0, out)
     wanted = {"": ["one", "three"], ".Sent": ["four", "two"], ".Work": ["one", "two"]}
     equal("the folders then", folders_in(home / "M"), wanted)
 
@@ -252,7 +254,7 @@ def with_labels_and_without(home: Path) -> None:
     says = "labelled Spam 1, Trash 1, Sent 1, Drafts 1: with --labels, labels become folders"
     row = f"t.mbox -> INBOX: {KIND}, messages 9: done, 2 messages with flags of Gmail; {says}\n"
     out = f"{row}1 mailbox: 1 done\n"
-    expect(["migrate", "M", "t.mbox"], home, 0, out)
+    expect(["migrate", "--all", "M", "t.mbox"], home, 0, out)
     out = (
         f"t.mbox: left (another-reading): it was migrated without --labels, so all of its mail is in one folder\n{UNDO}"
     )
@@ -262,7 +264,12 @@ def with_labels_and_without(home: Path) -> None:
     says = "it was migrated with --labels, so its mail is in the folders of its labels"
     out = f"t.mbox: left (another-reading): {says}\n{UNDO}"
     for words in (["M", "t.mbox"], ["--dry-run", "M", "t.mbox"], ["--folder", "x", "M", "t.mbox"]):
-        expect(["migrate", *words], home, 1, out.replace("--undo", "--undo --dry-run") if "--dry-run" in words else out)
+        expect(
+            ["migrate", "--all", *words],
+            home,
+            1,
+            out.replace("--undo", "--undo --dry-run") if "--dry-run" in words else out,
+        )
     # another file of the tree goes its way
     (home / "old").mkdir()
     (home / "t.mbox").rename(home / "old/t.mbox")
@@ -280,11 +287,11 @@ def the_record_knows_the_folders(home: Path) -> None:
     expect(["migrate", "--again", "M", "t.mbox"], home, 0, None)
     equal("the folders", folders_in(home / "M"), FOLDERS)
     (home / "t.mbox").rename(home / "moved")
-    expect(["migrate", "--labels", "M", "moved"], home, 0, "10 mailboxes: 10 done before\n")
+    expect(["migrate", "--all", "--labels", "M", "moved"], home, 0, "10 mailboxes: 10 done before\n")
     equal("verify", run(["verify", "M", "moved"], home)[0], 0)
     expect(["migrate", "--undo", "--dry-run", "M", "moved"], home, 0, None)
     equal("the folders", folders_in(home / "M"), FOLDERS)
-    status, out, _ = run(["migrate", "--undo", "M", "moved"], home)
+    status, out, _ = run(["migrate", "--all", "--undo", "M", "moved"], home)
     equal("the undo", (status, out.splitlines()[-1]), (0, "10 mailboxes: 10 undone"))
     equal("what is there", folders_in(home / "M"), {})
     expect(["migrate", "M", "moved"], home, 0, None)
@@ -300,9 +307,9 @@ def room_is_counted_first(home: Path) -> None:
     mailbox(home / "t.mbox", text.encode())
     subprocess.run(["mount", "-t", "tmpfs", "-o", "size=2m", "tmpfs", str(home / "disk")], check=True)
     try:
-        words = ["migrate", "--labels", "--label", "Sent=none", "--label", "Work=folder", "disk/M", "t.mbox"]
+        words = ["migrate", "--all", "--labels", "--label", "Sent=none", "--label", "Work=folder", "disk/M", "t.mbox"]
         expect(
-            [*words[:2], *words[4:]], home, 1, "t.mbox: left (no-room): not enough space in ...\n1 mailbox: 1 left\n"
+            [*words[:3], *words[5:]], home, 1, "t.mbox: left (no-room): not enough space in ...\n1 mailbox: 1 left\n"
         )
         equal("whether anything was made", (home / "disk/M").exists(), False)
         expect(words, home, 0, None)
@@ -324,7 +331,7 @@ def the_command_for_an_archive_leads_to_its_mailbox(home: Path) -> None:
         mailbox(path, text)
     for archive, form in (("take it.zip", "zip"), ("take.tgz", "gztar")):
         os.rename(shutil.make_archive(str(home / "packed"), form, home, "Takeout"), home / archive)
-        words = ["migrate", "--now", "--labels", "--label", "Unread=none", "M", archive]
+        words = ["migrate", "--all", "--now", "--labels", "--label", "Unread=none", "M", archive]
         status, out, _ = run(words, home)
         row = row_in(out, archive)
         ran = subprocess.run(["sh", "-c", row.command], cwd=home, stdout=subprocess.PIPE, text=True, check=True)
@@ -355,7 +362,7 @@ def words_that_do_not_go_together(home: Path) -> None:
         (["--labels", "M", "tree"], "--labels needs a MAILBOX that is a file"),
         (["--labels=two", "M", "t.mbox"], "..."),
     ):
-        status, out, err = run(["migrate", *words], home)
+        status, out, err = run(["migrate", "--all", *words], home)
         equal(f"{words}", (status, out), (2, ""))
         matches(f"{words}", err.splitlines()[0], f"mbox2maildir-admin: {says}")
 

@@ -30,7 +30,7 @@ from tests.support.ledgers import LEDGER, RECORD
 from tests.support.mail import A, B, C, MAY, ONE, THREE, TWO, numbered, with_length
 from tests.support.printed import commands_in, row_in
 from tests.support.processes import wait_for
-from tests.support.running import Word
+from tests.support.running import Desk
 
 AGAIN = ("--again", "M", "box")
 # what is said of a mailbox all of whose five messages were replaced
@@ -66,13 +66,13 @@ def file_of(maildir: Path, subject: str) -> Path:
 def done(home: Path, said: str, before: int = 0, words: Sequence[str] = ("M", "box")) -> None:
     """Migrates a mailbox, which must end well and say this, or nothing if it was done before."""
     line = f"box -> INBOX: mboxrd or mboxo, {said}\n" if said else ""
-    expect(["migrate", *words], home, 0, f"{line}1 mailbox: 1 done{' before' if before else ''}\n")
+    expect(["migrate", "--all", *words], home, 0, f"{line}1 mailbox: 1 done{' before' if before else ''}\n")
 
 
 def done_before(home: Path, gone: int, placed: int) -> None:
     """Migrates a mailbox that was done before, and whose folder has lost this much mail."""
     says = f"{gone} of the {placed} messages that were placed in its folder are gone, or another program renamed them"
-    expect(["migrate", "M", "box"], home, 0, f"box -> INBOX: done before, {says}\n1 mailbox: 1 done before\n")
+    expect(["migrate", "--all", "M", "box"], home, 0, f"box -> INBOX: done before, {says}\n1 mailbox: 1 done before\n")
 
 
 def left(
@@ -84,7 +84,7 @@ def left(
 ) -> None:
     """Migrates a mailbox that must be left for this reason."""
     expect(
-        ["migrate", *words],
+        ["migrate", "--all", *words],
         home,
         status,
         f"box -> INBOX: {kind + ': ' if kind else ''}left (...): {why}\n1 mailbox: 1 left\n",
@@ -96,7 +96,7 @@ def once_and_never_again(home: Path) -> None:
     mailbox(home / "box", ONE + TWO + THREE)
     before = (home / "box").stat()
     expect(
-        ["migrate", "--dry-run", "M", "box"],
+        ["migrate", "--all", "--dry-run", "M", "box"],
         home,
         0,
         "box -> INBOX: mboxrd or mboxo, messages 3: would be done\n1 mailbox: 1 would be done\n",
@@ -122,10 +122,15 @@ def once_and_never_again(home: Path) -> None:
     says = "3 messages there already, from .../box; 1 that .../box brought are gone; 1 message of other programs ..."
     back = "this stores the messages that are nowhere, and brings back deleted mail"
     out = f"copy -> INBOX: ...: done, {says}\n    {back}:\n        mbox2maildir-admin migrate --again M copy\n...\n"
-    expect(["migrate", "M", "copy"], home, 0, out)
+    expect(["migrate", "--all", "M", "copy"], home, 0, out)
     (home / "moved").mkdir()
     (home / "box").rename(home / "moved/box")
-    expect(["migrate", "M", "moved/box"], home, 0, "moved/box -> INBOX: done before, ...\n1 mailbox: 1 done before\n")
+    expect(
+        ["migrate", "--all", "M", "moved/box"],
+        home,
+        0,
+        "moved/box -> INBOX: done before, ...\n1 mailbox: 1 done before\n",
+    )
     equal("what is there", subjects(home / "M"), ["three", "two"])
     # what is new in it is brought, and --again brings what is gone
     (home / "moved/box").rename(home / "box")
@@ -149,8 +154,13 @@ def known_by_its_mail(home: Path) -> None:
     mailbox(home / "box", ONE + TWO)
     done(home, "messages 2: done")
     mailbox(home / "box", looked(ONE, TWO))
-    expect(["migrate", "M", "box"], home, 0, "1 mailbox: 1 done before\n")
-    expect(["migrate", "--dovecot", "M", "box"], home, 0, "box -> INBOX: done before, ...\n1 mailbox: 1 done before\n")
+    expect(["migrate", "--all", "M", "box"], home, 0, "1 mailbox: 1 done before\n")
+    expect(
+        ["migrate", "--all", "--dovecot", "M", "box"],
+        home,
+        0,
+        "box -> INBOX: done before, ...\n1 mailbox: 1 done before\n",
+    )
     grow(home / "box", THREE)
     done(home, "messages 3: done, it grew by 1 message")
     mailbox(home / "box", looked(ONE, TWO, THREE))
@@ -159,16 +169,16 @@ def known_by_its_mail(home: Path) -> None:
         "copy -> INBOX: mboxrd or mboxo, messages 3: done, 3 messages there already, from .../box; "
         "3 messages of these with flags in it that the file lacks\n"
     )
-    expect(["migrate", "M", "box", "copy"], home, 0, row + "2 mailboxes: 1 done, ...\n")
+    expect(["migrate", "--all", "M", "box", "copy"], home, 0, row + "2 mailboxes: 1 done, ...\n")
     equal("what is there", subjects(home / "M"), ["one", "three", "two"])
     for text, gone in ((looked(ONE, THREE), 1), (THREE, 1), (looked(THREE), 0)):
         mailbox(home / "box", text)
-        out = run(["migrate", "M", "box"], home)[1]
+        out = run(["migrate", "--all", "M", "box"], home)[1]
         said = f"{gone} message gone from it that it had brought"
         equal(f"{text!r}: {out}", ("1 done before\n" in out, said in out), (True, bool(gone)))
     equal("what is there after that", subjects(home / "M"), ["one", "three", "two"])
     mailbox(home / "box", b"")
-    expect(["migrate", "M", "box"], home, 0, "box -> INBOX: empty, messages 0: done\n1 mailbox: 1 done\n")
+    expect(["migrate", "--all", "M", "box"], home, 0, "box -> INBOX: empty, messages 0: done\n1 mailbox: 1 done\n")
     # so are other messages if enough of what it had is gone
     mailbox(home / "box", numbered("first", 5))
     done(home, "messages 5: done, it grew by 5 messages")
@@ -190,7 +200,7 @@ def several(home: Path) -> None:
     for name, text in (("box", ONE), ("two", TWO), ("none", b""), (".hidden", b""), ("box.lock~", b"x\n")):
         mailbox(home / name, text)
     expect(
-        ["migrate", "--folder", "Old/2004-x", "M", "box", "two", "none", ".hidden", "gone"],
+        ["migrate", "--all", "--folder", "Old/2004-x", "M", "box", "two", "none", ".hidden", "gone"],
         home,
         1,
         "box -> Old/2004-x: mboxrd or mboxo, messages 1: done\ntwo -> Old/2004-x: mboxrd or mboxo, messages 1: done\n"
@@ -214,15 +224,15 @@ def last_line(home: Path) -> None:
         ("--dry-run --now", "3 would be done", size),
         ("--now", "3 done", size),
     ):
-        _, out, _ = run_whole(["migrate", *options.split(), "M", "old"], home)
+        _, out, _ = run_whole(["migrate", "--all", *options.split(), "M", "old"], home)
         matches(f"{options}: the last line", out.splitlines()[-1], f"4 mailboxes: {sums}, 1 left; {work} in ... s")
-    _, out, _ = run_whole(["migrate", "M", "old"], home)
+    _, out, _ = run_whole(["migrate", "--all", "M", "old"], home)
     equal("where nothing was done", out.splitlines()[-1], "4 mailboxes: 3 done before, 1 left")
-    _, out, _ = run_whole(["migrate", "M", "old/one"], home)
+    _, out, _ = run_whole(["migrate", "--all", "M", "old/one"], home)
     equal("where one was done before", out, "1 mailbox: 1 done before\n")
-    _, out, _ = run_whole(["migrate", "N", "old/nothing"], home)
+    _, out, _ = run_whole(["migrate", "--all", "N", "old/nothing"], home)
     matches("where nothing was to be done", out.splitlines()[-1], "1 mailbox: 1 done; 0 messages, 0 bytes in ... s")
-    _, out, _ = run_whole(["migrate", "N", "old/one"], home)
+    _, out, _ = run_whole(["migrate", "--all", "N", "old/one"], home)
     page = text_of(TOP / "docs/mbox2maildir-admin.1")
     words = shlex.split(match_in(r"(?m)^\.Dl (sed .*messages.*)$", page)[1])
     cut = subprocess.run(words, input=out.encode(), stdout=subprocess.PIPE, check=True)
@@ -238,7 +248,7 @@ def kinds(home: Path) -> None:
     mailbox(home / "crlf", crlf)
     mailbox(home / "note.msf", b"// <!-- <mdb:mork")
     expect(
-        ["migrate", "--dry-run", "M", "mark", "cl2", "crlf", "note.msf"],
+        ["migrate", "--all", "--dry-run", "M", "mark", "cl2", "crlf", "note.msf"],
         home,
         0,
         "mark -> INBOX: mboxrd or mboxo, messages 1: would be done\n"
@@ -251,9 +261,12 @@ def kinds(home: Path) -> None:
     )
     for name, count in (("mark", 1), ("cl2", 2), ("crlf", 2)):
         expect(
-            ["migrate", f"M-{name}", name], home, 0, f"{name} -> INBOX: ...messages {count}: done\n1 mailbox: 1 done\n"
+            ["migrate", "--all", f"M-{name}", name],
+            home,
+            0,
+            f"{name} -> INBOX: ...messages {count}: done\n1 mailbox: 1 done\n",
         )
-        expect(["migrate", f"M-{name}", name], home, 0, "1 mailbox: 1 done before\n")
+        expect(["migrate", "--all", f"M-{name}", name], home, 0, "1 mailbox: 1 done before\n")
         equal(f"{name}: messages", len(files_of(home / f"M-{name}")), count)
         equal(
             f"{name}: what stands in the Maildir",
@@ -311,7 +324,7 @@ def by_content(home: Path) -> None:
         fate = ("left" if status else "done") if row else "no mail"
         said = f"{name}{row}\n" if row else ""
         total = "no mailboxes; 1 other file: no mail" if fate == "no mail" else f"1 mailbox: 1 {fate}"
-        expect(["migrate", f"M-{name}", name], home, status, f"{said}{total}\n")
+        expect(["migrate", "--all", f"M-{name}", name], home, status, f"{said}{total}\n")
         count = len(files_of(home / f"M-{name}")) if (home / f"M-{name}/new").is_dir() else 0
         equal(f"{name}: messages", count, int(fate == "done"))
     equal("the mail after NUL bytes", file_of(home / "M-nulls", "one").read_bytes(), ONE.split(b"\n", 1)[1][:-1])
@@ -346,7 +359,7 @@ def waits(home: Path) -> None:
         ("box -> INBOX: mboxrd or mboxo, messages 2: done\n1 mailbox: 1 done\n", ""),
     )
     row = "fresh -> INBOX: mboxrd or mboxo, messages 1: done\n1 mailbox: 1 done\n"
-    expect(["migrate", "--now", "N", str(mailbox(home / "fresh", ONE, 0).name)], home, 0, row, "")
+    expect(["migrate", "--all", "--now", "N", str(mailbox(home / "fresh", ONE, 0).name)], home, 0, row, "")
 
 
 def copies_beside(home: Path) -> None:
@@ -357,7 +370,14 @@ def copies_beside(home: Path) -> None:
     equal("its copy", run(["quote", "--as", "unquoted", "-o", "box.mboxrd", "box"], home)[0], 0)
     mailbox(home / "box.mboxrd", (home / "box.mboxrd").read_bytes())
     mailbox(home / "box.gz", gzip.compress(text))
-    words, move = ["migrate", "M", "box", "box.gz", "box.mboxrd"], "    if one is a copy, move it out of here\n"
+    words, move = [
+        "migrate",
+        "--all",
+        "M",
+        "box",
+        "box.gz",
+        "box.mboxrd",
+    ], "    if one is a copy, move it out of here\n"
     copies = [f"{name}: left (copy): box stands beside it\n{move}" for name in ("box.gz", "box.mboxrd")]
     command = "mbox2maildir-admin migrate --folder INBOX M box"
     row = f"box: left (copy): box.mboxrd and box.gz stand beside it\n{move}"
@@ -367,11 +387,14 @@ def copies_beside(home: Path) -> None:
     expect(words, home, 1, "".join([*copies, "3 mailboxes: 1 done before, 2 left\n"]))
     equal("what is there", len(list(mail_in(home / "M"))), 1)
     expect(
-        ["migrate", "--folder", "Other", "M", "box.mboxrd"], home, 0, "box.mboxrd -> Other: ...: done\n1 mailbox: ...\n"
+        ["migrate", "--all", "--folder", "Other", "M", "box.mboxrd"],
+        home,
+        0,
+        "box.mboxrd -> Other: ...: done\n1 mailbox: ...\n",
     )
     (home / "box.gz").unlink()
     expect(words, home, 1, None)
-    expect([*words[:3], words[4]], home, 0, "2 mailboxes: 2 done before\n")
+    expect([*words[:4], words[5]], home, 0, "2 mailboxes: 2 done before\n")
 
 
 def grown(home: Path) -> None:
@@ -401,11 +424,16 @@ def grown(home: Path) -> None:
 
     text = with_length(A, MAY) + b"\n"
     mailbox(home / "box", text)
-    expect(["migrate", "N", "box"], home, 0, "box -> INBOX: mboxcl2, quoted, messages 1: done\n1 mailbox: 1 done\n")
+    expect(
+        ["migrate", "--all", "N", "box"],
+        home,
+        0,
+        "box -> INBOX: mboxcl2, quoted, messages 1: done\n1 mailbox: 1 done\n",
+    )
     file_of(home / "N", "one").unlink()
     grow(home / "box", with_length(B, MAY) + b"\n" + with_length(C, MAY) + b"\n")
     expect(
-        ["migrate", "N", "box"],
+        ["migrate", "--all", "N", "box"],
         home,
         0,
         "box -> INBOX: mboxcl2, quoted, messages 3: done, it grew by 2 messages\n1 mailbox: 1 done\n",
@@ -419,13 +447,13 @@ def grown(home: Path) -> None:
     before = (home / "O" / RECORD).read_bytes()
     says = "it grew by 2 messages; 1 message gone from it that it had brought"
     expect(
-        ["migrate", "--dry-run", "O", "box"],
+        ["migrate", "--all", "--dry-run", "O", "box"],
         home,
         0,
         f"box -> INBOX: ...: would be done, {says}\n1 mailbox: 1 would be done\n",
     )
     equal("the record after --dry-run", (home / "O" / RECORD).read_bytes(), before)
-    status, out, _ = run(["migrate", "O", "box"], home)
+    status, out, _ = run(["migrate", "--all", "O", "box"], home)
     equal("a message that was cut: status", status, 1)
     os.unlink(home / match_in(r"\n        rm (.*)\n", out)[1])
     done(home, f"messages 3: done, {says}", words=("O", "box"))
@@ -436,7 +464,7 @@ def grown(home: Path) -> None:
     mailbox(home / "box", whole[:-2])
     expect(["migrate", "P", "box"], home, 0, None)
     mailbox(home / "box", whole[:-2] + b"more\r\n\r\n")
-    out = run(["migrate", "P", "box"], home)[1]
+    out = run(["migrate", "--all", "P", "box"], home)[1]
     os.unlink(home / match_in(r"\n        rm (.*)\n", out)[1])
     expect(["migrate", "P", "box"], home, 0, None)
     equal(
@@ -472,7 +500,7 @@ def begun(home: Path) -> None:
     # one was deleted
     killed_after(home, "O", ONE + TWO)
     file_of(home / "O", "one").unlink()
-    status, out, _ = run(["migrate", "O", "box"], home)
+    status, out, _ = run(["migrate", "--all", "O", "box"], home)
     equal("one deleted: status", status, 0)
     assert (
         int(match_in(r"up to (\d) messages? that had been deleted", out)[1]) >= 1
@@ -498,14 +526,14 @@ def begun_otherwise(home: Path) -> None:
     for number, (first, then, says) in enumerate(ways):
         maildir = f"R{number}"
         killed_after(home, maildir, ONE, *first)
-        status, out, _ = run(["migrate", *then, maildir, "box"], home)
+        status, out, _ = run(["migrate", "--all", *then, maildir, "box"], home)
         row = f"left (another-reading): its conversion was begun {says}\n"
         equal(f"begun {says}, and {then}: {out}", (status, row in out), (1, True))
         equal(f"begun {says}, and {then}", subjects(home / maildir), ["one"])
         file_of(home / maildir, "one").unlink()
         shutil.copytree(home / maildir, home / f"{maildir}-deleted")
-        for words in (commands_in(out)[0].split()[1:], ["migrate", *then, f"{maildir}-deleted", "box"]):
-            status, out, _ = run(words, home)
+        for words in (commands_in(out)[0].split()[2:], [*then, f"{maildir}-deleted", "box"]):
+            status, out, _ = run(["migrate", "--all", *words], home)
             # of the three, only one had been placed
             assert status == 0 and int(match_in(r"done, .*?up to (\d) messages? that had been deleted", out)[1]), out
             equal(f"begun {says}: {words}", subjects(home / words[-2]), ["one", "three", "two"])
@@ -569,10 +597,10 @@ def programs_that_fail(home: Path) -> None:
     equal("it is not done", steps(home / "O"), ["begun"])
     fake(home, f"exec '{home}/real' \"$@\"")
     grow(box, b"llo\n\n")
-    status, out, _ = run(["migrate", "O", "box"], home)
+    status, out, _ = run(["migrate", "--all", "O", "box"], home)
     equal("a message that was cut: status", status, 1)
     os.unlink(home / match_in(r"\n        rm (.*)\n", out)[1])
-    status, out, _ = run(["migrate", "O", "box"], home)
+    status, out, _ = run(["migrate", "--all", "O", "box"], home)
     equal("after it is gone", (status, subjects(home / "O")), (0, ["four", "one", "three", "two"]))
     killed_while_written(home)
     # it writes after the program has read it, of which this is a copy
@@ -580,7 +608,7 @@ def programs_that_fail(home: Path) -> None:
     box = mailbox(home / "crlf", crlf)
     fake(home, f"'{home}/real' \"$@\"; printf 'more\\r\\n\\r\\n' >>'{box}'")
     expect(
-        ["migrate", "Copy", "crlf"],
+        ["migrate", "--all", "Copy", "crlf"],
         home,
         LATER,
         "crlf -> INBOX: ...left (changed): it changed while it was converted: ...\n...\n",
@@ -588,8 +616,8 @@ def programs_that_fail(home: Path) -> None:
     equal("it is not done either", steps(home / "Copy"), ["begun"])
     fake(home, f"exec '{home}/real' \"$@\"")
     grow(box, b"")
-    os.unlink(home / match_in(r"\n        rm (.*)\n", run(["migrate", "Copy", "crlf"], home)[1])[1])
-    expect(["migrate", "Copy", "crlf"], home, 0, "crlf -> INBOX: ...messages 2: done...\n1 mailbox: 1 done\n")
+    os.unlink(home / match_in(r"\n        rm (.*)\n", run(["migrate", "--all", "Copy", "crlf"], home)[1])[1])
+    expect(["migrate", "--all", "Copy", "crlf"], home, 0, "crlf -> INBOX: ...messages 2: done...\n1 mailbox: 1 done\n")
     equal(
         "what is there of the copy",
         sorted(path.read_bytes()[-6:] for path in files_of(home / "Copy").values()),
@@ -612,7 +640,7 @@ def killed_while_written(home: Path) -> None:
         fcntl.flock(record, fcntl.LOCK_EX)
     fake(home, f"exec '{home}/real' \"$@\"")
     grow(box, b"llo\n\n" + THREE)
-    status, out, _ = run(["migrate", "P", "box"], home)
+    status, out, _ = run(["migrate", "--all", "P", "box"], home)
     _, cut = shlex.split(row_in(out, "box").command)
     equal("a message that was cut, with nobody there", status, 1)
     equal("what is named", (home / cut).read_bytes(), b"Subject: four\n\nhe")
@@ -649,7 +677,7 @@ def locks(home: Path) -> None:
     left(home, with_lock, kind="", status=LATER)
     mailbox(home / "box.lock", b"", 1300)
     mailbox(home / "empty", b"")
-    expect(["migrate", "M", "empty"], home, 0, "empty -> INBOX: empty, messages 0: done\n1 mailbox: 1 done\n")
+    expect(["migrate", "--all", "M", "empty"], home, 0, "empty -> INBOX: empty, messages 0: done\n1 mailbox: 1 done\n")
     with holding(home / "M" / RECORD, "flock"):
         expect(
             ["migrate", "M", "box"],
@@ -674,7 +702,7 @@ def locks(home: Path) -> None:
     # a mailbox that changed a moment ago is waited for, unless the start takes that long; a time in the future does not
     # count
     mailbox(home / "box", ONE, 57)
-    expect(["migrate", "N", "box"], home, 0, "box -> INBOX: ..., messages 1: done\n1 mailbox: 1 done\n", None)
+    expect(["migrate", "--all", "N", "box"], home, 0, "box -> INBOX: ..., messages 1: done\n1 mailbox: 1 done\n", None)
     age = time.time() - (home / "box").stat().st_mtime
     assert age > 59, f"it was not waited for until a mailbox was quiet, but {age} seconds"
     mailbox(home / "box", ONE, -1000)
@@ -800,7 +828,7 @@ def refused(home: Path) -> None:
         *(["--folder", name, "M", "box"] for name in ("", "/", "Sent/", "a//b", "..", "a\nb", os.fsdecode(b"\xe6"))),
     ]  # type: list[list[str]]
     for words in wrong:
-        status, out, err = run(["migrate", *words], home)
+        status, out, err = run(["migrate", "--all", *words], home)
         equal(f"wrong words {words}", (status, out, err.splitlines()[1:]), (2, "", [MORE]))
     if os.getuid() == 0:
         os.chown(home / "box", 65534, 65534)
@@ -856,16 +884,9 @@ def roots_alone(home: Path) -> None:
     )
 
 
-def at_work(home: Path, *command: Word) -> "subprocess.Popen[bytes]":
+def at_work(home: Path, *command: str) -> "subprocess.Popen[bytes]":
     """A migration in a session of its own, whose program has made the file `at-work`."""
-    child = subprocess.Popen(
-        command,
-        cwd=home,
-        stdout=subprocess.PIPE,
-        stderr=subprocess.PIPE,
-        env={**os.environ, "PATH": f"{home}/bin:{os.environ['PATH']}"},
-        start_new_session=True,
-    )
+    child = Desk(home).start(command)
     assert wait_for((home / "at-work").exists, child), "it does not convert"
     return child
 
@@ -875,7 +896,7 @@ def session_ends(home: Path) -> None:
     for name, text in (("one", ONE), ("two", TWO)):
         mailbox(home / "old" / name, text)
     fake(home, f": >'{home}/at-work'; until test -e '{home}/ended'; do sleep 0.1; done; exec '{home}/real' \"$@\"")
-    child = at_work(home, "nohup", ADMIN, "migrate", "--jobs", "2", "M", "old")
+    child = at_work(home, "/usr/bin/nohup", str(ADMIN), "migrate", "--jobs", "2", "M", "old")
     os.killpg(child.pid, signal.SIGHUP)
     (home / "ended").touch()
     out, _ = child.communicate(timeout=PATIENCE)
@@ -893,7 +914,7 @@ def broken_off(home: Path) -> None:
         f": >'{home}/begun'; exec '{home}/real' \"$@\"",
     )
     for number in (signal.SIGTERM, signal.SIGINT, signal.SIGHUP):
-        child = at_work(home, ADMIN, "migrate", "M", "box", "two")
+        child = at_work(home, "migrate", "M", "box", "two")
         child.send_signal(number)
         out, err = child.communicate(timeout=PATIENCE)
         equal(
@@ -920,7 +941,7 @@ def broken_off(home: Path) -> None:
             "left on device; what was done is in the record: run the same command again\n",
         ),
     )
-    expect(["migrate", "M", "box", "two"], home, 0, "2 mailboxes: 2 done before\n")
+    expect(["migrate", "--all", "M", "box", "two"], home, 0, "2 mailboxes: 2 done before\n")
     equal("what is there", subjects(home / "M"), ["one", "two"])
 
 

@@ -3,7 +3,6 @@
 owner of the mail, and by root for users. Then the same words migrate what it made."""
 import io
 import lzma
-import os
 import shutil
 import subprocess
 import tarfile
@@ -15,7 +14,7 @@ from pathlib import Path
 from tests.companion.spool import USERS, theirs, users
 from tests.support.cases import LeftOut
 from tests.support.checks import equal, matches
-from tests.support.homes import check_all, mailbox, run, subjects, want_users
+from tests.support.homes import by_json, check_all, mailbox, run, run_printed, subjects, want_users
 from tests.support.mail import A, ONE, TWO
 from tests.support.printed import rows_in
 
@@ -103,22 +102,21 @@ def kinds_here() -> dict[str, tuple[bytes, list[str]]]:
     }
 
 
-def run_printed(command: str, home: Path) -> None:
-    """Runs a command as it is printed. It must do what it says."""
-    env = {"PATH": f"{home}/bin:{os.environ['PATH']}", "LC_ALL": "C.UTF-8", "HOME": str(home)}
-    ran = subprocess.run(["sh", "-c", command], cwd=home, env=env, capture_output=True, check=False)
-    equal(f"{command}: status; {ran.stderr!r}", ran.returncode, 0)
-
-
-def nexts_in(out: str) -> dict[str, str]:
+def nexts_in(words: list[str], home: Path) -> dict[str, str]:
     """The next command of each mailbox that is left."""
-    return {row.name: row.command for row in rows_in(out) if row.commands}
+    return {row.name: row.command for row in by_json(["migrate", "--now", *words], home).rows if row.commands}
+
+
+def done_by(command: str, home: Path) -> None:
+    """Runs a command as it is printed. It must do what it says."""
+    ran = run_printed(command, home)
+    equal(f"{command}: status; {ran.err!r}", ran.status, 0)
 
 
 def migrate_and_do(words: list[str], home: Path) -> tuple[int, str]:
     """Migrates, runs each command that is printed, and migrates again."""
-    for command in nexts_in(run(["migrate", "--now", *words], home)[1]).values():
-        run_printed(command, home)
+    for command in nexts_in(words, home).values():
+        done_by(command, home)
     return run(["migrate", "--now", *words], home)[:2]
 
 
@@ -159,14 +157,13 @@ def nothing_is_replaced(home: Path) -> None:
     if not whole.startswith(b"LZIP"):
         raise LeftOut("lzip is not here")
     mailbox(home / "old/x", whole[:-20])
-    command = nexts_in(run(["migrate", "--now", "M", "old"], home)[1])["old/x"]
-    ran = subprocess.run(["sh", "-c", command], cwd=home, stderr=subprocess.DEVNULL, check=False)
-    assert ran.returncode, command
+    command = nexts_in(["M", "old"], home)["old/x"]
+    assert run_printed(command, home).status, command
     equal("a file that is cut", (home / "old/x").read_bytes(), whole[:-20])
     mailbox(home / "old/x", whole)
-    run_printed(command, home)
+    done_by(command, home)
     equal("what it holds", (home / "old/x").read_bytes(), TWO * 9)
-    subprocess.run(["sh", "-c", command], cwd=home, stderr=subprocess.DEVNULL, check=False)
+    run_printed(command, home)
     equal("once more", (home / "old/x").read_bytes(), TWO * 9)
 
 
@@ -180,22 +177,20 @@ def where_none_may_write(home: Path) -> None:
         theirs(mailbox(home / "homes" / third / "mail/it's old", tar_of_two()), third)
         (home / "spool").chmod(0o711)
         words = ["--users", "--tree", "mail", "spool", *USERS]
-        commands = nexts_in(run(["migrate", "--dry-run", "--now", *words], home)[1])
+        commands = nexts_in(["--dry-run", *words], home)
         for who in (first, second):
             # nothing was migrated, so the spool keeps it
-            run_printed(commands[who], home)
+            done_by(commands[who], home)
             equal(f"{commands[who]}: what it made", list((home / "homes" / who).glob("Maildir")), [])
             assert (home / "spool" / who).exists(), commands[who]
-        _, out, _ = run(["migrate", "--now", *words], home)
-        commands = nexts_in(out)
+        commands = nexts_in(words, home)
         equal("who is left", sorted(commands), [first, f"{third} mail/it's old", second])
         for who, command in commands.items():
             matches(f"{who}: by whose rights", command, f"runuser -u {who.split(' ')[0]} -- sh -c ...")
-            run_printed(command, home)
+            done_by(command, home)
         # the spool has no mailbox of two any more, and those were migrated
         equal("what the spool has", sorted(path.name for path in (home / "spool").iterdir()), [])
-        status, out, _ = run(["migrate", "--now", *words], home)
-        equal(f"once more: {out}", status, 0)
+        equal("once more", run(["migrate", "--now", *words], home).status, 0)
         for name, wanted in ((first, ["one"]), (second, ["one", "two"]), (third, ["one", "two"])):
             maildir = home / "homes" / name / "Maildir"
             equal(f"{name}: the mail", subjects_below(maildir), wanted)
@@ -215,7 +210,7 @@ def as_root_types_them(home: Path) -> None:
         commands = {row.name: row.command for row in rows_in(out) if row.below}
         equal("what is left", (status, sorted(commands)), (1, [f"{own}/mail/{one}" for one in ("a.txt", "letter")]))
         matches("a look", commands[f"{own}/mail/a.txt"], f"runuser -u {name} -- sh -c 'file ...'")
-        run_printed(commands[f"{own}/mail/letter"], home)
+        done_by(commands[f"{own}/mail/letter"], home)
         equal("whose it is", {path.owner() for path in (own / "mail").iterdir()}, {name})
         last = run(["/bin/sh", "-c", command], home)[1].splitlines()[-1]
         equal("the next run", last, "3 mailboxes: 1 done, 1 done before, 1 left")

@@ -1,15 +1,12 @@
 #!/usr/bin/env -S python3 -B
 """Mailboxes that are done, and then migrated by a word that reads them otherwise: nothing is placed beside what is
 there, the row says so, and the command that it prints leads to the other reading."""
-import re
 from pathlib import Path
 
-from tests.companion.answers import run_printed
 from tests.companion.cut import crlf, run_to_the_end
 from tests.support.checks import equal, match_in
-from tests.support.homes import check_all, expect, mail_in, mailbox, run, subjects
+from tests.support.homes import by_json, check_all, expect, mail_in, mailbox, run_printed, subjects
 from tests.support.mail import A, B, ONE, THREE, TWO, with_length
-from tests.support.printed import commands_in
 
 # a line `From ` that begins a message by one word, and is mail by the other
 BODY = b"hello\n\nFrom b@example.org Mon Mar  3 09:12:45 2025\nSubject: inner\n\nyes\n"
@@ -24,12 +21,6 @@ def files(home: Path) -> list[bytes]:
     return sorted(path.read_bytes() for path in mail_in(home / "M"))
 
 
-def next_in(out: str) -> str:
-    """The command that a row prints."""
-    (command,) = commands_in(out)
-    return command
-
-
 def by_again(home: Path) -> None:
     """With --again it is left, and the mail stays as it is. Once that is undone, it is read as the word says."""
     for text, first, then in ((WITH_LENGTH, "mboxcl2", "mboxrd"), (QUOTED, "mboxrd", "mboxo")):
@@ -41,18 +32,15 @@ def by_again(home: Path) -> None:
         there = files(home)
         assert there != wanted, (there, wanted)
         for options in ("--again", "--again --dry-run"):
-            status, out, _ = run(["migrate", *options.split(), "--as", then, "M", "box"], home)
-            equal(f"status: {out}", status, 1)
-            match_in(
-                rf"left \(another-reading\): it was read as {first} when it was migrated, and \d messages? of",
-                out,
-            )
-            equal(f"what is there: {out}", files(home), there)
+            ran = by_json(["migrate", *options.split(), "--as", then, "M", "box"], home)
+            equal(f"status, and why: {ran.out}", (ran.status, ran.row["reason"]), (1, "another-reading"))
+            match_in(rf"\Ait was read as {first} when it was migrated, and \d messages? of", ran.row["says"])
+            equal(f"what is there: {ran.out}", files(home), there)
         # that of the dry run is dry
-        equal("the undo of a dry run", run_printed(next_in(out), home)[0], 0)
+        equal("the undo of a dry run", run_printed(ran.row.command, home).status, 0)
         equal("what is there", files(home), there)
-        out = run(["migrate", "--again", "--as", then, "M", "box"], home)[1]
-        equal(f"the undo: {out}", run_printed(next_in(out), home)[0], 0)
+        row = by_json(["migrate", "--again", "--as", then, "M", "box"], home).row
+        equal(f"the undo: {row}", run_printed(row.command, home).status, 0)
         equal("what is there", files(home), [])
         expect(["migrate", "--as", then, "M", "box"], home, 0, None)
         equal("read as the word says", files(home), wanted)
@@ -65,16 +53,14 @@ def done_before(home: Path) -> None:
     expect(["migrate", "--as", "mboxcl2", "M", "box"], home, 0, None)
     there = files(home)
     for word, is_said in (("mboxcl2", False), ("mboxcl", False), ("mboxrd", True), ("mboxo", True), ("unquoted", True)):
-        status, out, _ = run(["migrate", "--as", word, "M", "box"], home)
-        equal(f"{word}: {out}", (status, "1 done before" in out), (0, True))
-        says = (
-            rf"it was read as mboxcl2, and --as {word} gives other messages\n    if these are right, run this next:\n"
-        )
-        equal(f"{word}: {out}", re.search(says, out) is not None, is_said)
+        ran = by_json(["migrate", "--as", word, "M", "box"], home)
+        equal(f"{word}: {ran.out}", (ran.status, ran.sums["verdicts"]["done before"]), (0, 1))
+        says = f"it was read as mboxcl2, and --as {word} gives other messages"
+        equal(f"{word}: {ran.out}", ran.row["says"] == says, is_said)
         equal("what is there", files(home), there)
         if is_said:
-            match_in(r"migrate --undo M box\Z", next_in(out))
-    equal("the undo", run_printed(next_in(out), home)[0], 0)
+            match_in(r"migrate --undo M box\Z", ran.row.command)
+    equal("the undo", run_printed(ran.row.command, home).status, 0)
     equal("what is there", files(home), [])
 
 
@@ -82,7 +68,7 @@ def of_several(home: Path) -> None:
     """A word for several mailboxes is not said of those that it does not contradict."""
     for name, text in (("a", ONE), ("b", TWO), ("c", INSIDE)):
         mailbox(home / "tree" / name, text)
-    words = ["migrate", "--as", "mboxo", "M", "tree"]
+    words = ["migrate", "--all", "--as", "mboxo", "M", "tree"]
     expect(words, home, 0, None)
     expect(words, home, 0, "3 mailboxes: 3 done before\n")
 
@@ -93,11 +79,10 @@ def rewritten(home: Path) -> None:
     expect(["migrate", "--as", "mboxcl2", "M", "box"], home, 0, None)
     there = files(home)
     mailbox(home / "box", B + b"\nmore\n\n" + WITH_LENGTH)
-    out = run(["migrate", "--again", "--as", "mboxrd", "M", "box"], home)[1]
-    equal(f"what is there: {out}", files(home), there)
-    command = next_in(out)
+    command = by_json(["migrate", "--again", "--as", "mboxrd", "M", "box"], home).row.command
+    equal(f"what is there: {command}", files(home), there)
     match_in(r"migrate --again --as mboxcl2 M box\Z", command)
-    equal("the next command", run_printed(command, home)[0], 0)
+    equal("the next command", run_printed(command, home).status, 0)
     equal("what is there", len(files(home)), len(there) + 1)
 
 
@@ -117,12 +102,13 @@ def decided_and_cut(home: Path) -> None:
     """A mailbox that was done by an answer, and about which something is asked still, is done before once it has lost a
     message, and its row says so."""
     mailbox(home / "box", crlf(ONE) + TWO + b"From Tuesday on\n\nhi\n\n" + THREE)
-    (decide,) = (line for line in commands_in(run(["migrate", "M", "box"], home)[1]) if "--as unquoted" in line)
-    equal("the answer", run_printed(decide, home)[0], 0)
+    row = by_json(["migrate", "M", "box"], home).row
+    (decide,) = (line for line in row.commands if "--as unquoted" in line)
+    equal("the answer", run_printed(decide, home).status, 0)
     there = files(home)
     mailbox(home / "box", crlf(ONE) + TWO + b"From Tuesday on\n\nhi\n")
-    row = "box -> INBOX: done before, 1 message gone from it that it had brought\n"
-    expect(["migrate", "M", "box"], home, 0, row + "1 mailbox: 1 done before\n")
+    said = "box -> INBOX: done before, 1 message gone from it that it had brought\n"
+    expect(["migrate", "--all", "M", "box"], home, 0, said + "1 mailbox: 1 done before\n")
     equal("what is there", files(home), there)
 
 

@@ -11,12 +11,23 @@ import time
 from collections.abc import Sequence
 from pathlib import Path
 
-from tests.companion.answers import run_printed
 from tests.support import accounts
 from tests.support.checks import LATER, equal, match_in, matches
-from tests.support.homes import ADMIN, check_all, expect, mail_in, mailbox, run, script, subjects, want_users
+from tests.support.homes import (
+    by_json,
+    check_all,
+    expect,
+    mail_in,
+    mailbox,
+    run,
+    run_printed,
+    script,
+    subjects,
+    want_users,
+)
 from tests.support.mail import A, B, ONE, THREE, TWO
-from tests.support.printed import commands_in, row_in, rows_in
+from tests.support.printed import row_in, rows_in
+from tests.support.running import Desk
 from tests.support.schema import wrong
 
 USERS = ["m91one", "m91two"]
@@ -39,7 +50,7 @@ def printed(home: Path) -> None:
     mailbox(home / "old/a", ONE + TWO)
     mailbox(home / "old/b", TWO)
     row = "old/%s -> %s: mboxrd or mboxo, messages %d: "
-    prepare = ["migrate", "--prepare", "--jobs", "2", "M", "old"]
+    prepare = ["migrate", "--all", "--prepare", "--jobs", "2", "M", "old"]
     first = row % ("a", "a", 2) + "prepared\n" + row % ("b", "b", 1) + "prepared\n"
     expect(prepare, home, 0, f"{first}2 mailboxes: 2 prepared; {ESTIMATE}; {ONLY_PREPARED}\n")
     mailbox(home / "old/a", TWO + THREE)
@@ -52,11 +63,16 @@ def printed(home: Path) -> None:
     equal("the verdicts", [one.get("verdict") for one in objects[:2]], ["prepared"] * 2)
     equal("their sum", (status, objects[2]["verdicts"]["prepared"]), (0, 2))
     equal("an estimate is in it", objects[2]["last_pass_seconds"] > 0, True)
-    expect(["migrate", "--undo", "M", "old/b"], home, 0, "old/b -> b: messages 1: undone, removed 1 message\n...\n")
+    expect(
+        ["migrate", "--all", "--undo", "M", "old/b"],
+        home,
+        0,
+        "old/b -> b: messages 1: undone, removed 1 message\n...\n",
+    )
     (home / "old").rename(home / "older")
     last = row.replace("old/", "older/") % ("a", "a", 2) + "done, 2 prepared before\n"
     last += row.replace("old/", "older/") % ("b", "b", 1) + "done\n"
-    expect(["migrate", "--now", "M", "older"], home, 0, f"{last}2 mailboxes: 2 done\n")
+    expect(["migrate", "--all", "--now", "M", "older"], home, 0, f"{last}2 mailboxes: 2 done\n")
     equal("the mail", (subjects(home / "M/.a"), subjects(home / "M/.b")), (["three", "two"], ["two"]))
     equal("lists", list((home / "M").rglob("mbox2maildir-prepared")), [])
 
@@ -64,7 +80,7 @@ def printed(home: Path) -> None:
 def refused(home: Path) -> None:
     """Where Dovecot would find the Maildir by itself, where mail is delivered, and where nobody knows."""
     mailbox(home / "box", ONE)
-    words = ["migrate", "--prepare", "Maildir", "box"]
+    words = ["migrate", "--all", "--prepare", "Maildir", "box"]
     own = {"HOME": str(home)}
     for settings, says in (
         ("mail_location = ", "Dovecot looks for mail by itself"),
@@ -95,20 +111,19 @@ def one_at_work(home: Path) -> None:
     (home / "bin/mbox2maildir").rename(home / "bin/converter")
     waits = f"""[ "$1" != convert ] || {{ : >{home}/begun; until [ -e {home}/go ]; do sleep 0.1; done; }}"""
     script(home / "bin/mbox2maildir", f"""{waits}\nexec {home}/bin/converter "$@"\n""")
-    settings = {**os.environ, "PATH": f"{home}/bin:{os.environ['PATH']}"}
-    words = [str(ADMIN), "migrate", "--prepare", "--unread", "M", "box"]
-    with subprocess.Popen(words, cwd=home, env=settings, stdout=subprocess.DEVNULL) as first:
+    words = ["migrate", "--prepare", "--unread", "M", "box"]
+    with Desk(home).start(words, subprocess.DEVNULL) as first:
         try:
             while not (home / "begun").exists():
                 equal("the first pass", first.poll(), None)
                 time.sleep(0.1)
-            status, out, err = run(["migrate", "--now", "M", "box"], home)
+            status, out, err = run(["migrate", "--all", "--now", "M", "box"], home)
             equal("the last pass", (status, out), (LATER, ""))
             matches("what it says", err, "mbox2maildir-admin: another migrate is at work in M, ...\n")
         finally:
             (home / "go").touch()
     equal("the status of the first pass", first.returncode, 0)
-    expect(["migrate", "--now", "M", "box"], home, 0, "box -> INBOX: ...: done, 1 prepared before\n...\n")
+    expect(["migrate", "--all", "--now", "M", "box"], home, 0, "box -> INBOX: ...: done, 1 prepared before\n...\n")
 
 
 def left_over(home: Path) -> None:
@@ -127,17 +142,22 @@ def left_over(home: Path) -> None:
         f"        mbox2maildir-admin migrate --undo --now --folder {name} M {home}/old/{name}\n"
         for name in "abc"
     )
-    expect(["migrate", "--now", "M", "old"], home, 1, f"{out}3 mailboxes: 3 left\n")
+    expect(["migrate", "--all", "--now", "M", "old"], home, 1, f"{out}3 mailboxes: 3 left\n")
     (home / "old").rmdir()
     (home / "disk").rename(home / "old")
-    status, out, _ = run(["migrate", "--now", "--folder", "a", "M", "old/a"], home)
+    status, out, _ = run(["migrate", "--all", "--now", "--folder", "a", "M", "old/a"], home)
     said = [row.line.replace("mboxrd or mboxo, messages 2: ", "") for row in rows_in(out)[:-1]]
     says = "left (prepared): it is only prepared, and no mailbox of this command goes there"
     wanted = ["old/a -> a: done, 2 prepared before", *(f"{home}/old/{name} -> {name}: {says}" for name in "bc")]
     equal(f"another command: {out}", (status, said), (1, wanted))
     rest, undo = (row_in(out, f"{home}/old/{name}").commands[at] for name, at in (("b", 0), ("c", 1)))
-    expect(undo.split()[1:], home, 0, f"{home}/old/c -> c: messages 2: undone, removed 2 messages\n...\n")
-    expect(rest.split()[1:], home, 0, f"{home}/old/b -> b: ...: done, 2 prepared before\n...\n")
+    expect(
+        ["migrate", "--all", *undo.split()[2:]],
+        home,
+        0,
+        f"{home}/old/c -> c: messages 2: undone, removed 2 messages\n...\n",
+    )
+    expect(["migrate", "--all", *rest.split()[2:]], home, 0, f"{home}/old/b -> b: ...: done, 2 prepared before\n...\n")
     equal("lists", list((home / "M").rglob("mbox2maildir-prepared")), [])
 
 
@@ -149,12 +169,14 @@ def started_again(home: Path) -> None:
     for options in (["--prepare"], ["--now"]):
         expect(["migrate", *options, "M", "old"], home, 0, None)
     (home / "M/.a/new/1700000000.M1.host").write_bytes(b"Subject: new\n\nhello\n")
-    status, out, _ = run(["back", "--now", "M", "old"], home)
-    equal(f"what came is in the mailbox: {out}", (status, b"\nSubject: new\n" in box.read_bytes()), (0, True))
-    (move,) = commands_in(out)
-    equal(move, run_printed(move, home)[0], 0)
-    expect(["migrate", "--prepare", "M", "old"], home, 0, "old/a -> a: ...messages 2: prepared\n...\n")
-    expect(["migrate", "--now", "M", "old"], home, 0, "old/a -> a: ...messages 2: done, 2 prepared before\n...\n")
+    ran = by_json(["back", "--now", "M", "old"], home)
+    equal(f"what came is in the mailbox: {ran.out}", (ran.status, b"\nSubject: new\n" in box.read_bytes()), (0, True))
+    (move,) = (command for one in ran.objects for command in one.commands)
+    equal(move, run_printed(move, home).status, 0)
+    expect(["migrate", "--all", "--prepare", "M", "old"], home, 0, "old/a -> a: ...messages 2: prepared\n...\n")
+    expect(
+        ["migrate", "--all", "--now", "M", "old"], home, 0, "old/a -> a: ...messages 2: done, 2 prepared before\n...\n"
+    )
     equal("the mail", subjects(home / "M/.a"), ["new", "one"])
 
 
@@ -167,32 +189,31 @@ def words_hold(home: Path) -> None:
     """A word that is given with --prepare, for one mailbox or for several, holds in later passes and on the day, though
     nothing was asked: also once mail came, and where the mailbox is by then. What is undone is read without it."""
     doveconf(home, MBOX)
-    prepare = ["migrate", "--prepare", "M"]
+    prepare = ["migrate", "--all", "--prepare", "M"]
     for number, (named, text) in enumerate((("old/box", QUOTED), ("old", QUOTED), ("old", QUOTED + NEW))):
         mailbox(home / "old/box", QUOTED)
         folder = ["--folder", "box"] * (named != "old")
-        expect([*prepare[:2], "--as", "mboxo", *folder, "M", named], home, 0, None)
+        expect([*prepare[:3], "--as", "mboxo", *folder, "M", named], home, 0, None)
         prepared = {path.name for path in mail_in(home / "M/.box")}
-        expect([*prepare[:2], *folder, "M", named], home, 0, None)
+        expect([*prepare[:3], *folder, "M", named], home, 0, None)
         equal("after another first pass", {path.name for path in mail_in(home / "M/.box")}, prepared)
         mailbox(home / "old/box", text)
         (home / "old").rename(home / f"old{number}")
-        out = run(["migrate", "--now", *folder, "M", named.replace("old", f"old{number}")], home)[1]
+        out = run(["migrate", "--all", "--now", *folder, "M", named.replace("old", f"old{number}")], home)[1]
         match_in(r" -> box: mboxo by --as, messages \d: done, .*1 prepared before", out)
         got = sorted(path.read_bytes() for path in mail_in(home / "M/.box"))
         equal(f"the mail: {out}", got, sorted(BY_MBOXO[: 1 + text.endswith(NEW)]))
         shutil.rmtree(home / "M")
     mailbox(home / "box", QUOTED)
-    expect([*prepare[:2], "--as", "mboxo", "M", "box"], home, 0, None)
+    expect([*prepare[:3], "--as", "mboxo", "M", "box"], home, 0, None)
     # what is asked later has answers by the same word
     mailbox(home / "box", QUOTED + B + b"\nyes\n\nFrom now on\n\n")
-    status, out, _ = run(["migrate", "--now", "M", "box"], home)
-    words = [re.findall(r"--as (\w+)", one.command)[0] for one in row_in(out, "box").answers()]
-    equal(f"a new question: {out}", (status, words), (1, ["unquoted", "mboxo"]))
+    words = [re.findall(r"--as (\w+)", one)[0] for one in by_json(["migrate", "--now", "M", "box"], home).row.answers]
+    equal("a new question", words, ["unquoted", "mboxo"])
     mailbox(home / "box", QUOTED)
     expect(["migrate", "--undo", "M", "box"], home, 0, None)
     out = "box -> INBOX: mboxrd or mboxo, messages 1: done, `>>From ` loses a `>` in 1 line ...\n1 mailbox: 1 done\n"
-    expect(["migrate", "--now", "M", "box"], home, 0, out)
+    expect(["migrate", "--all", "--now", "M", "box"], home, 0, out)
 
 
 def without_deleted_mail(home: Path) -> None:
@@ -205,17 +226,16 @@ def without_deleted_mail(home: Path) -> None:
         says = "without 1 message marked as deleted"
         for words in (["--prepare", "--drop-deleted"], ["--prepare"]):
             expect(
-                ["migrate", *words, "M", "box"],
+                ["migrate", "--all", *words, "M", "box"],
                 home,
                 0,
                 f"box -> INBOX: ...messages {count}: prepared, {says}...\n...\n",
             )
         mailbox(box, text + gone.replace(b"one", b"two"))
-        status, out, _ = run(["migrate", "--now", "M", "box"], home)
-        equal(f"more is deleted: {out}", (status, len(row_in(out, "box").answers())), (1, 2))
+        equal("more is deleted", len(by_json(["migrate", "--now", "M", "box"], home).row.answers), 2)
         mailbox(box, text)
         out = f"box -> INBOX: ...messages {count}: done, {says}; as it was answered before...\n...\n"
-        expect(["migrate", "--now", "M", "box"], home, 0, out)
+        expect(["migrate", "--all", "--now", "M", "box"], home, 0, out)
         equal("the mail", len(list(mail_in(home / "M"))), count)
         shutil.rmtree(home / "M")
 
@@ -245,7 +265,7 @@ def of_users(home: Path) -> None:
             box = mailbox(home / "spool" / name, ONE)
             os.chown(box, *pwd.getpwnam(name)[2:4])
         (home / "spool").chmod(0o711)
-        words = ["migrate", "--users", "--tree", "mail", "--jobs", "2", "--prepare", "spool"]
+        words = ["migrate", "--all", "--users", "--tree", "mail", "--jobs", "2", "--prepare", "spool"]
         kind = "mboxrd or mboxo, messages"
         wanted = [f"{name} -> INBOX: {kind} 1: prepared" for name in USERS]
         wanted += [f"{name} mail/sent -> sent: {kind} 1: prepared" for name in USERS]
@@ -254,7 +274,7 @@ def of_users(home: Path) -> None:
             file.write(THREE)
         (home / "homes" / USERS[1] / "mail/sent").rename(home / "homes" / USERS[1] / "mail/kept")
         (home / "spool").rename(home / "spool.old")
-        out = run([*words[:6], "--now", "spool.old"], home)[1]
+        out = run([*words[:7], "--now", "spool.old"], home)[1]
         last = [row.line for row in rows_in(out)]
         gone = f"{USERS[1]} mail/sent"
         for line in (
@@ -265,7 +285,7 @@ def of_users(home: Path) -> None:
             f"{gone} -> sent: left (prepared): its mailbox is gone, as are 1 of the 1 of its tree that were prepared",
         ):
             assert line in last, (line, last)
-        status, out = run_printed(row_in(out, gone).command, home)
+        status, out, _ = run_printed(row_in(out, gone).command, home)
         equal(f"what is prepared from it is undone: {out}", (status, "undone, removed 1 message" in out), (0, True))
         for name in USERS:
             for path in (home / "homes" / name / "Maildir").rglob("*"):

@@ -17,7 +17,6 @@ from tests.support.homes import (
     run_whole,
     subjects,
     want_root,
-    with_rows,
 )
 from tests.support.ledgers import RECORD, without_chance
 from tests.support.mail import A, B, C, MAY, ONE
@@ -53,7 +52,7 @@ CTRL_C, CTRL_D = "\x03", "\x04"
 
 def terminal_of(home: Path, *words: str) -> Terminal:
     """A terminal with the companion, or with another command."""
-    command = [f"{home}/bin/mbox2maildir-admin", *with_rows(words)] if words[0] == "migrate" else words
+    command = [f"{home}/bin/mbox2maildir-admin", words[0], "--all", *words[1:]] if words[0] == "migrate" else words
     return Terminal(command, home, PATH=f"{home}/bin:{os.environ['PATH']}")
 
 
@@ -91,7 +90,7 @@ def an_answer_is_its_command(home: Path) -> None:
     about after all others."""
     boxes(home)
     for choice in range(4):
-        printed = run(["migrate", "--now", "--no-questions", "N", "old"], home)[1]
+        printed = run(["migrate", "--all", "--now", "--no-questions", "N", "old"], home)[1]
         chosen = [
             row_in(printed, f"old/{name}").commands[-2:][way]
             for name, way in (("lines", choice & 1), ("word", choice >> 1))
@@ -130,7 +129,7 @@ def what_is_shown(home: Path) -> None:
         equal("what follows the lines", more.rpartition("below\n")[2], first.rpartition("below\n")[2])
         terminal.type("l\n")
         status, rest = terminal.end()
-    printed = run(["migrate", "--now", "--no-questions", "--folder", "Old Mail", "M", "box"], home)[1]
+    printed = run(["migrate", "--all", "--now", "--no-questions", "--folder", "Old Mail", "M", "box"], home)[1]
     equal("what is left is printed as ever", (status, rest), (1, "l\n" + printed))
     equal("whether anything was made", (home / "M").exists(), False)
 
@@ -193,7 +192,7 @@ def it_is_broken_off(home: Path) -> None:
     """Ctrl-C leaves the mailbox and those that follow, and Ctrl-D only the mailbox. Nothing else changes."""
     boxes(home)
     expect(["migrate", "--now", "M", "old/one"], home, 0, None)
-    before, words = files_of(home), ["migrate", "--now", "--folder", "x", "M", "old/lines", "old/word"]
+    before, words = files_of(home), ["migrate", "--all", "--now", "--folder", "x", "M", "old/lines", "old/word"]
     printed = run([*words, "--no-questions"], home)[1]
     sums = "2 mailboxes: 2 left\n"
     with terminal_of(home, *words) as terminal:
@@ -216,7 +215,7 @@ def nothing_is_held(home: Path) -> None:
     """While a question waits, nothing is locked, and others may migrate into the same Maildir. If one of them is at
     work when the answer comes, the mailbox is left with its commands."""
     boxes(home)
-    printed = run(["migrate", "--now", "--no-questions", "M", "old"], home)[1]
+    printed = run(["migrate", "--all", "--now", "--no-questions", "M", "old"], home)[1]
     shutil.rmtree(home / "M")
     there = sorted(path.name for path in (home / "old").iterdir())
     with terminal_of(home, "migrate", "--now", "M", "old") as terminal:
@@ -318,7 +317,16 @@ def one_letter_for_all(home: Path) -> None:
     for name, text in zip([*months, "lines"], texts):
         mailbox(home / "j" / name, gzip.compress(text) if name.endswith("gz") else text)
     mailbox(home / "one", ONE)
-    words = ["migrate", "--now", "--folder", "Archive", "M", "one", *(f"j/{name}" for name in [*months, "lines"])]
+    words = [
+        "migrate",
+        "--all",
+        "--now",
+        "--folder",
+        "Archive",
+        "M",
+        "one",
+        *(f"j/{name}" for name in [*months, "lines"]),
+    ]
     commands = [row_in(run([*words, "--no-questions"], home)[1], f"j/{name}").commands[-2] for name in months]
     shutil.rmtree(home / "M")
     with terminal_of(home, *words) as terminal:
@@ -335,7 +343,7 @@ def one_letter_for_all(home: Path) -> None:
     ties = re.findall(r"\bof=(\w+)", (home / "M" / RECORD).read_text())
     equal("the ties of the answers", set(ties), {re.findall(r" --of (\S+) ", command)[0] for command in commands})
     mailbox(home / "copy", ONE)
-    sums = run_whole(["migrate", "--folder", "Archive", "M", "copy", "one"], home)[1].split("\n")[-2]
+    sums = run_whole(["migrate", "--all", "--folder", "Archive", "M", "copy", "one"], home)[1].split("\n")[-2]
     matches("the sums", sums, "2 mailboxes: 1 done, 1 done before; 1 message, 1 of them there already, ...")
 
 
@@ -364,7 +372,7 @@ def each_has_one_row(home: Path) -> None:
     own."""
     boxes(home)
     box = mailbox(home / "old/box", ONE)
-    run(["migrate", "--prepare", "--unread", "--no-questions", "M", "old"], home)
+    run(["migrate", "--all", "--prepare", "--unread", "--no-questions", "M", "old"], home)
     mailbox(box, b"a note, no mail\n")
     with terminal_of(home, "migrate", "--now", "M", "old") as terminal:
         for _ in range(2):

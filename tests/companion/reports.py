@@ -25,7 +25,7 @@ def beside_what_is_printed(home: Path) -> None:
     mailbox(home / "old/a", ONE + TWO)
     mailbox(home / "old/note", b"hello\n")
     mailbox(home / "old/.hidden", b"")
-    status, out, err = run(["migrate", "--now", "--report", "report", "M", "old"], home)
+    status, out, err = run(["migrate", "--all", "--now", "--report", "report", "M", "old"], home)
     equal("status, errors and lines", (status, err, out.count("old/")), (1, "", 3))
     *rows, sums = objects_of(home / "report")
     found = {row["path"]: (row["verdict"], row["reason"]) for row in rows}
@@ -41,7 +41,7 @@ def of_an_undo(home: Path) -> None:
     """An undo has a report too."""
     mailbox(home / "box", ONE)
     equal("status", run(["migrate", "M", "box"], home)[0], 0)
-    expect(["migrate", "--undo", "--report", "r", "M", "box"], home, 0, "...\n1 mailbox: 1 undone\n")
+    expect(["migrate", "--all", "--undo", "--report", "r", "M", "box"], home, 0, "...\n1 mailbox: 1 undone\n")
     equal("its verdict", [one.get("verdict") for one in objects_of(home / "r")], ["undone", None])
 
 

@@ -68,7 +68,7 @@ def spool(home: Path) -> None:
         )
         (home / "spool").chmod(0o711)
         expect(
-            ["migrate", "--users", "--dry-run", "spool", "m61one", "m61gone"],
+            ["migrate", "--all", "--users", "--dry-run", "spool", "m61one", "m61gone"],
             home,
             1,
             "m61gone: left (no-user): no such user\n"
@@ -77,12 +77,12 @@ def spool(home: Path) -> None:
         )
         equal("what --dry-run made", list((home / "homes/m61one").iterdir()), [])
         expect(
-            ["migrate", "--users", "--dry-run", "spool"],
+            ["migrate", "--all", "--users", "--dry-run", "spool"],
             home,
             1,
             "...\n" * 7 + "... mailboxes: 3 would be done, ...2 left; ...3 users: 3 from the spool\n",
         )
-        status, out, err = run(["migrate", "--users", "--tree", "mail", "--jobs", "2", "spool"], home)
+        status, out, err = run(["migrate", "--all", "--users", "--tree", "mail", "--jobs", "2", "spool"], home)
         equal("--users", (status, err), (1, ""))
         equal(
             "the lines of --users",
@@ -111,7 +111,7 @@ def spool(home: Path) -> None:
             )
         equal(
             "--users again",
-            run(["migrate", "--users", "--tree", "mail", "spool", *USERS], home)[1].splitlines()[-1],
+            run(["migrate", "--all", "--users", "--tree", "mail", "spool", *USERS], home)[1].splitlines()[-1],
             "6 mailboxes: 5 done before, 1 left; 3 users: 3 from the command line; "
             "3 names of the spool were not asked for",
         )
@@ -129,7 +129,7 @@ def spool(home: Path) -> None:
 def again(home: Path) -> None:
     """What is new at the same paths is brought. If nothing of the first batch is there any more, the mailbox is left:
     --again converts what is nowhere of it, with each user's rights, and so does the command that is printed."""
-    words = ["migrate", "--users", "--tree", "mail", "spool", *USERS]
+    words = ["migrate", "--all", "--users", "--tree", "mail", "spool", *USERS]
     tree = home / "homes/m61two/mail"
     batch = {"m61one": home / "spool/m61one", "m61two mail/x.mbox": tree / "x.mbox", "m61two": home / "spool/m61two"}
     for name, path in batch.items():
@@ -181,7 +181,7 @@ def inbox_in_a_home(home: Path) -> None:
     another mailbox went there."""
     theirs(mailbox(home / "homes/m61three/mail/inbox", ONE), "m61three")
     (home / "no-spool").mkdir()
-    words = ["migrate", "--users", "--tree", "mail", "--dovecot"]
+    words = ["migrate", "--all", "--users", "--tree", "mail", "--dovecot"]
     own = f"{home}/homes/m61three"
     left = (
         "m61three mail/inbox: left (no-folder): another mailbox goes into INBOX too\n    run this next:\n"
@@ -202,7 +202,7 @@ def inbox_in_a_home(home: Path) -> None:
 def listing(home: Path) -> None:
     """The users whom a run takes, of whom one has nothing in the spool, are printed as a list of names, by the range of
     login.defs, and nothing is migrated. A run for the printed list takes the same users."""
-    old, words = home / "listing/spool", ["migrate", "--users", "--maildir", "Listing", "--tree", "mail"]
+    old, words = home / "listing/spool", ["migrate", "--all", "--users", "--maildir", "Listing", "--tree", "mail"]
     for name in ("m61one", "m61three", "nobody-at-all", "root", "daemon", "m61one.lock"):
         mailbox(old / name, b"" if name.endswith("lock") else ONE)
         if name in USERS:
@@ -244,7 +244,7 @@ def names_of_a_list(home: Path) -> None:
     """A list names users too. An account of the system counts as one then, and a list without names is refused."""
     (home / "list").write_bytes(b"m61two\n\nm61gone\ndaemon\n")
     expect(
-        ["migrate", "--users", "--names", "list", "spool", "m61one"],
+        ["migrate", "--all", "--users", "--names", "list", "spool", "m61one"],
         home,
         1,
         "m61gone: left (no-user): no such user\ndaemon: left (no-mailbox): no mailbox of that name in ...\n"
@@ -253,7 +253,7 @@ def names_of_a_list(home: Path) -> None:
     )
     (home / "list").write_bytes(b"daemon\n")
     expect(
-        ["migrate", "--users", "--tree", "mail", "--names", "list", "spool"],
+        ["migrate", "--all", "--users", "--tree", "mail", "--names", "list", "spool"],
         home,
         1,
         "daemon: left (home): the home of its user belongs to root: ...\n1 mailbox: 1 left; ...\n",
@@ -273,7 +273,7 @@ def names_of_a_list(home: Path) -> None:
     (home / "disk").mkdir()
     (home / "homes/m61two").rename(home / "disk/m61two")
     os.symlink(home / "disk/m61two", home / "homes/m61two")
-    status, out, err = run(["migrate", "--users", "--tree", "mail", "spool", "m61two"], home)
+    status, out, err = run(["migrate", "--all", "--users", "--tree", "mail", "spool", "m61two"], home)
     equal(
         "a home over a link", (status, err, out.splitlines()[-1][:36]), (1, "", "4 mailboxes: 3 done before, 1 left; ")
     )
@@ -285,7 +285,7 @@ def second_mailbox(home: Path) -> None:
     """A second mailbox of an account is left, with the command that migrates it. After that it is done before."""
     with accounts.users({"m61info": home / "homes/m61one"}, like="m61one"):
         theirs(mailbox(home / "spool/m61info", TWO), "m61info")
-        words = ["migrate", "--users", "--jobs", "3", "spool", "m61one", "m61info"]
+        words = ["migrate", "--all", "--users", "--jobs", "3", "spool", "m61one", "m61info"]
         status, out, _ = run(words, home)
         equal("a second mailbox: status", status, 1)
         row = row_in(out, "m61info: left (same-user): m61one is the same user, and its mailbox goes into INBOX")
@@ -368,7 +368,7 @@ def without_proc(home: Path) -> None:
     old = home / "procless/spool"
     theirs(mailbox(old / "m61three", TWO + THREE), "m61three")
     hidden = ["/usr/bin/env", "unshare", "-m", "sh", "-c", 'mount -t tmpfs none /proc && exec "$@"', "sh"]
-    words = ["migrate", "--users", "--maildir", "Procless", str(old), "m61three"]
+    words = ["migrate", "--all", "--users", "--maildir", "Procless", str(old), "m61three"]
     status, out, err = run([*hidden, str(ADMIN), *words], home)
     if err.startswith(("unshare", "mount")):
         return
@@ -385,7 +385,7 @@ def hostile_spool(home: Path) -> None:
     for ending in ("gz", "mboxrd"):
         theirs(mailbox(old / f"m61one.{ending}", TWO), "m61two")
     expect(
-        ["migrate", "--users", "--maildir", "Sticky", "sticky/spool", "m61one"],
+        ["migrate", "--all", "--users", "--maildir", "Sticky", "sticky/spool", "m61one"],
         home,
         1,
         "m61one.gz: left (other-owner): it belongs to m61two\nm61one.mboxrd: left (other-owner): it belongs to m61two\n"
@@ -404,7 +404,7 @@ def hostile_homes(home: Path) -> None:
     (home / "open").chmod(0o777)
 
     def attempt(what: str, wanted: str) -> None:
-        status, out, err = run(["migrate", "--users", "--tree", "mail", "spool", "m61one"], home)
+        status, out, err = run(["migrate", "--all", "--users", "--tree", "mail", "spool", "m61one"], home)
         equal(f"{what}: status and standard error", (status, err), (1, ""))
         assert re.search(wanted, out), f"{what}: {out}"
         equal(
@@ -447,7 +447,7 @@ def hostile_homes(home: Path) -> None:
     attempt("links and odd names in the tree", r"mail/Sent: left \(link\): it is a symbolic link")
     shutil.rmtree(one / "mail")
     (one).rename(home / "homes/gone")
-    status, out, _ = run(["migrate", "--users", "spool", "m61one"], home)
+    status, out, _ = run(["migrate", "--all", "--users", "spool", "m61one"], home)
     assert status == 1 and "left (home): the home of its user is missing" in out, f"no home: {out}"
     (home / "homes/gone").rename(one)
     os.unlink(home / "spool/m61one")

@@ -52,7 +52,7 @@ def trees(home: Path) -> None:
         "mbox2maildir-admin migrate --folder NAME M tree/twice\n"
     )
     end = ["10 mailboxes: 5 done, 5 left; 3 other files: no mail"]
-    status, got, err = run(["migrate", "M", "tree"], home)
+    status, got, err = run(["migrate", "--all", "M", "tree"], home)
     lines = got.splitlines()
     equal("the lines of a tree", sorted(lines[: -len(end)]), sorted(out.splitlines()))
     equal("the end of a tree", (status, err, lines[-len(end) :]), (1, "", end))
@@ -69,11 +69,11 @@ def trees(home: Path) -> None:
     )
     equal(
         "a tree again",
-        run(["migrate", "M", "tree"], home)[1].splitlines()[-1],
+        run(["migrate", "--all", "M", "tree"], home)[1].splitlines()[-1],
         "10 mailboxes: 5 done before, 5 left; 3 other files: no mail",
     )
     expect(
-        ["migrate", "--folder", "Second", "M", "tree/twice"],
+        ["migrate", "--all", "--folder", "Second", "M", "tree/twice"],
         home,
         0,
         "tree/twice -> Second: mboxrd or mboxo, messages 1: done\n...\n",
@@ -90,7 +90,7 @@ def folders_of_messages(home: Path) -> None:
     mailbox(home / "tree/mh/sheds", ONE)
     (home / "tree/p/cur").mkdir(parents=True)
     mailbox(home / "tree/p/garden", TWO)
-    out = run(["migrate", "M", "tree"], home)[1]
+    out = run(["migrate", "--all", "M", "tree"], home)[1]
     next_of = {row.name[5:]: row.command for row in rows_in(out) if row.commands}
     wanted = (
         f"tree/lists: left (maildir): it is a Maildir\n{RUN}mv -nT tree/lists M/.lists\n"
@@ -105,7 +105,7 @@ def folders_of_messages(home: Path) -> None:
     shutil.rmtree(home / "tree/mh")
     os.utime(home / "tree/mh.mbox", (1e9, 1e9))
     expect(
-        ["migrate", "M", "tree"],
+        ["migrate", "--all", "M", "tree"],
         home,
         0,
         "tree/mh.mbox -> mh: mboxrd or mboxo, messages 12: done, 12 messages without a date; its name was mh.mbox\n"
@@ -127,7 +127,7 @@ def folders_of_messages(home: Path) -> None:
         (home / "tree/lists" / sub).mkdir(parents=True)
         (home / "tree/more" / sub).mkdir(parents=True)
     mailbox(home / "tree/more/notes", b"!BDN")
-    out = run(["migrate", "M", "tree"], home)[1]
+    out = run(["migrate", "--all", "M", "tree"], home)[1]
     for name, task in (
         ("lists", "move the files in its new and cur into those of M/.lists"),
         ("more", "move out of it what is not part of a Maildir, and run this again"),
@@ -135,8 +135,8 @@ def folders_of_messages(home: Path) -> None:
         assert f"tree/{name}: left (maildir): it is a Maildir\n    {task}\n" in out, out
     # the Maildir into which everything goes is not part of the tree
     mailbox(home / "whole/box", ONE)
-    expect(["migrate", "whole/M", "whole"], home, 0, "whole/box -> box: ...: done\n1 mailbox: 1 done\n")
-    expect(["migrate", "whole/M", "whole"], home, 0, "1 mailbox: 1 done before\n")
+    expect(["migrate", "--all", "whole/M", "whole"], home, 0, "whole/box -> box: ...: done\n1 mailbox: 1 done\n")
+    expect(["migrate", "--all", "whole/M", "whole"], home, 0, "1 mailbox: 1 done before\n")
 
 
 def stays(home: Path) -> None:
@@ -146,10 +146,10 @@ def stays(home: Path) -> None:
     for name, folder in old.items():
         mailbox(home / name, ONE)
         expect(["migrate", "--folder", folder, "M", name], home, 0, None)
-    expect(["migrate", "M", "tree"], home, 0, "2 mailboxes: 2 done before\n")
+    expect(["migrate", "--all", "M", "tree"], home, 0, "2 mailboxes: 2 done before\n")
     grow(home / "tree/Sent/mbox", TWO)
     out = "tree/Sent/mbox -> Sent/mbox: mboxrd or mboxo, messages 2: done, it grew by 1 message\n"
-    expect(["migrate", "M", "tree"], home, 0, f"{out}2 mailboxes: 1 done, 1 done before\n")
+    expect(["migrate", "--all", "M", "tree"], home, 0, f"{out}2 mailboxes: 1 done, 1 done before\n")
     equal("what was made", sorted(path.name for path in (home / "M").glob(".*")), [".Haus", ".Sent.mbox"])
     # so do verify and dates find it there
     counts = "messages {0}, bytes ..., there {0}, under another name 0, other bytes 0, nowhere 0, doubles 0\n"
@@ -167,8 +167,8 @@ def stays(home: Path) -> None:
     expect(["verify", "M", "tree"], home, 1, "".join(lines))
     says = "messages 1: done, it grew by 1 message; 2 messages gone from it that it had brought"
     out = f"tree/Sent/mbox -> Sent/mbox: mboxrd or mboxo, {says}\n"
-    expect(["migrate", "M", "tree"], home, 0, f"{out}2 mailboxes: 1 done, 1 done before\n")
-    expect(["migrate", "M", "tree"], home, 0, "2 mailboxes: 2 done before\n")
+    expect(["migrate", "--all", "M", "tree"], home, 0, f"{out}2 mailboxes: 1 done, 1 done before\n")
+    expect(["migrate", "--all", "M", "tree"], home, 0, "2 mailboxes: 2 done before\n")
     by_hand(home)
 
 
@@ -179,16 +179,19 @@ def by_hand(home: Path) -> None:
         mailbox(home / "hand" / name, text)
     mailbox(home / "else/box", THREE)
     os.symlink("../else/box", home / "hand/link")
-    last = run(["migrate", "O", "hand"], home)[1].splitlines()[-1]
+    last = run(["migrate", "--all", "O", "hand"], home)[1].splitlines()[-1]
     equal("before it is done by hand", last, "3 mailboxes: 3 left")
     for name, folder in (("hand/twice", "One"), ("hand/twice.mbox", "INBOX"), ("else/box", "Linked")):
         expect(
-            ["migrate", "--folder", folder, "O", name], home, 0, f"{name} -> {folder}: ...: done\n1 mailbox: 1 done\n"
+            ["migrate", "--all", "--folder", folder, "O", name],
+            home,
+            0,
+            f"{name} -> {folder}: ...: done\n1 mailbox: 1 done\n",
         )
-    expect(["migrate", "O", "hand"], home, 0, "3 mailboxes: 3 done before\n")
+    expect(["migrate", "--all", "O", "hand"], home, 0, "3 mailboxes: 3 done before\n")
     grow(home / "else/box", ONE)
     out = "hand/link -> Linked: mboxrd or mboxo, messages 2: done, it grew by 1 message\n"
-    expect(["migrate", "O", "hand"], home, 0, f"{out}3 mailboxes: 1 done, 2 done before\n")
+    expect(["migrate", "--all", "O", "hand"], home, 0, f"{out}3 mailboxes: 1 done, 2 done before\n")
 
 
 def links_that_are_named(home: Path) -> None:
@@ -198,9 +201,14 @@ def links_that_are_named(home: Path) -> None:
     os.symlink("else/box", home / "box")
     os.symlink("../else/box", home / "tree/below")
     os.symlink("tree", home / "folder")
-    expect(["migrate", "M", "box"], home, 0, "box -> INBOX: mboxrd or mboxo, messages 1: done\n1 mailbox: 1 done\n")
+    expect(
+        ["migrate", "--all", "M", "box"],
+        home,
+        0,
+        "box -> INBOX: mboxrd or mboxo, messages 1: done\n1 mailbox: 1 done\n",
+    )
     out = "folder/below: left (link): it is a symbolic link\n    ...\nfolder/work -> work: ..., messages 1: done\n"
-    expect(["migrate", "N", "folder"], home, 1, f"{out}2 mailboxes: 1 done, 1 left\n")
+    expect(["migrate", "--all", "N", "folder"], home, 1, f"{out}2 mailboxes: 1 done, 1 left\n")
 
 
 def prepared_by_hand(home: Path) -> None:
@@ -210,10 +218,15 @@ def prepared_by_hand(home: Path) -> None:
     mailbox(home / "else/old", TWO)
     os.symlink("../else/old", home / "tree/link")
     for maildir, name in (("M", "else/old"), ("N", "tree/link")):
-        passes, day = ["migrate", "--prepare", "--unread", maildir, "tree"], ["migrate", maildir, "tree"]
+        passes, day = ["migrate", "--all", "--prepare", "--unread", maildir, "tree"], [
+            "migrate",
+            "--all",
+            maildir,
+            "tree",
+        ]
         before = run(passes, home)[1].splitlines()[-1]
         equal("before it is prepared by hand", before.startswith("2 mailboxes: 1 prepared, 1 left; "), True)
-        expect([*passes[:3], "--folder", "linked", maildir, name], home, 0, None)
+        expect([*passes[:4], "--folder", "linked", maildir, name], home, 0, None)
         for words, fate in ((passes, "prepared"), (["migrate", "--dry-run", *day[1:]], "would be done"), (day, "done")):
             status, out, _ = run(words, home)
             equal(f"{words}", (status, f": {fate}" in row_in(out, "tree/link -> linked: ").line), (0, True))
@@ -231,7 +244,7 @@ def passed_over(home: Path) -> None:
         ("e", b"hello\n"),
     ):
         mailbox(home / "tree" / name, text)
-    words = ["migrate", "--no-mail", "*.junk", "--no-mail", "none", "M", "tree"]
+    words = ["migrate", "--all", "--no-mail", "*.junk", "--no-mail", "none", "M", "tree"]
     wanted = (
         "tree/a.junk: not known: no mail, by --no-mail\n"
         "tree/c.junk -> c-junk: Outlook's pst: left (other-kind): its name was c.junk\n...\n...\n"
@@ -252,7 +265,7 @@ def passed_over(home: Path) -> None:
         ),
     )
     equal("the record", sorted(steps(home / "M")), ["no-mail"] * 2)
-    without = ["migrate", "M", "tree"]
+    without = ["migrate", "--all", "M", "tree"]
     last = "3 mailboxes: 1 done before, 2 left; 2 other files: no mail"
     equal("without it", run(without, home)[1].splitlines()[-1], last)
     rows = [json.loads(line) for line in run([*without, "--json"], home)[1].splitlines()]
@@ -271,7 +284,7 @@ def passed_over_by_path(home: Path) -> None:
     for name, text in (("photos.zip", zipped), ("more.zip", zipped), ("box", ONE), ("letter", letter)):
         mailbox(home / "tree" / name, text)
     given = "tree/photos.zip", str(home / "tree/letter"), "tree/box", "more.zip", "tree/none"
-    words = ["migrate", *(word for path in given for word in ("--no-mail", path)), "M", "tree"]
+    words = ["migrate", "--all", *(word for path in given for word in ("--no-mail", path)), "M", "tree"]
     out = (
         "tree/box -> box: mboxrd or mboxo, messages 1: done\n"
         "tree/letter: one mail without a From_ line: no mail, by --no-mail\n"
@@ -303,7 +316,7 @@ def nothing_outside(home: Path) -> None:
     os.symlink("../else/letter", home / "tree/link")
     expect(["migrate", "--folder", "Letters", "M", "else/letter"], home, 0, None)
     mailbox(there, mail)
-    out = run(["migrate", "--now", "M", "tree"], home)[1]
+    out = run(["migrate", "--all", "--now", "M", "tree"], home)[1]
     row = row_in(out, "tree/link -> Letters: one mail without a From_ line: left")
     env = {**os.environ, "PATH": f"{home}/bin:{os.environ['PATH']}"}
     subprocess.run(["sh", "-c", row.command], cwd=home, env=env, check=True)
@@ -316,7 +329,19 @@ def passed_over_later(home: Path) -> None:
     for name, text in (("notes", b"hello\n"), ("notes.mbox", ONE), ("x/b.junk", b"\0\1")):
         mailbox(home / "tree" / name, text)
     mailbox(home / "alone", b"hello\n")
-    words = ["migrate", "--no-mail", "*.junk", "--no-mail", "notes", "--no-mail", "alone", "M", "tree", "alone"]
+    words = [
+        "migrate",
+        "--all",
+        "--no-mail",
+        "*.junk",
+        "--no-mail",
+        "notes",
+        "--no-mail",
+        "alone",
+        "M",
+        "tree",
+        "alone",
+    ]
     status, out, _ = run(words, home)
     equal("it is done", (status, out.splitlines()[-1]), (0, "1 mailbox: 1 done; 3 other files: no mail"))
     says = "".join(
@@ -367,7 +392,7 @@ def profile(home: Path) -> None:
     wanted = ["Archives/a-b", *(f"imap-example-{one}/{name}" for one in ("net", "org") for name in ("INBOX", "Trash"))]
     parts = top, "thunderbird"
     for maildir, (name, others) in zip("MN", zip(parts, (12, 14))):
-        status, out, _ = run(["migrate", maildir, name], home)
+        status, out, _ = run(["migrate", "--all", maildir, name], home)
         rows = rows_in(out)
         equal(f"{name}: folders", sorted(row.line.split(" -> ")[1].split(": ")[0] for row in rows[:-1]), wanted)
         equal(f"{name}: sum", (status, rows[-1].line), (0, f"5 mailboxes: 5 done; {others} other files: no mail"))
@@ -386,16 +411,16 @@ def profile(home: Path) -> None:
         [subjects(home / "N"), subjects(home / "N/.imap-example-org.INBOX")],
         [["one"], []],
     )
-    expect(["migrate", "N", "thunderbird"], home, 0, "5 mailboxes: 5 done before; 14 other files: no mail\n")
+    expect(["migrate", "--all", "N", "thunderbird"], home, 0, "5 mailboxes: 5 done before; 14 other files: no mail\n")
     # the Inbox of one account is INBOX if no other one has mail in its Inbox
     mailbox(home / top / "ImapMail/imap.example.net/INBOX", b"")
-    out = run(["migrate", "--dry-run", "P", top], home)[1]
+    out = run(["migrate", "--all", "--dry-run", "P", top], home)[1]
     assert f"{top}/ImapMail/imap.example.org/INBOX -> INBOX: mboxrd" in out, out
     # what was said about deleted mail is said again, dry or not
     for account in ("imap.example.org", "imap.example.net"):
         mailbox(home / top / "ImapMail" / account / "INBOX", marked(b"1", ONE) + b"\n" + marked(b"9", TWO))
     for options in ("--dry-run --drop-deleted", "--drop-deleted"):
-        out = run(["migrate", *options.split(), "D", top], home)[1]
+        out = run(["migrate", "--all", *options.split(), "D", top], home)[1]
         row = next(row for row in rows_in(out) if "example.org/INBOX ->" in row.line)
         assert row.command.count("--drop-deleted --folder INBOX") == 1, (options, row.command)
     subprocess.run(["sh", "-c", row.command], cwd=home, env=env, stdout=subprocess.DEVNULL, check=True)
@@ -412,9 +437,9 @@ def two_names(home: Path) -> None:
     done = "mboxrd or mboxo, messages 1: done"
     out = f"tree/Sent -> Sent: {done}, also named tree/old/Trash\n"
     out += f"tree/old/Trash -> old/Trash: {done}, also named tree/Sent\n"
-    expect(["migrate", "M", "tree"], home, 0, out + "2 mailboxes: 2 done\n")
+    expect(["migrate", "--all", "M", "tree"], home, 0, out + "2 mailboxes: 2 done\n")
     equal("the folders", [subjects(home / "M" / name) for name in (".Sent", ".old.Trash")], [["one"]] * 2)
-    expect(["migrate", "M", "tree"], home, 0, "2 mailboxes: 2 done before\n")
+    expect(["migrate", "--all", "M", "tree"], home, 0, "2 mailboxes: 2 done before\n")
     expect(["verify", "M", "tree"], home, 0, None)
     # what is named by itself is one of them, and a symbolic link is none
     os.symlink("tree", home / "link")
@@ -425,9 +450,9 @@ def two_names(home: Path) -> None:
         for name, folder, others in zip(names, ("INBOX", "Sent", "old/Trash"), also)
     )
     last = "3 mailboxes: 3 done; 2 other files: no mail\n"
-    expect(["migrate", "N", "other", "tree", "link"], home, 0, out + last)
+    expect(["migrate", "--all", "N", "other", "tree", "link"], home, 0, out + last)
     grow(sent, TWO)
-    run(["migrate", "M", "tree"], home)
+    run(["migrate", "--all", "M", "tree"], home)
     equal("after it grew", [subjects(home / "M" / name) for name in (".Sent", ".old.Trash")], [["one", "two"]] * 2)
 
 
@@ -439,26 +464,28 @@ def in_two_commands(home: Path) -> None:
     left = "older/Sent: left (no-folder): another mailbox goes into Sent too\n" + RUN
     left += "mbox2maildir-admin migrate --folder NAME M older/Sent\n"
     out = f"old/Sent -> Sent: {done}\n{left}2 mailboxes: 1 done, 1 left\n"
-    expect(["migrate", "M", "old", "older"], home, 1, out)
+    expect(["migrate", "--all", "M", "old", "older"], home, 1, out)
     out = f"older/Sent -> Sent: {done}, its folder has mail of .../old/Sent too\n1 mailbox: 1 done\n"
-    expect(["migrate", "M", "older"], home, 0, out)
+    expect(["migrate", "--all", "M", "older"], home, 0, out)
     grow(two, THREE)
     out = "older/Sent -> Sent: mboxrd or mboxo, messages 2: done, it grew by 1 message\n1 mailbox: 1 done\n"
-    expect(["migrate", "M", "older"], home, 0, out)
+    expect(["migrate", "--all", "M", "older"], home, 0, out)
     # whoever names the folder knows it, and so does whoever has moved the first mailbox away
     expect(["migrate", "--folder", "Sent", "M", mailbox(home / "Sent", TWO)], home, 0, None)
-    assert "its folder has mail of" not in run(["migrate", "--dry-run", "--folder", "Sent", "N", "Sent"], home)[1]
+    assert (
+        "its folder has mail of" not in run(["migrate", "--all", "--dry-run", "--folder", "Sent", "N", "Sent"], home)[1]
+    )
     expect(["migrate", "N", "old"], home, 0, None)
     os.rename(one, home / "gone")
     shutil.rmtree(home / "old")
     os.unlink(home / "gone")
     out = "older/Sent -> Sent: mboxrd or mboxo, messages 2: done\n1 mailbox: 1 done\n"
-    expect(["migrate", "N", "older"], home, 0, out)
+    expect(["migrate", "--all", "N", "older"], home, 0, out)
     # of INBOX this is said of each that comes to it
     mailbox(home / "tree/Inbox", TWO)
     out = f"tree/Inbox -> INBOX: {done}, INBOX has the mail of {home}/first too\n1 mailbox: 1 done\n"
     expect(["migrate", "O", mailbox(home / "first", ONE)], home, 0, None)
-    expect(["migrate", "O", "tree"], home, 0, out)
+    expect(["migrate", "--all", "O", "tree"], home, 0, out)
 
 
 def exported(home: Path) -> None:
@@ -469,14 +496,14 @@ def exported(home: Path) -> None:
         mailbox(home / name / "mbox", text)
     done = "mboxrd or mboxo, messages 1: done"
     rows = f"{work}/mbox -> Work: {done}\n{sent}/mbox -> Sent-Messages: {done}, its name was Sent.Messages\n"
-    expect(["migrate", "M", work, sent], home, 0, rows + "2 mailboxes: 2 done\n")
-    expect(["migrate", "M", "export"], home, 0, "2 mailboxes: 2 done before\n")
-    expect(["migrate", "N", work], home, 0, f"{work}/mbox -> INBOX: {done}\n1 mailbox: 1 done\n")
+    expect(["migrate", "--all", "M", work, sent], home, 0, rows + "2 mailboxes: 2 done\n")
+    expect(["migrate", "--all", "M", "export"], home, 0, "2 mailboxes: 2 done before\n")
+    expect(["migrate", "--all", "N", work], home, 0, f"{work}/mbox -> INBOX: {done}\n1 mailbox: 1 done\n")
     expect(["verify", "N", work], home, 0, f"{work}/mbox: messages 1, ...\n")
-    expect(["migrate", "N", "export"], home, 0, "...\n2 mailboxes: 1 done, 1 done before\n")
+    expect(["migrate", "--all", "N", "export"], home, 0, "...\n2 mailboxes: 1 done, 1 done before\n")
     equal("the folders", [subjects(home / "N" / name) for name in ("", ".Sent-Messages")], [["one"], ["two"]])
     mailbox(home / "Other.mbox/mbox", THREE)
-    row = row_in(run(["migrate", "N", "Other.mbox"], home)[1], "Other.mbox")
+    row = row_in(run(["migrate", "--all", "N", "Other.mbox"], home)[1], "Other.mbox")
     equal("what joins no other mail unasked", row.commands[0].split()[2:4], ["--folder", "Other"])
 
 
@@ -486,7 +513,7 @@ def in_question(home: Path) -> None:
     deleted = TWO.replace(b"\n\n", b"\nX-Mozilla-Status: 0009\n\n", 1)
     for name, text in (("twice", ONE), ("twice.mbox", deleted)):
         mailbox(home / "tree" / name, text)
-    status, out, _ = run(["migrate", "M", "tree"], home)
+    status, out, _ = run(["migrate", "--all", "M", "tree"], home)
     left = "left (no-folder): another mailbox goes into twice too"
     lines = ["2 mailboxes: 2 left", f"tree/twice.mbox: {left}", f"tree/twice: {left}"]
     equal(f"what lacks its folder: {out}", (status, sorted(row.line for row in rows_in(out))), (1, lines))
@@ -504,14 +531,14 @@ def into_another_folder(home: Path) -> None:
     undo = "mbox2maildir-admin migrate --undo --folder A M box"
     out = "box -> B: mboxrd or mboxo, messages 2: done, 2 messages of it went into A too\n"
     out += f"    this removes what it placed there:\n        {undo}\n1 mailbox: 1 done\n"
-    expect(["migrate", "--folder", "B", "M", "box"], home, 0, out)
-    expect(["migrate", "--folder", "B", "M", "box"], home, 0, "1 mailbox: 1 done before\n")
+    expect(["migrate", "--all", "--folder", "B", "M", "box"], home, 0, out)
+    expect(["migrate", "--all", "--folder", "B", "M", "box"], home, 0, "1 mailbox: 1 done before\n")
     expect(undo.split()[1:], home, 0, None)
     equal("what the command left", [subjects(home / "M" / name) for name in (".A", ".B")], [[], ["one", "two"]])
     grow(box, THREE)
     shutil.rmtree(home / "M/.B")
     out = "box -> C: mboxrd or mboxo, messages 3: done\n1 mailbox: 1 done\n"
-    expect(["migrate", "--folder", "C", "M", "box"], home, 0, out)
+    expect(["migrate", "--all", "--folder", "C", "M", "box"], home, 0, out)
 
 
 if __name__ == "__main__":

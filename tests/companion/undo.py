@@ -6,7 +6,6 @@ import fcntl
 import os
 import random
 import shutil
-import signal
 import subprocess
 import typing
 from collections import Counter
@@ -15,16 +14,17 @@ from pathlib import Path
 
 from tests.support.cases import LeftOut
 from tests.support.checks import LATER, PATIENCE, equal, match_in
-from tests.support.homes import ADMIN, check_all, expect, mail_in, mailbox, run, subjects
+from tests.support.homes import check_all, expect, mail_in, mailbox, run, subjects
 from tests.support.kills import Killer, Moment, settings_in
 from tests.support.ledgers import LEDGER, RECORD, wait_for_lock
 from tests.support.mail import ONE, THREE, TWO, bodies_of, numbered
+from tests.support.running import BY_OTHERS, Desk
 
 KILLS = int(os.environ.get("UNDO_KILLS", "4"))
 # an undo makes about as many calls that change files
 MOST = 30
 HEAD = b"From mia@example.org Thu Jan  1 00:00:00 1970\n"
-UNDO = ["migrate", "--undo", "M", "box"]
+UNDO = ["migrate", "--all", "--undo", "M", "box"]
 
 
 def rows(fate: str, says: str = "", messages: int = 3) -> str:
@@ -42,14 +42,14 @@ def there_and_back(home: Path) -> None:
     for number, path in enumerate(list(mail_in(home / "M"))):
         path.rename(home / "M/cur" / (path.name + ":2," + "FS"[:number]))
     (home / "M/new/17.host").write_bytes(b"Subject: new\n\n")
-    expect(["migrate", "--undo", "--dry-run", "M", "box"], home, 0, rows("would be undone"))
+    expect(["migrate", "--all", "--undo", "--dry-run", "M", "box"], home, 0, rows("would be undone"))
     equal("after --dry-run", subjects(home / "M"), ["new", "one", "three", "two"])
     expect(UNDO, home, 0, rows("undone"))
     equal("after --undo", subjects(home / "M"), ["new"])
     nothing = "no ledger has it, so nothing shows which files are its own"
     expect(UNDO, home, 1, f"box -> INBOX: left (undo): {nothing}\n1 mailbox: 1 left\n")
     says = "1 message of other programs in the folder"
-    expect(["migrate", "M", "box"], home, 0, f"box -> INBOX: ...: done, {says}\n1 mailbox: 1 done\n")
+    expect(["migrate", "--all", "M", "box"], home, 0, f"box -> INBOX: ...: done, {says}\n1 mailbox: 1 done\n")
     equal("migrated again", subjects(home / "M"), ["new", "one", "three", "two"])
 
 
@@ -59,10 +59,10 @@ def folders_and_users_words(home: Path) -> None:
     expect(["migrate", "M", "tree"], home, 0, None)
     expect(["migrate", "--folder", "Old", "M", "tree/sent"], home, 0, None)
     several = "the record has it in several folders: Old, sent\n    run this again with --folder NAME"
-    undo = ["migrate", "--undo", "M", "tree/sent"]
+    undo = ["migrate", "--all", "--undo", "M", "tree/sent"]
     expect(undo, home, 1, f"tree/sent: left (undo): {several}\n1 mailbox: 1 left\n")
     out = "tree/sent -> Old: messages 1: undone, removed 1 message\n1 mailbox: 1 undone\n"
-    expect(["migrate", "--undo", "--folder", "Old", "M", "tree/sent"], home, 0, out)
+    expect(["migrate", "--all", "--undo", "--folder", "Old", "M", "tree/sent"], home, 0, out)
     expect(undo, home, 0, out.replace("Old", "sent"))
     expect(["migrate", "--undo", "N", "tree/sent"], home, 1, "", "mbox2maildir-admin: N: it has no record, so ...\n")
     # people renamed its folder, and it grew
@@ -70,7 +70,7 @@ def folders_and_users_words(home: Path) -> None:
     (home / "M/.Old").rename(home / "M/.New")
     mailbox(home / "tree/sent", ONE + TWO)
     out = "tree/sent -> New: mboxrd or mboxo, messages 2: done, it grew by 1 message\n1 mailbox: 1 done\n"
-    expect(["migrate", "--folder", "Old", "M", "tree/sent"], home, 0, out)
+    expect(["migrate", "--all", "--folder", "Old", "M", "tree/sent"], home, 0, out)
     out = "tree/sent -> New: messages 2: undone, removed 2 messages\n1 mailbox: 1 undone\n"
     expect(undo, home, 0, out)
     expect(undo, home, 1, "...no ledger has it...\n1 mailbox: 1 left\n")
@@ -99,7 +99,7 @@ def who_is_at_work(home: Path) -> None:
     )
     os.close(folder)
     os.utime(str(home / "box"))
-    ran = subprocess.Popen([str(ADMIN), *UNDO], cwd=str(home), stderr=subprocess.PIPE, stdout=subprocess.PIPE)
+    ran = Desk(home).start(UNDO)
     assert ran.stderr
     match_in(rb"box: waiting \d+ seconds", ran.stderr.readline())
     os.utime(str(home / "box"), (1e9, 1e9))
@@ -120,7 +120,7 @@ def half_done_by_mb2md(home: Path) -> None:
     others = "4 messages of other programs in the folder"
     says = f"would place 4 messages; 4 messages there already, by no mailbox; {others}"
     line = "box -> INBOX: mboxrd or mboxo, messages 8: {}\n1 mailbox: 1 {}\n"
-    again = ["migrate", "--again", "M", "box"]
+    again = ["migrate", "--all", "--again", "M", "box"]
     expect([*again[:2], "--dry-run", *again[2:]], home, 0, line.format(f"would be done, {says}", "would be done"))
     expect(again, home, 0, line.format(f"done, {says.replace('would place', 'placed')}", "done"))
     equal("each once", subjects(home / "M"), [str(number) for number in range(8)])
@@ -136,14 +136,14 @@ def a_second_batch(home: Path) -> None:
     expect(["migrate", "M", "tree"], home, 0, None)
     mailbox(home / "tree/a", numbered("second", 5))
     next(mail_in(home / "M/.b")).unlink()
-    status, out, _ = run(["migrate", "M", "tree"], home)
+    status, out, _ = run(["migrate", "--all", "M", "tree"], home)
     assert status == 1 and "tree/a -> a: mboxrd or mboxo, messages 5: left (rewritten): 5 messages that" in out, out
     out = (
         "tree/a -> a: mboxrd or mboxo, messages 5: done, placed 5 messages\n"
         "tree/b -> b: done before, 1 of the 5 messages that were placed in its folder are gone, ...\n"
         "2 mailboxes: 1 done, 1 done before\n"
     )
-    expect(["migrate", "--again", "M", "tree"], home, 0, out)
+    expect(["migrate", "--all", "--again", "M", "tree"], home, 0, out)
     equal("what is there", [len(subjects(home / "M" / name)) for name in (".a", ".b")], [10, 4])
 
 
@@ -173,7 +173,7 @@ def twins(home: Path) -> None:
             verified(home, "twin")
             next(mail_in(home / "M")).unlink()
             for options in WAYS:
-                status, out, _ = run(["migrate", *options, "M", "twin"], home)
+                status, out, _ = run(["migrate", "--all", *options, "M", "twin"], home)
                 equal(f"{what}: {out}", (status, "1 done before" in out), (0, True))
             equal(f"{what}: nothing comes back", len(subjects(home / "M")), 2)
             expect(["migrate", "--undo", "M", "twin"], home, 0, None)
@@ -192,7 +192,7 @@ def deleted_of_a_twin(home: Path) -> None:
             path.unlink()
         status, out, _ = run(UNDO, home)
         equal(f"--undo: {out}", status, 0)
-        out = run(["migrate", "M", "twin"], home)[1]
+        out = run(["migrate", "--all", "M", "twin"], home)[1]
         equal(f"what came back: {out}", (subjects(home / "M"), "1 done before" in out), ([], True))
 
 
@@ -206,7 +206,7 @@ def read_since(home: Path) -> None:
     expect(["migrate", "M", "twin"], home, 0, None)
     expect(UNDO, home, 0, rows("undone", "removed 0 messages; kept 3 messages that .../twin has too"))
     equal("what is there", subjects(home / "M"), ["one", "three", "two"])
-    out = run(["migrate", "M", "twin"], home)[1]
+    out = run(["migrate", "--all", "M", "twin"], home)[1]
     assert "1 done before" in out, out
 
 
@@ -217,7 +217,7 @@ def of_other_mail(home: Path) -> None:
     for name in ("box", "twin"):
         expect(["migrate", "M", name], home, 0, None)
     says = "twin -> INBOX: messages 3: undone, removed 0 messages; kept 3 messages that .../box has too\n"
-    expect(["migrate", "--undo", "M", "twin"], home, 0, says + "1 mailbox: 1 undone\n")
+    expect(["migrate", "--all", "--undo", "M", "twin"], home, 0, says + "1 mailbox: 1 undone\n")
     expect(UNDO, home, 0, rows("undone"))
     equal("what is there", subjects(home / "M"), [])
 
@@ -236,15 +236,15 @@ def interrupted(home: Path) -> None:
     equal("its lines", [line.split(b"\t")[0] for line in lines], [b"undoing", b"undone"])
     record.write_bytes(before + lines[0])
     ledger.write_bytes(brought)
-    expect(["migrate", "M", "twin"], home, 0, "1 mailbox: 1 done before\n")
-    out = run(["migrate", "M", "box"], home)[1]
+    expect(["migrate", "--all", "M", "twin"], home, 0, "1 mailbox: 1 done before\n")
+    out = run(["migrate", "--all", "M", "box"], home)[1]
     match_in(
         r"left \(undo\): its undo was interrupted\n    run this next:\n"
         r"        mbox2maildir-admin migrate --undo M box\n",
         out,
     )
     expect(UNDO, home, 0, None)
-    expect(["migrate", "M", "twin"], home, 0, "1 mailbox: 1 done before\n")
+    expect(["migrate", "--all", "M", "twin"], home, 0, "1 mailbox: 1 done before\n")
     equal("what is there", subjects(home / "M"), ["one", "three", "two"])
 
 
@@ -271,18 +271,10 @@ def mail_of(home: Path) -> "typing.Counter[bytes]":
 
 def kill_once(home: Path, number: int, settings: Mapping[str, str]) -> bool:
     """Undoes a mailbox, and kills that before the call with a number. Returns whether there was one."""
-    words = [str(ADMIN), *UNDO[:2], "--now", *UNDO[2:]]
     with Killer(settings).at(Moment(number)):
-        ran = subprocess.run(
-            words,
-            cwd=str(home),
-            capture_output=True,
-            env={**os.environ, **settings},
-            start_new_session=True,
-            check=False,
-        )
+        ran = Desk(home, None, "", **settings).run([*UNDO, "--now"], BY_OTHERS)
     wait_for_lock(home / "M")
-    return ran.returncode == -signal.SIGKILL
+    return ran.is_killed
 
 
 class Killed:

@@ -563,7 +563,7 @@ def options_anywhere(home: Path) -> None:
         mailbox(home / name, ONE)
     done = "box -> INBOX: mboxrd or mboxo, messages 1: done\n1 mailbox: 1 done\n"
     for number, words in enumerate(("--now {} box", "{} --now box", "{} box --now", "{} --jobs 1 box --now")):
-        expect(["migrate", *words.format(f"M{number}").split()], home, 0, done)
+        expect(["migrate", "--all", *words.format(f"M{number}").split()], home, 0, done)
     counts = "--now: messages 1, bytes ..., there 1, under another name 0, other bytes 0, nowhere 0, doubles 0\n"
     expect(["verify", "M0", "--", "--now"], home, 0, counts)
     expect(["dates", "M0", "box", "--header"], home, 0, "box: messages 1, dated ...\n", None)
@@ -612,7 +612,10 @@ def modules(home: Path) -> None:
     slow |= {"jobs.workers", "takeouts", "undoing", "users.spool"}
     for words, others in (
         (["kind", "box"], {"commands.migrate", "migration.mailbox"}),
-        (["migrate", "--now", "M", "box"], {"commands.kind", "commands.objects", "flags.gmail", "readings.streams"}),
+        (
+            ["migrate", "--all", "--now", "M", "box"],
+            {"commands.kind", "commands.objects", "flags.gmail", "readings.streams"},
+        ),
         (["verify", "M", "box"], {"commands.kind", "commands.migrate", "migration.mailbox"}),
     ):
         found = loaded(words, home)

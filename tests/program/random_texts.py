@@ -12,7 +12,6 @@ import os
 import random
 import shutil
 import subprocess
-import sys
 import tempfile
 import time
 import typing
@@ -22,7 +21,7 @@ from pathlib import Path
 from typing import Any, Union
 
 from tests.support.cases import run_cases
-from tests.support.checks import TOP, equal, program
+from tests.support.checks import equal, program
 from tests.support.homes import ADMIN, mail_in
 from tests.support.oracle import listing, messages_of
 

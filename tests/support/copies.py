@@ -4,9 +4,10 @@ import importlib
 import os
 import signal
 import sys
+import time
 import traceback
 from collections.abc import Callable
-from functools import partial
+from functools import lru_cache, partial
 from pathlib import Path
 from typing import Any, Optional
 
@@ -42,6 +43,7 @@ class Copies(Desk):
             os.closerange(3, 1 + max(map(int, os.listdir("/proc/self/fd"))))
             os.environ.clear()
             os.environ.update(settings)
+            time.tzset()
             signal.signal(signal.SIGTERM, signal.SIG_DFL)
             sys.argv = command
             sys.stdout, sys.stderr = (open(number, "w", encoding="utf-8") for number in (1, 2))
@@ -62,6 +64,7 @@ class Copies(Desk):
         return cli.main()
 
 
+@lru_cache(maxsize=None)
 def load_companion() -> None:
     """Loads all modules of the companion, and what these load of Python's only where they need it, before a copy
     becomes another user, who may not read what Python has here."""

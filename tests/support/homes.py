@@ -4,7 +4,7 @@ import pwd
 import shutil
 import tempfile
 import time
-from collections.abc import Callable, Iterator, Mapping, Sequence
+from collections.abc import Callable, Iterator, Sequence
 from contextlib import contextmanager
 from functools import partial
 from pathlib import Path
@@ -13,8 +13,9 @@ from typing import Optional
 from tests.support import accounts
 from tests.support.cases import LeftOut, run_cases
 from tests.support.checks import TOP, equal, match_in, matches, program, without_progress, without_work
+from tests.support.copies import Copies
 from tests.support.dovecot.settings import settings_here
-from tests.support.running import COMPANION, OWNER, Desk, Word
+from tests.support.running import BY_OTHERS, COMPANION, OWNER, Desk, Run, Word
 
 ADMIN = TOP / "admin" / COMPANION
 PACKAGE = TOP / "admin/mbox2maildir_admin"
@@ -51,26 +52,29 @@ def want_no_people(words: Sequence[Word]) -> None:
         want_users()
 
 
-def run(words: Sequence[Word], home: Path, **settings: str) -> tuple[int, str, str]:
+def run(words: Sequence[Word], home: Path, **settings: str) -> Run:
     """Runs a command, or the companion with these words, which must never die of a fault of its own. Returns what it
     prints without the time that it took, and without how far it was each minute."""
     status, out, err = run_whole(words, home, **settings)
-    return status, without_work(out), without_progress(err)
+    return Run(status, without_work(out), without_progress(err))
 
 
-def run_whole(words: Sequence[Word], home: Path, **settings: str) -> tuple[int, str, str]:
-    """The same, with everything that it prints."""
+def run_whole(words: Sequence[Word], home: Path, **settings: str) -> Run:
+    """The same, with everything that it prints. Python heeds the locale when it begins, and children of other users
+    load what they need: such a run is no copy of this process, which would take less time."""
     want_no_people(words)
-    desk = Desk(home, None, "", **settings)
-    command = desk.command(words)
-    if str(words[0]) == str(ADMIN) or len(command) > len(words):
-        command[1:] = with_rows(command[1:])
-    return desk.run(command)
+    is_copy = "LC_ALL" not in settings and "--users" not in words
+    return (Copies if is_copy else Desk)(home, None, "", **settings).run(words, BY_OTHERS)
 
 
-def with_rows(words: Sequence[str]) -> list[str]:
-    """The words of a command of the companion that prints a row for each mailbox, with all that is said of it."""
-    return [*words[:1], *["--all"] * (words[0] in ("migrate", "back")), *words[1:]] if words else []
+def by_json(words: Sequence[Word], home: Path, **settings: str) -> Run:
+    """Runs a command with `--json`, for its rows."""
+    return run_whole([*words[:1], "--json", *words[1:]], home, **settings)
+
+
+def run_printed(command: str, home: Path, *more: str) -> Run:
+    """Runs a command as it was printed, or one of `migrate` with these options too."""
+    return Desk(home).in_shell(command.replace(" migrate ", " ".join([" migrate", *more, ""]), 1))
 
 
 def expect(
@@ -82,14 +86,6 @@ def expect(
         if wanted is not None:
             matches(f"{words}: {stream}", text, wanted)
     equal(f"{words}: status", got, status)
-
-
-def as_owner(words: Sequence[Word], settings: Mapping[str, object], as_root: bool = False) -> list[str]:
-    """The command that runs another one as the owner of the mail, with these settings alone."""
-    # behind `runuser` the companion prints what root types
-    rights = ["--reuid", OWNER, "--regid", str(pwd.getpwnam(OWNER).pw_gid), "--init-groups"]
-    owner = ["setpriv", *rights] if is_root() and not as_root else []
-    return [*owner, "env", "-i", *(f"{name}={value}" for name, value in settings.items()), *map(str, words)]
 
 
 def hand_over(*paths: Path) -> None:

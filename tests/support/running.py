@@ -49,6 +49,11 @@ class Row(dict[str, Any]):
         return {typed(step): step["messages"] for step in self["next"] if step.get("messages") is not None}
 
     @property
+    def name(self) -> str:
+        """Its mailbox, behind the user to whom that belongs."""
+        return " ".join(filter(None, [self.get("user"), self["path"]]))
+
+    @property
     def remarks(self) -> list[str]:
         """The words of its remarks."""
         return [one["remark"] for one in self["remarks"]]
@@ -96,9 +101,9 @@ class Run(NamedTuple):
         assert len(self.rows) == 1, f"one row is wanted: status {self.status}: {self.output}"
         return self.rows[0]
 
-    def of(self, path: str) -> Row:
-        """The row of a mailbox."""
-        found = next((one for one in self.rows if one["path"] == path), None)
+    def of(self, path: str, user: Optional[str] = None) -> Row:
+        """The row of a mailbox, which may be a user's."""
+        found = next((one for one in self.rows if (one["path"], one.get("user")) == (path, user)), None)
         assert found is not None, f"no row of {path}: status {self.status}: {self.output}"
         return found
 

@@ -17,18 +17,17 @@ import lzma
 import os
 import re
 import shutil
-import subprocess
 from collections.abc import Sequence
 from functools import partial
 from itertools import takewhile
 from pathlib import Path
 
 from tests.support.cases import run_cases
-from tests.support.checks import PATIENCE, TOP, WORK, differ, equal, match_in, matches, text_of
-from tests.support.homes import as_owner, fresh_home, hand_over, install, is_root, meets_people, own_dovecot, script
+from tests.support.checks import TOP, WORK, differ, equal, match_in, matches, text_of
+from tests.support.homes import fresh_home, hand_over, install, is_root, meets_people, own_dovecot, script
 from tests.support.mail import A, B, MAY, with_length
 from tests.support.printed import rows_in
-from tests.support.running import OWNER, decoded
+from tests.support.running import OWNER, Desk
 
 README, BACK = "README.md", "docs/BACK.md"
 PAGES = [README, *(f"docs/{name}.md" for name in ("OWN-MAIL", "SERVER", "FORMATS", "LEFT", "LEDGER")), BACK]
@@ -277,24 +276,14 @@ class Guide:
         own_dovecot(home / "bin")
         # the owner has another home here than the system says
         script(home / "bin/getent", f'echo "$2:x:::: {home}/homes/$2:" | tr -d " "')
-        self.path = f"{home}/bin:{os.environ['PATH']}"
         self.done = self.wrong = self.left_out = 0
         hand_over(home)
 
     def run(self, command: str, as_root: bool = False) -> str:
         """Runs a command as the owner of the home folder, and returns what it prints."""
-        settings = {"HOME": self.home, "PATH": self.path, "LC_ALL": "C.UTF-8", "USER": OWNER}
-        words = as_owner(["bash", "-c", command], settings, as_root)
-        ran = subprocess.run(
-            words,
-            cwd=self.home,
-            stdin=subprocess.DEVNULL,
-            stdout=subprocess.PIPE,
-            stderr=subprocess.STDOUT,
-            timeout=PATIENCE,
-            check=False,
-        )
-        return decoded(ran.stdout)
+        # behind `runuser` the companion prints what root types
+        desk = Desk(self.home, None, "" if as_root else OWNER, HOME=str(self.home), USER=OWNER)
+        return desk.run(["/bin/bash", "-c", f"exec 2>&1\n{command}"]).out
 
     def session(self, lines: Sequence[str]) -> None:
         """Runs the commands of a block, and compares what each prints with the lines below it."""

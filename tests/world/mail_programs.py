@@ -26,9 +26,9 @@ from typing import IO, Optional, TypeVar, Union
 from tests.support.cases import LeftOut, run_cases
 from tests.support.checks import TOP, differ, equal, match_in, text_of
 from tests.support.dovecot.settings import settings_here
-from tests.support.homes import as_owner, fresh_home, hand_over, install, mail_in, own_dovecot
+from tests.support.homes import fresh_home, hand_over, install, mail_in, own_dovecot
 from tests.support.printed import commands_in
-from tests.support.running import OWNER
+from tests.support.running import OWNER, Desk
 
 PAGE = text_of(TOP / "docs/FORMATS.md")
 # a program that never ends is left out; on a machine that has much to do, others end late
@@ -117,23 +117,10 @@ class Home:
         leader: Optional[int] = None,
     ) -> bytes:
         """Runs a program to its end with these streams, and returns what it printed."""
-        settings = {
-            "HOME": self.folder,
-            "PATH": f"{self.folder}:{PATH}",
-            "USER": OWNER,
-            "LOGNAME": OWNER,
-            "LC_ALL": "C.UTF-8",
-            **settings,
-        }
+        own = {"HOME": self.folder, "PATH": f"{self.folder}:{PATH}", "USER": OWNER, "LOGNAME": OWNER, **settings}
+        desk = Desk(Path(self.folder), None, OWNER, **{name: str(value) for name, value in own.items()})
         try:
-            child = subprocess.Popen(
-                as_owner(words, settings),
-                cwd=self.folder,
-                stdin=feed,
-                stdout=out,
-                stderr=subprocess.STDOUT,
-                start_new_session=True,
-            )
+            child = desk.start(["/usr/bin/env", *words], out, subprocess.STDOUT, feed)
         except OSError as reason:
             raise NotDone(f"{words[0]} cannot be run: {reason}") from reason
         ends = time.monotonic() + SECONDS

@@ -120,7 +120,7 @@ def forty_users_with_dovecot(home: Path) -> None:
             theirs(mailbox(home / "spool" / name, numbered), name)
             theirs(mailbox(home / "homes" / name / "mail/lists", TWO), name)
         (home / "spool").chmod(0o711)
-        words = ["migrate", "--users", "--tree", "mail", "--dovecot", "spool"]
+        words = ["migrate", "--all", "--users", "--tree", "mail", "--dovecot", "spool"]
         status, out, err = run(words, home)
         sums = f"{2 * USERS} mailboxes: {2 * USERS} done; {USERS} users: {USERS} from the spool"
         equal("--users", (status, err, out.splitlines()[-1]), (0, "", sums))
@@ -134,7 +134,7 @@ def forty_users_with_dovecot(home: Path) -> None:
 def a_doubtful_line(home: Path) -> None:
     """A line of mail looks like the beginning of one: the row shows it, and the command below it decides."""
     mailbox(home / "old", A + b"\nhello\n\n" + MAY + b"\n" + B + b"\nbye\n\n")
-    out = run(["migrate", "--folder", "Old", "Maildir", "old"], home)[1]
+    out = run(["migrate", "--all", "--folder", "Old", "Maildir", "old"], home)[1]
     row = row_in(out, "old")
     assert "| From the first of May we are here." in "\n".join(row.below), out
     equal("what is there", (home / "Maildir").exists(), False)
@@ -199,7 +199,7 @@ def three_archives_that_overlap(home: Path) -> None:
     """One folder gets each message once, and the last line says how many were there already."""
     for name, text in (("a", ONE + TWO), ("b", TWO + THREE), ("c", ONE + THREE)):
         mailbox(home / name, text)
-    out = run_whole(["migrate", "--folder", "Archive", "Maildir", "a", "b", "c"], home)[1]
+    out = run_whole(["migrate", "--all", "--folder", "Archive", "Maildir", "a", "b", "c"], home)[1]
     rows = (
         "a -> Archive: mboxrd or mboxo, messages 2: done\n"
         "b -> Archive: mboxrd or mboxo, messages 2: done, 1 message there already, from .../a\n"

@@ -18,6 +18,7 @@ from tests.support.cases import LeftOut
 from tests.support.checks import differ, without_work
 from tests.support.dovecot.server import Dovecot, Folder, OtherSizes, Row
 from tests.support.homes import fresh_home, install
+from tests.support.running import BY_OTHERS, Desk
 from tests.support.splitter import split
 
 # each folder over IMAP, the UIDLs and mails over POP3, and the folders that the user is subscribed to
@@ -140,18 +141,9 @@ class Case:
 
     def run(self, *words: str, **settings: str) -> tuple[int, str]:
         """Runs a command as the user. Returns what it printed, without the time that it took."""
-        ran = subprocess.run(
-            [self.top / "bin" / words[0], *words[1:]],
-            cwd=self.home,
-            stdin=subprocess.DEVNULL,
-            stdout=subprocess.PIPE,
-            stderr=subprocess.STDOUT,
-            check=False,
-            preexec_fn=self.server.become,
-            start_new_session=True,
-            env={"PATH": f"{self.top}/bin:{os.environ['PATH']}", "TZ": "UTC", "LC_ALL": "C.UTF-8", **settings},
-        )
-        return ran.returncode, without_work(ran.stdout.decode(errors="replace"))
+        desk = Desk(self.home, self.top / "bin", self.server.account.pw_name, TZ="UTC", **settings)
+        ran = desk.run([self.top / "bin" / words[0], *words[1:]], BY_OTHERS)
+        return ran.status, without_work(ran.output)
 
     def migrate(
         self, *words: str, names: Optional[Sequence[str]] = None, into: str = "Maildir", **settings: str
