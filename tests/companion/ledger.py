@@ -577,6 +577,28 @@ def rule_5_in_several_forms(home: Home) -> None:
     home.has()
 
 
+def rule_5_in_two_bare_forms(home: Home) -> None:
+    """A file stands for a message in its form first, whoever placed it: with --again, and after a killed run. So each
+    form is there as often as one mailbox has it."""
+    one, other = (b"hello\n%sFrom the shed.\n" % quotes for quotes in (b">", b">>"))
+    home.write("OLD", letter(0, body=one))
+    home.done("OLD")
+    home.write("OTHER", letter(0, body=other) + letter(0, body=one))
+    home.done("OTHER", words=["--again"])
+    home.write("OLD", (letter(0, body=one) + letter(0, body=other)) * 2)
+    row = home.done("OLD")["OLD"]
+    home.has(0, 0, 0, 0, why=row)
+    home.begin()
+    home.write("OLD", letter(0, body=one) * 2)
+    home.done("OLD")
+    as_if_killed(home.maildir)
+    home.write("OTHER", letter(0, body=other))
+    home.done("OTHER")
+    home.write("OLD", letter(0, RO, other) + letter(0, RO, one) * 2)
+    row = home.done("OLD")["OLD"]
+    home.has(0, 0, 0, why=row)
+
+
 RULES = [
     rule_1_killed_under_a_name_that_it_had,
     rule_1_killed_again,
@@ -608,6 +630,7 @@ RULES = [
     rule_5_a_copy,
     rule_5_a_name_that_no_line_can_have,
     rule_5_in_several_forms,
+    rule_5_in_two_bare_forms,
 ]  # type: list[Rule]
 
 

@@ -134,5 +134,9 @@ def offers(files: list[File], path: str, bare: bytes) -> list[tuple[Offer, File,
         once = [own] if own else [line for line in others if line not in brought]
         if once and file.name:
             found.append((Offer.ONCE, file, once[0]))
-    # what a mailbox no longer has in this form, it may have in another one
-    return sorted(found, key=lambda one: (one[0], one[2].path != path and one[2].state is State.FORMER))
+    # what is in another form may stand for a message in that form; and what another mailbox no longer has in this form,
+    # it may have in another one
+    return sorted(
+        found,
+        key=lambda one: (one[2].message.bare != bare, one[0], one[2].path != path and one[2].state is State.FORMER),
+    )

@@ -8,7 +8,7 @@ deleted counts for no message that is not.
 import array
 import collections
 import itertools
-from collections.abc import Callable, Iterator, Sequence
+from collections.abc import Callable, Iterable, Iterator, Sequence
 from dataclasses import dataclass, field
 
 from ..maildir.hashes import Hashes
@@ -249,25 +249,25 @@ class Serving:
         # what stands for messages though it is gone, unless it was renamed, with the paths of those that brought it
         self.gone: dict[File, str] = {}
 
-    def take(self, word: bytes, name: bytes, places: Sequence[int] = (), is_fresh: bool = False) -> bool:
-        """Takes a file for one of the messages that wait, or for one of these, if it may stand for it. Returns whether
-        it does. What this program has placed and no run has finished gets dates and flags too."""
+    def take(self, word: bytes, name: bytes, places: Iterable[int], is_fresh: bool = False) -> bool:
+        """Takes a file for one of these messages, which wait, if it may stand for it. Returns whether it does. What
+        this program has placed and no run has finished gets dates and flags too."""
         match, is_trashed = self.match, name in self.match.files.trashed
-        several = places or self.waiting
-        place = next((one for one in several if not is_trashed or match.is_deleted(Place(one))), None)
+        place = next((one for one in places if not is_trashed or match.is_deleted(Place(one))), None)
         if place is None:
-            self.refused |= {name} if several else set()
+            self.refused |= {name} if is_trashed else set()
             return False
+        self.refused.discard(name)
         self.waiting.remove(place)
         match.fresh.update([place] if is_fresh and is_own(name) else ())
         match.found[place] = Brought(word, name, match.inventory.core(place), match.inventory.bare(place))
         return True
 
-    def take_file(self, file: File, line: Line, is_fresh: bool = False) -> bool:
-        """Takes a file, by a line about it, unless it stands for another message."""
+    def take_file(self, file: File, line: Line, places: Iterable[int], is_fresh: bool = False) -> bool:
+        """Takes a file for one of these messages, by a line about it, unless it stands for another message."""
         one, is_mine = line.message, line.path == self.match.path
         word = one.word if is_mine and one.word != SHARED else word_for_others(one.word)
-        if file in self.served or not self.take(word, one.name, is_fresh=is_fresh):
+        if file in self.served or not self.take(word, one.name, places, is_fresh):
             return False
         self.served.add(file)
         return True
@@ -278,7 +278,7 @@ class Serving:
         for offer, file, line in offers(self.files, self.match.path, self.bare):
             is_shared = offer in (Offer.SHARED, Offer.GONE)
             is_enough = is_shared and len(self.places) - len(self.waiting) >= count
-            if is_enough or not self.take_file(file, line, offer is Offer.BEGUN):
+            if is_enough or not self.take_file(file, line, self.waiting, offer is Offer.BEGUN):
                 continue
             self.match.seen.shared.update([line.path] if line.path != self.match.path else ())
             self.gone.update({file: line.path} if offer is Offer.GONE else {})
@@ -312,13 +312,17 @@ class Serving:
                 match.seen.foreign.append(name)
 
     def take_any(self, unnamed: Sequence[bytes]) -> None:
-        """Takes any files with the core of the messages: those of the mailbox's own lines first, then those of others,
-        then those without a line."""
-        for file in sorted(self.files, key=lambda one: not one.line_of(self.match.path)):
-            if file.name:
-                self.take_file(file, file.line_of(self.match.path) or file.lines[-1])
+        """Takes any files with the core of the messages, first for those in the same form: those of the mailbox's own
+        lines, then those of others, then those without a line."""
+        bare_of = self.match.inventory.bare
+        files = [file for file in sorted(self.files, key=lambda one: not one.line_of(self.match.path)) if file.name]
+        for file in files:
+            same = (place for place in self.waiting if bare_of(place) == file.bare)
+            self.take_file(file, file.line_of(self.match.path) or file.lines[-1], same)
+        for file in files:
+            self.take_file(file, file.line_of(self.match.path) or file.lines[-1], self.waiting)
         for name in unnamed:
-            if self.take(FOREIGN, name):
+            if self.take(FOREIGN, name, self.waiting):
                 self.match.seen.foreign.append(name)
 
     def end(self) -> list[int]:
