@@ -47,15 +47,20 @@ def rule_1_killed_under_a_name_that_it_had(home: Home) -> None:
 
 def rule_1_killed_again(home: Home) -> None:
     """A run with --again is killed that has nothing to place. The mailbox gets one more of a message that it has twice,
-    whose last two have the names of the files that are there: it is there three times."""
-    home.write("OLD", letters(0, 0))
-    home.done("OLD")
-    home.done("OLD", words=["--again"])
-    for path in home.ledger(), home.maildir / RECORD:
-        path.write_bytes(b"".join(path.read_bytes().splitlines(True)[:-1]))
-    home.write("OLD", letter(0) + letter(0, RO) + letter(0))
-    row = home.done("OLD")["OLD"]
-    home.has(0, 0, 0, why=row)
+    whose last two have the names of the files that are there: it is there three times, also if another program has
+    renamed a file."""
+    for is_renamed in (False, True):
+        home.begin()
+        home.write("OLD", letters(0, 0))
+        home.done("OLD")
+        path = home.those(0)[0]
+        path.rename(path.parent.parent / "cur" / ("17000.1.host:2,S" if is_renamed else path.name))
+        home.done("OLD", words=["--again"])
+        for path in home.ledger(), home.maildir / RECORD:
+            path.write_bytes(b"".join(path.read_bytes().splitlines(True)[:-1]))
+        home.write("OLD", letter(0) + letter(0, RO) + letter(0))
+        row = home.done("OLD")["OLD"]
+        home.has(0, 0, 0, why=(is_renamed, row))
 
 
 def rule_1_killed_and_taken_by_another(home: Home) -> None:

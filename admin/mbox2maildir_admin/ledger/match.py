@@ -16,7 +16,7 @@ from ..mbox.bases import is_own
 from ..mbox.core import SHORT
 from ..mbox.inventory import Inventory
 from ..units import Place, Say, silent
-from .assign import File, Offer, files_of, offers
+from .assign import BROUGHT, File, Offer, files_of, offers
 from .batches import Line, State
 from .files import Files
 from .ledger import Ledger
@@ -104,7 +104,8 @@ class Match:
     def find_strangers(self) -> None:
         """Finds the files that no line explains. At first sight they may be in another form, and all lines count."""
         ledger, is_first = self.ledger, self.path not in self.ledger.sources
-        named = (one.name for _, one in ledger.messages({*ledger.ended, *ledger.open} if is_first else ()))
+        several = ledger.messages({*ledger.ended, *ledger.open} if is_first else ())
+        named = (one.name for number, one in several if number in ledger.ended or one.word != FOREIGN)
         known = Hashes(itertools.chain(self.taken(), self.names_of_lines(), named))
         self.strangers = self.files.foreign(self.new, known, is_first)
 
@@ -174,7 +175,8 @@ class Match:
             for line in self.ledger.entries(cores):
                 if line.state is State.UNDONE:
                     self.files.kept.add(line.message.name)
-                else:
+                elif line.state in BROUGHT or line.message.word != FOREIGN:
+                    # a file of nobody that a killed run has found may be one of a mailbox that was renamed
                     self.lines.setdefault(line.message.core, []).append(line)
         names = self.names_of_lines()
         self.present = self.files.present(names) if names else set()
