@@ -32,7 +32,7 @@ from tests.support.checks import equal
 from tests.support.homes import hand_over
 from tests.support.ledgers import as_if_killed
 from tests.support.mail import digest_of
-from tests.support.running import NEVER, Kill, Row
+from tests.support.running import Kill, Row
 
 SEEDS = int(os.environ.get("LEDGER_SEEDS", "8"))
 FIVE = range(5)

@@ -496,7 +496,7 @@ from tests.support.homes import check_all, run
 def of_all(home):
     (home / "spool").mkdir()
     for spool in (home / "spool", Path("/var/mail")):
-        print(run(["migrate", "--now", "--users", "--tree", "mail", spool], home))
+        print(tuple(run(["migrate", "--now", "--users", "--tree", "mail", spool], home)))
 check_all(of_all)
 """
 
