@@ -150,6 +150,7 @@ LOOK = {
 }
 COUNTED = {
     "after-nulls": "NUL bytes before its text, as after a crash, were left out.",
+    "by-lengths": "Lines `From ` within messages were taken for text, by their lengths. --as mboxrd begins mail there.",
     "fields-left-out": "Header fields that a mail program or Dovecot writes for itself were left out.",
     "flags": "Flags were taken from header fields of a mail program.",
     "joined": "The folder has the mail of another mailbox too.",

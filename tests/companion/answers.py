@@ -13,7 +13,8 @@ from tests.support.homes import by_json, check_all, expect, mailbox, mail_in, ru
 from tests.support.mail import A, B, MAY, ONE, TWO, with_length
 from tests.support.running import Row
 
-PART = with_length(A, MAY) + b"\n" + B + b"\n"
+# a program may have escaped the line with `>`, so that no rule decides
+PART = with_length(A, MAY + b">From the shed.\n") + b"\n" + B + b"\n"
 # a mailbox, and how many messages the answers give
 TEXTS = {
     "in part": (PART, (2, 3)),
@@ -370,9 +371,12 @@ def all_mail_deleted(home: Path) -> None:
 def by_what_it_brought(home: Path) -> None:
     """A line is not asked about that is in a message which the mailbox brought without a question, and no run notes an
     answer. If new mail has such a line too, a human is asked."""
-    text = with_length(A, MAY) + b"\n"
+    may = MAY + b">From the shed.\n"
+    text = with_length(A, may) + b"\n"
     mailbox(home / "box", text)
-    expect(["migrate", "--all", "--now", "M", "box"], home, 0, "box -> INBOX: mboxcl2, quoted, messages 1: done\n...\n")
+    expect(
+        ["migrate", "--all", "--now", "M", "box"], home, 0, "box -> INBOX: mboxcl2, quoted, messages 1: done...\n...\n"
+    )
     mailbox(home / "box", text + NEW + B + b"\nyes\nFrom me to you.\n\n")
     equal("a line in new mail", len(answers_in(["migrate", "--now", "M", "box"], home)), 2)
     mailbox(home / "box", text + NEW)
@@ -385,7 +389,7 @@ def by_what_it_brought(home: Path) -> None:
     ):
         expect(["migrate", "--all", "--now", *words, "M", "box"], home, 0, wanted)
     bodies = [one.read_bytes().split(b"\n\n", 1)[1] for one in mail_in(home / "M")]
-    equal("the mail", sorted(bodies), sorted([MAY, b"hello\n"]))
+    equal("the mail", sorted(bodies), sorted([may, b"hello\n"]))
     equal("the notes", notes_in(home), [])
 
 

@@ -83,9 +83,19 @@ KINDS = [
     (
         with_length(A, MAY) + b"\n" + B + b"\n",
         "mboxcl2 in part, messages 2",
-        asks("7", ("--as mboxcl2", 2), ("--as mboxrd", 3)),
+        "migrate",
         1,
         ["line 7: within ..."],
+    ),
+    (
+        with_length(A, MAY + b"Note: x\nFrom me\nNote: x\n") + b"\n" + B + b"\n",
+        "mboxcl2 in part, messages 2 to 3",
+        asks("10", ("--as mboxcl2", 2), ("--as mboxrd --text 7", 3)),
+        1,
+        [
+            "line 10: like a From_ line without a date, but within the message of line 1, by its length: From me",
+            "line 7: within ...",
+        ],
     ),
     (
         b"From a@b Mon Feb  1 10:00:00 2021\nS: 1\nContent-Length: 13\n\nFrom here on\n\n",
@@ -691,9 +701,14 @@ COPIES = [
     (
         with_length(A, MAY) + b"\n" + B + b"\n",
         "",
+        A + b"\n" + MAY.replace(b"From", b">From") + b"\n" + B + b"\n",
+    ),
+    (
+        with_length(A, MAY + b">From a\n") + b"\n" + B + b"\n",
+        "",
         "line 7: within the message of line 1, by its length\n"
-        "      4 | Content-Length: 44\n      5 |\n      6 | hello\n    > 7 | From the first of May we are here.\n"
-        "      8 | A.\n      9 |\n      10 | From boris@...\n    this belongs to the mail above: 2 messages:\n"
+        "      4 | Content-Length: 52\n      5 |\n      6 | hello\n    > 7 | From the first of May we are here.\n"
+        "      8 | A.\n      9 | >From a\n      10 |\n    this belongs to the mail above: 2 messages:\n"
         "        mbox2maildir-admin quote --as mboxcl2 --of ... -o copy 'a b'\n    a mail begins here: 3 messages:\n"
         "        mbox2maildir-admin quote --as mboxrd --of ... -o copy 'a b'",
     ),

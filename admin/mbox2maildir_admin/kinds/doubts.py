@@ -8,7 +8,8 @@ of numbers, by which lines are named, has these too.
 import array
 import hashlib
 import re
-from collections.abc import Iterator
+from collections.abc import Iterator, Mapping
+from types import MappingProxyType
 from typing import NamedTuple, Optional
 
 from ..mbox.files import LONG
@@ -18,13 +19,14 @@ from ..mbox.mailbox import Mailbox
 from ..mbox.messages import may_hold_mail
 from ..mbox.parts import Part
 from ..units import Line, Offset
+from .sorts import DOUBTFUL
 
 # why a line is doubtful: it may begin a message, it does if no From_ line has a date, its message is marked as deleted,
 # or it is cut
 MAY_BEGIN, LIKE_FIRST, DELETED, CUT = range(4)
 # the sorts of lines `From ` that begin messages, and of those about which that is doubtful
 CERTAIN = "dated", "undated"
-DOUBTFUL = "inside, dated", "inside", "text", "odd", "doubtful", "like the first"
+ASKED_ABOUT = "inside", *DOUBTFUL, "like the first"
 # how many digits of a SHA-256 a tie has
 DIGITS = 16
 # how many bytes before and after a line are looked at, and what does not count among them
@@ -33,10 +35,12 @@ FIELDS = re.compile(pattern_of(NOTED).pattern + rb"[^\n]*(?:\n[ \t][^\n]*)*")
 
 
 class Ties(NamedTuple):
-    """The tie of an answer that names no lines, and that of one which does."""
+    """The tie of an answer that names no lines, and that of one which does; and how many of the first lines have a tie
+    of the first sort, as all lines have before a mailbox grows."""
 
     messages: str
     numbers: str
+    first: Mapping[str, int] = MappingProxyType({})
 
 
 class Doubts:
@@ -49,7 +53,7 @@ class Doubts:
 
     def take(self, sort: str, mark: Part) -> None:
         """Takes a line of `>` and `From ` of this sort."""
-        if sort in DOUBTFUL or sort in CERTAIN and may_hold_mail(mark.piece):
+        if sort in ASKED_ABOUT or sort in CERTAIN and may_hold_mail(mark.piece):
             is_like_first = sort == "like the first" and not may_hold_mail(mark.piece)
             self.add(mark.line, mark.offset, LIKE_FIRST if is_like_first else MAY_BEGIN)
 
@@ -71,16 +75,23 @@ class Doubts:
 
     def numbers(self) -> list[Line]:
         """The numbers of the lines that may begin messages, in their order."""
-        return [Line(line) for line, why in zip(self.lines, self.whys) if why in (MAY_BEGIN, LIKE_FIRST)]
+        return [line for line, _ in self.after(0)]
+
+    def after(self, count: int) -> list[tuple[Line, Offset]]:
+        """The lines after the first ones that may begin messages, and where each begins."""
+        rows = zip(self.lines[count:], self.whys[count:], self.offsets[count:])
+        return [(Line(line), Offset(offset)) for line, why, offset in rows if why in (MAY_BEGIN, LIKE_FIRST)]
 
     def ties(self, mailbox: Mailbox, what: str) -> Ties:
         """The ties of a text that is this."""
         if self.known is None or self.known[0] != what:
             messages, numbers = hashlib.sha256(what.encode()), hashlib.sha256(b"lines of " + what.encode())
-            for line, entry in self.entries(mailbox):
+            first = {}
+            for count, (line, entry) in enumerate(self.entries(mailbox), 1):
                 messages.update(entry)
                 numbers.update(entry + b"%d" % line)
-            self.known = what, Ties(messages.hexdigest()[:DIGITS], numbers.hexdigest()[:DIGITS])
+                first[messages.hexdigest()[:DIGITS]] = count
+            self.known = what, Ties(messages.hexdigest()[:DIGITS], numbers.hexdigest()[:DIGITS], first)
         return self.known[1]
 
     def entries(self, mailbox: Mailbox) -> Iterator[tuple[int, bytes]]:

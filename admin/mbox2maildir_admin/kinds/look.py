@@ -18,12 +18,12 @@ from ..units import Line, Offset
 from .deleted import Deleted, deleted_in
 from .doubts import CUT, DELETED, Doubts
 from .joins import Joins
-from .sorts import AGAINST, KEEPING, SAID
+from .sorts import AGAINST, DOUBTFUL, KEEPING, MAY_BE_MAIL, SAID, WITHIN
 from .starts import FIELD, end_of_row
 from .undated import ending_of, shape_of
+from .within import ADDRESS, Escapes, is_after_blank, may_be_mail
 
 GIT = re.compile(rb"From [0-9a-f]{40,64} Mon Sep 17 00:00:00 2001\r?\Z")
-ADDRESS = re.compile(rb"From \S+@\S+\s*\Z")
 NOTE = b"DON'T DELETE THIS MESSAGE -- FOLDER INTERNAL DATA"
 # what the header of a message has of which something is to be said, in lower case
 LOOKED_AT = b"content-length", b"x-mozilla-status", b"x-gm-thrid", NOTE.lower()
@@ -43,7 +43,7 @@ class Look:
         self.claimed_by, self.claimed, self.body, self.without = Line(0), Offset(0), Offset(0), Line(0)
         # whether the first message is the one by which Dovecot keeps an empty mailbox
         self.internal = bool(internal_head(mailbox, start)[0])
-        self.joins, self.doubts = Joins(mailbox), Doubts()
+        self.joins, self.doubts, self.escapes = Joins(mailbox), Doubts(), Escapes()
         # what the first From_ line looks like without a date, and in what all of them end, if none has one
         first = mailbox.at(start, LONG).split(b"\n")[0]
         self.shape, self.ending = shape_of(first), ending_of(first)
@@ -119,21 +119,24 @@ class Look:
         if mark.quotes:
             sort = "quoted twice" if mark.quotes > 1 else "quoted, by length" if inside else "quoted"
         elif inside:
-            sort = "inside, dated" if dated else "inside"
+            is_doubtful = not dated and may_be_mail(self.mailbox, mark, self.claimed)
+            sort = "inside, dated" if dated else "inside, like mail" if is_doubtful else "inside"
         else:
             header = Header.read(self.mailbox, mark)
             sort = self.sort_of(mark, header, dated)
         self.seen[sort].add(mark.line, mark.piece, self.claimed_by)
         self.doubts.take(sort, mark)
+        if inside:
+            self.escapes.take(self.mailbox, mark, self.claimed_by)
         if not mark.quotes and mark.offset > self.start:
-            self.contradict(mark, dated, header)
+            self.contradict(mark, sort, dated, header)
         if header and sort != "text":
             self.messages += 1
             self.from_line(mark)
             self.header(header, mark)
             self.length(header, mark)
 
-    def contradict(self, mark: Part, dated: bool, header: Optional[Header]) -> None:
+    def contradict(self, mark: Part, sort: str, dated: bool, header: Optional[Header]) -> None:
         """Notes which words a line `From ` after the first contradicts, among the words that say how a text was
         written. No header was read for a line within a message."""
         inside = header is None
@@ -144,7 +147,7 @@ class Look:
         is_bare = not dated and not has_header
         for sort, is_so in (
             ("against each line", inside or is_bare),
-            ("against lengths", dated and has_header if inside else is_bare),
+            ("against lengths", (has_header if dated else sort in MAY_BE_MAIL) if inside else is_bare),
             ("against dates", dated and not has_header),
         ):
             if is_so:
@@ -159,7 +162,7 @@ class Look:
             return "dated" if first or has_header or self.is_alone(header) else "odd"
         if first:
             return "undated" if has_header else "text"
-        blank = self.mailbox.at(mark.offset - 3, 3).endswith((b"\n\n", b"\n\r\n"))
+        blank = is_after_blank(self.mailbox, mark)
         if blank and (has_header or ADDRESS.match(mark.piece)):
             is_like_first = has_header and self.count("undated") and shape_of(mark.piece) == self.shape
             return "like the first" if is_like_first else "doubtful"
@@ -213,6 +216,13 @@ class Look:
         """Whether each message has a right length, except the one by which Dovecot keeps an empty mailbox."""
         return not self.without and not self.count("wrong") and self.count("lengths") > 0
 
+    def shows_lengths(self) -> bool:
+        """Whether lines `From ` within right lengths are text although other messages have no length: neither they nor
+        other lines may begin messages, all From_ lines have dates, and no `>` in a message with a length may be one
+        that its delivery added."""
+        is_plain = self.is_whole and not self.count(*DOUBTFUL, "wrong", "undated", "joined", "holds mail", "cut")
+        return is_plain and self.count("inside") > 0 and not (self.escapes.are_possible() or self.are_deleted())
+
     def count(self, *sorts: str) -> int:
         """How many lines are of these sorts."""
         return sum(self.seen[sort].count for sort in sorts if sort in self.seen)
@@ -232,7 +242,7 @@ class Look:
 
     def most(self) -> int:
         """The greatest number of messages: with the dated lines within messages, and within lines."""
-        return self.messages + self.count("inside, dated", "joined")
+        return self.messages + self.count(*MAY_BE_MAIL, "joined")
 
     def remarks(self) -> Iterator[Said]:
         """What is said of lines."""
@@ -241,7 +251,8 @@ class Look:
             yield Said(Line(1), "the mbox text begins here, at byte %d, after NUL bytes" % (self.start + 1), first)
         elif self.start:
             yield Said(Line(1), "a byte order mark or blank lines stand before the text")
-        unsaid = [*["undated"] * bool(self.ending), *["quoted twice", "quoted, by length"] * self.have_lengths()]
+        is_by_lengths = self.have_lengths() or self.shows_lengths()
+        unsaid = [*["undated"] * bool(self.ending), *["quoted twice", "quoted, by length"] * is_by_lengths]
         for sort, says in SAID:
             if sort in unsaid:
                 continue
@@ -256,7 +267,7 @@ class Look:
 
     def has_bare_lines(self) -> bool:
         """Whether lines `From ` outside of right lengths have neither a date nor a header after them."""
-        return self.count("against each line") > self.count("inside", "inside, dated")
+        return self.count("against each line") > self.count(*WITHIN)
 
     def keeping(self) -> Reasons:
         """The lines because of which the text cannot be read without a decision, and what is said of the first ones."""

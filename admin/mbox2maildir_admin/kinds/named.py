@@ -1,11 +1,14 @@
-"""What names tell: mail programs give some to mailboxes of folders, and such a file is nobody's inbox. A human names
-files that hold no mail."""
+"""What names tell: mail programs give some to mailboxes of folders, and such a file is nobody's inbox. Others are those
+of files that hold no mail, if little or nothing is in them. A human names files that hold no mail."""
 import fnmatch
 import os
 import re
+import stat
 from collections.abc import Sequence
 
+from ..mbox.files import open_file, read_up_to
 from ..terminal import text_of
+from .starts import FIELD
 
 # mutt's muttrc and manual (mbox, record, postponed), Alpine's technical notes, Thunderbird's, Evolution's and KMail's
 # own folders, Apple Mail, Outlook; in lower case
@@ -22,6 +25,11 @@ NAMES = frozenset(
 EXPORTED = re.compile(rb"([^/]+)\.mbox/mbox\Z")
 # the endings of mailboxes, of compressed files and of copies made by hand
 ENDINGS = re.compile(r"(?:\.mbox)?(?:\.(?:gz|bz2|xz|zst|lz4))?(?:\.mboxrd)?\Z")
+# the names of empty files that are not mailboxes: hidden ones, locks, indexes, and Dovecot's files beside its counter
+EMPTY_AUXILIARY = re.compile(rb"\..*|.*\.(?:lock|msf)|dovecot-uidvalidity\.[0-9a-f]{8}", re.DOTALL)
+# the most bytes of a line that a program writes into its lock: ASCII, such as its number, which Dovecot's host follows
+LONGEST_LOCK = 256
+LINE_OF_LOCK = re.compile(rb"(?:\d+:|(?!From |%s))[\t -~]*(?:\r?\n)?\Z" % FIELD.pattern)
 
 
 def name_of_folder(path: bytes) -> str:
@@ -46,3 +54,26 @@ def is_named(patterns: Sequence[bytes], tops: Sequence[bytes], path: bytes) -> b
     above = next((top for top in tops if path.startswith(top.rstrip(b"/") + b"/")), os.path.dirname(path))
     below = text_of(os.path.relpath(path, above or b"."))
     return any(fnmatch.fnmatchcase(below, text_of(pattern)) for pattern in patterns)
+
+
+def is_no_mail(path: bytes) -> bool:
+    """Whether a file is known to hold no mail, by its name and its size, or as a lock of one line. A symbolic link is
+    not."""
+    state, name = os.lstat(path), os.path.basename(path)
+    if not stat.S_ISREG(state.st_mode) or state.st_size > LONGEST_LOCK:
+        return False
+    if state.st_size == 0:
+        return is_auxiliary(name)
+    return name.endswith(b".lock") and is_lock(path)
+
+
+def is_auxiliary(name: bytes) -> bool:
+    """Whether a file of this name may be known to hold no mail. One of another name never is."""
+    return EMPTY_AUXILIARY.fullmatch(name) is not None
+
+
+def is_lock(path: bytes) -> bool:
+    """Whether a file has one line, which is neither a From_ line nor of a header."""
+    with open_file(path, os.O_NOFOLLOW) as file:
+        text = read_up_to(file, LONGEST_LOCK + 1)
+    return len(text) <= LONGEST_LOCK and LINE_OF_LOCK.match(text) is not None

@@ -2,10 +2,16 @@
 
 from ..mbox.files import LONG
 
+# the lines within messages with right lengths that look like From_ lines, by a date or by what follows; all lines
+# `From ` within such messages; and those that may be text or may begin messages
+MAY_BE_MAIL = ("inside, dated", "inside, like mail")
+WITHIN = ("inside", *MAY_BE_MAIL)
+DOUBTFUL = (*MAY_BE_MAIL, "text", "odd", "doubtful")
 # what is said of the lines of a sort, in this order; {} stands for the number of another line
 SAID = [
     ("holds mail", "a From_ line with a CR, a NUL byte or more than %d bytes may contain mail" % LONG),
     ("inside, dated", "a From_ line with a date, but within the message of line {}, by its length"),
+    ("inside, like mail", "like a From_ line without a date, but within the message of line {}, by its length"),
     ("inside", "within the message of line {}, by its length"),
     ("wrong", "a Content-Length that does not lead to a From_ line"),
     ("text", "a line `From ` without a date at its end"),
@@ -24,7 +30,7 @@ SAID = [
 ]
 # the sorts because of which a text is not converted as it is, in the order in which they are to be looked at
 KEEPING = (
-    ("inside, dated", "odd", "doubtful", "joined"),
+    (*MAY_BE_MAIL, "odd", "doubtful", "joined"),
     ("inside", "text"),
     ("holds mail",),
     ("cut",),

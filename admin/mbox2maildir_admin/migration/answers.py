@@ -43,10 +43,10 @@ def answers_for(record: Record, opened: Opened) -> list[Entry]:
 
 
 def noted_last(record: Record, opened: Opened) -> Reading:
-    """What was decided last about a mailbox, but for its lines."""
+    """What was decided last about a mailbox, with its lines by their order among those that were doubtful."""
     several = answers_for(record, opened)
-    last = Reading.of_words(several[-1].plan) if several else UNDECIDED
-    return UNDECIDED if last == UNDECIDED else Reading(last.word, of=last.of, drop=last.drop, noted=True)
+    last = Reading.of_words(several[-1].plan).decided if several else UNDECIDED
+    return UNDECIDED if last == UNDECIDED else last._replace(noted=True)
 
 
 def answer_to(record: Record, opened: Opened, question: Question) -> Optional[Reading]:

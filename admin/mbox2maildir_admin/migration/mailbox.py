@@ -7,6 +7,7 @@ from typing import IO, Optional
 
 from ..faults import Fault, Left, Reason
 from ..jobs.parent import Parent
+from ..kinds.named import is_no_mail
 from ..ledger.ledger import Ledger
 from ..ledger.prepared import Prepared
 from ..ledger.prepared_lines import remove_list
@@ -19,7 +20,7 @@ from ..mbox.mailbox import Mailbox
 from ..mbox.snapshot import snapshot
 from ..nexts import Answer
 from ..program import Program
-from ..readings.plans import NoMail, NotKnown, OtherKind, Question, is_no_mail, read_begun
+from ..readings.plans import NoMail, NotKnown, OtherKind, Question, read_begun
 from ..readings.texts import choice_of, disk_of
 from ..readings.unnamed import unnamed
 from ..units import Say, silent

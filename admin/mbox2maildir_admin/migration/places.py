@@ -9,7 +9,7 @@ from typing import NamedTuple, Optional
 
 from .. import ADMIN
 from ..faults import Fault, Left, Reason, reason_of_fault, why_left
-from ..kinds.named import name_of_folder
+from ..kinds.named import is_no_mail, name_of_folder
 from ..ledger.history import History, Step
 from ..ledger.lines import number_in
 from ..ledger.record import Record, unspelled
@@ -20,7 +20,6 @@ from ..maildir.folders import COPY, INBOX, folder_named, folder_path, words_of
 from ..maildir.syncing import SyncOne
 from ..nexts import NOTHING, Answer, Command, Does, Next, Todo, in_shell, line_of, run_next, task
 from ..readings.copies import COMPRESSED
-from ..readings.plans import is_no_mail
 from ..readings.reading import UNDECIDED, Reading
 from ..readings.texts import is_mbox
 from ..terminal import named, operand, option

@@ -18,13 +18,13 @@ from ..kinds.folders import (
     next_of_mh,
 )
 from ..kinds.making import ASIDE
+from ..kinds.named import is_no_mail
 from ..kinds.profiles import Profiles
 from ..ledger.history import History, names_of
 from ..looks import is_folder, is_surely, is_there, may_be, real_path, state_at
 from ..maildir.folders import INBOX, LONGEST, folder_on_disk, folder_path, name_before
 from ..nexts import Remark, Todo, run_next, task
 from ..readings.copies import UNFINISHED
-from ..readings.plans import is_no_mail
 from ..terminal import is_text, named, operand, text_of
 from .outcomes import Fate, Row, row_left
 from .places import Pairs, Planned, recorded, settled

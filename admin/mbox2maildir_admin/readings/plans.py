@@ -1,8 +1,5 @@
 """Which part of a mailbox is converted, and how it is read: as is certain, or as a human decided."""
 import functools
-import os
-import re
-import stat
 from collections.abc import Callable, Sequence
 from dataclasses import dataclass, replace
 from typing import Optional
@@ -11,11 +8,11 @@ from ..faults import Fault, Left, Reason
 from ..kinds.look import Look, Read
 from ..kinds.making import Recipe, Where, beside
 from ..kinds.others import Holds
-from ..kinds.starts import FIELD
-from ..mbox.files import BLOCK, open_file, read_up_to
-from ..mbox.lines import Reasons, Said, lines_around
+from ..mbox.files import BLOCK
+from ..mbox.lines import Lines, Reasons, Said, cut, lines_around
 from ..mbox.mailbox import Mailbox
 from ..nexts import Quote, Remark
+from ..terminal import NAMED
 from ..units import Line, Offset
 from .asking import Choosable, with_meanings
 from .quoting import Counts, measured
@@ -23,16 +20,10 @@ from .reading import BY_LENGTHS, CR, CRLF, MBOXCL2, MBOXRD, PLAIN, UNDECIDED, UN
 from .remarks import deleted_kept, left_out, remarks_on, remarks_on_text
 from .verdict import DROP_DELETED, Verdict, is_against_lengths, is_answer, look_at, reading_of
 
-# the names of empty files that are not mailboxes: hidden ones, locks, indexes, and Dovecot's files beside its counter
-EMPTY_AUXILIARY = re.compile(rb"\..*|.*\.(?:lock|msf)|dovecot-uidvalidity\.[0-9a-f]{8}", re.DOTALL)
-# the most bytes of a line that a program writes into its lock: ASCII, such as its number, which Dovecot's host follows
-LONGEST_LOCK = 256
-LINE_OF_LOCK = re.compile(rb"(?:\d+:|(?!From |%s))[\t -~]*(?:\r?\n)?\Z" % FIELD.pattern)
-
-
 # why a file is left that holds this
 REASONS = {Holds.MAIL: Reason.UNCLEAR, Holds.OTHER: Reason.OTHER_KIND, Holds.UNKNOWN: Reason.NOT_KNOWN}
 ANOTHER_QUESTION = "what is asked about it has changed since this was answered"
+NEW_LINE = "it came since the others were decided, and may begin a message"
 NO_LENGTHS = Reasons([Said(Line(0), "its lines end in CR alone, so that no length in it is right")], 1)
 
 
@@ -100,29 +91,6 @@ class Question(Left):
         return found if found.of and found.of in answer.of.split(",") else None
 
 
-def is_no_mail(path: bytes) -> bool:
-    """Whether a file is known to hold no mail, by its name and its size, or as a lock of one line. A symbolic link is
-    not."""
-    state, name = os.lstat(path), os.path.basename(path)
-    if not stat.S_ISREG(state.st_mode) or state.st_size > LONGEST_LOCK:
-        return False
-    if state.st_size == 0:
-        return is_auxiliary(name)
-    return name.endswith(b".lock") and is_lock(path)
-
-
-def is_auxiliary(name: bytes) -> bool:
-    """Whether a file of this name may be known to hold no mail. One of another name never is."""
-    return EMPTY_AUXILIARY.fullmatch(name) is not None
-
-
-def is_lock(path: bytes) -> bool:
-    """Whether a file has one line, which is neither a From_ line nor of a header."""
-    with open_file(path, os.O_NOFOLLOW) as file:
-        text = read_up_to(file, LONGEST_LOCK + 1)
-    return len(text) <= LONGEST_LOCK and LINE_OF_LOCK.match(text) is not None
-
-
 def is_as_it_is(look: Look) -> bool:
     """Whether no copy of a text is made unless a later From_ line ends in CR LF: a message has no right length."""
     lacks_length = look.without or look.count("wrong")
@@ -132,17 +100,6 @@ def is_as_it_is(look: Look) -> bool:
 def read_begun(look: Look) -> Look:
     """Looks at as much of a text as shows its format."""
     return look.read(is_as_it_is)
-
-
-def read_enough(look: Look) -> Look:
-    """Looks at as much of a text as shows that no copy of it is made: at all of it if it has a CR, since a later From_
-    line may end in CR LF."""
-    return look.read() if has_cr(look.mailbox) else read_begun(look)
-
-
-def has_cr(text: Mailbox) -> bool:
-    """Whether a text has a CR."""
-    return any(b"\r" in text.at(offset, BLOCK) for offset in range(0, text.size, BLOCK))
 
 
 def plan_of(mailbox: Mailbox, read: Read = Look.read, decision: Reading = UNDECIDED) -> Plan:
@@ -157,16 +114,44 @@ def plan_of(mailbox: Mailbox, read: Read = Look.read, decision: Reading = UNDECI
     if verdict.recipe:
         raise left_as_other(verdict, mailbox.path)
     if decision.noted:
-        verdict = verdict.after(decision)
+        verdict = with_noted(mailbox, verdict, decision)
         decision = UNDECIDED if decision.of or verdict.answers or not decision.word else decision
     if decision.of:
         want_tied(mailbox, verdict, decision)
     plan = planned(mailbox, verdict, decision)
-    if not verdict.answers:
+    if not verdict.answers or decision == UNDECIDED:
         return plan
     order = {line: Line(number) for number, line in enumerate(verdict.doubtful(), 1)}
     answer = renumbered(decision.decided, order)._replace(of=verdict.tied(mailbox, UNDECIDED).of)
     return replace(plan, answer=answer)
+
+
+def with_noted(mailbox: Mailbox, verdict: Verdict, noted: Reading) -> Verdict:
+    """The verdict on a mailbox about which a human has decided before. The answer holds for the lines that it was
+    about, and a rule decides only about others, as far as it agrees. Raises Question if lines came since that nobody
+    has decided about: these are asked about alone."""
+    verdict, count = verdict.after(noted), verdict.answered(mailbox, noted)
+    if not verdict.answers:
+        return verdict
+    new = verdict.look.doubts.after(count) if verdict.look else []
+    agrees = noted.word in BY_LENGTHS if noted.of else noted.word != UNQUOTED
+    if verdict.reading and agrees and new:
+        word = noted.word if noted.word in BY_LENGTHS else verdict.reading.word
+        return replace(verdict, reading=verdict.reading._replace(word=word))
+    if count and noted.word and verdict.is_on_lines and 0 < len(new) <= Lines.MANY:
+        raise question_of_new(mailbox, verdict, noted, new)
+    return replace(verdict, reading=None)
+
+
+def question_of_new(
+    mailbox: Mailbox, verdict: Verdict, noted: Reading, new: Sequence[tuple[Line, Offset]]
+) -> "Question":
+    """What is asked about lines that came since a human decided about the others."""
+    said = [Said(line, NEW_LINE, cut(mailbox.from_line_at(offset))) for line, offset in new[:NAMED]]
+    before = renumbered(noted.decided, {Line(number): line for number, line in enumerate(verdict.doubtful(), 1)})
+    lines = frozenset(line for line, _ in new)
+    answers = before._replace(text=before.text | lines), before._replace(begin=before.begin | lines)
+    return question(mailbox, verdict, Reasons(said, len(new)), answers)
 
 
 def want_tied(mailbox: Mailbox, verdict: Verdict, decision: Reading) -> None:

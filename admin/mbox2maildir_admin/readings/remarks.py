@@ -16,14 +16,21 @@ def remarks_on(verdict: Verdict) -> list[Remark]:
         for count, line, its in zip(verdict.doubtful_quotes, (">>From", ">From", ">From"), (MBOXO, MBOXCL2, UNQUOTED))
         if count
     )
-    return remarks_on_text(verdict) + list(says) + remarks_on_kept(verdict)
+    return remarks_on_text(verdict) + list(says) + remarks_on_lengths(verdict) + remarks_on_kept(verdict)
+
+
+def remarks_on_lengths(verdict: Verdict) -> list[Remark]:
+    """What is to be said if lengths decide about lines, and not each message has one."""
+    count = verdict.look.count("inside") if verdict.look and verdict.is_by_rule else 0
+    says = "`From ` is text in %s, by lengths (--as mboxrd begins mail there)" % counted(count, "line")
+    return [Remark("by-lengths", says)] if count else []
 
 
 def remarks_on_kept(verdict: Verdict) -> list[Remark]:
-    """What is to be said if all lengths are right: when mutt and Dovecot copy mail out of a spool, they keep the `>`
-    that its delivery added, and give the length of that."""
-    look = verdict.look
-    kept = look.count("quoted, by length", "quoted twice") if look and look.have_lengths() else 0
+    """What is to be said if messages end by their lengths: mutt and Dovecot, which copy mail out of a spool, keep the
+    `>` that its delivery added, and give the length of that."""
+    is_kept = verdict.reading is not None and verdict.reading.word == MBOXCL2
+    kept = verdict.look.count("quoted, by length", "quoted twice") if verdict.look and is_kept else 0
     says = "`>From ` keeps its `>` in %s (--as mboxcl takes it away)" % counted(kept, "line")
     return [Remark("keeps-quote", says)] if kept else []
 

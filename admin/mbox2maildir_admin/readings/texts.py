@@ -24,7 +24,7 @@ from ..mbox.mailbox import Mailbox
 from ..mbox.messages import messages_of
 from ..program import Listing
 from ..units import Line, Offset, Say, silent
-from .plans import NoMail, NotKnown, OtherKind, Plan, Question, plan_of, read_enough
+from .plans import NoMail, NotKnown, OtherKind, Plan, Question, plan_of
 from .reading import UNDECIDED, Reading
 from .unnamed import bare_copy, quoted_copy
 
@@ -204,7 +204,7 @@ def open_text(
         mailbox = stack.enter_context(Mailbox.open(path, say))
         source = stack.enter_context(content_of(mailbox, where))
         try:
-            plan = recorded(mailbox, source) or plan_of(source, read_enough)
+            plan = recorded(mailbox, source) or plan_of(source)
             text = stack.enter_context(Choice(source, plan.bared(False)).text(where))
         except Left:
             text = Text(source, Offset(0))

@@ -8,6 +8,7 @@ from ..kinds.doubts import Doubts
 from ..kinds.look import Look, Read
 from ..kinds.making import Recipe
 from ..kinds.others import Holds, other_of
+from ..kinds.sorts import MAY_BE_MAIL, WITHIN
 from ..kinds.starts import HEAD, text_start
 from ..mbox.dates import is_dated
 from ..mbox.files import LineEnds
@@ -66,9 +67,18 @@ class Verdict:
         is_kept = bool(noted.of) and not noted.drop
         return replace(self, answers=tuple(sorted(answers, key=lambda one: bool(one.drop == is_kept))))
 
+    def answered(self, mailbox: Mailbox, noted: Reading) -> int:
+        """How many of the first lines that are doubtful have the tie of what was decided."""
+        return self.look.doubts.ties(mailbox, self.kind).first.get(noted.of, 0) if self.look else 0
+
     def doubtful(self) -> list[Line]:
         """The lines that may begin messages."""
         return self.look.doubts.numbers() if self.look else []
+
+    @property
+    def is_by_rule(self) -> bool:
+        """Whether a rule decides what a human would be asked about otherwise."""
+        return self.reading is not None and bool(self.answers)
 
     @property
     def is_on_lines(self) -> bool:
@@ -124,7 +134,7 @@ def verdict_on(look: Look) -> Verdict:
         look.most(),
         list(look.remarks()),
         look.start,
-        None if answers else reading_of(look),
+        None if answers and not look.shows_lengths() else reading_of(look),
         look.keeping(),
         answers,
         after_nulls=look.after_nulls,
@@ -136,14 +146,19 @@ def verdict_on(look: Look) -> Verdict:
 def reading_of(look: Look) -> Reading:
     """How a text is read about which nothing is doubtful: nothing is quoted in it if all lengths are right."""
     quoted = look.count("inside", "quoted, by length", "quoted twice")
-    word = MBOXCL2 if look.have_lengths() and quoted else MBOXRD
+    word = MBOXCL2 if ends_by_lengths(look) and quoted else MBOXRD
     return Reading(word, ends=CRLF * bool(look.count("CR LF")))
+
+
+def ends_by_lengths(look: Look) -> bool:
+    """Whether messages end by their lengths: all of them are right, or a rule takes them for that."""
+    return look.have_lengths() or look.shows_lengths()
 
 
 def doubtful_quotes(look: Look) -> tuple[int, int, int]:
     """How many lines lose a `>` of the mail's own if this is mboxo, if messages end by their lengths, and if git wrote
     patches without quoting, as it does by default."""
-    if look.have_lengths():
+    if ends_by_lengths(look):
         return 0, 0, 0
     return look.count("quoted twice"), look.count("quoted, by length"), look.count("quoted") * (look.count("git") > 0)
 
@@ -155,9 +170,9 @@ def kind_of(look: Look) -> str:
         return "lengths that lead over dated From_ lines"
     if look.have_lengths():
         return MBOXCL2
-    if count("inside") and not count("wrong", "text"):
+    if count(*WITHIN) and not count("wrong", "text"):
         return "mboxcl2 in part"
-    if count("inside", "text") and not count("odd") and not (count("git") and not count("wrong")):
+    if count(*WITHIN, "text") and not count("odd") and not (count("git") and not count("wrong")):
         return "mboxcl2, with wrong lengths" if count("wrong") else NOT_QUOTED
     if not look.messages:
         return "empty"
@@ -188,8 +203,10 @@ def doubts_of(look: Look) -> tuple[Reading, ...]:
     mail, messages = as_mail(look), as_messages(look)
     if count(*DOUBTS, "joined"):
         return (mail, messages) if mail != messages else (mail,)
-    if count("inside, dated") or count("inside") and not look.have_lengths() and not count("wrong", "text"):
-        return Reading(MBOXCL2, frozenset(look.numbers("text") or ())), PLAIN
+    if count(*MAY_BE_MAIL):
+        return Reading(MBOXCL2, frozenset(look.numbers("text") or ())), messages
+    if count("inside") and not look.have_lengths() and not count("wrong", "text"):
+        return Reading(MBOXCL2), PLAIN
     if count("inside", "text") and not look.have_lengths():
         return mail, PLAIN
     if count("holds mail"):
@@ -206,7 +223,7 @@ def is_answer(look: Look, word: str) -> bool:
     if not doubts:
         return True
     if word in BY_LENGTHS:
-        return look.count("inside", "inside, dated") > 0 and not look.count("text", *DOUBTS)
+        return look.count(*WITHIN) > 0 and not look.count("text", *DOUBTS)
     if word == UNQUOTED and kind_of(look) == NOT_QUOTED:
         return True
     return Reading(UNQUOTED if word == UNQUOTED else MBOXRD) in doubts
@@ -222,13 +239,13 @@ def is_against_lengths(look: Look, decision: Reading) -> bool:
 def as_mail(look: Look) -> Reading:
     """The decision that all lines which may be mail are mail: by their dates, or by their numbers."""
     count = look.count
-    if not count("inside", "inside, dated", "text", *DOUBTS):
+    if not count(*WITHIN, "text", *DOUBTS):
         return PLAIN
-    everything = count("inside", "wrong", "git", "text after a blank line")
+    everything = count("inside", "inside, like mail", "wrong", "git", "text after a blank line")
     if count("dated") and not count("undated", "odd", "inside, dated"):
         if everything or not count("quoted", "quoted twice"):
             return Reading(UNQUOTED)
-    return by_lines(look, "inside", "inside, dated", "text", *DOUBTS)
+    return by_lines(look, *WITHIN, "text", *DOUBTS)
 
 
 def as_messages(look: Look) -> Reading:

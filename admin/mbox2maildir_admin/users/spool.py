@@ -9,6 +9,7 @@ from typing import AbstractSet, NamedTuple, Optional
 from .. import ADMIN
 from ..faults import Fault, Left, Reason
 from ..jobs.count import MOST, jobs_of, share_of
+from ..kinds.named import is_auxiliary, is_no_mail
 from ..maildir.folders import folder_path, on_disk
 from ..migration.outcomes import Fate, Observer, Row, row_left
 from ..migration.servers import locations
@@ -16,7 +17,6 @@ from ..migration.steps import Options
 from ..nexts import run_next
 from ..program import find_program
 from ..readings.copies import stem_of
-from ..readings.plans import is_auxiliary, is_no_mail
 from ..terminal import named, operand, shown
 from .accounts import Accounts, first_uid, home_of, is_users, own_name, size_of_mailbox, want_entered, want_user
 from .asked import ACCOUNTS, SPOOL, Sources, Tally

@@ -46,7 +46,6 @@ LONGER = {
     "migration.several": 319,
     "migration.steps": 320,
     "migration.transfer": 386,
-    "readings.plans": 305,
     "users.children": 301,
 }
 MORE = {"back": 17, "commands": 19, "migration": 25}

@@ -16,8 +16,9 @@ from tests.support.mail import A, B, ONE, TWO, with_length
 from tests.support.migrating import Cut, HomeTest, Killed
 from tests.support.nexts import told
 
-# a message by its length, in which a line may begin another one; and new mail, in which one may
-MEASURED = with_length(A, b"hello\nFrom here on.\n") + b"\n"
+# a message by its length, in which a line may begin another one, since a program may have escaped the next line; and
+# new mail, in which one may
+MEASURED = with_length(A, b"hello\nFrom here on.\n>From me.\n") + b"\n"
 NEW = B + b"\nyes\n\n"
 DOUBTFUL = B + b"\nyes\nFrom there on.\n\n"
 # messages without dates, of which nobody is sure once another one has a date
@@ -83,9 +84,9 @@ class ShownTest(HomeTest):
     def test_what_would_be_there_by_each_answer(self) -> None:
         """What ends or begins at the line was brought too, by itself. If that is gone, a human must say what is
         there."""
-        both = with_length(A, b"hello\nFrom x\nS: y\n\nyes\n") + b"\n"
+        both = with_length(A, b"hello\nFrom x\n\nyes\n>From y\n") + b"\n"
         above = with_length(A, b"hello\n") + b"\n"
-        below = with_length(B.split(b"\n", 1)[0] + b"\nS: y\n", b"yes\n") + b"\n"
+        below = with_length(B.split(b"\n", 1)[0] + b"\n", b"yes\n>From y\n") + b"\n"
         for others in (below, above + below):
             for after, fate in ((both + others + NEW, Fate.DONE), (both + NEW, Fate.LEFT)):
                 self.grown(both + others, after)

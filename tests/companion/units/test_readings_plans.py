@@ -6,10 +6,11 @@ from dataclasses import replace
 from pathlib import Path
 
 from mbox2maildir_admin.faults import Left
+from mbox2maildir_admin.kinds.named import is_no_mail
 from mbox2maildir_admin.mbox.digest import Digest
 from mbox2maildir_admin.mbox.files import LONG
 from mbox2maildir_admin.nexts import Does, Remark
-from mbox2maildir_admin.readings.plans import NoMail, NotKnown, OtherKind, Plan, Question, is_no_mail, plan_of
+from mbox2maildir_admin.readings.plans import NoMail, NotKnown, OtherKind, Plan, Question, plan_of
 from mbox2maildir_admin.readings.reading import UNDECIDED, Reading
 from mbox2maildir_admin.readings.remarks import NO_END, left_out
 from mbox2maildir_admin.readings.texts import choice_of
@@ -168,7 +169,7 @@ class PlanTest(unittest.TestCase):
         for text, wanted in (
             (NOT_QUOTED, [("--as unquoted", 1), ("--as mboxrd", 2)]),
             (part, [("--as unquoted", 2), ("--as mboxrd", 4)]),
-            (over, [("--as mboxcl2 --text 15", 2), ("--as mboxrd", 4)]),
+            (over, [("--as mboxcl2 --text 15", 2), ("--as mboxrd --text 15", 3)]),
         ):
             for decision in (Reading(word, alone=alone) for word in ("mboxcl2", "mboxcl") for alone in (False, True)):
                 with self.assertRaises(Question) as raised:

@@ -13,7 +13,7 @@ from tests.support.nexts import told
 
 # a mailbox of which no folder can have the name, and the text of one that has several answers
 LONG = "y" * 200 + "/" + "x" * 200
-PART = with_length(A, MAY) + b"\n" + B + b"\n"
+PART = with_length(A, MAY + b">From a\n") + b"\n" + B + b"\n"
 
 
 class OptionsTest(HomeTest):

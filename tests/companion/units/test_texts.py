@@ -1,22 +1,20 @@
 """The reader of texts: its parts, its messages, and the descriptor that it reads by."""
 import gzip
 import hashlib
-import itertools
 import os
 import unittest
 from functools import partial
 from typing import Optional
 from unittest import mock
 
-from mbox2maildir_admin.faults import Fault, Left
-from mbox2maildir_admin.kinds.look import Look, Read
+from mbox2maildir_admin.faults import Fault
 from mbox2maildir_admin.maildir.space import trial_folder
 from mbox2maildir_admin.mbox import parts
 from mbox2maildir_admin.mbox.files import LineEnds, Reader
 from mbox2maildir_admin.mbox.mailbox import Mailbox
 from mbox2maildir_admin.mbox.messages import messages_of
 from mbox2maildir_admin.mbox.parts import FROM_LINE, MARK, TEXT, Part, from_lines_of, parts_of
-from mbox2maildir_admin.readings.plans import Plan, plan_of, read_enough
+from mbox2maildir_admin.readings.plans import Plan
 from mbox2maildir_admin.readings.reading import Reading
 from mbox2maildir_admin.readings.texts import Choice, Text, after_internal, disk_of, is_mbox, open_text
 from mbox2maildir_admin.units import Line, Offset
@@ -107,29 +105,6 @@ class OpenTextTest(FolderTest):
     PLAIN, WRONG = A + b"\nhello\n\n", A + b"Content-Length: 99999\n\nhello\n\n"
     RIGHT, INSIDE = A + b"Content-Length: 6\n\nhello\n\n", A + b"Content-Length: 15\n\nFrom here then\n\n"
     CRLF = PLAIN.replace(b"\n", b"\r\n")
-
-    def test_a_beginning_tells_what_the_whole_does(self) -> None:
-        def copied(path: bytes, read: Read = Look.read) -> Optional[Reading]:
-            with Mailbox.open(path) as handle:
-                try:
-                    plan = plan_of(handle, read)
-                    return plan.reading if plan.is_copied else None
-                except Left:
-                    return None
-
-        pieces = self.PLAIN, self.WRONG, self.RIGHT, self.INSIDE, self.CRLF, B
-        texts = [b"".join(some) for count in (1, 2, 3) for some in itertools.product(pieces, repeat=count)]
-        for text in texts + [b"\n" + text for text in texts[:6]]:
-            path = self.write("box", text)
-            self.assertEqual(copied(path, read_enough), copied(path), text)
-
-    def test_a_plain_text_is_not_looked_at_twice(self) -> None:
-        """A CR anywhere in it may be that of a From_ line."""
-        for end, is_whole in ((b"x\n", False), (b"x\r\n", True)):
-            text = self.PLAIN + b"x" * (4 << 20) + end
-            with Mailbox.open(self.write("box", text)) as handle:
-                plan_of(handle, read_enough)
-                self.assertEqual(handle.file.offset > 1 << 20, is_whole)
 
     def test_what_is_read(self) -> None:
         for text, wanted, start in (
