@@ -5,6 +5,7 @@ import time
 from collections.abc import Callable, Iterator, Sequence
 
 from tests.support.copies import Copies
+from tests.support.homes import install
 from tests.support.rewriting.letters import KINDS, Letter
 from tests.support.rewriting.rewriters import by_dovecot, deleted_by_dovecot, numbered, saved_by_dovecot
 from tests.support.rewriting.runs import commands_of
@@ -62,10 +63,7 @@ class Story:
         """A run was killed when this many of its messages were there."""
         programs = self.trial.home.parent / f"stops-after-{count}"
         if not programs.exists():
-            programs.mkdir()
-            for name in os.listdir(self.trial.place.programs):
-                os.symlink(self.trial.place.programs / name, programs / name)
-            (programs / PROGRAM).unlink()
+            install(programs)
             (programs / PROGRAM).write_text(STOPS % (str(self.trial.place.programs / PROGRAM), count), encoding="utf-8")
             (programs / PROGRAM).chmod(0o755)
         ran = Copies(self.trial.home, programs, OWNER, TZ="UTC").run(
