@@ -71,13 +71,6 @@ def want_row(command: str, home: Path, verdict: str, count: int) -> Row:
     return ran.row
 
 
-def wrong_words(words: list[str], says: str, home: Path) -> None:
-    """Words that do not go together are refused with this line."""
-    status, out, err = run(["migrate", "--all", *words], home)
-    equal(f"{words}", (status, out), (2, ""))
-    matches(f"{words}: what is said", err.splitlines()[0], f"mbox2maildir-admin: {says}")
-
-
 def of_ones_own(home: Path) -> None:
     """Each answer gives the messages that were said of it. After it the mailbox is done and verified."""
     for name, (text, wanted) in TEXTS.items():
@@ -114,8 +107,7 @@ def of_dry_runs(home: Path) -> None:
 
 
 def of_several(home: Path) -> None:
-    """A word decides only about those of several mailboxes that don't contradict it. Lines are named for one
-    mailbox."""
+    """A word decides only about those of several mailboxes that don't contradict it."""
     quoted = A + b"\n>From x\n>>From y\n\n"
     for name, text in (("tree/quoted", quoted), ("tree/part", PART), ("tree/cl2", with_length(A, MAY)), ("one", ONE)):
         mailbox(home / name, text)
@@ -143,22 +135,6 @@ def of_several(home: Path) -> None:
     expect(["migrate", "--all", "M", "tree", "one"], home, 0, "4 mailboxes: 4 done before\n")
     body = next(mail_in(home / "M/.quoted")).read_bytes()
     equal("mboxo keeps what has two", body, quoted.split(b"\n", 1)[1][:-1].replace(b"\n>From", b"\nFrom"))
-
-    for words, says in (
-        (
-            ["--as", "mboxo", "--text", "6", "N", "odd"],
-            "--text and --begin need --as and --of, as they are ...",
-        ),
-        (
-            ["--as", "mboxo", "--text", "6", "--of", "1-a", "N", "odd", "one"],
-            "--text and --begin need exactly one MAILBOX, ...",
-        ),
-        (
-            ["--as", "mboxo", "--text", "6", "--of", "1-a", "N", "tree"],
-            "--text and --begin need exactly one MAILBOX, ...",
-        ),
-    ):
-        wrong_words(words, says, home)
 
 
 NEW = B + b"\nhello\n\n"
@@ -477,8 +453,6 @@ def of_users(home: Path) -> None:
         status, out, _ = run(words, home)
         rows = [f"{name} -> INBOX: mboxcl2 by --as, messages 2: done" for name in (first, second)]
         equal("--users --as", (status, sorted(out.splitlines()[:-1])), (0, sorted(rows)))
-        says = "--drop-deleted needs --of to go with --users"
-        wrong_words(["--users", "--drop-deleted", "more/spool"], says, home)
 
 
 if __name__ == "__main__":

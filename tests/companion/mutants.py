@@ -36,16 +36,32 @@ COPIED = ("admin", "docs", "examples", "packaging", "tests", "CONTRIBUTING.md", 
 # mistake
 SLOW = ["test_dovecot_files", "test_copies", "test_texts", "test_signals", "test_progress"]
 LAYOUT = ["test_house"]
-FIRST = ["verifier", "migrate", "cut", "otherwise", "trees", "undo", "words", "kinds", "other_kinds", "dovecot"]
-OTHERS = {path.stem for path in LIST.parent.glob("[a-z]*.py")} - {"mutants", *FIRST}
-# the tests that run the companion as a command: those that see most come first, and then each other one of the folder
+FIRST = [
+    "verifier",
+    "migrate",
+    "cut",
+    "otherwise",
+    "trees",
+    "undo",
+    "verify",
+    "dates",
+    "kinds",
+    "other_kinds",
+    "dovecot",
+]
+# the tests that run the companion as a command, by their folders
+FOLDERS = {
+    path.stem: folder for folder in ("companion", "tables") for path in (TOP / "tests" / folder).glob("[a-z]*.py")
+}
+OTHERS = {*FOLDERS} - {"mutants", *FIRST}
+# those that see most come first, and then each other one
 COMMANDS = [*FIRST, *sorted(OTHERS)]
 # the tests that come before the others, by a part of the module's path
 NEAR = {
     "kinds": ["kinds", "other_kinds"],
     "dovecot": ["dovecot"],
     "users": ["spool"],
-    "commands": ["words"],
+    "commands": ["errors", "verify"],
     "jobs": ["jobs"],
     "flags": ["client_flags"],
     "readings": ["decisions"],
@@ -187,7 +203,7 @@ class Copy:
     def case_that_fails(self, test: str) -> Optional[str]:
         """A test of commands, or a case of it, if it fails."""
         name, _, case = test.partition(":")
-        status, said = self.run([f"tests.companion.{name}", *filter(None, [case])])
+        status, said = self.run([f"tests.{FOLDERS[name]}.{name}", *filter(None, [case])])
         found = re.search(r"^failed (\S+)", said, re.MULTILINE)
         return None if not status else found[1] if found else f"{test}: status {status}"
 

@@ -50,8 +50,8 @@ def wrong_companion() -> Iterator[str]:
         yield from said_by(partial(mutant.find, places))
         yield from said_of_text(mutant)
         test = mutant.seen.partition(":")[0]
-        folder = "companion/units" if test.startswith("test_") else "companion"
-        if test and not (TOP / "tests" / folder / f"{test}.py").is_file():
+        is_unit = (TOP / companion.UNITS / f"{test}.py").is_file()
+        if test and not is_unit and test not in companion.FOLDERS:
             yield f"no test: {test}"
 
 

@@ -83,7 +83,7 @@ cases modes words
 def planted(tests: dict[str, str]) -> Iterator[Path]:
     """A folder with tests/run, and these tests alone."""
     with fresh_folder() as top:
-        for folder in ("pages", "companion/units", "program", "world"):
+        for folder in ("pages", "companion/units", "program", "tables", "world"):
             (top / "tests" / folder).mkdir(parents=True)
         shutil.copy(str(TOP / "tests/run"), str(top / "tests"))
         (top / "tests/support").symlink_to(TOP / "tests/support")

@@ -1,4 +1,4 @@
-"""Dates of From_ lines and headers. More forms, and the files that get them, are in tests/companion/words.py."""
+"""Dates of From_ lines and headers. More forms, and the files that get them, are in tests/tables/dates.py."""
 import os
 import time
 import unittest

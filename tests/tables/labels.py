@@ -345,28 +345,6 @@ def the_command_for_an_archive_leads_to_its_mailbox(home: Path) -> None:
         shutil.rmtree(home / "M")
 
 
-def words_that_do_not_go_together(home: Path) -> None:
-    """They are refused before anything is made."""
-    takeout(home)
-    (home / "tree").mkdir()
-    for words, says in (
-        (["--label", "x=none", "M", "t.mbox"], "--label needs --labels"),
-        (
-            ["--labels", "--label", "x", "M", "t.mbox"],
-            "--label x: it takes NAME=WHAT, and WHAT is one of none, folder, read, unread, starred",
-        ),
-        (
-            ["--labels", "--folder", "x", "M", "t.mbox"],
-            "--labels does not go with --folder and --dovecot",
-        ),
-        (["--labels", "M", "tree"], "--labels needs a MAILBOX that is a file"),
-        (["--labels=two", "M", "t.mbox"], "..."),
-    ):
-        status, out, err = run(["migrate", "--all", *words], home)
-        equal(f"{words}", (status, out), (2, ""))
-        matches(f"{words}", err.splitlines()[0], f"mbox2maildir-admin: {says}")
-
-
 if __name__ == "__main__":
     check_all(
         each_label_is_a_folder,
@@ -380,5 +358,4 @@ if __name__ == "__main__":
         the_record_knows_the_folders,
         room_is_counted_first,
         the_command_for_an_archive_leads_to_its_mailbox,
-        words_that_do_not_go_together,
     )

@@ -2,6 +2,7 @@
 import gzip
 import json
 import os
+import shlex
 import signal
 import sys
 from pathlib import Path
@@ -15,39 +16,60 @@ from tests.support.running import Desk
 # a line that may begin a message, which only a human can decide
 UNCLEAR = ONE + b"From Tuesday on we are here\n\nbye\n\n"
 
-
 # what stands before a command
 RUN = "    run this next:\n        "
 HELP = "mbox2maildir-admin: run this next: mbox2maildir-admin {}--help\n".format
-# the words of a command, what it prints of the error, and what is to be done next: a command, a task, or nothing. Each
-# says what happened, to what, and why
+COMMANDS = "kind", "quote", "dates", "migrate", "verify", "back", "explain"
+TIED, ONE_FILE = "--text and --begin need --as and --of, ...", "--text and --begin need exactly one MAILBOX, ..."
+# words that are wrong, or do not go together, and what is said of them; the help of the command is next
+REFUSED = [
+    ("", "the command is missing: kind, quote, dates, migrate, verify, back, explain"),
+    ("help", "help: no such command"),
+    ("frobnicate", "frobnicate: no such command"),
+    ("migrat M box", "migrat: no such command: did you mean migrate?"),
+    ("-V", "-V: no such option"),
+    ("kind", "FILE is missing"),
+    ("kind ''", "'': FILE is empty"),
+    ("verify M", "FILE is missing"),
+    ("verify '' box", "'': MAILDIR is empty"),
+    ("dates M", "FILE is missing"),
+    ("dates '' box", "'': MAILDIR is empty"),
+    ("quote box", "-o COPY is missing: the name of the copy, or - for standard output"),
+    ("quote -o copy ''", "'': FILE is empty"),
+    ("quote -o copy box two", "two: it takes only one FILE"),
+    ("quote --as mbox -o copy box", "--as mbox: no such word: it takes mboxrd, ..."),
+    ("quote --as mboxo --text x --of 9-a -o copy box", "..."),
+    ("quote --text 7 --of 9-a -o copy box", "..."),
+    ("migrate", "MAILDIR and MAILBOX are missing"),
+    ("migrate M", "MAILBOX is missing"),
+    ("migrate '' box", "'': MAILDIR is empty"),
+    ("migrate M box ''", "'': MAILBOX is empty"),
+    ("migrate --users", "OLD is missing"),
+    ("migrate --users ''", "'': OLD is empty"),
+    ("migrate --dry M box", "--dry: no such option: did you mean --dry-run?"),
+    ("migrate M box --json=x", "--json=x: --json takes no value"),
+    ("migrate M box --folder", "--folder: its NAME is missing; if that begins ..., write --folder=NAME"),
+    ("migrate M box --jobs x", "--jobs x: it takes a number from 1 on"),
+    ("migrate M box --as mbox", "--as mbox: no such word: it takes mboxrd, ..."),
+    ("migrate M box --folder a//b", "--folder a//b: a part of the name is empty: put `/` only between ..."),
+    ("migrate M box --tree mail", "--maildir, --tree and --names need --users"),
+    ("migrate --undo M old", "--undo needs exactly one MAILBOX, which is a file"),
+    ("migrate --as mboxo --text 6 M box", TIED),
+    ("migrate --as mboxo --text 6 --of 1-a M box two", ONE_FILE),
+    ("migrate --as mboxo --text 6 --of 1-a M old", ONE_FILE),
+    ("migrate --users --drop-deleted old", "--drop-deleted needs --of to go with --users"),
+    ("migrate --label x=none M box", "--label needs --labels"),
+    (
+        "migrate --labels --label x M box",
+        "--label x: it takes NAME=WHAT, and WHAT is one of none, folder, read, unread, starred",
+    ),
+    ("migrate --labels --folder x M box", "--labels does not go with --folder and --dovecot"),
+    ("migrate --labels M old", "--labels needs a MAILBOX that is a file"),
+    ("migrate --labels=two M box", "..."),
+]
+# what a command says of what is there, and what is to be done next: a command, a task, or nothing. Each says what
+# happened, to what, and why
 ERRORS = [
-    ("", "the command is missing: kind, quote, dates, migrate, verify, back, explain", HELP("")),
-    ("help", "help: no such command", HELP("")),
-    ("migrat M box", "migrat: no such command: did you mean migrate?", HELP("")),
-    ("-V", "-V: no such option", HELP("")),
-    ("kind", "FILE is missing", HELP("kind ")),
-    ("migrate", "MAILDIR and MAILBOX are missing", HELP("migrate ")),
-    ("migrate M", "MAILBOX is missing", HELP("migrate ")),
-    ("migrate --users", "OLD is missing", HELP("migrate ")),
-    ("migrate --dry M box", "--dry: no such option: did you mean --dry-run?", HELP("migrate ")),
-    ("migrate M box --json=x", "--json=x: --json takes no value", HELP("migrate ")),
-    (
-        "migrate M box --folder",
-        "--folder: its NAME is missing; if that begins ..., write --folder=NAME",
-        HELP("migrate "),
-    ),
-    ("migrate M box --jobs x", "--jobs x: it takes a number from 1 on", HELP("migrate ")),
-    ("migrate M box --as mbox", "--as mbox: no such word: it takes mboxrd, ...", HELP("migrate ")),
-    (
-        "migrate M box --folder a//b",
-        "--folder a//b: a part of the name is empty: put `/` only between ...",
-        HELP("migrate "),
-    ),
-    ("migrate M box --tree mail", "--maildir, --tree and --names need --users", HELP("migrate ")),
-    ("migrate --undo M old", "--undo needs exactly one MAILBOX, which is a file", HELP("migrate ")),
-    ("quote box", "-o COPY is missing: the name of the copy, or - for standard output", HELP("quote ")),
-    ("quote -o copy box two", "two: it takes only one FILE", HELP("quote ")),
     ("kind mistyped", "mistyped: No such file or directory", RUN + "ls .\n"),
     ("kind old/mistyped", "old/mistyped: No such file or directory", RUN + "ls old\n"),
     ("kind box/x", "box/x: Not a directory", RUN + "ls .\n"),
@@ -97,34 +119,24 @@ def words_and_files(home: Path) -> None:
     for name in ("empty", "There/cur", "There/new", "There/tmp"):
         (home / name).mkdir(parents=True)
     os.mkfifo(home / "pipe")
+    there = sorted(home.iterdir())
+    for line, says in REFUSED:
+        command = line.split(" ", 1)[0]
+        expect(
+            shlex.split(line) or [str(ADMIN)],
+            home,
+            2,
+            "",
+            f"mbox2maildir-admin: {says}\n{HELP(f'{command} ' * (command in COMMANDS))}",
+        )
     for line, says, then in ERRORS:
-        words = line.split()
-        status, out, err = run(words or [str(ADMIN)], home)
-        equal(f"{line}: status and output", (status, out), (2 if "--help" in then else 1, ""))
-        matches(f"{line}: errors", err, f"mbox2maildir-admin: {says}\n{then.format(home=home)}")
+        expect(line.split(), home, 1, "", f"mbox2maildir-admin: {says}\n{then.format(home=home)}")
+    equal("what is there", sorted(home.iterdir()), there)
     for line, says in (
         ("migrate --now M mistyped", "mistyped -> INBOX: left (missing): No such file or directory\n" + RUN + "ls .\n"),
         ("migrate --now M old/x", "old/x -> INBOX: left (missing): No such file or directory\n" + RUN + "ls old\n"),
     ):
         expect(line.split(), home, 1, says + "1 mailbox: 1 left\n")
-
-
-def empty_operands(home: Path) -> None:
-    """A variable that is not set names nothing."""
-    mailbox(home / "box", ONE)
-    for command, words, name in (
-        ("migrate", ["", "box"], "MAILDIR"),
-        ("migrate", ["M", "box", ""], "MAILBOX"),
-        ("migrate", ["--users", ""], "OLD"),
-        ("verify", ["", "box"], "MAILDIR"),
-        ("dates", ["", "box"], "MAILDIR"),
-        ("kind", [""], "FILE"),
-        ("quote", ["-o", "copy", ""], "FILE"),
-    ):
-        status, out, err = run([command, *words], home)
-        equal(f"{command} {words}: status and output", (status, out), (2, ""))
-        matches(f"{command} {words}: errors", err, f"mbox2maildir-admin: '': {name} is empty\n{HELP(command + ' ')}")
-    equal("what is there", sorted(path.name for path in home.iterdir() if path.name != "bin"), ["box"])
 
 
 def interrupted_while_it_waits(home: Path) -> None:
@@ -255,7 +267,6 @@ def on_an_older_python(home: Path) -> None:
 if __name__ == "__main__":
     check_all(
         words_and_files,
-        empty_operands,
         interrupted_while_it_waits,
         no_maildir_without_a_mailbox,
         a_maildir_with_a_mailbox,

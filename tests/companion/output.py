@@ -1,0 +1,77 @@
+"""Outputs that fail, and which modules a run loads."""
+import re
+import subprocess
+from collections.abc import Sequence
+from pathlib import Path
+
+from tests.support.checks import equal
+from tests.support.homes import ADMIN, check_all, mailbox
+from tests.support.mail import A, ONE
+
+COMMANDS = "kind", "quote", "dates", "migrate", "verify", "back"
+
+
+def output_fails(home: Path) -> None:
+    """A reader that goes away, a full output, and a closed one: at most one line, and status 1."""
+    (home / "box").write_bytes(A + b"\n")
+    mailbox(home / "old/box", ONE)
+    for words in (["kind", *["box"] * 3000], ["quote", "-o", "-", "box"], ["--help"]):
+        for to, says in (
+            ("| true", None),
+            (">/dev/full", "mbox2maildir-admin: the output could not be written: No space left on device\n"),
+            (">&-", None),
+        ):
+            ran = subprocess.run(
+                ["bash", "-c", f'set -o pipefail; "$@" {to}', "bash", ADMIN, *words],
+                cwd=home,
+                capture_output=True,
+                text=True,
+                check=False,
+            )
+            for trace in ("Traceback", "Exception", "\n."):
+                assert not re.search(trace, ran.stderr), f"{words[:2]} {to}: {ran.stderr}"
+            if to == ">&-":
+                equal(f"{words[:2]} {to}: status", ran.returncode, 1)
+            if says and words != ["--help"]:
+                equal(f"{words[:2]} {to}", (ran.returncode, ran.stderr), (1, says))
+    for to, status in (("2>&-", 1), ("2>/dev/full", 1), (">&- 2>&-", 1), (">/dev/full 2>/dev/full", 1), ("<&-", 1)):
+        silent = subprocess.run(
+            ["sh", "-c", f'"$@" {to}', "sh", ADMIN, "kind", "box", "none"], cwd=home, capture_output=True, check=False
+        )
+        equal(f"kind {to}: status", silent.returncode, status)
+
+
+def loaded(words: Sequence[str], home: Path) -> set[str]:
+    """The modules that a run loads: those of the library, and those of the package without its name."""
+    alone = ["python3", "-I", "-S", "-B", "-v", str(home / "bin" / ADMIN.name)]
+    ran = subprocess.run([*alone, *words], cwd=home, check=True, stdout=subprocess.PIPE, stderr=subprocess.PIPE)
+    found = re.findall(r"(?m)^import '(\S+)' #", ran.stderr.decode())
+    return {name.partition("mbox2maildir_admin.")[2] or name for name in found}
+
+
+def modules(home: Path) -> None:
+    """A help loads no room, and a run of a command only what it needs: most of a short run is spent on that."""
+    light = {"commands.command_line", "commands.words", "commands.deciding", "commands.of_users"}
+    light |= {"labels.choosing", "readings.reading"}
+    rooms = {path.parent.name for path in (ADMIN.parent / "mbox2maildir_admin").glob("*/__init__.py")}
+    for word in ("", *COMMANDS):
+        found = loaded([*word.split(), "--help"], home)
+        equal(f"{word} --help: rooms", {name for name in found if name.split(".")[0] in rooms and "." in name}, light)
+    mailbox(home / "box", ONE)
+    slow = {"concurrent", "difflib", "email", "multiprocessing", "pathlib", "tempfile", "urllib", "zipfile"}
+    slow |= {"jobs.workers", "takeouts", "undoing", "users.spool"}
+    for words, others in (
+        (["kind", "box"], {"commands.migrate", "migration.mailbox"}),
+        (
+            ["migrate", "--all", "--now", "M", "box"],
+            {"commands.kind", "commands.objects", "flags.gmail", "readings.streams"},
+        ),
+        (["verify", "M", "box"], {"commands.kind", "commands.migrate", "migration.mailbox"}),
+    ):
+        found = loaded(words, home)
+        equal(f"{words}: the command", f"commands.{words[0]}" in found, True)
+        equal(f"{words}: modules that only others need", found & (slow | others), set())
+
+
+if __name__ == "__main__":
+    check_all(output_fails, modules)

@@ -1,0 +1,220 @@
+"""What `verify` says of a Maildir: what other programs and people do to it, files of another owner, and faults."""
+import os
+import random
+import subprocess
+import threading
+from collections.abc import Callable
+from pathlib import Path
+
+from tests.support.checks import equal
+from tests.support.homes import ADMIN, check_all, expect, mailbox, run, want_root
+from tests.support.mail import A, ONE
+
+
+def closed_files(home: Path) -> None:
+    """What can't be read is reported, and the rest goes on."""
+    want_root()
+    for path in ("old/a/box", "old/closed/x", "old/open"):
+        mailbox(home / path, ONE)
+    (home / "old/closed").chmod(0)
+    (home / "old/a/box").chmod(0)
+    ran = subprocess.run(
+        ["setpriv", "--reuid=65534", "--regid=65534", "--clear-groups", home / "bin" / ADMIN.name, "kind", "old"],
+        cwd=home,
+        capture_output=True,
+        text=True,
+        check=False,
+    )
+    equal("closed files", (ran.returncode, ran.stdout.split(":")[0]), (1, "old/open"))
+    for line in (
+        "mbox2maildir-admin: old/closed: left out: Permission denied\n",
+        "mbox2maildir-admin: old/a/box: Permission denied\n",
+    ):
+        assert line in ran.stderr, f"not printed: {line}but: {ran.stderr}"
+
+
+def ten_messages(home: Path) -> tuple[list[str], list[str], Callable[..., str]]:
+    """A mailbox of ten messages, some of them equal, and its Maildir. Returns texts, bases, and how `verify` counts
+    them."""
+    texts = [f"Subject: {number}\n\n{number}\n" for number in range(7)] + ["Subject: 0\n\n0\n", "same\n", "same\n"]
+    (home / "box").write_text("".join(f"From a@b Mon Mar  3 09:12:44 2025\n{text}\n" for text in texts))
+    run(["mbox2maildir", "convert", "M", "box"], home)
+    bases = [line.split()[1] for line in run(["mbox2maildir", "list", "box"], home)[1].splitlines()]
+    equal("the base of a second message", bases[7], f"{bases[0][:64]}.2")
+    counts = (
+        f"box: messages 10, bytes {sum(map(len, texts))}, there {{}}, under another name {{}}, other bytes {{}}, "
+        "nowhere {}, doubles 0\n"
+    ).format
+    return texts, bases, counts
+
+
+def verified(home: Path) -> None:
+    """What other programs and people do to a Maildir is reported message by message."""
+    _, bases, counts = ten_messages(home)
+
+    def move(number: int, name: str) -> None:
+        os.rename(home / "M/new" / bases[number], home / "M" / name)
+
+    expect(["verify", "M", "box"], home, 0, counts(10, 0, 0, 0))
+    move(0, f"cur/{bases[0]}:2,S")
+    (home / "M/tmp" / bases[0]).write_text("half")
+    (home / "M/new/17.M1.host").write_text("another's mail\n")
+    expect(["verify", "M", "box", "box"], home, 0, counts(10, 0, 0, 0) * 2)
+
+    # the names that mbsync, mailutils and offlineimap give to mail that they saw
+    move(1, f"cur/{bases[1]},U=1:2,S")
+    move(2, f"cur/{bases[2]},a=FO,u=2:2,FS")
+    move(3, "cur/1700000000_0.1.host,U=3,FMD5=7e33429f656f1e6e9d79b29c3f82c57e:2,")
+    said = "".join(
+        f"    message {number + 1} (line {5 * number + 1}): under another name, M/cur/{name}\n"
+        for number, name in (
+            (1, f"{bases[1]},U=1:2,S"),
+            (2, f"{bases[2]},a=FO,u=2:2,FS"),
+            (3, "1700000000_0.1.host,U=3,FMD5=...:2,"),
+        )
+    )
+    again = "    another program named these files: `mbox2maildir convert` would deliver their messages again\n"
+    expect(["verify", "M", "box"], home, 0, counts(7, 3, 0, 0) + said + again)
+
+    # moved away; cut, grown and changed; and no regular file
+    move(4, "tmp/gone")
+    for number, text in ((5, ""), (6, "Subject: 7\n\n6\n")):
+        (home / "M/new" / bases[number]).write_text(text)
+    (home / "M/new" / bases[8]).write_text("same\n\n")
+    (home / "M/new" / bases[9]).unlink()
+    os.mkfifo(home / "M/new" / bases[9])
+    lines = [
+        f"    message {number + 1} (line {line}): other bytes in M/new/{bases[number]}\n"
+        for number, line in ((5, 26), (6, 31), (8, 41), (9, 44))
+    ]
+    expect(
+        ["verify", "M", "box"],
+        home,
+        1,
+        counts(2, 3, 4, 1) + "".join(lines) + said + "    message 5 (line 21): nowhere\n" + again,
+    )
+
+
+def there_twice(home: Path) -> None:
+    """What is there twice: by a conversion after a program gave new names, and by a copy."""
+    texts, bases, counts = ten_messages(home)
+    (home / f"M/cur/{bases[1]},U=1:2,S").write_text(texts[1])
+    (home / f"M/cur/{bases[2]}:2,S").write_text(texts[2])
+    (home / f"M/cur/{bases[3]}:2,S").write_text("cut")
+    # a base of another text's, which has three of a message
+    (home / f"M/cur/{bases[0][:64]}.3:2,").write_text(texts[0])
+    # offlineimap's
+    (home / "M/cur/1700000000_0.1.host,U=3,FMD5=7e33429f656f1e6e9d79b29c3f82c57e:2,").write_text(texts[4])
+    status, out, err = run(["verify", "M", "box"], home)
+    equal("verify: status and standard error", (status, err), (1, ""))
+    more = [
+        f"    a second copy of a message: M/cur/{name}\n"
+        for name in (
+            f"{bases[1]},U=1:2,S",
+            f"{bases[2]}:2,S",
+            f"{bases[3]}:2,S",
+            "1700000000_0.1.host,U=3,FMD5=7e33429f656f1e6e9d79b29c3f82c57e:2,",
+        )
+    ]
+    equal(
+        "verify: files more",
+        sorted(out.splitlines(True)),
+        sorted([counts(10, 0, 0, 0).replace("doubles 0", "doubles 4"), *more]),
+    )
+    os.unlink(home / "M/new" / bases[7])
+    out = run(["verify", "M", "box"], home)[1]
+    assert "there 9, under another name 1, other" in out, f"not 9 there and 1 under another name: {out}"
+    print("admin: verify: messages with new names, other bytes, and none")
+
+
+def of_another_owner(home: Path) -> None:
+    """Files of another owner than the Maildir's are reported, since their user may not be able to read them."""
+    want_root()
+    _, bases, counts = ten_messages(home)
+    for path in (home / "M", *(home / "M").rglob("*")):
+        os.chown(path, 65534, 65534)
+    expect(["verify", "M", "box"], home, 0, counts(10, 0, 0, 0))
+    os.chown(home / "M/new" / bases[4], 0, 0)
+    expect(
+        ["verify", "M", "box"],
+        home,
+        1,
+        counts(10, 0, 0, 0) + f"    not owned by the owner of the Maildir: M/new/{bases[4]}\n",
+    )
+
+
+def verified_by_others(home: Path) -> None:
+    """A mailbox that has mail in its From_ line; faults; and a program that lists something else."""
+    (home / "box").write_text("From a\n\nhello\n\n")
+    run(["mbox2maildir", "convert", "M", "box"], home)
+    (home / "mac").write_bytes(A.replace(b"\n", b"\r"))
+    run(["mbox2maildir", "convert", "M", "mac"], home)
+    expect(
+        ["verify", "M", "mac"],
+        home,
+        1,
+        "mac: messages 1, bytes 0, there 1, under another name 0, other bytes 0, "
+        "nowhere 0, doubles 0\n    line 1: this From_ line may contain mail\n",
+    )
+    (home / "no-mbox").write_text("hello\n")
+    expect(
+        ["verify", "M", "no-mbox", "none", "M"],
+        home,
+        1,
+        "",
+        "mbox2maildir-admin: no-mbox: no From line at the start\n    find out what it is:\n"
+        "        mbox2maildir-admin kind no-mbox\nmbox2maildir-admin: none: No such file or directory\n...\n...\n"
+        "mbox2maildir-admin: M: it is a Maildir, not a mailbox\n    leave it as it is\n",
+    )
+    (home / "empty").mkdir()
+    for words in (["verify", "M"], ["dates", "M"], ["kind"]):
+        expect([*words, "empty"], home, 1, "", "mbox2maildir-admin: empty: it contains no mailbox\n    there is ...\n")
+    says = "mbox2maildir-admin: mac: it was not migrated: None is no Maildir\n...\n...migrate None mac\n"
+    expect(["verify", "None", "mac"], home, 1, "", says)
+    for script, says in (
+        ("exit 0", "`mbox2maildir list` gave fewer messages than were read here"),
+        ("echo 1 abc.1", "line 1: message 1 differs from what `mbox2maildir list` gave"),
+        (f"{home}/real list; echo more", "`mbox2maildir list` gave more messages than were read here"),
+        ("echo no library >&2; exit 1", "`mbox2maildir list` failed: no library"),
+        (f"{home}/real list; exit 1", "`mbox2maildir list` failed: it ended with 1"),
+    ):
+        if not (home / "real").exists():
+            os.rename(home / "bin/mbox2maildir", home / "real")
+        (home / "bin/mbox2maildir").write_text(f"#!/bin/sh\n{script}\n")
+        (home / "bin/mbox2maildir").chmod(0o755)
+        expect(["verify", "M", "box"], home, 1, "", f"mbox2maildir-admin: box: {says}\n")
+
+
+def read_meanwhile(home: Path) -> None:
+    """A mail program that moves and flags mail without a pause hides none of it, and doubles none."""
+    (home / "box").write_text("".join(f"From a@b Mon Mar  3 09:12:44 2025\n{number}\n\n" for number in range(500)))
+    run(["mbox2maildir", "convert", "M", "box"], home)
+    ended, dice = threading.Event(), random.Random(1)
+    moved = []  # type: list[Path]
+
+    def move() -> None:
+        while not ended.is_set():
+            path = dice.choice([*(home / "M/new").iterdir(), *(home / "M/cur").iterdir()])
+            path.rename(home / "M/cur" / f"{path.name.split(':')[0]}:2,{dice.choice(['', 'F', 'S', 'T'])}")
+            moved.append(path)
+
+    mover = threading.Thread(target=move)
+    mover.start()
+    try:
+        for _ in range(3):
+            expect(
+                ["verify", "M", "box"],
+                home,
+                0,
+                "box: messages 500, bytes ..., there 500, under another name 0, other bytes 0, "
+                "nowhere 0, doubles 0\n",
+            )
+            expect(["dates", "M", "box"], home, 0, "box: messages 500, dated 500\n", None)
+    finally:
+        ended.set()
+        mover.join()
+    print(f"admin: verify and dates beside a mail program: {'many' if len(moved) > 100 else len(moved)} moves")
+
+
+if __name__ == "__main__":
+    check_all(closed_files, verified, there_twice, of_another_owner, verified_by_others, read_meanwhile)

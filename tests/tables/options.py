@@ -1,0 +1,47 @@
+"""Options among operands, and what each help prints."""
+import re
+from pathlib import Path
+
+from tests.support.checks import equal
+from tests.support.homes import check_all, expect, mailbox, run
+from tests.support.mail import ONE
+
+COMMANDS = "kind", "quote", "dates", "migrate", "verify"
+
+
+def options_anywhere(home: Path) -> None:
+    """An option may stand before, between and after operands. What follows `--` is an operand."""
+    for name in ("box", "--now"):
+        mailbox(home / name, ONE)
+    done = "box -> INBOX: mboxrd or mboxo, messages 1: done\n1 mailbox: 1 done\n"
+    for number, words in enumerate(("--now {} box", "{} --now box", "{} box --now", "{} --jobs 1 box --now")):
+        expect(["migrate", "--all", *words.format(f"M{number}").split()], home, 0, done)
+    counts = "--now: messages 1, bytes ..., there 1, under another name 0, other bytes 0, nowhere 0, doubles 0\n"
+    expect(["verify", "M0", "--", "--now"], home, 0, counts)
+    expect(["dates", "M0", "box", "--header"], home, 0, "box: messages 1, dated ...\n", None)
+    expect(["quote", "box", "--as", "mboxo", "--output", "copy"], home, 0, "copy: messages 1, lines quoted 0\n")
+
+
+def helps(home: Path) -> None:
+    """Each help has at most 80 columns, however wide the terminal is, and a name for each group of options. The help of
+    the program and that of `migrate` have four examples, that of `verify` two."""
+    wanted_of = {"migrate": 4, "verify": 2}
+    for words, examples in ((["--help"], 4), *(([word, "--help"], wanted_of.get(word, 0)) for word in COMMANDS)):
+        status, out, err = run(words, home, COLUMNS="200")
+        equal(f"{words}: status, errors, and lines that are too long", (status, err), (0, ""))
+        equal(f"{words}: lines that are too long", [line for line in out.splitlines() if len(line) > 80], [])
+        equal(f"{words}: examples", len(re.findall(r"(?m)^  (?:# )?mbox2maildir-admin ", out)), examples)
+    groups = re.findall(r"(?m)^(\w.*):$", run(["migrate", "--help"], home)[1])
+    wanted = [
+        "options",
+        "how",
+        "a Takeout of Gmail",
+        "answers for what was left",
+        "for many users, as root",
+        "examples",
+    ]
+    equal("groups of `migrate`", groups, wanted)
+
+
+if __name__ == "__main__":
+    check_all(options_anywhere, helps)
