@@ -167,6 +167,7 @@ COUNTED = {
     "other-form": "Some of its mail is there with other `>` or line ends, from another mailbox.",
     "other-programs": "Other programs had put mail into the folder. It stays.",
     "regained": "Mail that was gone from it is in it again.",
+    "renamed": "Other programs gave files new names: `mbox2maildir convert` would deliver their messages again.",
     "shared": "Another mailbox brought some of its mail too. It is there once.",
     "there-already": "Some of its mail was there already.",
     "uids-anew": "All messages have new UIDs: clients fetch them again.",
@@ -174,6 +175,7 @@ COUNTED = {
     "uids-raised": "The next UID was raised, so that none is given twice.",
     "unlabelled": "A label was taken from mail in Gmail since. The mail stays in the folder.",
     "without-date": "Some messages have no date: their files have today's.",
+    "without-fields": "Files differ only in header fields that mail programs or Dovecot write for themselves.",
     "without-uids": "Its UIDs are not kept: clients fetch its mail again.",
 }
 SILENT = {
@@ -187,11 +189,10 @@ SILENT = {
     "deleted": "Messages stand in it that were deleted in the Maildir. The last line counts them.",
     "grew": "It has new mail.",
     "keywords-added": "Keywords were added.",
-    "kind": "What it is.",
-    "no-mail": "It holds no mail.",
     "no-mail-noted": "An earlier run passed over it by --no-mail.",
     "placed": "Messages that were nowhere were placed.",
     "prepared-before": "Mail was there from an earlier pass.",
+    "put-aside": "The originals of what a command made mailboxes of.",
     "same-file": "It is the same file as another one.",
     "same-folder": "Labels that differ only in how they are written have one folder.",
     "subscriptions": "Subscriptions were carried over.",

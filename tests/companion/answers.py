@@ -83,7 +83,7 @@ def of_ones_own(home: Path) -> None:
         for command, count in found.items():
             want_row(command, home, "done", count)
             equal(f"{command}: files", len(list(mail_in(home / "M/.Old"))), count)
-            equal(f"{command}: verified", run(["verify", "M/.Old", "--", path], home)[0], 0)
+            equal(f"{command}: verified", run(["verify", "--all", "M/.Old", "--", path], home)[0], 0)
             shutil.rmtree(home / "M")
     for name, (text, count) in SINGLE.items():
         mailbox(home / name, text)
@@ -266,8 +266,9 @@ def that_leaves_no_message(home: Path) -> None:
     expect(["migrate", "--drop-deleted", "--folder", "Trash", "M", "Trash"], home, 0, None)
     for text, count, status in ((deleted, 0, 0), (deleted + B + b"\n", 2, 1)):
         mailbox(box, text)
-        sums = f"Trash: messages {count}, bytes ..., there 0, under another name 0, other bytes 0, nowhere {count}, ..."
-        expect(["verify", "M", "Trash"], home, status, sums + "\n..." * count + "\n")
+        verdict = f"not whole, nowhere {count}" if count else "whole"
+        row = f"Trash -> Trash: messages {count}: {verdict}\n"
+        expect(["verify", "--all", "M", "Trash"], home, status, row + "...\n" * count + "1 mailbox: ...\n")
         expect(["dates", "M", "Trash"], home, status, f"Trash: messages {count}, dated 0\n", None)
 
 

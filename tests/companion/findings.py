@@ -30,7 +30,7 @@ def what_files_are(home: Path) -> None:
     found = {one["path"]: one for one in objects(["kind", "old", "none"], home)}
     equal(
         "what they are",
-        {path: one.get("kind") for path, one in found.items() if one["type"] == "kind"},
+        {path: one["kind"] for path, one in found.items() if one["verdict"] == "found"},
         {
             "old/a": "mboxrd or mboxo",
             "old/doubtful": "not quoted",
@@ -38,7 +38,7 @@ def what_files_are(home: Path) -> None:
         },
     )
     equal("messages", [found["old/a"][name] for name in ("messages", "most", "next")], [2, 2, []])
-    rows = {path: (one["verdict"], one["reason"]) for path, one in found.items() if one["type"] == "row"}
+    rows = {path: (one["verdict"], one["reason"]) for path, one in found.items() if one["verdict"] != "found"}
     equal("rows", rows, {"old/note": ("no mail", None), "old/link": ("left", "link"), "none": ("left", "missing")})
     question = found["old/doubtful"]
     equal("the lines", [one["text"] for one in question["lines"] if not one["around"]], ["From Tuesday on"])
@@ -58,7 +58,7 @@ def what_is_there(home: Path) -> None:
     for name, text in (("a", ONE + TWO), ("b", TWO)):
         mailbox(home / "old" / name, text)
     expect(["migrate", "--all", "--now", "M", "old"], home, 0, "...\n...\n2 mailboxes: 2 done\n")
-    whole = objects(["verify", "M", "old"], home)
+    *whole, _ = objects(["verify", "M", "old"], home)
     equal(
         "if all is there",
         [(one["path"], one["folder"], one["verdict"], one["messages"]) for one in whole],
@@ -74,13 +74,13 @@ def what_is_there(home: Path) -> None:
     (only,) = files_of(home / "M/.b").values()
     (only.parent / "2.host").write_bytes(only.read_bytes())
     mailbox(home / "old/new", ONE)
-    found = {one["path"]: one for one in objects(["verify", "M", "old", "none"], home)}
+    found = {one["path"]: one for one in objects(["verify", "M", "old", "none"], home)[:-1]}
     wanted = {"old/a": ["other-bytes", "nowhere", "double"], "old/b": ["double"]}
     for path, sorts in wanted.items():
         one = found[path]
-        equal(path, ([sort["found"] for sort in one["first"]], one["verdict"]), (sorts, "not whole"))
+        equal(path, ([sort["sort"] for sort in one["details"]], one["verdict"]), (sorts, "not whole"))
         equal(f"counts of {path}", {sort for sort in sorts if one["counts"][sort] != 1}, set())
-    equal("a double", found["old/b"]["first"][0]["path"], "M/.b/new/2.host")
+    equal("a double", found["old/b"]["details"][0]["path"], "M/.b/new/2.host")
     equal("reasons", [found[path]["reason"] for path in ("old/new", "none")], ["no-maildir", "missing"])
     (then,) = found["old/new"]["next"]
     equal("next", then["argv"], ["mbox2maildir-admin", "migrate", "M", "old"])

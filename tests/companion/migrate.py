@@ -110,7 +110,7 @@ def once_and_never_again(home: Path) -> None:
     equal("the first date", file_of(home / "M", "one").stat().st_mtime % 60, 44)
     after = (home / "box").stat()
     equal("the mailbox", (after.st_mtime, after.st_ino), (before.st_mtime, before.st_ino))
-    expect(["verify", "M", "box"], home, 0, None)
+    expect(["verify", "--all", "M", "box"], home, 0, None)
 
     file_of(home / "M", "one").unlink()
     moved = file_of(home / "M", "two")
@@ -458,7 +458,7 @@ def grown(home: Path) -> None:
     os.unlink(home / match_in(r"\n        rm (.*)\n", out)[1])
     done(home, f"messages 3: done, {says}", words=("O", "box"))
     equal("after it is gone", subjects(home / "O"), ["one", "three", "two"])
-    expect(["verify", "O", "box"], home, 0, None)
+    expect(["verify", "--all", "O", "box"], home, 0, None)
     # also if everything that is converted is a quoted copy
     whole = (ONE + TWO).replace(b"\n", b"\r\n")
     mailbox(home / "box", whole[:-2])
@@ -789,10 +789,10 @@ def links(home: Path) -> None:
     os.symlink("../../outside", home / "M/cur/17.host:2,S")
     done(home, "messages 2: done")
     expect(
-        ["verify", "M", "box"],
+        ["verify", "--all", "M", "box"],
         home,
         0,
-        "box: messages 2, bytes ..., there 2, under another name 0, other bytes 0, nowhere 0, doubles 0\n",
+        "box -> INBOX: messages 2: whole\n1 mailbox: 1 whole\n",
     )
 
 

@@ -356,7 +356,7 @@ def as_objects(home: Path) -> None:
     )
     verdicts = {"done": 2, "done before": 0, "would be done": 0, "undone": 0, "would be undone": 0}
     verdicts.update({"prepared": 0, "would be prepared": 0, "whole": 0, "not whole": 0, "no mail": 0, "left": 7})
-    verdicts.update({"back": 0, "would go back": 0, "nothing new": 0})
+    verdicts.update({"back": 0, "would go back": 0, "nothing new": 0, "found": 0})
     wanted = (verdicts, 3, len(ONE + TWO + THREE))
     equal("--json: the sums", (sums["verdicts"], sums["messages"], sums["bytes"]), wanted)
     says = f"9 mailboxes: 2 done, 7 left; 3 messages, {wanted[2]} bytes in ... s; 3 users: ..."

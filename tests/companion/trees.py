@@ -152,9 +152,11 @@ def stays(home: Path) -> None:
     expect(["migrate", "--all", "M", "tree"], home, 0, f"{out}2 mailboxes: 1 done, 1 done before\n")
     equal("what was made", sorted(path.name for path in (home / "M").glob(".*")), [".Haus", ".Sent.mbox"])
     # so do verify and dates find it there
-    counts = "messages {0}, bytes ..., there {0}, under another name 0, other bytes 0, nowhere 0, doubles 0\n"
-    lines = [f"tree/.inbox.directory/Haus: {counts.format(1)}", f"tree/Sent/mbox: {counts.format(2)}"]
-    expect(["verify", "M", "tree"], home, 0, "".join(lines))
+    lines = [
+        "tree/.inbox.directory/Haus -> Haus: messages 1: whole\n",
+        "tree/Sent/mbox -> Sent/mbox: messages 2: whole\n",
+    ]
+    expect(["verify", "--all", "M", "tree"], home, 0, "".join(lines) + "2 mailboxes: 2 whole\n")
     out = "tree/.inbox.directory/Haus: messages 1, dated 1\ntree/Sent/mbox: messages 2, dated 2\n"
     expect(["dates", "M", "tree"], home, 0, out)
     # without a record they are named as they are now
@@ -162,9 +164,10 @@ def stays(home: Path) -> None:
     equal("folders", sorted(path.name for path in (home / "N").glob(".*")), [".INBOX.Haus", ".Sent"])
     # what somebody else has put in the place of one goes there too
     mailbox(home / "tree/Sent/mbox", THREE)
-    nowhere = counts.format(1).replace("there 1", "there 0").replace("nowhere 0", "nowhere 1")
-    lines[1] = f"tree/Sent/mbox: {nowhere}    message 1 (line 1): nowhere\n"
-    expect(["verify", "M", "tree"], home, 1, "".join(lines))
+    lines[1] = "tree/Sent/mbox -> Sent/mbox: messages 1: not whole, nowhere 1\n    message 1 (line 1): nowhere\n"
+    expect(
+        ["verify", "--all", "M", "tree"], home, 1, "".join(lines) + "2 mailboxes: 1 whole, 1 not whole (1 nowhere)\n"
+    )
     says = "messages 1: done, it grew by 1 message; 2 messages gone from it that it had brought"
     out = f"tree/Sent/mbox -> Sent/mbox: mboxrd or mboxo, {says}\n"
     expect(["migrate", "--all", "M", "tree"], home, 0, f"{out}2 mailboxes: 1 done, 1 done before\n")
@@ -294,9 +297,9 @@ def passed_over_by_path(home: Path) -> None:
     )
     expect(words, home, 1, out)
     (home / "tree/more.zip").unlink()
-    says = "mbox2maildir-admin: tree/{}: left out: no mail, by migrate --no-mail\n"
-    says = says.format("letter") + says.format("photos.zip")
-    expect(["verify", "--all", "M", "tree"], home, 0, "tree/box: messages 1, bytes ..., there 1, ...\n", says)
+    says = "tree/{}: no mail, by migrate --no-mail\n"
+    says = "tree/box -> box: messages 1: whole\n" + says.format("letter") + says.format("photos.zip")
+    expect(["verify", "--all", "M", "tree"], home, 0, says + "1 mailbox: 1 whole; 2 other files: no mail\n")
     # a file that stands for mail by then is a mailbox
     mailbox(home / "tree/photos.zip", TWO)
     out = (
@@ -348,13 +351,15 @@ def passed_over_later(home: Path) -> None:
         f"mbox2maildir-admin: {name}: left out: no mail, by migrate --no-mail\n"
         for name in ("tree/notes", "tree/x/b.junk", "alone")
     )
-    there = "messages 1, bytes ..., there 1, under another name 0, other bytes 0, nowhere 0, doubles 0"
-    expect(["verify", "--all", "M", "tree", "alone"], home, 0, f"tree/notes.mbox: {there}\n", says)
+    whole = "tree/notes.mbox -> notes-mbox: messages 1: whole\n"
+    rows = says.replace("mbox2maildir-admin: ", "").replace("left out: ", "")
+    sums = "1 mailbox: 1 whole; 3 other files: no mail\n"
+    expect(["verify", "--all", "M", "tree", "alone"], home, 0, f"{whole}{rows}{sums}")
     expect(["dates", "M", "tree", "alone"], home, 0, "tree/notes.mbox: messages 1, dated 1\n", says)
     mailbox(home / "tree/x/b.junk", ONE[1:])
-    left = "mbox2maildir-admin: tree/x/b.junk: no From line at the start\n...\n...kind tree/x/b.junk\n"
-    says = left + says.splitlines(True)[0]
-    expect(["verify", "--all", "M", "tree"], home, 1, f"tree/notes.mbox: {there}\n", says)
+    left = "tree/x/b.junk: left (other): no From line at the start\n...\n...kind tree/x/b.junk\n"
+    sums = "2 mailboxes: 1 whole, 1 left; 1 other file: no mail\n"
+    expect(["verify", "--all", "M", "tree"], home, 1, whole + left + rows.splitlines(True)[0] + sums)
 
 
 def make_profile(path: Path) -> None:
@@ -440,7 +445,7 @@ def two_names(home: Path) -> None:
     expect(["migrate", "--all", "M", "tree"], home, 0, out + "2 mailboxes: 2 done\n")
     equal("the folders", [subjects(home / "M" / name) for name in (".Sent", ".old.Trash")], [["one"]] * 2)
     expect(["migrate", "--all", "M", "tree"], home, 0, "2 mailboxes: 2 done before\n")
-    expect(["verify", "M", "tree"], home, 0, None)
+    expect(["verify", "--all", "M", "tree"], home, 0, None)
     # what is named by itself is one of them, and a symbolic link is none
     os.symlink("tree", home / "link")
     names = "other", "tree/Sent", "tree/old/Trash"
@@ -499,7 +504,7 @@ def exported(home: Path) -> None:
     expect(["migrate", "--all", "M", work, sent], home, 0, rows + "2 mailboxes: 2 done\n")
     expect(["migrate", "--all", "M", "export"], home, 0, "2 mailboxes: 2 done before\n")
     expect(["migrate", "--all", "N", work], home, 0, f"{work}/mbox -> INBOX: {done}\n1 mailbox: 1 done\n")
-    expect(["verify", "N", work], home, 0, f"{work}/mbox: messages 1, ...\n")
+    expect(["verify", "--all", "N", work], home, 0, f"{work}/mbox -> INBOX: messages 1: whole\n...\n")
     expect(["migrate", "--all", "N", "export"], home, 0, "...\n2 mailboxes: 1 done, 1 done before\n")
     equal("the folders", [subjects(home / "N" / name) for name in ("", ".Sent-Messages")], [["one"], ["two"]])
     mailbox(home / "Other.mbox/mbox", THREE)

@@ -3,10 +3,9 @@ import os
 import random
 import subprocess
 import threading
-from collections.abc import Callable
 from pathlib import Path
 
-from tests.support.checks import equal
+from tests.support.checks import equal, matches
 from tests.support.homes import ADMIN, check_all, expect, mailbox, run, want_root
 from tests.support.mail import A, ONE
 
@@ -25,41 +24,42 @@ def closed_files(home: Path) -> None:
         text=True,
         check=False,
     )
-    equal("closed files", (ran.returncode, ran.stdout.split(":")[0]), (1, "old/open"))
-    for line in (
-        "mbox2maildir-admin: old/closed: left out: Permission denied\n",
-        "mbox2maildir-admin: old/a/box: Permission denied\n",
-    ):
-        assert line in ran.stderr, f"not printed: {line}but: {ran.stderr}"
+    equal("closed files: status and errors", (ran.returncode, ran.stderr), (1, ""))
+    wanted = {"old/a/box: left (error): Permission denied", "old/closed: left (error): Permission denied"}
+    wanted |= {"old/open: mboxrd or mboxo, messages 1"}
+    equal("closed files: what is not printed", wanted - {*ran.stdout.splitlines()}, set())
 
 
-def ten_messages(home: Path) -> tuple[list[str], list[str], Callable[..., str]]:
-    """A mailbox of ten messages, some of them equal, and its Maildir. Returns texts, bases, and how `verify` counts
-    them."""
+def ten_messages(home: Path) -> tuple[list[str], list[str]]:
+    """A mailbox of ten messages, some of them equal, and its Maildir. Returns texts and bases."""
     texts = [f"Subject: {number}\n\n{number}\n" for number in range(7)] + ["Subject: 0\n\n0\n", "same\n", "same\n"]
     (home / "box").write_text("".join(f"From a@b Mon Mar  3 09:12:44 2025\n{text}\n" for text in texts))
     run(["mbox2maildir", "convert", "M", "box"], home)
     bases = [line.split()[1] for line in run(["mbox2maildir", "list", "box"], home)[1].splitlines()]
     equal("the base of a second message", bases[7], f"{bases[0][:64]}.2")
-    counts = (
-        f"box: messages 10, bytes {sum(map(len, texts))}, there {{}}, under another name {{}}, other bytes {{}}, "
-        "nowhere {}, doubles 0\n"
-    ).format
-    return texts, bases, counts
+    return texts, bases
+
+
+def checked(verdict: str, sum_of: str, below: str = "") -> str:
+    """What `verify` prints of the ten messages: what is said of them, below that, and in the sum."""
+    return f"box -> INBOX: messages 10: {verdict}\n{below}1 mailbox: 1 {sum_of}\n"
+
+
+WHOLE = checked("whole", "whole")
 
 
 def verified(home: Path) -> None:
     """What other programs and people do to a Maildir is reported message by message."""
-    _, bases, counts = ten_messages(home)
+    _, bases = ten_messages(home)
 
     def move(number: int, name: str) -> None:
         os.rename(home / "M/new" / bases[number], home / "M" / name)
 
-    expect(["verify", "M", "box"], home, 0, counts(10, 0, 0, 0))
+    expect(["verify", "--all", "M", "box"], home, 0, WHOLE)
     move(0, f"cur/{bases[0]}:2,S")
     (home / "M/tmp" / bases[0]).write_text("half")
     (home / "M/new/17.M1.host").write_text("another's mail\n")
-    expect(["verify", "M", "box", "box"], home, 0, counts(10, 0, 0, 0) * 2)
+    expect(["verify", "--all", "M", "box", "box"], home, 0, WHOLE.splitlines(True)[0] * 2 + "2 mailboxes: 2 whole\n")
 
     # the names that mbsync, mailutils and offlineimap give to mail that they saw
     move(1, f"cur/{bases[1]},U=1:2,S")
@@ -73,8 +73,7 @@ def verified(home: Path) -> None:
             (3, "1700000000_0.1.host,U=3,FMD5=...:2,"),
         )
     )
-    again = "    another program named these files: `mbox2maildir convert` would deliver their messages again\n"
-    expect(["verify", "M", "box"], home, 0, counts(7, 3, 0, 0) + said + again)
+    expect(["verify", "--all", "M", "box"], home, 0, checked("whole, under another name 3", "whole", said))
 
     # moved away; cut, grown and changed; and no regular file
     move(4, "tmp/gone")
@@ -88,16 +87,20 @@ def verified(home: Path) -> None:
         for number, line in ((5, 26), (6, 31), (8, 41), (9, 44))
     ]
     expect(
-        ["verify", "M", "box"],
+        ["verify", "--all", "M", "box"],
         home,
         1,
-        counts(2, 3, 4, 1) + "".join(lines) + said + "    message 5 (line 21): nowhere\n" + again,
+        checked(
+            "not whole, other bytes 4; under another name 3; nowhere 1",
+            "not whole (1 nowhere, 1 other-bytes)",
+            "".join(lines) + said + "    message 5 (line 21): nowhere\n",
+        ),
     )
 
 
 def there_twice(home: Path) -> None:
     """What is there twice: by a conversion after a program gave new names, and by a copy."""
-    texts, bases, counts = ten_messages(home)
+    texts, bases = ten_messages(home)
     (home / f"M/cur/{bases[1]},U=1:2,S").write_text(texts[1])
     (home / f"M/cur/{bases[2]}:2,S").write_text(texts[2])
     (home / f"M/cur/{bases[3]}:2,S").write_text("cut")
@@ -105,7 +108,7 @@ def there_twice(home: Path) -> None:
     (home / f"M/cur/{bases[0][:64]}.3:2,").write_text(texts[0])
     # offlineimap's
     (home / "M/cur/1700000000_0.1.host,U=3,FMD5=7e33429f656f1e6e9d79b29c3f82c57e:2,").write_text(texts[4])
-    status, out, err = run(["verify", "M", "box"], home)
+    status, out, err = run(["verify", "--all", "M", "box"], home)
     equal("verify: status and standard error", (status, err), (1, ""))
     more = [
         f"    a second copy of a message: M/cur/{name}\n"
@@ -119,27 +122,34 @@ def there_twice(home: Path) -> None:
     equal(
         "verify: files more",
         sorted(out.splitlines(True)),
-        sorted([counts(10, 0, 0, 0).replace("doubles 0", "doubles 4"), *more]),
+        sorted(checked("not whole, doubles 4", "not whole (1 double)", "".join(more)).splitlines(True)),
     )
     os.unlink(home / "M/new" / bases[7])
-    out = run(["verify", "M", "box"], home)[1]
-    assert "there 9, under another name 1, other" in out, f"not 9 there and 1 under another name: {out}"
+    matches(
+        "a copy",
+        run(["verify", "--all", "M", "box"], home)[1].splitlines()[0],
+        "...: not whole, under another name 1; ...",
+    )
     print("admin: verify: messages with new names, other bytes, and none")
 
 
 def of_another_owner(home: Path) -> None:
     """Files of another owner than the Maildir's are reported, since their user may not be able to read them."""
     want_root()
-    _, bases, counts = ten_messages(home)
+    _, bases = ten_messages(home)
     for path in (home / "M", *(home / "M").rglob("*")):
         os.chown(path, 65534, 65534)
-    expect(["verify", "M", "box"], home, 0, counts(10, 0, 0, 0))
+    expect(["verify", "--all", "M", "box"], home, 0, WHOLE)
     os.chown(home / "M/new" / bases[4], 0, 0)
     expect(
-        ["verify", "M", "box"],
+        ["verify", "--all", "M", "box"],
         home,
         1,
-        counts(10, 0, 0, 0) + f"    not owned by the owner of the Maildir: M/new/{bases[4]}\n",
+        checked(
+            "not whole, of another owner 1",
+            "not whole (1 other-owner)",
+            f"    not owned by the owner of the Maildir: M/new/{bases[4]}\n",
+        ),
     )
 
 
@@ -150,27 +160,30 @@ def verified_by_others(home: Path) -> None:
     (home / "mac").write_bytes(A.replace(b"\n", b"\r"))
     run(["mbox2maildir", "convert", "M", "mac"], home)
     expect(
-        ["verify", "M", "mac"],
+        ["verify", "--all", "M", "mac"],
         home,
         1,
-        "mac: messages 1, bytes 0, there 1, under another name 0, other bytes 0, "
-        "nowhere 0, doubles 0\n    line 1: this From_ line may contain mail\n",
+        "mac -> INBOX: messages 1: not whole, doubtful lines 1\n    line 1: this From_ line may contain mail\n"
+        "1 mailbox: 1 not whole (1 doubtful-line)\n",
     )
     (home / "no-mbox").write_text("hello\n")
     expect(
-        ["verify", "M", "no-mbox", "none", "M"],
+        ["verify", "--all", "M", "no-mbox", "none", "M"],
         home,
         1,
-        "",
-        "mbox2maildir-admin: no-mbox: no From line at the start\n    find out what it is:\n"
-        "        mbox2maildir-admin kind no-mbox\nmbox2maildir-admin: none: No such file or directory\n...\n...\n"
-        "mbox2maildir-admin: M: it is a Maildir, not a mailbox\n    leave it as it is\n",
+        "no-mbox: left (not-known): no From line at the start\n    find out what it is:\n"
+        "        mbox2maildir-admin kind no-mbox\nnone: left (missing): No such file or directory\n...\n...\n"
+        "M: left (maildir): it is a Maildir, not a mailbox\n    leave it as it is\n3 mailboxes: 3 left\n",
     )
     (home / "empty").mkdir()
-    for words in (["verify", "M"], ["dates", "M"], ["kind"]):
-        expect([*words, "empty"], home, 1, "", "mbox2maildir-admin: empty: it contains no mailbox\n    there is ...\n")
-    says = "mbox2maildir-admin: mac: it was not migrated: None is no Maildir\n...\n...migrate None mac\n"
-    expect(["verify", "None", "mac"], home, 1, "", says)
+    expect(
+        ["dates", "M", "empty"], home, 1, "", "mbox2maildir-admin: empty: it contains no mailbox\n    there is ...\n"
+    )
+    for words, sums in ((["verify", "--all", "M"], "1 mailbox: 1 left\n"), (["kind"], "")):
+        says = "empty: left (no-mailbox): it contains no mailbox\n    there is nothing to be done\n"
+        expect([*words, "empty"], home, 1, says + sums)
+    says = "mac: left (no-maildir): it was not migrated: None is no Maildir\n...\n...migrate None mac\n...\n"
+    expect(["verify", "--all", "None", "mac"], home, 1, says)
     for script, says in (
         ("exit 0", "`mbox2maildir list` gave fewer messages than were read here"),
         ("echo 1 abc.1", "line 1: message 1 differs from what `mbox2maildir list` gave"),
@@ -182,7 +195,7 @@ def verified_by_others(home: Path) -> None:
             os.rename(home / "bin/mbox2maildir", home / "real")
         (home / "bin/mbox2maildir").write_text(f"#!/bin/sh\n{script}\n")
         (home / "bin/mbox2maildir").chmod(0o755)
-        expect(["verify", "M", "box"], home, 1, "", f"mbox2maildir-admin: box: {says}\n")
+        expect(["verify", "--all", "M", "box"], home, 1, f"box: left (...): {says}\n1 mailbox: 1 left\n")
 
 
 def read_meanwhile(home: Path) -> None:
@@ -203,11 +216,10 @@ def read_meanwhile(home: Path) -> None:
     try:
         for _ in range(3):
             expect(
-                ["verify", "M", "box"],
+                ["verify", "--all", "M", "box"],
                 home,
                 0,
-                "box: messages 500, bytes ..., there 500, under another name 0, other bytes 0, "
-                "nowhere 0, doubles 0\n",
+                "box -> INBOX: messages 500: whole\n1 mailbox: 1 whole\n",
             )
             expect(["dates", "M", "box"], home, 0, "box: messages 500, dated 500\n", None)
     finally:

@@ -8,6 +8,7 @@ import collections
 import hashlib
 import importlib
 import io
+import json
 import os
 import random
 import shutil
@@ -154,19 +155,19 @@ def check_verified(dice: random.Random, text: bytes, maildir: Path, file: Path) 
     file.write_bytes(text)
     messages = list(messages_of(io.BytesIO(text)))
     there, renamed, other, nowhere = change_files(dice, maildir)
-    counts = (
-        f"{file}: messages {len(messages)}, bytes {sum(len(body) for _, body in messages)}, there {there}, "
-        f"under another name {renamed}, other bytes {other}, nowhere {nowhere}, doubles 0"
-    )
     doubt = any(b"\r" in from_line[:-1] for from_line, _ in messages)
     done = subprocess.run(
-        [ADMIN, "verify", maildir, file],
+        [ADMIN, "verify", "--json", maildir, file],
         capture_output=True,
         check=False,
         env={**os.environ, "PATH": f"{Path(program()).parent}:{os.environ['PATH']}"},
         text=True,
     )
-    equal(f"verify of {text!r}", (done.stdout.split("\n")[0], done.stderr), (counts, ""))
+    row = json.loads(done.stdout.split("\n")[0])
+    found = {word: row["counts"][word] for word in ("there", "renamed", "other-bytes", "nowhere", "double")}
+    wanted = {"there": there, "renamed": renamed, "other-bytes": other, "nowhere": nowhere, "double": 0}
+    sizes = len(messages), sum(len(body) for _, body in messages)
+    equal(f"verify of {text!r}", (row["messages"], row["bytes"], found, done.stderr), (*sizes, wanted, ""))
     equal(f"verify of {text!r}: status", done.returncode, int(bool(nowhere or other or doubt)))
 
 

@@ -206,10 +206,10 @@ def many_dates(home: Path) -> None:
     found = [(home / "Many/cur" / f"{name}:2,S").stat().st_mtime - first for name in names]
     equal("messages with another date", [pair for pair in enumerate(found) if pair[0] != pair[1]], [])
     expect(
-        ["verify", "Many", "many"],
+        ["verify", "--all", "Many", "many"],
         home,
         0,
-        f"many: messages {MANY}, bytes ..., there {MANY}, under ... 0, other bytes 0, nowhere 0, doubles 0\n",
+        f"many -> INBOX: messages {MANY}: whole\n1 mailbox: 1 whole\n",
     )
     print(f"admin: dates: {MANY} messages of one folder")
 

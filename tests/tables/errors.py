@@ -208,9 +208,8 @@ def a_maildir_with_a_mailbox(home: Path) -> None:
         equal(f"{words}: status and errors", (got, err), (status, ""))
         equal(f"{words}: messages", len(list((home / f"M{number}").rglob("new/*"))), count)
     # what was noted before the Maildir was made is in the record
-    counts = "box: messages 1, bytes ..., there 1, under another name 0, other bytes 0, nowhere 0, doubles 0\n"
-    says = "mbox2maildir-admin: notes: left out: no mail, by migrate --no-mail\n"
-    expect(["verify", "M7", "notes", "box"], home, 0, counts, says)
+    rows = "notes: no mail, by migrate --no-mail\nbox -> INBOX: messages 1: whole\n"
+    expect(["verify", "--all", "M7", "notes", "box"], home, 0, rows + "1 mailbox: 1 whole; 1 other file: no mail\n")
 
 
 def what_is_missing(home: Path) -> None:

@@ -104,12 +104,12 @@ def each_label_is_a_folder(home: Path) -> None:
     equal("what the record begins with", (lines[0][0], lines[0][7].count(" in=")), ("labels", len(FOLDERS)))
     equal("what is done", sorted(line[1] for line in lines if line[0] == "done"), sorted(one or "." for one in FOLDERS))
     expect(LABELS, home, 0, "10 mailboxes: 10 done before\n")
-    status, out, _ = run(["verify", "M", "t.mbox"], home)
+    status, out, _ = run(["verify", "--all", "M", "t.mbox"], home)
     # each line begins as that of the migration does
     heads = [line.split(": ")[0] for line in rows.splitlines()]
-    equal("verify", (status, [line.split(": ")[0] for line in out.splitlines()]), (0, heads))
+    equal("verify", (status, [line.split(": ")[0] for line in out.splitlines()[:-1]]), (0, heads))
     next((home / "M/.Junk/new").iterdir()).unlink()
-    equal("verify of what is gone", run(["verify", "M", "t.mbox"], home)[0], 1)
+    equal("verify of what is gone", run(["verify", "--all", "M", "t.mbox"], home)[0], 1)
 
 
 def one_folder_for_each(home: Path) -> None:
@@ -288,7 +288,7 @@ def the_record_knows_the_folders(home: Path) -> None:
     equal("the folders", folders_in(home / "M"), FOLDERS)
     (home / "t.mbox").rename(home / "moved")
     expect(["migrate", "--all", "--labels", "M", "moved"], home, 0, "10 mailboxes: 10 done before\n")
-    equal("verify", run(["verify", "M", "moved"], home)[0], 0)
+    equal("verify", run(["verify", "--all", "M", "moved"], home)[0], 0)
     expect(["migrate", "--undo", "--dry-run", "M", "moved"], home, 0, None)
     equal("the folders", folders_in(home / "M"), FOLDERS)
     status, out, _ = run(["migrate", "--all", "--undo", "M", "moved"], home)

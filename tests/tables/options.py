@@ -16,8 +16,7 @@ def options_anywhere(home: Path) -> None:
     done = "box -> INBOX: mboxrd or mboxo, messages 1: done\n1 mailbox: 1 done\n"
     for number, words in enumerate(("--now {} box", "{} --now box", "{} box --now", "{} --jobs 1 box --now")):
         expect(["migrate", "--all", *words.format(f"M{number}").split()], home, 0, done)
-    counts = "--now: messages 1, bytes ..., there 1, under another name 0, other bytes 0, nowhere 0, doubles 0\n"
-    expect(["verify", "M0", "--", "--now"], home, 0, counts)
+    expect(["verify", "--all", "M0", "--", "--now"], home, 0, "--now -> INBOX: messages 1: whole\n1 mailbox: 1 whole\n")
     expect(["dates", "M0", "box", "--header"], home, 0, "box: messages 1, dated ...\n", None)
     expect(["quote", "box", "--as", "mboxo", "--output", "copy"], home, 0, "copy: messages 1, lines quoted 0\n")
 

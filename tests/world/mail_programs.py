@@ -7,6 +7,7 @@ that works on a Maildir works on a converted one, and must keep the names or cha
 What a machine lacks is left out.
 """
 import fcntl
+import json
 import os
 import pty
 import re
@@ -607,10 +608,6 @@ READERS = {
     "mailutils, `mail`": ("mail.mailutils", by_mail_of_mailutils),
     "offlineimap3": ("offlineimap", by_offlineimap),
 }  # type: Programs
-TOLD = re.compile(
-    r"^box: messages (\d+), bytes \d+, there (\d+), under another name (\d+), other bytes 0, nowhere 0, doubles 0$",
-    re.MULTILINE,
-)
 
 
 # pylint: enable=missing-function-docstring
@@ -637,14 +634,14 @@ def work_of(name: str, work: Work, keeps: bool, home: Home) -> list[str]:
     )
     home.run("mbox2maildir", "convert", "Maildir", "box")
     work(home)
-    said = home.run("mbox2maildir-admin", "verify", "Maildir", "box").decode()
-    told = TOLD.search(said)
-    messages, there, renamed = map(int, told.groups()) if told else (0, 0, 0)
-    if messages != 2 or there + renamed != messages:
+    said = home.run("mbox2maildir-admin", "verify", "--json", "Maildir", "box").decode()
+    counts = json.loads(said.splitlines()[0])["counts"]
+    there, renamed = counts["there"], counts["renamed"]
+    if there + renamed != 2 or counts["double"]:
         return [f"{name}: not all of the mail is found after it: {said}"]
     if (renamed == 0) != keeps:
         does = "keeps" if keeps else "changes"
-        return [f"{name}: of {messages} names it changed {renamed}, and the page says that it {does} them"]
+        return [f"{name}: of 2 names it changed {renamed}, and the page says that it {does} them"]
     again = home.run("mbox2maildir", "convert", "Maildir", "box").decode()
     return [] if f"there {there}, placed {renamed}," in again else [f"{name}: {said}, and then {again}"]
 

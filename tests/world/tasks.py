@@ -26,7 +26,8 @@ from tests.support.processes import wait_for
 MOST, USERS = 3, 40
 THUNDERBIRD = b"From - Mon Mar 03 09:12:%02d 2025\r\nX-Mozilla-Status: %04x\r\nX-Mozilla-Status2: 00000000\r\n"
 # what `verify` says of this many messages, each of which is there once
-THERE = "messages {0}, bytes ..., there {0}, under another name 0, other bytes 0, nowhere 0, doubles 0\n"
+THERE = "messages {}: whole\n"
+ONE_WHOLE = "1 mailbox: 1 whole\n"
 
 
 def play(home: Path, *steps: tuple[str, int, Optional[str]]) -> None:
@@ -53,7 +54,11 @@ def a_file_of_thunderbird(home: Path) -> None:
             row.format("would be done"),
         ),
         ("migrate --folder Archive/2019 Maildir Archives-2019", 0, row.format("done")),
-        ("verify Maildir/.Archive.2019 Archives-2019", 0, f"Archives-2019: {THERE.format(3)}"),
+        (
+            "verify --all Maildir/.Archive.2019 Archives-2019",
+            0,
+            f"Archives-2019 -> Archive/2019: {THERE.format(3)}{ONE_WHOLE}",
+        ),
     )
     equal("the mail", subjects(home / "Maildir/.Archive.2019"), ["one", "three", "two"])
     flags = sorted(path.name.partition(":2,")[2] for path in (home / "Maildir/.Archive.2019/cur").iterdir())
@@ -77,9 +82,10 @@ def a_takeout_with_labels(home: Path) -> None:
         ("migrate --dry-run --labels Maildir all.mbox", 0, rows.format("would be done")),
         ("migrate --labels Maildir all.mbox", 0, rows.format("done")),
         (
-            "verify Maildir all.mbox",
+            "verify --all Maildir all.mbox",
             0,
-            "".join(f"all.mbox -> {name}: {THERE.format(1)}" for name in ("INBOX", "Garden", "Junk", "Sent")),
+            "".join(f"all.mbox -> {name}: {THERE.format(1)}" for name in ("INBOX", "Garden", "Junk", "Sent"))
+            + "4 mailboxes: 4 whole\n",
         ),
     )
     found = {path.name: subjects(path) for path in (home / "Maildir").glob(".*") if path.is_dir()}
@@ -156,7 +162,7 @@ def an_interruption(home: Path) -> None:
     play(
         home,
         ("migrate Maildir big", 0, None),
-        ("verify Maildir big", 0, f"big: {THERE.format(count)}"),
+        ("verify --all Maildir big", 0, f"big -> INBOX: {THERE.format(count)}{ONE_WHOLE}"),
     )
     equal("how many there are", len(subjects(home / "Maildir")), count)
 
@@ -175,7 +181,7 @@ def is_all_there(home: Path) -> None:
             0,
             "box -> INBOX: ..., messages 3: done, placed 1 message...\n1 mailbox: 1 done\n",
         ),
-        ("verify Maildir box", 0, f"box: {THERE.format(3)}"),
+        ("verify --all Maildir box", 0, f"box -> INBOX: {THERE.format(3)}{ONE_WHOLE}"),
     )
 
 

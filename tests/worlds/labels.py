@@ -269,7 +269,7 @@ class World:
         """Each message must be there, by `verify` too."""
         ran = self.place.run(["verify", "--json", "M", name])
         self.stage.told(ran, "verify", "M", name)
-        assert ran.status == 0 and len({one["folder"] for one in ran.objects}) == len(self.wanted), "not verified"
+        assert ran.status == 0 and len({one["folder"] for one in ran.rows}) == len(self.wanted), "not verified"
 
     def undo(self, names: Sequence[str], messages: list[Message]) -> None:
         """Undoes all. Of a Takeout that took another one's place, what it no longer has stays."""

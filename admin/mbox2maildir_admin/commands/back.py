@@ -10,9 +10,8 @@ from ..migration.steps import Options
 from ..users.asked import Tally
 from ..users.going_back import Way, back_users
 from .command_line import WrongOptions, want_operands
-from .objects import ObjectReporter
 from .of_users import UsersOptions, jobs_in, wrong_for_homes, wrong_for_one
-from .running import run_reported
+from .running import reporter_of, run_reported
 from .spools import spool_of
 
 
@@ -33,5 +32,5 @@ def do_back(given: argparse.Namespace) -> Status:
             reporter.then = bring_back(root, names, way.how, reporter)
 
     shows = Shows(Row.is_said if given.all else None, given.users, not given.dry_run)
-    reporter = (ObjectReporter if given.json else Reporter)(shows=shows, steps={}, task="bringing mail back")
+    reporter = reporter_of(given, shows, {}, "bringing mail back")
     return run_reported(back, reporter, given.report, "the ledgers have what went back: run the same command again")

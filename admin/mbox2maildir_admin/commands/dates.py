@@ -12,7 +12,7 @@ from ..mbox.mailbox import is_still
 from ..progress import say_of
 from ..readings.texts import open_text
 from ..terminal import complain, named, put
-from .files import each, for_mailboxes
+from .files import Complaints, each, for_mailboxes
 from .recorded import Recorded
 
 # how many messages without a date are named
@@ -24,8 +24,8 @@ SYNC_FAILED = "its sync failed: read the system's log, mount the disk again, and
 def do_dates(given: argparse.Namespace) -> Status:
     """Gives converted files their dates."""
     maildir, *files = given.operands
-    dates = Dates(bool(given.header))
-    are_right = each(files, lambda path: for_mailboxes(maildir, path, dates.give))
+    dates, tell = Dates(bool(given.header)), Complaints()
+    are_right = each(files, lambda path: for_mailboxes(maildir, path, dates.give, tell), tell)
     dates.syncs.sync()
     return Status.of(are_right and dates.are_kept)
 

@@ -3,10 +3,10 @@ import contextlib
 import functools
 import os
 from collections.abc import Callable, Iterable, Iterator
-from typing import Optional
+from typing import Optional, Union
 
 from .. import ADMIN
-from ..faults import Fault, Reason
+from ..faults import Fault, Reason, complain_of
 from ..kinds.folders import is_maildir
 from ..kinds.others import Holds
 from ..ledger.history import History, Note
@@ -15,29 +15,43 @@ from ..looks import is_folder, type_at
 from ..maildir.folders import INBOX
 from ..mbox.mailbox import Mailbox
 from ..migration.answers import is_passed_over
-from ..migration.outcomes import BY_RECORD, Fate, Row
+from ..migration.outcomes import BY_RECORD, Fate, Observer, Row
 from ..migration.places import Planned, recorded
 from ..migration.trees import Tree
-from ..nexts import Remark, Task, Todo, run_next
+from ..nexts import Task, Todo, run_next
+from ..progress import say_of
 from ..readings.texts import content_of, disk_of
 from ..readings.verdict import look_at
-from ..terminal import named, operand
-from .findings import LINES, Findings
+from ..terminal import complain, named, operand
+from ..units import Say
 from .recorded import record_of, root_of
 
-# what is said of files without mail: of those of a known kind, and of those that `migrate --no-mail` noted
-NO_MAIL = Remark("no-mail", "no mail")
-NOTED = Remark(BY_RECORD.word, "no mail, %s" % BY_RECORD.says)
+
+class Complaints(Observer):
+    """Says on standard error which files were left out, and which failed."""
+
+    def say(self, path: bytes) -> Say:
+        """The function that takes the progress of the file at a path."""
+        return say_of(path)
+
+    def row(self, row: Row, user: Optional[str] = None) -> None:
+        """Takes a file that was left out."""
+        what = [row.fate.value] * (row.fate is not Fate.LEFT)
+        complain("%s: left out: %s" % (named(row.path), ", ".join([*what, *filter(None, [row.says])])), row.below())
+
+    def leave(self, path: bytes, fault: Union[Fault, OSError]) -> None:
+        """Takes why nothing was done with a file."""
+        complain_of(fault, path)
 
 
-def each(files: Iterable[bytes], task: Callable[[bytes], bool], tell: Findings = LINES) -> bool:
+def each(files: Iterable[bytes], task: Callable[[bytes], bool], tell: Observer) -> bool:
     """Does a task for each file, and returns whether each was done and found right."""
     right = []
     for file in files:
         try:
             right.append(task(file))
         except (Fault, OSError) as fault:
-            tell.failed(fault, file)
+            tell.leave(file, fault)
             right.append(False)
     return all(right)
 
@@ -56,16 +70,16 @@ def read_tree(
     return tree, plan
 
 
-def say_left_out(rows: Iterable[Row], tell: Findings = LINES) -> bool:
+def say_left_out(rows: Iterable[Row], tell: Observer) -> bool:
     """Says what was left out, and returns whether none of it may be mail."""
     are_right = []
     for row in rows:
-        tell.left_out(row)
+        tell.row(row)
         are_right.append(row.fate == Fate.NO_MAIL)
     return all(are_right)
 
 
-def for_mailboxes(maildir: bytes, path: bytes, task: Callable[[bytes, bytes], bool], tell: Findings = LINES) -> bool:
+def for_mailboxes(maildir: bytes, path: bytes, task: Callable[[bytes, bytes], bool], tell: Observer) -> bool:
     """Does a task for a mailbox and the folder that has its mail or, if the path is a folder, for each mailbox below it
     and its folder. A file without mail by the record is left out."""
     if not is_folder(path):
@@ -94,11 +108,12 @@ def for_planned(
     found: tuple[Iterable[Planned], Iterable[Row]],
     record: History,
     task: Callable[[bytes, bytes], bool],
-    tell: Findings,
+    tell: Observer,
 ) -> bool:
     """Does a task for each mailbox at a path or below it, and for its folder. Says what else was found there, and
     leaves files without mail out."""
-    plan, rows = found[0], [without_mail(row, maildir, record) for row in found[1]]
+    plan, rows = list(found[0]), [without_mail(row, maildir, record) for row in found[1]]
+    tell.total += len(plan) - 1
 
     def do_task(planned: Planned, file: bytes) -> bool:
         left = left_out(file, maildir, record, tell)
@@ -108,7 +123,6 @@ def for_planned(
             return bool(left) or task(folder, file)
 
     right = [each([one.target or one.path], functools.partial(do_task, one), tell) for one in plan]
-    rows = [row for row in rows if tell.has_all or row.fate is not Fate.NO_MAIL]
     return say_left_out(rows, tell) and all(right)
 
 
@@ -127,12 +141,12 @@ def of_folder(folder: bytes, maildir: bytes, path: bytes) -> Iterator[None]:
 def without_mail(row: Row, maildir: bytes, record: History) -> Row:
     """The row of a file of a tree that has no folder, if it has no mail, and so needs none; any other row as it is."""
     try:
-        return (row.reason is Reason.NO_FOLDER and left_out(row.path, maildir, record)) or row
+        return (row.reason is Reason.NO_FOLDER and left_out(row.path, maildir, record, Observer())) or row
     except (Fault, OSError):
         return row
 
 
-def left_out(path: bytes, maildir: bytes, record: History, tell: Findings = LINES) -> Optional[Row]:
+def left_out(path: bytes, maildir: bytes, record: History, tell: Observer) -> Optional[Row]:
     """The row of a file without mail, itself or in what it holds if it is packed; None if it may have mail. By the
     record a file that is not mbox text has none as long as it has its path and its bytes. Raises Fault if a packed file
     is not complete."""
@@ -142,4 +156,4 @@ def left_out(path: bytes, maildir: bytes, record: History, tell: Findings = LINE
         is_noted = bool(verdict and verdict.recipe) and is_passed_over(record, mailbox)
     if holds != Holds.NO_MAIL and not is_noted:
         return None
-    return Row(path, b"", "", None, Fate.NO_MAIL, remarks=(NOTED if is_noted else NO_MAIL,))
+    return Row(path, b"", "", None, Fate.NO_MAIL, remarks=(BY_RECORD,) * is_noted)

@@ -16,8 +16,10 @@ from ..ledger.history import History
 from ..looks import is_folder
 from ..maildir.space import trial_folder
 from ..mbox.mailbox import Mailbox
+from ..migration.outcomes import Detail, Fate, Observer, Row
+from ..migration.rows import Shows
 from ..migration.trees import Tree
-from ..nexts import Answer, Command, Next, Quote, Remark, Todo, User, task
+from ..nexts import NOTHING, Answer, Command, Next, Quote, Todo, User, task
 from ..progress import say_of
 from ..readings.asking import answers_to
 from ..readings.plans import OtherKind, Question, question_of
@@ -26,48 +28,53 @@ from ..readings.texts import choice_of, form_of
 from ..readings.verdict import Verdict, look_at
 from ..terminal import operand
 from .files import each, read_tree, say_left_out, without_mail
-from .findings import LINES, Findings, Kind, findings_of
+from .running import reporter_of
 
 
 def do_kind(given: argparse.Namespace) -> Status:
     """Says what files are."""
-    tell = findings_of(given.json)
+    tell = reporter_of(given, Shows(lambda row: True), {})
     return Status.of(each(given.operands, lambda path: kind_below(path, tell), tell))
 
 
-def kind_below(path: bytes, tell: Findings = LINES) -> bool:
+def found(path: bytes, kind: str, then: Next = NOTHING) -> Row:
+    """The row of a file of a kind."""
+    return Row(path, b"", kind, None, Fate.FOUND, next=then)
+
+
+def kind_below(path: bytes, tell: Observer) -> bool:
     """Prints what a file is or, for a folder, what each file in it is. Returns whether all can be converted as they
     are."""
     if not is_folder(path):
         return kind_of(path, tell)
     if is_maildir(path):
-        tell.kind(Kind(path, "a Maildir", next=task(Todo.LEAVE)))
+        tell.row(found(path, "a Maildir", task(Todo.LEAVE)))
         return False
     tree, plan = read_tree(path)
     right = each([one.path for one in plan], lambda file: kind_in(tree, file, tell), tell)
     right = say_left_out((without_mail(row, trial_folder(), History()) for row in tree.rows), tell) and right
     if plan:
-        tell.kind(Kind(path, "a folder of mailboxes", next=(Answer(migrate(path)),)))
+        tell.row(found(path, "a folder of mailboxes", (Answer(migrate(path)),)))
     return right
 
 
-def kind_in(tree: Tree, path: bytes, tell: Findings) -> bool:
+def kind_in(tree: Tree, path: bytes, tell: Observer) -> bool:
     """Prints what a file of a tree is. Returns whether it can be converted as it is, or holds no mail."""
     with Mailbox.open(path, say_of(path)) as mailbox:
         verdict = look_at(mailbox)
         if verdict.holds == Holds.NO_MAIL:
-            tree.pass_over(path, Remark("kind", verdict.kind))
+            tree.pass_over(path, kind=verdict.kind.partition(": ")[2])
             return True
         return say_kind_in(mailbox, verdict, tell, tree.old)
 
 
-def kind_of(path: bytes, tell: Findings = LINES) -> bool:
+def kind_of(path: bytes, tell: Observer) -> bool:
     """Prints what a file is. Returns whether it can be converted as it is."""
     with Mailbox.open(path, say_of(path)) as mailbox:
         return say_kind_in(mailbox, look_at(mailbox), tell)
 
 
-def say_kind_in(mailbox: Mailbox, verdict: Verdict, tell: Findings, top: bytes = b"") -> bool:
+def say_kind_in(mailbox: Mailbox, verdict: Verdict, tell: Observer, top: bytes = b"") -> bool:
     """The same for a file that may be packed: it prints what is in it, and a packed file cannot be converted as it is.
     `top` is the folder of mailboxes that it is in, if it is in one."""
     if not form_of(mailbox):
@@ -76,27 +83,29 @@ def say_kind_in(mailbox: Mailbox, verdict: Verdict, tell: Findings, top: bytes =
     try:
         with choice_of(mailbox, trial_folder()) as choice:
             plan = choice.plan
-            tell.kind(Kind(path, plan.kind, plan.messages, next=as_it_is(path, top)))
+            tell.row(replace(found(path, plan.kind, as_it_is(path, top)), messages=plan.messages))
     except Question as question:
         asked = answers_to(question.answers, lambda decision: migrate(path, decision))
-        tell.kind(replace(left_as(question, path, question.kind), next=asked))
+        tell.row(replace(left_as(question, path, question.kind), next=asked))
     except Left as left:
         if isinstance(left, OtherKind):
             left.put(where(path, top))
-        tell.kind(left_as(left, path, left.kind or verdict.kind))
+        tell.row(left_as(left, path, left.kind or verdict.kind))
     return False
 
 
-def left_as(left: Left, path: bytes, kind: str) -> Kind:
+def left_as(left: Left, path: bytes, kind: str) -> Row:
     """What a file is that would be left."""
-    return Kind(path, kind, left.messages, left.most, str(left), quotes=left.quotes, next=left.next)
+    row = replace(found(path, kind, left.next), messages=left.messages, most=left.most)
+    return replace(row, why=str(left), quotes=left.quotes)
 
 
-def say_kind(mailbox: Mailbox, verdict: Verdict, tell: Findings, top: bytes) -> bool:
+def say_kind(mailbox: Mailbox, verdict: Verdict, tell: Observer, top: bytes) -> bool:
     """Prints what a file is. Returns whether it can be converted as it is."""
     then, quotes = next_of(mailbox, verdict, top)
-    found = Kind(mailbox.path, verdict.kind, verdict.messages, verdict.most, "", verdict.remarks, quotes, then)
-    tell.kind(found)
+    row = replace(found(mailbox.path, verdict.kind, then), messages=verdict.messages, most=verdict.most)
+    details = tuple(Detail(one.says, line=one.line or None, text=one.text) for one in verdict.remarks)
+    tell.row(replace(row, quotes=tuple(quotes), details=details))
     return verdict.is_as_it_is
 
 

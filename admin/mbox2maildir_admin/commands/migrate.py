@@ -19,7 +19,7 @@ from ..users.asked import Tally
 from .command_line import WrongOptions, want_operands
 from .deciding import decision_of, labels_of
 from .of_users import UsersOptions, jobs_in, wrong_for_homes
-from .running import Telling, run_reported
+from .running import Telling, reporter_of, run_reported
 
 # the options that answer questions about mailboxes, or can be given only once
 ANSWERS = ("--as", "--of", "--text", "--begin", "--drop-deleted", "--report")
@@ -34,7 +34,7 @@ MOST_WORDS = 8
 
 def do_migrate(given: argparse.Namespace) -> Status:
     """Migrates mailboxes, or lists the users whom a run would take. Returns the status."""
-    task, reporter = task_of(given), reporter_of(given)
+    task, reporter = task_of(given), printer_of(given)
     if given.list:
         from .spools import list_spool
 
@@ -125,15 +125,12 @@ def migrate_named(maildir: bytes, names: Sequence[bytes], options: Options, repo
         migrate_own(maildir, names, options, reporter)
 
 
-def reporter_of(given: argparse.Namespace) -> Reporter:
-    """What prints the rows: objects for programs, or lines; on a terminal it may ask questions too."""
-    if given.json:
-        from .objects import ObjectReporter
-
-        return ObjectReporter()
+def printer_of(given: argparse.Namespace) -> Reporter:
+    """What prints the rows; on a terminal it may ask questions too."""
     shows = Shows(Row.is_said if given.all else None, given.users, not given.dry_run, typed_in(given))
-    if given.no_questions or given.users or given.undo or given.dry_run or not has_terminal():
-        return Reporter(shows=shows)
+    asks_nothing = given.json or given.no_questions or given.users or given.undo or given.dry_run
+    if asks_nothing or not has_terminal():
+        return reporter_of(given, shows)
     from .questions import Asker
 
     return Asker(given.operands[1:], shows=shows)

@@ -2,15 +2,15 @@
 import contextlib
 import json
 import os
-from collections.abc import Iterable, Iterator
+from collections.abc import Iterator
 from typing import Any, Optional
 
 from ..faults import PlaceFault, Reason
 from ..maildir.folders import folder_name
 from ..maildir.making import sync_folder
-from ..migration.outcomes import Fate, Row
+from ..migration.outcomes import Detail, Fate, Row
 from ..migration.rows import SUMMED, Reporter
-from ..nexts import ROOT, Quote, Todo, objects_of, task
+from ..nexts import ROOT, Todo, objects_of, task
 from ..terminal import complain, flush, is_text, named, put, shown, text_of
 from ..version import version
 
@@ -29,10 +29,20 @@ def object_of(row: Row, user: Optional[str] = None) -> dict[str, Any]:
         "reason": row.word or None,
         "says": row.says,
         "remarks": [{"remark": remark.word, "says": remark.says} for remark in row.remarks],
-        "lines": shown_lines(row.quotes),
+        "lines": [{"line": one.line, "text": one.text, "around": one.is_around} for one in row.quotes],
         # of the mailboxes of users, root runs what nobody else does
         "next": objects_of(row.next, None if user is None else ROOT),
+        **({} if row.most is None else {"most": row.most}),
+        **({"counts": dict(row.counts)} if row.counts else {}),
+        **({"details": [fields_of(one) for one in row.details]} if row.details else {}),
     }
+
+
+def fields_of(one: Detail) -> dict[str, Any]:
+    """The object of what is said of a message, a file or a line."""
+    where = path_of(one.path) if one.path else {"path": None}
+    named_by = {"sort": one.word or None, "message": one.message, "line": one.line, **where}
+    return {"says": one.sentence(), **named_by, "text": one.text or None}
 
 
 def rounded(seconds: Optional[float]) -> Optional[float]:
@@ -50,11 +60,6 @@ def path_of(path: bytes) -> dict[str, Any]:
 def folder_of(folder: bytes) -> dict[str, Any]:
     """The fields of a folder: its name, and its path below the Maildir."""
     return {"folder": folder_name(folder) or None, "directory": shown(folder) or None}
-
-
-def shown_lines(quotes: Iterable[Quote]) -> list[dict[str, Any]]:
-    """The objects of lines that are shown."""
-    return [{"line": one.line, "text": one.text, "around": one.is_around} for one in quotes]
 
 
 def put_object(fields: dict[str, Any]) -> None:

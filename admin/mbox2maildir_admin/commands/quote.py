@@ -17,7 +17,7 @@ from ..terminal import named, operand, put, write
 from ..units import Say, silent
 from .command_line import WrongOptions
 from .deciding import decision_of
-from .files import each
+from .files import Complaints, each
 
 STANDARD_OUTPUT = b"-"
 
@@ -27,7 +27,8 @@ def do_quote(given: argparse.Namespace) -> Status:
     if not given.output:
         raise WrongOptions("-o COPY is missing: the name of the copy, or - for standard output")
     decision, output = decision_of(given, True), os.fsencode(given.output)
-    return Status.of(each(given.operands, lambda file: quote_file(decision, file, output, bool(given.dovecot))))
+    has_numbers = bool(given.dovecot)
+    return Status.of(each(given.operands, lambda file: quote_file(decision, file, output, has_numbers), Complaints()))
 
 
 def quote_file(decision: Reading, file: bytes, output: bytes, is_bare: bool = False) -> bool:

@@ -40,5 +40,7 @@ def record_of(folder: bytes) -> History:
 
 
 def root_of(folder: bytes) -> bytes:
-    """The Maildir of a folder: the folder itself if it has a record, otherwise the one that it is in."""
-    return folder if is_there(os.path.join(folder, RECORD)) else os.path.dirname(os.path.abspath(folder))
+    """The Maildir of a folder: the one that it is in, if that has a record and the folder has none."""
+    above = os.path.dirname(os.path.abspath(folder))
+    has_records = [is_there(os.path.join(one, RECORD)) for one in (folder, above)]
+    return above if has_records == [False, True] else folder

@@ -1,11 +1,12 @@
 """How a command runs that tells what becomes of mailboxes: its rows, its report and its last line."""
+import argparse
 import os
 import sys
-from collections.abc import Callable
+from collections.abc import Callable, Mapping
 from typing import Optional
 
 from ..faults import Status
-from ..migration.rows import Reporter
+from ..migration.rows import STEPS, Reporter, Shows
 from ..terminal import OutputFault, complain, drop
 from ..users.asked import Tally
 
@@ -14,6 +15,17 @@ INTERRUPTED = "interrupted: run the same command again"
 
 # does what a command says, and tells what became of each mailbox
 Telling = Callable[[Reporter, Tally], None]
+
+
+def reporter_of(
+    given: argparse.Namespace, shows: Shows, steps: Mapping[str, int] = STEPS, task: str = "migrating"
+) -> Reporter:
+    """What prints the rows of a command: objects for programs, or lines."""
+    if given.json:
+        from .objects import ObjectReporter
+
+        return ObjectReporter(steps=steps, task=task)
+    return Reporter(steps=steps, task=task, shows=shows)
 
 
 def run_reported(task: Telling, reporter: Reporter, report: Optional[str], after: str) -> Status:

@@ -3,6 +3,10 @@ import argparse
 import collections
 import functools
 import importlib
+import os
+from collections.abc import Iterator
+from dataclasses import replace
+from itertools import islice
 
 from ..faults import Status
 from ..labels.checks import checks_of
@@ -13,14 +17,33 @@ from ..maildir.files import paths_of
 from ..maildir.folders import INBOX
 from ..mbox.inventory import Inventory
 from ..mbox.lines import Lines
+from ..migration.outcomes import Detail, Fate, Observer, Row
+from ..migration.rows import Reporter, Shows
+from ..nexts import Remark
 from ..program import Program, find_program
 from ..readings.texts import Text, open_text
+from ..terminal import NAMED
 from ..units import Place, Say
+from ..users.asked import Tally
 from .command_line import WrongOptions, want_operands
 from .files import each, for_mailboxes
-from .findings import LINES, Checked, Findings, findings_of
 from .of_users import UsersOptions, wrong_for_homes, wrong_for_one
-from .recorded import Recorded, record_of
+from .recorded import Recorded, record_of, root_of
+from .running import Telling, reporter_of, run_reported
+
+# what all mailboxes together are at, and what is to be done if the output takes no more
+VERIFYING, AGAIN = "verifying", "run the same command again"
+# what is said of how many messages, files and lines there are of each sort, and of each of them
+SORTS = {
+    "other-bytes": ("other bytes %d", "other bytes in"),
+    "renamed": ("under another name %d", "under another name,"),
+    "nowhere": ("nowhere %d", "nowhere"),
+    "double": ("doubles %d", "a second copy of a message:"),
+    "other-owner": ("of another owner %d", "not owned by the owner of the Maildir:"),
+    "doubtful-line": ("doubtful lines %d", "this From_ line may contain mail"),
+    "without-fields": ("without fields %d", ""),
+}
+STATES = {"other-bytes": State.OTHER, "renamed": State.RENAMED, "nowhere": State.NOWHERE}
 
 
 def do_verify(given: argparse.Namespace) -> Status:
@@ -29,40 +52,84 @@ def do_verify(given: argparse.Namespace) -> Status:
     of_users = UsersOptions.of(given)
     for wrong in wrong_for_homes(of_users) if given.users else wrong_for_one(given, "jobs", "report"):
         raise WrongOptions(wrong)
+    shows = Shows((lambda row: True) if given.all else None, given.users)
+    reporter = reporter_of(given, shows, {}, VERIFYING)
     if given.users:
         # only this one needs what migrates
-        return Status(importlib.import_module("%s.verify_users" % __package__).verify_users(given))
-    maildir, *files = given.operands
-    tell = findings_of(given.json, given.all)
-
-    def verify(folder: bytes, file: bytes) -> bool:
-        noted = noted_of(record_of(maildir), file)
-        if noted:
-            return verify_takeout(maildir, file, find_program(), noted, tell)
-        return verify_file(folder, file, find_program(), tell, folder[len(maildir) :].lstrip(b"/"))
-
-    return Status.of(each(files, lambda path: for_mailboxes(maildir, path, verify, tell), tell))
+        task = importlib.import_module("%s.verify_users" % __package__).verifying(given)
+    else:
+        task = verifying(*given.operands)
+    return run_reported(task, reporter, given.report, AGAIN)
 
 
-def verify_file(maildir: bytes, file: bytes, program: bytes, tell: Findings = LINES, folder: bytes = INBOX) -> bool:
+def verifying(maildir: bytes, *files: bytes) -> Telling:
+    """What compares mailboxes with a Maildir."""
+
+    def verify(tell: Reporter, tally: Tally) -> None:
+        del tally
+
+        def compare(folder: bytes, file: bytes) -> bool:
+            noted = noted_of(record_of(maildir), file)
+            if noted:
+                return verify_takeout(maildir, file, find_program(), noted, tell)
+            return verify_file(folder, file, find_program(), tell, os.path.relpath(folder, root_of(maildir)))
+
+        tell.total = len(files)
+        each(files, lambda path: for_mailboxes(maildir, path, compare, tell), tell)
+
+    return verify
+
+
+def verify_file(maildir: bytes, file: bytes, program: bytes, tell: Observer, folder: bytes = INBOX) -> bool:
     """Says which messages of one mailbox are there, and returns whether each is there exactly once."""
     say, plans = tell.say(file), Recorded(maildir)
+    tell.begin()
     with open_text(file, maildir, say, plans.recorded) as text:
         check, bare = check_of(program, maildir, text, say)
     if plans.plan:
         # it was decided then that no mail is in its From_ lines
         check.doubts = Lines()
-    tell.checked(Checked(file, folder, check, bare))
+    tell.row(row_of(file, folder, check, bare))
     return check.is_right()
 
 
-def verify_takeout(maildir: bytes, file: bytes, program: bytes, noted: Noted, tell: Findings) -> bool:
+def verify_takeout(maildir: bytes, file: bytes, program: bytes, noted: Noted, tell: Observer) -> bool:
     """Says the same of each folder of a Takeout that went into the folders of its labels."""
     look, are_right = functools.partial(check_of, program), []
+    tell.total += len(noted.folders) - 1
     for folder, check, bare in checks_of(maildir, file, noted, Recorded(maildir).recorded, look, tell.say(file)):
-        tell.checked(Checked(file, folder, check, bare, is_part=True))
+        tell.begin()
+        tell.row(row_of(file, folder, check, bare))
         are_right.append(check.is_right())
     return all(are_right)
+
+
+def row_of(path: bytes, folder: bytes, check: Check, bare: int) -> Row:
+    """The row of a mailbox that was compared with its folder, in which some of its messages are there without some
+    fields."""
+    counts = {
+        "there": check.count(State.THERE),
+        **{word: check.count(state) for word, state in STATES.items()},
+        "double": len(check.doubles),
+        "other-owner": len(check.strangers),
+        "doubtful-line": check.doubts.count,
+        "without-fields": bare,
+    }
+    sizes, fate = check.inventory.sizes, Fate.WHOLE if check.is_right() else Fate.NOT_WHOLE
+    remarks = tuple(Remark(word, says % counts[word]) for word, (says, _) in SORTS.items() if counts[word])
+    row = Row(path, folder, "", len(sizes), fate, size=sum(sizes), remarks=remarks)
+    return replace(row, counts=tuple(counts.items()), details=tuple(details_of(check)))
+
+
+def details_of(check: Check) -> Iterator[Detail]:
+    """What is said of the first messages, files and lines of each sort that are not as they were converted."""
+    for word, state in STATES.items():
+        for place, line, path in islice(check.found(state), NAMED):
+            yield Detail(SORTS[word][1], word, line, place + 1, path)
+    for word, paths in (("double", check.doubles), ("other-owner", sorted(check.strangers.values()))):
+        yield from (Detail(SORTS[word][1], word, path=path) for path in paths[:NAMED])
+    for line, *_ in check.doubts.first:
+        yield Detail(SORTS["doubtful-line"][1], "doubtful-line", line)
 
 
 def check_of(program: bytes, maildir: bytes, text: Text, say: Say) -> tuple[Check, int]:

@@ -176,17 +176,16 @@ def add_verify(command_line: CommandLine) -> None:
         "verify",
         task_named("verify"),
         "check whether each message is in the Maildir",
-        "Compares each FILE with MAILDIR. Prints how many of its messages are there with exactly their bytes, how many "
-        "under another name, how many with other bytes and how many nowhere, and how many files are second copies of "
-        "a message. Writes nothing. A FILE may be a folder of mailboxes. With --users it compares the mailboxes that "
-        "`migrate --users` migrates, with the rights of each user, and prints one line for each user whose mail is not "
-        "whole.",
+        "Compares each FILE with MAILDIR. Prints which mailboxes are not whole: how many of their messages have other "
+        "bytes and how many are nowhere, and how many files are second copies of a message. Writes nothing. A FILE may "
+        "be a folder of mailboxes. With --users it compares the mailboxes that `migrate --users` migrates, with the "
+        "rights of each user.",
         usage=["[OPTION]... MAILDIR FILE...", "--users [OPTION]... OLD [NAME...]"],
         epilog=EXAMPLES_OF_VERIFY % ((ADMIN,) * 2),
     )
     add = command.add_argument
     add("--json", action="store_true", help="print one JSON object per line")
-    add("--all", action="store_true", help="name files without mail, and with --users each mailbox, too")
+    add("--all", action="store_true", help="print a line for each mailbox, with all that is said of it")
     add = command.add_argument_group("for many users, as root").add_argument
     add("--users", action="store_true", help="check each mailbox in OLD, and the Maildir in the home of its user")
     add_homes(add, "check")

@@ -7,8 +7,7 @@ from .. import ADMIN
 from ..faults import Reason
 from ..maildir.folders import folder_shown
 from ..mbox.lines import AROUND
-from ..meanings import Weight, weight_of
-from ..nexts import BELOW, COMMAND, Answer, Command, Does, Quote, Remark, Task, Todo, lines_below
+from ..nexts import BELOW, COMMAND, Answer, Command, Does, Quote, Task, Todo, lines_below
 from ..terminal import named, operand, option, text_of
 from .outcomes import Fate, Row
 
@@ -69,14 +68,8 @@ class Entry(NamedTuple):
         row, asked = self.row, [one for one in self.row.quotes if not one.is_around]
         counts = dict.fromkeys(str(one.messages) for one in self.answers() if one.messages is not None)
         several = ["%s messages" % " or ".join(counts)] if len(counts) > 1 else []
-        says = "; ".join(filter(None, [row.why, *(one.says for one in looks_of(row))]))
-        line = ["%s: %s" % (says or "line %d" % one.line, one.text) for one in asked[:1]]
-        return ": ".join(filter(None, [*several, *(line or [says])]))
-
-
-def looks_of(row: Row) -> tuple[Remark, ...]:
-    """The remarks that ask for a look."""
-    return tuple(one for one in row.remarks if weight_of(one.word) is Weight.LOOK)
+        line = ["%s: %s" % (row.says or "line %d" % one.line, one.text) for one in asked[:1]]
+        return ": ".join(filter(None, [*several, *(line or [row.says])]))
 
 
 class Decided(NamedTuple):
@@ -118,6 +111,7 @@ class Group(NamedTuple):
         width = min(40, max(len(one.name()) for one in named_here))
         for one in named_here:
             yield ("%s%-*s  %s" % (WITHIN, width, one.name(), one.detail())).rstrip()
+            yield from (BELOW + each.sentence() for each in one.row.details)
             if len(self.entries) == 1 or is_asked and has_quotes:
                 yield from lines_below(one.row.quotes if is_asked else first_of(one.row.quotes), ())
         if len(named_here) < len(self.entries):

@@ -1,16 +1,18 @@
 """What became of a mailbox, and who is told of it."""
 import enum
-from collections.abc import Sequence
+import functools
+from collections.abc import Iterator, Sequence
 from dataclasses import dataclass, replace
 from typing import NamedTuple, Optional, Union
 
 from ..faults import Fault, Left, Reason, next_of, reason_of_fault, why_left
 from ..ledger.record import Verified
 from ..looks import type_at
-from ..nexts import NOTHING, Next, Quote, Remark
-from ..progress import Spent
+from ..nexts import BELOW, NOTHING, Next, Quote, Remark, lines_below
+from ..progress import Beat, Spent
 from ..readings.plans import Plan
 from ..terminal import named
+from ..units import Say
 
 # what is said of a file that holds no mail by a pattern of the command line, and by that of an earlier run
 BY_NO_MAIL = Remark("by-no-mail", "by --no-mail")
@@ -31,11 +33,31 @@ class Fate(enum.Enum):
     BACK = "back"
     WOULD_BACK = "would go back"
     NOTHING_NEW = "nothing new"
+    # by `kind`: what it is
+    FOUND = "found"
     # by `verify`: each message is there exactly once, or not
     WHOLE = "whole"
     NOT_WHOLE = "not whole"
     NO_MAIL = "no mail"
     LEFT = "left"
+
+
+class Detail(NamedTuple):
+    """What is said of a message, a file or a line, with the word of its sort if it is counted; and the line as it is
+    printed, if it is shown."""
+
+    says: str
+    word: str = ""
+    line: Optional[int] = None
+    # the number of the message that begins in the line
+    message: Optional[int] = None
+    path: bytes = b""
+    text: str = ""
+
+    def sentence(self) -> str:
+        """What is said."""
+        where = "message %s (line %s): " % (self.message, self.line) if self.message else "line %s: " % self.line
+        return (where if self.line else "") + self.says + (" " + named(self.path) if self.path else "")
 
 
 @dataclass(frozen=True)
@@ -64,11 +86,26 @@ class Row:
     is_back: bool = False
     # the tie of the answer for several mailboxes that decided about it, if one did
     tie: str = ""
+    # how many messages it may have at most, if it is not known how many
+    most: Optional[int] = None
+    # how many messages, files and lines there are of each sort, and what is said of the first ones
+    counts: tuple[tuple[str, int], ...] = ()
+    details: tuple[Detail, ...] = ()
 
     @property
     def says(self) -> str:
         """What is said of it in its line."""
         return "; ".join(filter(None, [self.why, *(remark.says for remark in self.remarks)]))
+
+    def below(self) -> Iterator[str]:
+        """The lines that stand below it."""
+        asked = {one.line for one in self.quotes if not one.is_around}
+        for one in self.details:
+            if one.says:
+                yield BELOW + one.sentence()
+            if one.text and one.line and one.line not in asked:
+                yield from lines_below([Quote(one.line, one.text)], ())
+        yield from lines_below(self.quotes, self.next)
 
     @property
     def left_for(self) -> Optional[Reason]:
@@ -88,7 +125,7 @@ class Row:
 
     def is_changed(self) -> bool:
         """Whether the run did something, or would do it."""
-        return self.fate not in (Fate.BEFORE, Fate.NOTHING_NEW, Fate.WHOLE, Fate.NO_MAIL)
+        return self.fate not in (Fate.BEFORE, Fate.NOTHING_NEW, Fate.FOUND, Fate.WHOLE, Fate.NO_MAIL)
 
 
 class Ended(NamedTuple):
@@ -118,11 +155,19 @@ class Observer:
         """Takes how far one is: what is done with it and, if that is known, the place in a text and the size of that
         text."""
 
+    def say(self, path: bytes) -> Say:
+        """The function that takes the progress of the file at a path."""
+        return Beat(functools.partial(self.progress, named(path)))
+
     def rest(self, who: str) -> None:
         """Notes that one is no longer at work. Its row may come later."""
 
     def row(self, row: Row, user: Optional[str] = None) -> None:
         """Takes what became of a mailbox, which may be that of a user."""
+
+    def leave(self, path: bytes, fault: Union[Fault, OSError]) -> None:
+        """Takes why something is left."""
+        self.row(row_left(path, b"", fault))
 
     def ended(self, user: str) -> None:
         """Takes that nothing follows of a user."""

@@ -15,7 +15,7 @@ from ..nexts import lines_below
 from ..progress import AtWork, Estimate, Progress, Task, duration, length
 from ..terminal import LINE, complain, flush, named, put
 from ..units import WAITING, counted
-from .block import Entry, Typed, groups_of, looks_of
+from .block import Entry, Typed, groups_of
 from .outcomes import Fate, Observer, Row
 
 # the mailboxes whose messages and bytes are summed up
@@ -126,7 +126,7 @@ class Reporter(Observer):
         if row.left_for:
             self.reasons[row.left_for] += 1
         if row.fate is Fate.NOT_WHOLE:
-            self.faults.update(remark.word for remark in row.remarks)
+            self.faults.update(one.word for one in with_looks(row).remarks)
         for remark in row.remarks:
             self.stand[remark.word] += remark.stands
         self.messages[row.fate] += row.messages or 0
@@ -152,16 +152,15 @@ class Reporter(Observer):
             return
         if row.fate is not Fate.LEFT:
             self.kept.noted.update({one.word for one in row.remarks if weight_of(one.word) is Weight.COUNT})
-        looks = looks_of(row)
-        is_kept = row.fate in WRONG or bool(looks or row.next)
+        row = with_looks(row)
         if self.shows.is_of_users:
             self.kept.users.setdefault(named(user or ""), collections.Counter())[row.fate] += 1
         elif self.total == 1 and row.is_said():
-            self.put_row(replace(row, remarks=looks), None)
+            self.put_row(row, None)
             return
         elif row.fate not in WRONG and row.is_changed():
             self.put_row(replace(row, kind="", remarks=(), quotes=(), next=()), None)
-        if is_kept and row.fate is not Fate.NO_MAIL:
+        if (row.fate in WRONG or row.remarks or row.next) and row.fate is not Fate.NO_MAIL:
             self.kept.entries.append(Entry(row, user))
 
     def ended(self, user: str) -> None:
@@ -174,9 +173,8 @@ class Reporter(Observer):
     @staticmethod
     def put_row(row: Row, user: Optional[str]) -> None:
         """Prints the line of a row, and what stands below it."""
-        fate, sign = ("%s (%s)" % (row.fate.value, row.word), ": ") if row.word else (row.fate.value, ", ")
-        put("%s%s%s" % (head_of(row, user), fate, sign + row.says if row.says else ""))
-        for line in lines_below(row.quotes, row.next):
+        put(line_of(row, user))
+        for line in row.below():
             put(line)
         flush()
 
@@ -251,14 +249,25 @@ class Reporter(Observer):
         flush()
 
 
-def head_of(row: Row, user: Optional[str] = None) -> str:
-    """What stands in a row before its fate: the mailbox, its folder and, unless it was done before, its kind and how
-    many messages it has."""
-    count = None if row.fate is Fate.BEFORE else row.messages
-    what = ", ".join(filter(None, [row.kind, "messages %d" % count if count is not None else ""]))
+def line_of(row: Row, user: Optional[str] = None) -> str:
+    """The line of a row: the mailbox, its folder, unless it was done before its kind and how many messages it has, what
+    became of it, and what is said of it."""
     names = [label_of(row, user), folder_shown(row.folder) if row.folder else ""]
     way = " -> ".join(filter(None, reversed(names) if row.is_back else names))
-    return "%s: %s" % (way, what + ": " if what else "")
+    count = "" if row.messages is None or row.fate is Fate.BEFORE else "messages %d" % row.messages
+    count += " to %d" % row.most if count and row.most not in (None, row.messages) else ""
+    what = ", ".join(filter(None, [row.kind, count]))
+    if row.fate is Fate.FOUND:
+        return ": ".join(filter(None, [way, what, row.says]))
+    fate, sign = ("%s (%s)" % (row.fate.value, row.word), ": ") if row.word else (row.fate.value, ", ")
+    return ": ".join(filter(None, [way, what, fate + (sign + row.says if row.says else "")]))
+
+
+def with_looks(row: Row) -> Row:
+    """A row with only that which asks for a look."""
+    sorts = {one.word for one in row.remarks if weight_of(one.word) is not Weight.LOOK}
+    remarks = tuple(one for one in row.remarks if one.word not in sorts)
+    return replace(row, remarks=remarks, details=tuple(one for one in row.details if one.word not in sorts))
 
 
 def label_of(row: Row, user: Optional[str]) -> str:

@@ -31,8 +31,7 @@ from .places import Pairs, Planned, recorded, settled
 from .steps import Options
 
 # what is said of a file without mail
-NO_MAIL = Remark("no-mail", "no mail")
-PUT_ASIDE = Remark("no-mail", "originals that were put aside")
+PUT_ASIDE = Remark("put-aside", "originals that were put aside")
 
 # the facts that show that two paths are of one file: its device and inode
 Identity = tuple[int, int]
@@ -103,9 +102,9 @@ class Tree:
         """Leaves something out."""
         self.rows.append(row_left(path, b"", fault))
 
-    def pass_over(self, path: bytes, remark: Remark) -> None:
+    def pass_over(self, path: bytes, *remarks: Remark, kind: str = "") -> None:
         """Leaves something out that holds no mail."""
-        self.rows.append(Row(path, b"", "", None, Fate.NO_MAIL, remarks=(remark,)))
+        self.rows.append(Row(path, b"", kind, None, Fate.NO_MAIL, remarks=remarks))
 
     def walk(self, folder: bytes) -> list[bytes]:
         """Takes what is in a folder, and returns the folders in it."""
@@ -121,7 +120,7 @@ class Tree:
             self.leave(folder, Left(error.strerror, Reason.ERROR))
             return []
         for entry in rest:
-            self.pass_over(entry.path, NO_MAIL)
+            self.pass_over(entry.path)
         return [entry.path for entry in entries if self.take(entry)]
 
     def without_messages(self, folder: bytes, entries: list[Entry]) -> list[Entry]:
@@ -195,7 +194,7 @@ class Tree:
         for path in self.files:
             try:
                 if is_no_mail(path) or self.profiles.is_no_mail(path):
-                    self.pass_over(path, NO_MAIL)
+                    self.pass_over(path)
                     continue
             except (Fault, OSError) as fault:
                 self.leave(path, fault)

@@ -12,7 +12,7 @@ from ..ledger.record import Record
 from ..ledger.strangers import folders_in
 from ..looks import may_be
 from ..maildir.making import want_own
-from ..migration.outcomes import Observer, Row, row_left
+from ..migration.outcomes import Observer, Row
 from ..migration.places import UserHome
 from ..migration.servers import Place, want_unread
 from ..migration.several import refuse, run_all
@@ -185,10 +185,6 @@ class Relay(Observer):
         path = row.path if row.path in self.migrant.beside or path.startswith(b"../") else path
         self.told.add(row.path)
         self.teller.row(replace(row, path=path), user)
-
-    def leave(self, path: bytes, fault: Union[Fault, OSError]) -> None:
-        """Tells that something is left, and why."""
-        self.row(row_left(path, b"", fault))
 
     def leave_rest(self, names: list[bytes], fault: Union[Fault, OSError]) -> None:
         """Tells that each path without a row is left or, if all have one, the last."""

@@ -3,7 +3,15 @@ import gzip
 import os
 import unittest
 
-from mbox2maildir_admin.commands.files import each, for_mailboxes, left_out, read_tree, say_left_out, without_mail
+from mbox2maildir_admin.commands.files import (
+    Complaints,
+    each,
+    for_mailboxes,
+    left_out,
+    read_tree,
+    say_left_out,
+    without_mail,
+)
 from mbox2maildir_admin.faults import Fault, Reason
 from mbox2maildir_admin.ledger.history import History, Note
 from mbox2maildir_admin.ledger.record import Record
@@ -33,7 +41,9 @@ class FilesTest(unittest.TestCase):
             return True
 
         with printed() as caught:
-            self.assertEqual((each([b"bad", b"good"], task), each([b"good"], task)), (False, True))
+            self.assertEqual(
+                (each([b"bad", b"good"], task, Complaints()), each([b"good"], task, Complaints())), (False, True)
+            )
         self.assertEqual(
             (done, caught.err), ([b"bad", b"good", b"good"], ["mbox2maildir-admin: bad: it is not a regular file"])
         )
@@ -46,7 +56,7 @@ class FilesTest(unittest.TestCase):
             done.append((maildir, os.path.relpath(file, self.here)))
             return right
 
-        return for_mailboxes(b"M", path, task), sorted(done)
+        return for_mailboxes(b"M", path, task, Complaints()), sorted(done)
 
     def test_a_mailbox_goes_into_the_maildir_itself(self) -> None:
         make(self.here, {"box": MAIL})
@@ -88,7 +98,7 @@ class FilesTest(unittest.TestCase):
             done.append((maildir, file))
             return True
 
-        self.assertTrue(for_mailboxes(root, self.here + b"/old", task))
+        self.assertTrue(for_mailboxes(root, self.here + b"/old", task, Complaints()))
         wanted = [(b"/.A", b"/old/a"), (b"/.b", b"/old/b"), (b"/.C", b"/old/c"), (b"/.F", b"/far")]
         self.assertEqual(done, [(root + folder, self.here + file) for folder, file in wanted])
 
@@ -100,7 +110,7 @@ class FilesTest(unittest.TestCase):
             found.append(os.path.normpath(where))
             return True
 
-        for_mailboxes(maildir, self.here + file, task)
+        for_mailboxes(maildir, self.here + file, task, Complaints())
         return found
 
     def test_one_of_the_record_is_in_its_folder(self) -> None:
@@ -120,16 +130,16 @@ class FilesTest(unittest.TestCase):
         def task(maildir: bytes, file: bytes) -> bool:
             raise FileNotFoundError(2, "No such file or directory", (maildir + b"/cur", file))
 
-        self.assertRaises(FileNotFoundError, for_mailboxes, self.here + b"/M", self.here + b"/box", task)
+        self.assertRaises(FileNotFoundError, for_mailboxes, self.here + b"/M", self.here + b"/box", task, Complaints())
         with self.assertRaisesRegex(Fault, "it was not migrated: .*/none is no Maildir"):
-            for_mailboxes(self.here + b"/none", self.here + b"/box", task)
+            for_mailboxes(self.here + b"/none", self.here + b"/box", task, Complaints())
 
     def test_what_is_left_out_though_it_may_be_mail(self) -> None:
         make(self.here, {"old/box": MAIL})
         os.symlink("box", self.here + b"/old/link")
         tree, plan = read_tree(self.here + b"/old")
         with printed() as caught:
-            self.assertFalse(say_left_out(tree.rows))
+            self.assertFalse(say_left_out(tree.rows, Complaints()))
         self.assertEqual([one.folder for one in plan], [b".box"])
         self.assertRegex(caught.err[0], "/old/link: left out: it is a symbolic link\\Z")
         self.assertEqual(caught.err[1:], ["    migrate what it points to, with --folder NAME"])
@@ -142,10 +152,11 @@ class FilesTest(unittest.TestCase):
     def test_what_has_no_mail(self) -> None:
         make(self.here, {"box": MAIL, "empty": b"", "note": b"%PDF-1.4\n", "other": b"hello\n"})
         rows = {
-            name: left_out(self.here + b"/" + name, b"M", History()) for name in (b"box", b"empty", b"note", b"other")
+            name: left_out(self.here + b"/" + name, b"M", History(), Complaints())
+            for name in (b"box", b"empty", b"note", b"other")
         }
         found = [row and (row.fate, told(row)) for row in rows.values()]
-        self.assertEqual(found, [None, (Fate.NO_MAIL, "no mail"), (Fate.NO_MAIL, "no mail"), None])
+        self.assertEqual(found, [None, (Fate.NO_MAIL, ""), (Fate.NO_MAIL, ""), None])
 
     def left_out_of(self, path: bytes) -> tuple[bool, list[str], list[bytes]]:
         """What is returned and said, and for which files the task is done."""
@@ -156,7 +167,7 @@ class FilesTest(unittest.TestCase):
             return False
 
         with printed() as caught:
-            right = for_mailboxes(self.here + b"/M", path, task)
+            right = for_mailboxes(self.here + b"/M", path, task, Complaints())
         return right, [line.replace(self.here.decode() + "/", "") for line in caught.err], done
 
     def test_what_has_no_mail_by_the_record(self) -> None:

@@ -7,8 +7,8 @@ import unittest
 from unittest import mock
 
 from mbox2maildir_admin.commands import kind
-from mbox2maildir_admin.commands.findings import count_of
 from mbox2maildir_admin.commands.kind import kind_below, may_write, members_of, where
+from mbox2maildir_admin.migration.rows import Reporter, Shows
 from mbox2maildir_admin.readings.reading import Reading
 
 from tests.support.mail import A
@@ -30,7 +30,7 @@ class KindTest(unittest.TestCase):
     def kind(self, name: bytes) -> tuple[bool, list[str]]:
         """Whether files can be converted as they are, and what is printed."""
         with printed() as caught:
-            right = kind_below(self.here + name)
+            right = kind_below(self.here + name, Reporter(shows=Shows(lambda row: True)))
         return right, [line.replace(self.name, "") for line in caught.out + caught.err]
 
     def test_a_mailbox(self) -> None:
@@ -58,8 +58,8 @@ class KindTest(unittest.TestCase):
     def test_a_folder(self) -> None:
         make(self.here, {"old/box": MAIL, "old/note": b"%PDF-1.4\n", "M/cur/": b"", "M/new/": b"", "M/tmp/": b""})
         right, lines = self.kind(b"/old")
-        out = ["/old/box: mboxrd or mboxo, messages 1", "/old: a folder of mailboxes", RUN, MIGRATE + "/old"]
-        self.assertEqual((right, lines), (True, [*out, "mbox2maildir-admin: /old/note: left out: no mail: PDF"]))
+        out = ["/old/box: mboxrd or mboxo, messages 1", "/old/note: PDF: no mail"]
+        self.assertEqual((right, lines), (True, [*out, "/old: a folder of mailboxes", RUN, MIGRATE + "/old"]))
         self.assertEqual(self.kind(b"/M"), (False, ["/M: a Maildir", "    leave it as it is"]))
 
     def test_one_command_for_a_folder(self) -> None:
@@ -76,17 +76,8 @@ class KindTest(unittest.TestCase):
         make(self.here, {"old/box": MAIL, "old/box.mboxrd": MAIL})
         right, lines = self.kind(b"/old")
         self.assertEqual((right, len(lines)), (False, 6))
-        self.assertTrue(lines[0].endswith("/old/box: left out: /old/box.mboxrd stands beside it"), lines[0])
+        self.assertTrue(lines[0].endswith("/old/box: left (copy): /old/box.mboxrd stands beside it"), lines[0])
         self.assertEqual(lines[1], "    if one is a copy, move it out of here")
-
-    def test_counts(self) -> None:
-        for messages, most, says in (
-            (None, None, ""),
-            (3, 3, ", messages 3"),
-            (3, 5, ", messages 3 to 5"),
-            (3, None, ", messages 3"),
-        ):
-            self.assertEqual(count_of(messages, most), says)
 
     def test_where_nothing_can_be_put_aside(self) -> None:
         make(self.here, {"box": MAIL[1:]})
