@@ -26,8 +26,8 @@ class Status(enum.IntEnum):
 
 
 class Reason(Phrase):
-    """Why something is left; what serves all that is left for this reason, if there is such a thing; and the status of
-    a command that leaves nothing for a worse one. The pages have the words, the sentences and the statuses too."""
+    """Why something is left, and the status of a command that leaves nothing for a worse one. The pages have the words,
+    the sentences and the statuses too."""
 
     OTHER = "other", "There is no word for it yet; the line says what it is."
     ERROR = "error", "A call of the system failed."
@@ -35,14 +35,12 @@ class Reason(Phrase):
     UNCLEAR = (
         "unclear",
         "It is an mbox text, and a human has to decide something.",
-        "`kind` shows the lines in question.",
     )
     LABELS = "labels", "Not each message has Gmail's labels, or a human has to decide about a label."
     OTHER_KIND = "other-kind", "It holds mail of another kind."
     NOT_KNOWN = (
         "not-known",
         "It is not known what it is.",
-        "Those that hold no mail are passed over by --no-mail PATTERN.",
     )
     PACKED = (
         "packed",
@@ -62,13 +60,11 @@ class Reason(Phrase):
     LOCKED = (
         "locked",
         "Another program has locked it, or works in its folder.",
-        "When that program has ended, run the same command again.",
         Status.LATER,
     )
     CHANGED = (
         "changed",
         "A program writes to it.",
-        "When that program is stopped, run the same command again.",
         Status.LATER,
     )
     # the folder that it would go to
@@ -84,7 +80,6 @@ class Reason(Phrase):
     NO_ROOM = (
         "no-room",
         "The disk has too little room, or too few inodes.",
-        "When there is room, run the same command again.",
     )
     NO_SYNC = "no-sync", "The file system of its folder does not sync folders, or leaves out all syncs."
     # what is there already
@@ -101,7 +96,7 @@ class Reason(Phrase):
     SUBSCRIPTIONS = "subscriptions", "There is a list of subscriptions already, or it cannot be written."
     # what failed
     WRONG_LINES = "wrong-lines", "The lines that were named do not begin as they should."
-    MISREAD = "misread", "Two readings of it differ, or one did not take all of it.", "Run the same command again."
+    MISREAD = "misread", "Two readings of it differ, or one did not take all of it."
     CONVERT_FAILED = "convert-failed", "The program mbox2maildir failed, or is missing."
     SYNC_FAILED = "sync-failed", "A sync of the disk failed."
     NOT_VERIFIED = "not-verified", "Not every message is there exactly once."
@@ -127,13 +122,12 @@ class Reason(Phrase):
     PROCESS = (
         "process",
         "The process that migrated it was ended, or its answer cannot be read.",
-        "Run the same command again.",
     )
     DEFECT = "defect", "An internal error of this command; the line says it."
 
-    def __init__(self, word: str, says: str, serves: str = "", status: Status = Status.LEFT) -> None:
+    def __init__(self, word: str, says: str, status: Status = Status.LEFT) -> None:
         super().__init__(word, says)
-        self.serves, self.status = serves, status
+        self.status = status
 
 
 class Fault(Exception):

@@ -79,10 +79,10 @@ def way_to(path: bytes) -> tuple[bytes, list[bytes]]:
     return real, links
 
 
-def may_be(look: Callable[[bytes], bool], path: bytes) -> bool:
+def may_be(look: Callable[[bytes], object], path: bytes) -> bool:
     """What a look says of a path: yes, if it is not known."""
     try:
-        return look(path)
+        return bool(look(path))
     except OSError:
         return True
 

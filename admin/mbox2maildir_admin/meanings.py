@@ -1,8 +1,16 @@
 """What the words of rows mean for a reader, and what to do: `explain` and docs/LEFT.md have it from here, and so has
 what is printed of a remark."""
 import enum
+import re
 
 from .faults import Reason
+from .nexts import Remark
+
+
+# a link of a page, of which only the text is printed
+LINK = re.compile(r"\[([^]]*)\]\([^)]*\)")
+# what stands in place of what is to be done if that is printed by itself
+ITS_COMMAND = "Its command"
 
 
 class Weight(enum.Enum):
@@ -46,11 +54,11 @@ TO_DO = {
     Reason.HOLES: "Find a complete copy",
     Reason.MAILDIR: "Its command, or move its files as the line says",
     Reason.MH: "Its command, then move the folder away",
-    Reason.LOCKED: "End that program. A `.lock` file counts for 20 minutes",
-    Reason.CHANGED: "Stop that program",
+    Reason.LOCKED: "End that program, and run the same command again. A `.lock` file counts for 20 minutes",
+    Reason.CHANGED: "Stop that program, and run the same command again",
     Reason.NO_FOLDER: "Give it a folder by `--folder NAME`, or run one of its commands",
     Reason.NOT_OWN: "Its command. If there is none, name a folder of the user's own, or run `migrate` as the owner",
-    Reason.NO_ROOM: "Make room, or raise the quota",
+    Reason.NO_ROOM: "Make room, or raise the quota, and run the same command again",
     Reason.NO_SYNC: (
         "A power cut could take its mail away. Name the Maildir by its path on another [file "
         "system](LARGE.md#file-systems), or add `--any-disk`"
@@ -139,7 +147,7 @@ LOOK = {
     "ledger-older": "The ledger is older than the record, as after a restored backup: mail may be missing.",
     "mailbox-gone": "The mailbox was removed after it was prepared.",
     "moved": "Mail that people moved to another folder stays in the mailbox that has it.",
-    "no-line-end": "Its last line has no line end. Check that the file is complete.",
+    "no-line-end": "Its last line has no line end: check that the file is complete.",
     "nowhere": "A message of it is not there.",
     "other-bytes": "A file has other bytes than its message.",
     "other-owner": "A file belongs to another user, who may be the only one who can read it.",
@@ -203,6 +211,17 @@ REMARKS = {
     for weight, words in ((Weight.LOOK, LOOK), (Weight.COUNT, COUNTED), (Weight.SILENT, SILENT))
     for word, says in words.items()
 }
+
+
+def to_do(reason: Reason) -> str:
+    """What is to be done about a reason."""
+    return LINK.sub(r"\1", TO_DO[reason])
+
+
+def remark_of(word: str) -> Remark:
+    """The remark of a word of which no more is to be said."""
+    says = REMARKS[word][1]
+    return Remark(word, says[0].lower() + says[1:].rstrip("."))
 
 
 def weight_of(word: str) -> Weight:

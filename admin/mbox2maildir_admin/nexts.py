@@ -90,6 +90,7 @@ class Todo(Phrase):
     DOVEADM = "doveadm", "copy the account by `doveadm backup`, or over IMAP, because this is one file of several"
     FOLLOW = "migrate-target", "migrate what it points to"
     FOLLOW_INTO = "migrate-target-into", "migrate what it points to, with --folder NAME"
+    REMOVE = "remove", "remove it"
     MOVE_TO = "move-to", "move it to {}"
     MOVE_FILES = "move-files", "move the files in its new and cur into those of {}"
     MOVE_OTHERS = "move-others", "move out of it what is not part of a Maildir, and run this again"
@@ -118,6 +119,7 @@ WITH_FILES = frozenset(
     [
         Todo.FOLLOW,
         Todo.FOLLOW_INTO,
+        Todo.REMOVE,
         Todo.MOVE_TO,
         Todo.MOVE_FILES,
         Todo.MOVE_OTHERS,

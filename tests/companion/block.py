@@ -64,7 +64,8 @@ def groups(home: Path) -> None:
     wanted = "mbox2maildir-admin migrate --no-mail old/blob --no-mail old/notes --now M old"
     equal("its command", not_known.commands, [wanted])
     equal("no file", (no_file.word, no_file.rows), ("no-file", {"old/pipe": "it is not a regular file"}))
-    equal("a look", (look.title, look.rows), ("look at: 1 mailbox", {"old/cut": look.rows["old/cut"]}))
+    wanted = "look at: 1 mailbox: Its last line has no line end: check that the file is complete."
+    equal("a look", (look.title, look.rows), (wanted, {"old/cut": ""}))
     last = out.splitlines()[-1]
     equal("the sum", last, "10 mailboxes: 3 done, 7 left")
     status, out, _ = run_printed(not_known.commands[0], home)

@@ -44,7 +44,7 @@ def trees(home: Path) -> None:
         "tree/Entw\u00fcrfe -> Entw\u00fcrfe: mboxrd or mboxo, messages 1: done\n"
         "tree/Inbox -> INBOX: mboxrd or mboxo, messages 1: done\n"
         "tree/Inbox.sbd/Garden -> INBOX/Garden: mboxrd or mboxo, messages 1: done\n"
-        "tree/link: left (link): it is a symbolic link\n    migrate what it points to, with --folder NAME\n"
+        "tree/link: left (link): it is a symbolic link to ../other\n    migrate what it points to, with --folder NAME\n"
         "tree/pipe: left (no-file): it is not a regular file\n"
         f"tree/twice.mbox: left (no-folder): another mailbox goes into twice too\n{RUN}"
         "mbox2maildir-admin migrate --folder NAME M tree/twice.mbox\n"
@@ -210,7 +210,8 @@ def links_that_are_named(home: Path) -> None:
         0,
         "box -> INBOX: mboxrd or mboxo, messages 1: done\n1 mailbox: 1 done\n",
     )
-    out = "folder/below: left (link): it is a symbolic link\n    ...\nfolder/work -> work: ..., messages 1: done\n"
+    out = "folder/below: left (link): it is a symbolic link to ../else/box\n    ...\n"
+    out += "folder/work -> work: ..., messages 1: done\n"
     expect(["migrate", "--all", "N", "folder"], home, 1, f"{out}2 mailboxes: 1 done, 1 left\n")
 
 
@@ -351,13 +352,13 @@ def passed_over_later(home: Path) -> None:
         f"mbox2maildir-admin: {name}: left out: no mail, by migrate --no-mail\n"
         for name in ("tree/notes", "tree/x/b.junk", "alone")
     )
-    whole = "tree/notes.mbox -> notes-mbox: messages 1: whole\n"
+    whole = "tree/notes.mbox -> notes: messages 1: whole\n"
     rows = says.replace("mbox2maildir-admin: ", "").replace("left out: ", "")
     sums = "1 mailbox: 1 whole; 3 other files: no mail\n"
     expect(["verify", "--all", "M", "tree", "alone"], home, 0, f"{whole}{rows}{sums}")
     expect(["dates", "M", "tree", "alone"], home, 0, "tree/notes.mbox: messages 1, dated 1\n", says)
     mailbox(home / "tree/x/b.junk", ONE[1:])
-    left = "tree/x/b.junk: left (other): no From line at the start\n...\n...kind tree/x/b.junk\n"
+    left = "tree/x/b.junk: left (not-known): no From line at the start\n...\n...kind tree/x/b.junk\n"
     sums = "2 mailboxes: 1 whole, 1 left; 1 other file: no mail\n"
     expect(["verify", "--all", "M", "tree"], home, 1, whole + left + rows.splitlines(True)[0] + sums)
 

@@ -116,7 +116,7 @@ def with_all(home: Path, lines: list[str]) -> None:
     command = f"runuser -u m61two -- mbox2maildir-admin verify {two}/Maildir/.lists.sheds {two}/mail/lists/sheds"
     assert f"        {command}" in out.splitlines(), out
     status, out, _ = run(["/usr/bin/env", *command.split()], home)
-    equal("that command", (status, out.count("\n")), (1, 3))
+    equal("that command", (status, out.count("\n")), (1, 4))
 
 
 def as_objects(home: Path, names: list[str]) -> None:
@@ -180,10 +180,10 @@ def rights(home: Path) -> None:
         expect([*TREE, "spool", "m61one"], home, 0, "1 mailbox: 1 whole; 1 user: ...\n")
         (one / "mail").mkdir()
         os.symlink(secret, one / "mail/Sent")
-        expect_line("link: m61one mail/Sent: it is a symbolic link")
+        expect_line(f"link: m61one mail/Sent: it is a symbolic link to {secret}")
         shutil.rmtree(one / "mail")
         os.symlink(secret, one / "mail")
-        expect_line("link: m61one mail: it is a symbolic link")
+        expect_line(f"link: m61one mail: it is a symbolic link to {secret}")
         (one / "mail").unlink()
         (one / "Maildir").rename(one / "away")
         os.symlink(home / "homes/m61two/Maildir", one / "Maildir")
@@ -194,10 +194,10 @@ def rights(home: Path) -> None:
         expect_line("other-owner: m61one: it belongs to m61two")
         (home / "spool/m61one").unlink()
         os.symlink(secret, home / "spool/m61one")
-        expect_line("link: m61one: it is a symbolic link")
+        expect_line("link: m61one: it is a symbolic link...")
         one.rename(home / "homes/gone")
         theirs(mailbox(home / "spool/m61three", THREE), "m61three")
-        expect_line("link: m61one: it is a symbolic link; home: m61one mail: ...")
+        expect_line("link: m61one: it is a symbolic link...; home: m61one mail: ...")
 
 
 def wrong_words(home: Path) -> None:

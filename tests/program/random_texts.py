@@ -165,9 +165,9 @@ def check_verified(dice: random.Random, text: bytes, maildir: Path, file: Path) 
     )
     row = json.loads(done.stdout.split("\n")[0])
     found = {word: row["counts"][word] for word in ("there", "renamed", "other-bytes", "nowhere", "double")}
-    wanted = {"there": there, "renamed": renamed, "other-bytes": other, "nowhere": nowhere, "double": 0}
+    counts = {"there": there, "renamed": renamed, "other-bytes": other, "nowhere": nowhere, "double": 0}
     sizes = len(messages), sum(len(body) for _, body in messages)
-    equal(f"verify of {text!r}", (row["messages"], row["bytes"], found, done.stderr), (*sizes, wanted, ""))
+    equal(f"verify of {text!r}", (row["messages"], row["bytes"], found, done.stderr), (*sizes, counts, ""))
     equal(f"verify of {text!r}: status", done.returncode, int(bool(nowhere or other or doubt)))
 
 

@@ -70,11 +70,6 @@ REFUSED = [
 # what a command says of what is there, and what is to be done next: a command, a task, or nothing. Each says what
 # happened, to what, and why
 ERRORS = [
-    ("kind mistyped", "mistyped: No such file or directory", RUN + "ls .\n"),
-    ("kind old/mistyped", "old/mistyped: No such file or directory", RUN + "ls old\n"),
-    ("kind box/x", "box/x: Not a directory", RUN + "ls .\n"),
-    ("kind pipe", "pipe: it is not a regular file", "    leave it: only a regular file, or ...\n"),
-    ("kind empty", "empty: it contains no mailbox", "    there is nothing to be done\n"),
     ("quote -o box two", "two: box already exists", "    name a file that is not there\n"),
     ("quote -o none/x box", "none: No such file or directory", RUN + "ls {home}\n"),
     (
@@ -99,16 +94,12 @@ ERRORS = [
         "none/M: the folder that it is to be made in is not there",
         RUN + "mkdir -p {home}/none\n",
     ),
-    ("verify M box", "box: it was not migrated: M is no Maildir", RUN + "mbox2maildir-admin migrate M box\n"),
     ("dates M mistyped", "mistyped: No such file or directory", RUN + "ls .\n"),
-    (
-        "verify There old",
-        "old/a: it was not migrated: There/.a is no Maildir",
-        RUN + "mbox2maildir-admin migrate There old\n",
-    ),
-    ("verify There There", "There: it is a Maildir, not a mailbox", "    leave it as it is\n"),
     ("migrate --undo There box", "There: it has no record, so nothing was migrated into it", ""),
 ]
+
+
+NOT_MIGRATED = "{}: left (no-maildir): it was not migrated: {} is no Maildir\n"
 
 
 def words_and_files(home: Path) -> None:
@@ -135,8 +126,20 @@ def words_and_files(home: Path) -> None:
     for line, says in (
         ("migrate --now M mistyped", "mistyped -> INBOX: left (missing): No such file or directory\n" + RUN + "ls .\n"),
         ("migrate --now M old/x", "old/x -> INBOX: left (missing): No such file or directory\n" + RUN + "ls old\n"),
+        ("verify M box", NOT_MIGRATED.format("box", "M") + RUN + "mbox2maildir-admin migrate M box\n"),
+        (
+            "verify --all There old",
+            NOT_MIGRATED.format("old/a", "There/.a") + RUN + "mbox2maildir-admin migrate There old\n",
+        ),
+        ("verify There There", "There: left (maildir): it is a Maildir, not a mailbox\n    leave it as it is\n"),
+        ("kind mistyped", "mistyped: left (missing): No such file or directory\n" + RUN + "ls .\n"),
+        ("kind old/mistyped", "old/mistyped: left (missing): No such file or directory\n" + RUN + "ls old\n"),
+        ("kind box/x", "box/x: left (missing): Not a directory\n" + RUN + "ls .\n"),
+        ("kind pipe", "pipe: left (no-file): it is not a regular file\n    leave it: only a regular file, or ...\n"),
+        ("kind empty", "empty: left (no-mailbox): it contains no mailbox\n    there is nothing to be done\n"),
     ):
-        expect(line.split(), home, 1, says + "1 mailbox: 1 left\n")
+        sums = "" if line.startswith("kind") else "1 mailbox: 1 left\n"
+        expect(line.split(), home, 1, says + sums)
 
 
 def interrupted_while_it_waits(home: Path) -> None:

@@ -1,14 +1,11 @@
 """The command `explain`: what the words of rows mean, and what to do."""
 import argparse
-import re
 from collections.abc import Iterator
 
 from ..faults import Reason, Status
-from ..meanings import REMARKS, TO_DO, Weight
+from ..meanings import REMARKS, Weight, to_do
 from ..terminal import complain, put, shown
 
-# a link of a page, of which only the text is printed
-LINK = re.compile(r"\[([^]]*)\]\([^)]*\)")
 # what a remark asks of a reader
 ASKS = {
     Weight.LOOK: "asks for a look",
@@ -32,6 +29,6 @@ def do_explain(given: argparse.Namespace) -> Status:
 def meanings() -> Iterator[tuple[str, str]]:
     """Each word of a row, with what it means and what to do."""
     for reason in Reason:
-        yield reason.word, "left: %s What to do: %s." % (reason.says, LINK.sub(r"\1", TO_DO[reason]))
+        yield reason.word, "left: %s What to do: %s." % (reason.says, to_do(reason))
     for word, (weight, says) in REMARKS.items():
         yield word, "%s: %s" % (ASKS[weight], says)

@@ -37,7 +37,7 @@ def do_kind(given: argparse.Namespace) -> Status:
     return Status.of(each(given.operands, lambda path: kind_below(path, tell), tell))
 
 
-def found(path: bytes, kind: str, then: Next = NOTHING) -> Row:
+def row_found(path: bytes, kind: str, then: Next = NOTHING) -> Row:
     """The row of a file of a kind."""
     return Row(path, b"", kind, None, Fate.FOUND, next=then)
 
@@ -48,13 +48,13 @@ def kind_below(path: bytes, tell: Observer) -> bool:
     if not is_folder(path):
         return kind_of(path, tell)
     if is_maildir(path):
-        tell.row(found(path, "a Maildir", task(Todo.LEAVE)))
+        tell.row(row_found(path, "a Maildir", task(Todo.LEAVE)))
         return False
     tree, plan = read_tree(path)
     right = each([one.path for one in plan], lambda file: kind_in(tree, file, tell), tell)
     right = say_left_out((without_mail(row, trial_folder(), History()) for row in tree.rows), tell) and right
     if plan:
-        tell.row(found(path, "a folder of mailboxes", (Answer(migrate(path)),)))
+        tell.row(row_found(path, "a folder of mailboxes", (Answer(migrate(path)),)))
     return right
 
 
@@ -83,7 +83,7 @@ def say_kind_in(mailbox: Mailbox, verdict: Verdict, tell: Observer, top: bytes =
     try:
         with choice_of(mailbox, trial_folder()) as choice:
             plan = choice.plan
-            tell.row(replace(found(path, plan.kind, as_it_is(path, top)), messages=plan.messages))
+            tell.row(replace(row_found(path, plan.kind, as_it_is(path, top)), messages=plan.messages))
     except Question as question:
         asked = answers_to(question.answers, lambda decision: migrate(path, decision))
         tell.row(replace(left_as(question, path, question.kind), next=asked))
@@ -96,14 +96,14 @@ def say_kind_in(mailbox: Mailbox, verdict: Verdict, tell: Observer, top: bytes =
 
 def left_as(left: Left, path: bytes, kind: str) -> Row:
     """What a file is that would be left."""
-    row = replace(found(path, kind, left.next), messages=left.messages, most=left.most)
+    row = replace(row_found(path, kind, left.next), messages=left.messages, most=left.most)
     return replace(row, why=str(left), quotes=left.quotes)
 
 
 def say_kind(mailbox: Mailbox, verdict: Verdict, tell: Observer, top: bytes) -> bool:
     """Prints what a file is. Returns whether it can be converted as it is."""
     then, quotes = next_of(mailbox, verdict, top)
-    row = replace(found(mailbox.path, verdict.kind, then), messages=verdict.messages, most=verdict.most)
+    row = replace(row_found(mailbox.path, verdict.kind, then), messages=verdict.messages, most=verdict.most)
     details = tuple(Detail(one.says, line=one.line or None, text=one.text) for one in verdict.remarks)
     tell.row(replace(row, quotes=tuple(quotes), details=details))
     return verdict.is_as_it_is

@@ -56,7 +56,7 @@ def do_verify(given: argparse.Namespace) -> Status:
     reporter = reporter_of(given, shows, {}, VERIFYING)
     if given.users:
         # only this one needs what migrates
-        task = importlib.import_module("%s.verify_users" % __package__).verifying(given)
+        task = importlib.import_module("%s.verify_users" % __package__).verifying_users(given)
     else:
         task = verifying(*given.operands)
     return run_reported(task, reporter, given.report, AGAIN)

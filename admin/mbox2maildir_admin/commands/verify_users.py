@@ -28,7 +28,7 @@ from .spools import spool_of
 from .verify import verify_file
 
 
-def verifying(given: argparse.Namespace) -> Telling:
+def verifying_users(given: argparse.Namespace) -> Telling:
     """What compares the mailboxes of users with their Maildirs."""
     (spool, asked), options = spool_of(given), Options(jobs=jobs_in(given.jobs))
 

@@ -68,10 +68,7 @@ class Reasons(NamedTuple):
         """What is said of the first one, and how many more there are."""
         if not self.said:
             return ""
-        says, more, here = self.said[0].sentence(), self.total - 1, len(self.lines()) - 1
-        if more < 1:
-            return says
-        return says + (" (and %d more)" % more if here == more else " (and %d more, %d of them shown)" % (more, here))
+        return self.said[0].sentence() + (" (and %d more)" % (self.total - 1) if self.total > 1 else "")
 
 
 def lines_around(mailbox: Mailbox, reasons: Reasons) -> list[Quote]:

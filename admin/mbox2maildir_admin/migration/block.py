@@ -7,6 +7,7 @@ from .. import ADMIN
 from ..faults import Reason
 from ..maildir.folders import folder_shown
 from ..mbox.lines import AROUND
+from ..meanings import ITS_COMMAND, REMARKS, remark_of, to_do
 from ..nexts import BELOW, COMMAND, Answer, Command, Does, Quote, Task, Todo, lines_below
 from ..terminal import named, operand, option, text_of
 from .outcomes import Fate, Row
@@ -23,6 +24,7 @@ MIGRATE = (ADMIN, "migrate")
 ON_LINES = Does.BEGINS, Does.BELONGS, Does.BEGINS_DROP, Does.BELONGS_DROP
 FOLDERS = Does.OWN_FOLDER, Does.JOINS_INBOX, Does.LABEL_NONE, Does.LABEL_FOLDER, Does.LABEL_READ, Does.ALL, Does.ONE
 WITHIN = "  "
+EACH_USER = "each user"
 
 
 class Typed(NamedTuple):
@@ -60,7 +62,8 @@ class Entry(NamedTuple):
         """What is the same in all rows of a group: why they are left, and what is to be done or answered."""
         row, is_asked = self.row, bool(self.answers())
         steps = [(one.todo,) if isinstance(one, Task) else (one.does, *decided(one)[:2]) for one in row.next]
-        return row.left_for, row.fate is Fate.NOT_WHOLE, is_asked and row.kind, *steps
+        looks = tuple(one.word for one in row.remarks) if row.fate not in (Fate.LEFT, Fate.NOT_WHOLE) else row.fate
+        return row.left_for, looks, is_asked and row.kind, *steps
 
     def detail(self) -> str:
         """What is said of it alone: how many messages its answers give, why it is left, and the line that this is
@@ -68,8 +71,10 @@ class Entry(NamedTuple):
         row, asked = self.row, [one for one in self.row.quotes if not one.is_around]
         counts = dict.fromkeys(str(one.messages) for one in self.answers() if one.messages is not None)
         several = ["%s messages" % " or ".join(counts)] if len(counts) > 1 else []
-        line = ["%s: %s" % (row.says or "line %d" % one.line, one.text) for one in asked[:1]]
-        return ": ".join(filter(None, [*several, *(line or [row.says])]))
+        # the title says what is told by a word alone
+        says = "; ".join(filter(None, [row.why, *(one.says for one in row.remarks if one != remark_of(one.word))]))
+        line = ["%s: %s" % (says or "line %d" % one.line, one.text) for one in asked[:1]]
+        return ": ".join(filter(None, [*several, *(line or [says])]))
 
 
 class Decided(NamedTuple):
@@ -104,7 +109,7 @@ class Group(NamedTuple):
         """The lines of the group: of a single mailbox with the lines of mail that it is about, of several only where a
         human asks for that. Where a human is asked, each answer has its letter."""
         at_once = list(self.at_once(typed)) if typed and len(self.entries) > 1 else []
-        steps = at_once or list(self.steps(is_asked))
+        steps = at_once or list(self.steps(is_asked)) or list(self.by_hand())
         is_cut = not self.entries[0].answers() and (at_once or not any(line.startswith(COMMAND) for line in steps))
         yield self.title()
         named_here = self.entries[: SHOWN if is_cut else None]
@@ -123,10 +128,15 @@ class Group(NamedTuple):
         row, count = self.row, len(self.entries)
         several = "%d mailbox%s" % (count, "" if count == 1 else "es")
         if not row.left_for:
-            return "%s: %s" % (row.fate.value if row.fate is Fate.NOT_WHOLE else "look at", several)
+            says = " ".join(REMARKS[one.word][1] for one in row.remarks)
+            return (
+                "not whole: " + several
+                if row.fate is Fate.NOT_WHOLE
+                else ("look at: %s: %s" % (several, says)).rstrip(": ")
+            )
         if any(one.does in ON_LINES for one in self.entries[0].answers()):
             return "%s: %s (%s): does a mail begin at the line that is shown?" % (row.word, several, row.kind)
-        return ("%s: %s: %s %s" % (row.word, several, row.left_for.says, row.left_for.serves)).rstrip()
+        return "%s: %s: %s" % (row.word, several, row.left_for.says)
 
     def at_once(self, typed: Typed) -> Iterator[str]:
         """What is to be done about all rows by one command, or by one for each answer; nothing if there is none."""
@@ -149,6 +159,12 @@ class Group(NamedTuple):
             path, is_own = one
             yield from option("--no-mail", path if is_own else glob.escape(path))
 
+    def by_hand(self) -> Iterator[str]:
+        """What a human does about all rows, if no row says it."""
+        says = to_do(self.row.left_for) if self.row.left_for else ""
+        if says and not says.startswith(ITS_COMMAND):
+            yield BELOW + says
+
     def steps(self, is_asked: bool) -> Iterator[str]:
         """What is to be done, step by step: each sentence once, with the command of each row."""
         for letter, several in zip(LETTERS, zip(*(one.row.next for one in self.entries))):
@@ -157,7 +173,10 @@ class Group(NamedTuple):
                 letter = "%s: " % letter if is_asked else ""
                 yield "%s%s%s:" % (BELOW, letter, together(answers).sentence())
             else:
-                yield from dict.fromkeys(BELOW + one.sentence() for one in several)
+                tasks = [one for one in several if isinstance(one, Task)]
+                if len({one.user for one in tasks}) > 1:
+                    tasks = [one._replace(user=EACH_USER) for one in tasks]
+                yield from dict.fromkeys(BELOW + one.sentence() for one in tasks)
             yield from dict.fromkeys(COMMAND + one.command.line() for one in answers)
 
 

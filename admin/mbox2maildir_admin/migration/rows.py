@@ -255,7 +255,7 @@ def line_of(row: Row, user: Optional[str] = None) -> str:
     names = [label_of(row, user), folder_shown(row.folder) if row.folder else ""]
     way = " -> ".join(filter(None, reversed(names) if row.is_back else names))
     count = "" if row.messages is None or row.fate is Fate.BEFORE else "messages %d" % row.messages
-    count += " to %d" % row.most if count and row.most not in (None, row.messages) else ""
+    count += " to %d" % row.most if count and row.most is not None and row.most != row.messages else ""
     what = ", ".join(filter(None, [row.kind, count]))
     if row.fate is Fate.FOUND:
         return ": ".join(filter(None, [way, what, row.says]))

@@ -21,7 +21,7 @@ from ..kinds.making import ASIDE
 from ..kinds.named import is_no_mail
 from ..kinds.profiles import Profiles
 from ..ledger.history import History, names_of
-from ..looks import is_folder, is_surely, is_there, may_be, real_path, state_at
+from ..looks import is_folder, is_surely, is_there, may_be, real_path, state_at, type_at
 from ..maildir.folders import INBOX, LONGEST, folder_on_disk, folder_path, name_before
 from ..nexts import Remark, Todo, run_next, task
 from ..readings.copies import UNFINISHED
@@ -285,6 +285,12 @@ def identity(path: bytes) -> Optional[Identity]:
 
 
 def link_left(path: bytes) -> Left:
-    """Why a symbolic link is left."""
+    """Why a symbolic link is left. One that leads nowhere holds no mail."""
+    if not may_be(type_at, path):
+        return Left("it is a symbolic link that leads nowhere", Reason.LINK, task(Todo.REMOVE))
+    try:
+        target = named(os.readlink(path))
+    except OSError as fault:
+        return Left(fault.strerror, Reason.ERROR)
     then = task(Todo.FOLLOW if is_surely(is_folder, path) else Todo.FOLLOW_INTO)
-    return Left("it is a symbolic link", Reason.LINK, then)
+    return Left("it is a symbolic link to %s" % target, Reason.LINK, then)

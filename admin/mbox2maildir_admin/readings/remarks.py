@@ -1,12 +1,13 @@
 """What is to be said of a mailbox by what its text shows."""
 
+from ..meanings import remark_of
 from ..nexts import Remark
 from ..units import counted
 from .quoting import Counts
 from .reading import MBOXCL2, MBOXO, UNQUOTED
 from .verdict import Verdict
 
-NO_END = Remark("no-line-end", "its last line has no line end: check that the file is complete")
+NO_END = remark_of("no-line-end")
 
 
 def remarks_on(verdict: Verdict) -> list[Remark]:

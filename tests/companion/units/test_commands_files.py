@@ -141,7 +141,7 @@ class FilesTest(unittest.TestCase):
         with printed() as caught:
             self.assertFalse(say_left_out(tree.rows, Complaints()))
         self.assertEqual([one.folder for one in plan], [b".box"])
-        self.assertRegex(caught.err[0], "/old/link: left out: it is a symbolic link\\Z")
+        self.assertRegex(caught.err[0], "/old/link: left out: it is a symbolic link to box\\Z")
         self.assertEqual(caught.err[1:], ["    migrate what it points to, with --folder NAME"])
 
     def test_no_tree(self) -> None:

@@ -9,7 +9,7 @@ from mbox2maildir_admin.commands import running, spools
 from mbox2maildir_admin.commands.command_line import CommandLine
 from mbox2maildir_admin.commands.migrate import (
     is_one,
-    reporter_of,
+    printer_of,
     wrong_for_own,
     wrong_for_undo,
     wrong_for_users,
@@ -201,7 +201,7 @@ class MigrateTest(unittest.TestCase):
             (True, "--json M box", ObjectReporter),
         ):
             with mock.patch.object(module, "has_terminal", return_value=has):
-                self.assertIs(type(reporter_of(command.read(words.split()))), wanted, words)
+                self.assertIs(type(printer_of(command.read(words.split()))), wanted, words)
 
     def test_an_answer_is_done_as_its_words_say(self) -> None:
         """By the same code as the command that is printed for it."""

@@ -36,7 +36,6 @@ class FaultsTest(unittest.TestCase):
         self.assertEqual(len({reason.word for reason in Reason}), len(Reason))
         for reason in Reason:
             self.assertRegex("%s: %s" % (reason.word, reason.says), r"\A[a-z][a-z-]*: [A-Z][^|]*\.\Z")
-            self.assertRegex(reason.serves, r"\A([A-Z`][^|]*\.)?\Z")
             self.assertIs(Reason.by(reason.word), reason)
 
     def test_what_is_printed(self) -> None:

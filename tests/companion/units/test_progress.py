@@ -13,6 +13,7 @@ from unittest import mock
 from mbox2maildir_admin import progress
 from mbox2maildir_admin.commands import verify
 from mbox2maildir_admin.commands.dates import Dates
+from mbox2maildir_admin.commands.files import Complaints
 from mbox2maildir_admin.commands.kind import kind_of
 from mbox2maildir_admin.commands.quote import quote_file
 from mbox2maildir_admin.commands.verify import verify_file
@@ -142,11 +143,11 @@ class CommandsTest(FolderTest):
         make(self.here, {"box": b"From a Thu Jan  1 00:00:10 1970 +0000\none\n\n", "M/new/": b"", "M/cur/x": b"other"})
         box, maildir = self.here + b"/box", self.here + b"/M"
         cases: list[tuple[Callable[[], object], set[str]]] = [
-            (lambda: kind_of(box), {"reading"}),
+            (lambda: kind_of(box, Complaints()), {"reading"}),
             (lambda: quote_file(UNDECIDED, box, self.here + b"/copy"), {"reading"}),
             (lambda: quote_file(UNDECIDED, box, b"-"), set()),
             (lambda: Dates(False).give(maildir, box), {"reading", "dating file "}),
-            (lambda: verify_file(maildir, box, b""), {"reading", "verifying file "}),
+            (lambda: verify_file(maildir, box, b"", Complaints()), {"reading", "verifying file "}),
         ]
         for run, words in cases:
             line = mock.Mock(spec=Progress)

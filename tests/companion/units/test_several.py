@@ -53,11 +53,11 @@ class SeveralTest(HomeTest):
             (b"box", b".", Fate.DONE, ""),
             (b"tree/2005.old", b".2005-old", Fate.DONE, "its name was 2005.old"),
             (b"tree/Sent.mbox", b".Sent", Fate.DONE, "its name was Sent.mbox"),
-            (b"tree/x.msf", b"", Fate.NO_MAIL, "no mail"),
+            (b"tree/x.msf", b"", Fate.NO_MAIL, ""),
         ]
         self.assertEqual(self.rows(b"box", b"tree/"), wanted)
         again = {row[2:] for row in self.rows(b"box", b"tree")}
-        self.assertEqual(again, {(Fate.BEFORE, ""), (Fate.NO_MAIL, "no mail")})
+        self.assertEqual(again, {(Fate.BEFORE, ""), (Fate.NO_MAIL, "")})
 
     def test_a_record_that_gets_full(self) -> None:
         """However many processes are at work, it gets no longer than a run reads."""
@@ -245,7 +245,8 @@ class SeveralTest(HomeTest):
         self.assertEqual(self.rows(b"tree", own=True), [(b"tree/Sent", b".Sent", Fate.LEFT, says)])
         os.symlink("tree", str(self.home / "link"))
         self.assertEqual(
-            self.rows(b"link", own=True)[0][2:], (Fate.LEFT, "it is a symbolic link; next: migrate what it points to")
+            self.rows(b"link", own=True)[0][2:],
+            (Fate.LEFT, "it is a symbolic link to tree; next: migrate what it points to"),
         )
 
     def test_what_the_record_has_stays_in_its_folder(self) -> None:

@@ -65,8 +65,8 @@ class TreeTest(FolderTest):
                 [],
                 {
                     "M": ("it is a Maildir", Fate.LEFT),
-                    "index.msf": ("no mail", Fate.NO_MAIL),
-                    ".empty": ("no mail", Fate.NO_MAIL),
+                    "index.msf": ("", Fate.NO_MAIL),
+                    ".empty": ("", Fate.NO_MAIL),
                     "one": shared("one"),
                     "one.mbox": shared("one.mbox"),
                     UNFINISHED.decode() + "abc": ("an interrupted `quote` left it behind: remove it", Fate.LEFT),
@@ -97,7 +97,7 @@ class TreeTest(FolderTest):
         with mock.patch("mbox2maildir_admin.readings.plans.open_file", open_refused):
             found = self.found()
         why = "Permission denied; run this next: ls -ld %s" % os.fsdecode(refused)
-        left = {"b.lock": (why, Fate.LEFT), "c.lock": ("no mail", Fate.NO_MAIL)}
+        left = {"b.lock": (why, Fate.LEFT), "c.lock": ("", Fate.NO_MAIL)}
         self.assertEqual(found, ([b".a"], left))
 
     def test_links(self) -> None:
@@ -109,8 +109,8 @@ class TreeTest(FolderTest):
             (
                 [b".a.box"],
                 {
-                    "b": ("it is a symbolic link; next: migrate what it points to", Fate.LEFT),
-                    "c": ("it is a symbolic link; next: migrate what it points to, with --folder NAME", Fate.LEFT),
+                    "b": ("it is a symbolic link to a; next: migrate what it points to", Fate.LEFT),
+                    "c": ("it is a symbolic link that leads nowhere; next: remove it", Fate.LEFT),
                 },
             ),
         )
@@ -131,11 +131,11 @@ class TreeTest(FolderTest):
 
     def test_a_link_to_what_may_not_be_looked_at(self) -> None:
         """It is left as a symbolic link, since no record of this user's can have what it leads to."""
-        os.symlink("gone", self.here + b"/c")
+        os.symlink("/etc/passwd", self.here + b"/c")
         refused = PermissionError(errno.EACCES, os.strerror(errno.EACCES))
         with mock.patch("mbox2maildir_admin.ledger.history.real_path", side_effect=refused):
             found = self.found()
-        says = "it is a symbolic link; next: migrate what it points to, with --folder NAME"
+        says = "it is a symbolic link to /etc/passwd; next: migrate what it points to, with --folder NAME"
         self.assertEqual(found, ([], {"c": (says, Fate.LEFT)}))
 
     def test_special_files_and_closed_folders(self) -> None:

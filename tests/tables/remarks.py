@@ -1,0 +1,231 @@
+"""Each remark of a row has its word: what is done with mailboxes, and the words of the rows that come of it."""
+import json
+import os
+import subprocess
+from functools import partial
+from pathlib import Path
+from typing import Union
+
+from tests.tables.labels import message
+from tests.support.cases import run_cases
+from tests.support.checks import equal
+from tests.support.homes import at_home, mailbox, run
+from tests.support.mail import A, C, ONE, THREE, TWO, with_length
+from tests.support.schema import SCHEMA
+
+# a mailbox is written, a line is run by a shell, or a command of the companion
+Step = Union[tuple[str, bytes], str]
+PSEUDO = (
+    b"From MAILER-DAEMON Mon Mar  3 09:12:44 2025\nSubject: DON'T DELETE THIS MESSAGE -- FOLDER INTERNAL DATA\n"
+    b"X-IMAP: 1700000000 0000000003\nStatus: RO\n\nThis text is part of the internal format of your mail folder, and "
+    b"is not\na real message.\n\n"
+)
+QUOTED, UNDATED = A + b"\n>>From me\n\n", b"From a\nSubject: two\n%s\nhi\n\n"
+# the words of the rows of `migrate` alone, by what the only mailbox is
+OF_TEXTS = {
+    "no-line-end": ONE.rstrip(b"\n"),
+    "after-nulls": bytes(8) + ONE,
+    "loses-quote": QUOTED,
+    "keeps-quote": with_length(A, b">From me\n") + b"\n",
+    "without-date": UNDATED % b"",
+    "dated-by-header": UNDATED % b"Date: Mon, 3 Mar 2025 09:12:44 +0000\n",
+    "unread": message("one", "Inbox").encode(),
+}
+
+
+def fields(text: bytes, *lines: bytes) -> bytes:
+    """A mailbox with one message, and these fields in its header."""
+    return text.replace(b"\nSubject", b"\n" + b"".join(line + b"\n" for line in lines) + b"Subject", 1)
+
+
+def thunderbird(text: bytes, flags: int) -> bytes:
+    """A message as Thunderbird has it."""
+    return fields(text, b"X-Mozilla-Status: %04x" % flags)
+
+
+BASE, UID = b"X-IMAPbase: 1700000000 0000000009", b"X-UID: 3"
+NUMBERED = fields(ONE, BASE, UID)
+# the last command of each story prints rows with these words
+STORIES: list[tuple[list[Step], set[str]]] = [
+    ([("old/a.b", ONE), "migrate M old"], {"name-before"}),
+    ([("a", ONE), "migrate --dovecot M a"], {"no-uids"}),
+    ([("a", PSEUDO + ONE), "migrate --dovecot M a"], {"first-appears"}),
+    (
+        [("a", NUMBERED), "migrate --dovecot M a", ("a", NUMBERED + TWO), "migrate --dovecot M a"],
+        {"grew", "uids-of-new"},
+    ),
+    ([("a", NUMBERED + TWO + fields(THREE, b"X-UID: 5")), "migrate --dovecot M a"], {"new-uids"}),
+    ([("a", fields(ONE, b"X-IMAPbase: 1 4294967294", UID)), "migrate --dovecot M a"], {"uids-anew"}),
+    ([("a", NUMBERED), "migrate M a", "migrate --dovecot M a"], {"without-uids"}),
+    (
+        [
+            ("a", fields(ONE, BASE + b"".join(b" k%d" % one for one in range(30)), UID, b"X-Keywords: k29")),
+            "migrate --dovecot M a",
+        ],
+        {"keywords-lost"},
+    ),
+    ([("a", thunderbird(ONE, 1) + thunderbird(TWO, 9)), "migrate --drop-deleted M a"], {"deleted-left-out", "flags"}),
+    ([("a", thunderbird(ONE, 1) + thunderbird(TWO, 9) + THREE), "migrate --drop-deleted M a"], {"deleted-kept"}),
+    # of several names, and of files without mail
+    ([("old/a", ONE), "!ln old/a old/b", "migrate M old"], {"also-named"}),
+    ([("old/a", ONE), "!ln -s old more", "migrate M old more"], {"same-file"}),
+    ([("a", ONE), ("n", b"milk\n"), "migrate --no-mail n M a n"], {"by-no-mail"}),
+    ([("a", ONE), ("n", b"milk\n"), "migrate --no-mail n M a n", "migrate M a n"], {"no-mail-noted"}),
+    ([("old/a", ONE), (".mbox2maildir-original-x/a", ONE), "!mv .mbox* old", "migrate M old"], {"put-aside"}),
+    # of mail that several mailboxes brought
+    ([("a", ONE + TWO), ("b", TWO), "migrate --folder X M a b"], {"shared"}),
+    (
+        [("a", ONE), ("b", fields(ONE, b"Status: RO", b"X-Status: F")), "migrate --folder X M a b"],
+        {"shared", "flags-differ"},
+    ),
+    ([("a", ONE), ("b", TWO), "migrate M a", "migrate M b"], {"joins"}),
+    ([("old/a", ONE), ("b", TWO), "migrate --folder a M b", "migrate M old"], {"joined"}),
+    ([("a", ONE), "migrate --folder X M a", "migrate --folder Y M a"], {"elsewhere"}),
+    # of what others did in the folder
+    ([("a", ONE), "!mkdir -p M/new M/cur M/tmp; echo >M/new/1.host", "migrate M a"], {"other-programs"}),
+    (
+        [("a", ONE), "migrate M a", "!for a in M/new/*; do mv $a M/cur/${a##*/}:2,T; done", ("b", ONE), "migrate M b"],
+        {"joins", "marked"},
+    ),
+    ([("a", ONE), "migrate M a", "!rm M/new/*", "migrate M a"], {"gone"}),
+    ([("a", ONE), ("b", ONE), "migrate M a", "!rm M/new/*", "migrate M b"], {"shared", "gone-elsewhere"}),
+    ([("old/a", ONE), "migrate M old", "!rm -r M/.a", "migrate M old"], {"folder-gone"}),
+    ([("old/a", ONE), "migrate M old", "!rm M/.a/mbox2maildir-messages", "migrate M old"], {"ledger-gone"}),
+    (
+        [
+            *(("a", ONE), "migrate M a", "!cp M/mbox2maildir-messages kept", ("a", ONE + TWO), "migrate M a"),
+            *("!cp kept M/mbox2maildir-messages", "migrate M a"),
+        ],
+        {"ledger-older"},
+    ),
+    # of what others did in the mailbox
+    ([("a", ONE + TWO), "migrate M a", ("a", ONE), "migrate M a"], {"lost"}),
+    (
+        [("a", ONE + TWO), "migrate M a", ("a", ONE), "migrate M a", ("a", ONE + TWO), "migrate M a"],
+        {"grew", "regained"},
+    ),
+    (
+        [
+            *(("a", C + b"\nFrom the garden\nyes\n\n"), "migrate --as mboxrd M a"),
+            *(("a", C + b"\nFrom the garden\nyes\n\n" + ONE), "migrate M a"),
+        ],
+        {"as-answered", "grew"},
+    ),
+    ([("a", ONE), "migrate --prepare --unread M a", "migrate M a"], {"prepared-before"}),
+    # of labels
+    (
+        [("t", (message("one", "a.b") + message("two", "a-b")).encode()), "migrate --labels M t"],
+        {"same-folder", "unread"},
+    ),
+    (
+        [
+            *(("t", (message("one", "a.b") + message("two", "a-b")).encode()), "migrate --labels M t"),
+            *(("t", (message("one", "a.b") + message("two", "Inbox")).encode()), "migrate --labels M t"),
+        ],
+        {"unlabelled", "unread"},
+    ),
+    # of an undo
+    (
+        [("a", ONE + TWO), "migrate M a", "!rm $(ls M/new/* | head -n 1)", "migrate --undo M a"],
+        {"removed", "already-gone"},
+    ),
+    (
+        [("a", ONE + TWO), "migrate M a", "!mv $(ls M/new/* | head -n 1) M/cur/1.host:2,", "migrate --undo M a"],
+        {"removed", "kept-renamed"},
+    ),
+    ([("a", ONE + TWO), ("b", TWO), "migrate --folder X M a b", "migrate --undo M a"], {"removed", "kept-shared"}),
+    ([("a", ONE + TWO), "migrate M a", ("a", ONE), "migrate M a", "migrate --undo M a"], {"removed", "kept-lost"}),
+    (
+        [
+            *(("a", ONE + TWO), ("b", TWO + THREE), "migrate --folder X M a b", ("b", THREE)),
+            *("migrate --folder X M b", "migrate --undo M a"),
+        ],
+        {"removed", "kept-former"},
+    ),
+    # of verify, and of the way back
+    ([("a", ONE), "migrate M a", "!mv M/new/* M/cur/1.host:2,", "verify M a"], {"renamed"}),
+    ([("a", fields(ONE, b"Status: RO")), "migrate --dovecot M a", "verify M a"], {"without-fields"}),
+    ([("a", A.replace(b"\n", b"\r")), "!mbox2maildir convert M a", "verify M a"], {"doubtful-line"}),
+    (
+        [("old/a", ONE), "migrate M old", "!mkdir -p M/.Z/new M/.Z/cur; mv M/.a/new/* M/.Z/new", "back M old"],
+        {"moved"},
+    ),
+    (
+        [("old/a", ONE), "migrate M old", "!printf 'X-UID: 9\\nSubject: x\\n\\nx\\n' >M/.a/new/1.h", "back M old"],
+        {"fields-left-out"},
+    ),
+    (
+        [
+            *(("old/a", NUMBERED), "migrate --dovecot M old", "!echo 3 V1700000000 N4294967290 >M/.a/dovecot-uidlist"),
+            *("!printf 'Subject: x\\n\\nx\\n' >M/.a/new/1.h", "back --dovecot M old"),
+        ],
+        {"uids-raised"},
+    ),
+    (
+        [
+            *(("old/a", NUMBERED), "migrate --dovecot M old", "!echo 3 V1700000000 N99 >M/.a/dovecot-uidlist"),
+            *("!printf 'Subject: x\\n\\nx\\n' >M/.a/new/1.h", "back M old"),
+        ],
+        {"uids-not-raised"},
+    ),
+    (
+        [("old/a", ONE), "migrate M old", "!printf 'a\\n' >M/subscriptions", "back --dovecot M old"],
+        {"subscriptions"},
+    ),
+]
+# words that other tests have; and those of mail that waits for a kill, a disk or a program to come about
+ELSEWHERE = {
+    "nowhere",
+    "other-bytes",
+    "double",
+    "other-owner",
+    "beside",
+    "deleted",
+    "changed",
+    "placed",
+    "copy",
+    "old-lock",
+}
+ELSEWHERE |= {"as-brought", "came-back", "contradicted", "kept-edited", "kept-foreign", "mailbox-gone", "power-cut"}
+ELSEWHERE |= {"by-lengths", "keywords-added", "labelled", "other-form", "there-already", "without-internal"}
+
+
+def words_of(steps: list[Step], home: Path) -> set[str]:
+    """The words of the remarks in the rows of the last command."""
+    out, env = "", {"PATH": f"{home}/bin:{os.environ['PATH']}"}
+    for step in steps:
+        if isinstance(step, tuple):
+            mailbox(home / step[0], step[1])
+        elif step.startswith("!"):
+            subprocess.run(["sh", "-c", step[1:]], cwd=home, env=env, check=True, stdout=subprocess.DEVNULL)
+        else:
+            word, *others = step.split()
+            now = [] if word == "verify" else ["--now"]
+            out = run([word, "--json", *now, *others], home)[1]
+    return {one["remark"] for line in out.splitlines() for one in json.loads(line).get("remarks", [])}
+
+
+def is_told(steps: list[Step], wanted: set[str], home: Path) -> None:
+    """A story ends with rows that have these words."""
+    equal(f"{steps}: words", words_of(steps, home), wanted)
+
+
+def all_of_them(home: Path) -> None:
+    """There is a case for each word of the schema."""
+    del home
+    told = {*OF_TEXTS, *ELSEWHERE}.union(*(words for _, words in STORIES))
+    equal("words", told, {*SCHEMA["$defs"]["remark"]["enum"]})
+
+
+if __name__ == "__main__":
+    TEXTS: list[tuple[list[Step], set[str]]] = [
+        ([("a", text), "migrate M a"], {word}) for word, text in OF_TEXTS.items()
+    ]
+    CASES = {"_".join(sorted(one[1])): one for one in [*TEXTS, *STORIES]}
+    assert len(CASES) >= len(TEXTS) + len(STORIES) - 1, "two stories have the same words"
+    run_cases(
+        {
+            "all_of_them": partial(at_home, all_of_them),
+            **{name: partial(at_home, partial(is_told, *one)) for name, one in CASES.items()},
+        }
+    )
