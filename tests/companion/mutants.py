@@ -36,19 +36,7 @@ COPIED = ("admin", "docs", "examples", "packaging", "tests", "CONTRIBUTING.md", 
 # mistake
 SLOW = ["test_dovecot_files", "test_copies", "test_texts", "test_signals", "test_progress"]
 LAYOUT = ["test_house"]
-FIRST = [
-    "verifier",
-    "migrate",
-    "cut",
-    "otherwise",
-    "trees",
-    "undo",
-    "verify",
-    "dates",
-    "kinds",
-    "other_kinds",
-    "dovecot",
-]
+FIRST = "verifier migrate cut otherwise trees undo verify dates kinds other_kinds dovecot".split()
 # the tests that run the companion as a command, by their folders
 FOLDERS = {
     path.stem: folder for folder in ("companion", "tables") for path in (TOP / "tests" / folder).glob("[a-z]*.py")

@@ -3,14 +3,13 @@ stays in the folder that the record has, and what is passed over, then and later
 import json
 import os
 import shutil
-import subprocess
 from pathlib import Path
 
 from tests.companion.migrate import grow, steps
-from tests.support.checks import equal
-from tests.support.homes import check_all, expect, files_of, mailbox, run, subjects
+from tests.support.checks import equal, matches
+from tests.support.homes import by_json, check_all, expect, files_of, mailbox, run, run_printed, subjects
 from tests.support.mail import ONE, THREE, TWO
-from tests.support.printed import row_in, rows_in
+from tests.support.printed import rows_in
 
 
 # the line before a command that is to be run, and what comes before the command itself
@@ -100,7 +99,7 @@ def folders_of_messages(home: Path) -> None:
         "4 mailboxes: 2 done, 2 left\n"
     )
     equal("folders of messages", sorted(out.splitlines()), sorted(wanted.splitlines()))
-    subprocess.run(f"{next_of['lists']} && {next_of['mh']}", shell=True, cwd=str(home), check=True)
+    equal("their commands", run_printed(f"{next_of['lists']} && {next_of['mh']}", home).status, 0)
     os.rename(home / "tree/mh/sheds", home / "tree/sheds")
     shutil.rmtree(home / "tree/mh")
     os.utime(home / "tree/mh.mbox", (1e9, 1e9))
@@ -222,19 +221,16 @@ def prepared_by_hand(home: Path) -> None:
     mailbox(home / "else/old", TWO)
     os.symlink("../else/old", home / "tree/link")
     for maildir, name in (("M", "else/old"), ("N", "tree/link")):
-        passes, day = ["migrate", "--all", "--prepare", "--unread", maildir, "tree"], [
-            "migrate",
-            "--all",
-            maildir,
-            "tree",
-        ]
-        before = run(passes, home)[1].splitlines()[-1]
-        equal("before it is prepared by hand", before.startswith("2 mailboxes: 1 prepared, 1 left; "), True)
-        expect([*passes[:4], "--folder", "linked", maildir, name], home, 0, None)
+        passes, day = ["migrate", "--prepare", "--unread", maildir, "tree"], ["migrate", maildir, "tree"]
+        matches(
+            "before it is prepared by hand", by_json(passes, home).sums["says"], "2 mailboxes: 1 prepared, 1 left; ..."
+        )
+        expect([*passes[:3], "--folder", "linked", maildir, name], home, 0, None)
         for words, fate in ((passes, "prepared"), (["migrate", "--dry-run", *day[1:]], "would be done"), (day, "done")):
-            status, out, _ = run(words, home)
-            equal(f"{words}", (status, f": {fate}" in row_in(out, "tree/link -> linked: ").line), (0, True))
-        expect(day, home, 0, "2 mailboxes: 2 done before\n")
+            ran = by_json(words, home)
+            link = ran.of("tree/link")
+            equal(f"{words}", (ran.status, link["folder"], link["verdict"]), (0, "linked", fate))
+        equal("once more", by_json(day, home).sums["says"], "2 mailboxes: 2 done before")
         equal("what is there", subjects(home / maildir / ".linked"), ["two"])
 
 
@@ -320,10 +316,9 @@ def nothing_outside(home: Path) -> None:
     os.symlink("../else/letter", home / "tree/link")
     expect(["migrate", "--folder", "Letters", "M", "else/letter"], home, 0, None)
     mailbox(there, mail)
-    out = run(["migrate", "--all", "--now", "M", "tree"], home)[1]
-    row = row_in(out, "tree/link -> Letters: one mail without a From_ line: left")
-    env = {**os.environ, "PATH": f"{home}/bin:{os.environ['PATH']}"}
-    subprocess.run(["sh", "-c", row.command], cwd=home, env=env, check=True)
+    row = by_json(["migrate", "--now", "M", "tree"], home).of("tree/link")
+    equal("the row", (row["folder"], row["kind"]), ("Letters", "one mail without a From_ line"))
+    equal("its command", run_printed(row.command, home).status, 0)
     equal("what the link leads to", there.read_bytes(), mail)
     equal("the folders", subjects(home / "M/.Letters"), ["one", "one"])
 
@@ -398,20 +393,21 @@ def profile(home: Path) -> None:
     wanted = ["Archives/a-b", *(f"imap-example-{one}/{name}" for one in ("net", "org") for name in ("INBOX", "Trash"))]
     parts = top, "thunderbird"
     for maildir, (name, others) in zip("MN", zip(parts, (12, 14))):
-        status, out, _ = run(["migrate", "--all", maildir, name], home)
-        rows = rows_in(out)
-        equal(f"{name}: folders", sorted(row.line.split(" -> ")[1].split(": ")[0] for row in rows[:-1]), wanted)
-        equal(f"{name}: sum", (status, rows[-1].line), (0, f"5 mailboxes: 5 done; {others} other files: no mail"))
+        ran = by_json(["migrate", maildir, name], home)
+        done = [row for row in ran.rows if row["verdict"] == "done"]
+        equal(f"{name}: folders", sorted(row["folder"] for row in done), wanted)
+        sums = f"5 mailboxes: 5 done; {others} other files: no mail; ..."
+        matches(f"{name}: sums", f"{ran.status}: {ran.sums['says']}", f"0: {sums}")
     expect(["migrate", "O", f"{top}/ImapMail/imap.example.org"], home, 0, None)
     equal(
         "of one account",
         sorted(path.name for path in (home / "O").glob(".*")),
         [".Archives.a-b", ".imap-example-org.INBOX", ".imap-example-org.Trash"],
     )
-    assert "-> Archives/a-b: mboxrd or mboxo, messages 1: done, its name was Archives/a.b\n" in out, out
-    row = next(row for row in rows if "example.org/INBOX ->" in row.line)
-    env = {**os.environ, "PATH": f"{home}/bin:{os.environ['PATH']}"}
-    subprocess.run(["sh", "-c", row.command], cwd=home, env=env, stdout=subprocess.DEVNULL, check=True)
+    (archives,) = (row for row in done if row["folder"] == "Archives/a-b")
+    equal("its name", (archives["kind"], archives["says"]), ("mboxrd or mboxo", "its name was Archives/a.b"))
+    inbox = f"{top}/ImapMail/imap.example.org/INBOX"
+    equal("a command", run_printed(ran.of(inbox).command, home).status, 0)
     equal(
         "what is in INBOX, and no longer in its folder",
         [subjects(home / "N"), subjects(home / "N/.imap-example-org.INBOX")],
@@ -420,16 +416,14 @@ def profile(home: Path) -> None:
     expect(["migrate", "--all", "N", "thunderbird"], home, 0, "5 mailboxes: 5 done before; 14 other files: no mail\n")
     # the Inbox of one account is INBOX if no other one has mail in its Inbox
     mailbox(home / top / "ImapMail/imap.example.net/INBOX", b"")
-    out = run(["migrate", "--all", "--dry-run", "P", top], home)[1]
-    assert f"{top}/ImapMail/imap.example.org/INBOX -> INBOX: mboxrd" in out, out
+    equal("the only Inbox", by_json(["migrate", "--dry-run", "P", top], home).of(inbox)["folder"], "INBOX")
     # what was said about deleted mail is said again, dry or not
     for account in ("imap.example.org", "imap.example.net"):
         mailbox(home / top / "ImapMail" / account / "INBOX", marked(b"1", ONE) + b"\n" + marked(b"9", TWO))
     for options in ("--dry-run --drop-deleted", "--drop-deleted"):
-        out = run(["migrate", "--all", *options.split(), "D", top], home)[1]
-        row = next(row for row in rows_in(out) if "example.org/INBOX ->" in row.line)
-        assert row.command.count("--drop-deleted --folder INBOX") == 1, (options, row.command)
-    subprocess.run(["sh", "-c", row.command], cwd=home, env=env, stdout=subprocess.DEVNULL, check=True)
+        command = by_json(["migrate", *options.split(), "D", top], home).of(inbox).command
+        equal(f"{options}: {command}", command.count("--drop-deleted --folder INBOX"), 1)
+    equal("its command", run_printed(command, home).status, 0)
     equal("without deleted mail", subjects(home / "D"), ["one"])
 
 
@@ -509,7 +503,7 @@ def exported(home: Path) -> None:
     expect(["migrate", "--all", "N", "export"], home, 0, "...\n2 mailboxes: 1 done, 1 done before\n")
     equal("the folders", [subjects(home / "N" / name) for name in ("", ".Sent-Messages")], [["one"], ["two"]])
     mailbox(home / "Other.mbox/mbox", THREE)
-    row = row_in(run(["migrate", "--all", "N", "Other.mbox"], home)[1], "Other.mbox")
+    row = by_json(["migrate", "N", "Other.mbox"], home).row
     equal("what joins no other mail unasked", row.commands[0].split()[2:4], ["--folder", "Other"])
 
 
@@ -519,14 +513,13 @@ def in_question(home: Path) -> None:
     deleted = TWO.replace(b"\n\n", b"\nX-Mozilla-Status: 0009\n\n", 1)
     for name, text in (("twice", ONE), ("twice.mbox", deleted)):
         mailbox(home / "tree" / name, text)
-    status, out, _ = run(["migrate", "--all", "M", "tree"], home)
-    left = "left (no-folder): another mailbox goes into twice too"
-    lines = ["2 mailboxes: 2 left", f"tree/twice.mbox: {left}", f"tree/twice: {left}"]
-    equal(f"what lacks its folder: {out}", (status, sorted(row.line for row in rows_in(out))), (1, lines))
-    command = row_in(out, "tree/twice.mbox").command
+    ran = by_json(["migrate", "M", "tree"], home)
+    left = ("no-folder", "another mailbox goes into twice too")
+    equal("what lacks its folder", (ran.status, [(row["reason"], row["says"]) for row in ran.rows]), (1, [left] * 2))
+    command = ran.of("tree/twice.mbox").command
     equal("its command", command, "mbox2maildir-admin migrate --folder NAME M tree/twice.mbox")
-    status, out, _ = run(command.replace("NAME", "Once").split()[1:], home)
-    equal(f"by its command: {out}", (status, len(row_in(out, "tree/twice.mbox").answers())), (1, 2))
+    asked = run_printed(command.replace("NAME", "Once"), home, "--json")
+    equal(f"by its command: {asked.out}", (asked.status, len(asked.row.answers)), (1, 2))
 
 
 def into_another_folder(home: Path) -> None:

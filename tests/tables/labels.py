@@ -11,7 +11,7 @@ from pathlib import Path
 
 from tests.support.cases import LeftOut
 from tests.support.checks import equal, matches
-from tests.support.homes import check_all, expect, is_root, mailbox, run, subjects
+from tests.support.homes import by_json, check_all, expect, is_root, mailbox, run, run_printed, subjects
 from tests.support.ledgers import RECORD
 from tests.support.mail import ONE
 from tests.support.printed import row_in
@@ -202,11 +202,10 @@ def a_label_gives_no_folder(home: Path) -> None:
     long = "x" * 255
     for label in ("a//b", "/a", "..", "a/../b", "=?UTF-8?Q?a=01b?=", long):
         takeout(home, [("one", "Inbox"), ("two", f"Inbox,{label}"), ("three", "Sent"), ("four", "Sent")])
-        status, out, _ = run(LABELS, home)
-        equal(f"{label}: {out}", (status, "left (labels): message 2 has the label " in out), (1, True))
+        row = by_json(["migrate", "--labels", "M", "t.mbox"], home).row
+        equal(f"{label}: {row}", (row["reason"], row["says"].startswith("message 2 has the label ")), ("labels", True))
         equal("whether anything was made", (home / "M").exists(), False)
-    command = row_in(out, "t.mbox").commands[0]
-    expect(command.split(), home, 0, None)
+    equal("without the label", run_printed(row.commands[0], home).status, 0)
     equal("the folders", folders_in(home / "M"), {"": ["one", "two"], ".Sent": ["four", "three"]})
 
 
@@ -334,11 +333,12 @@ def the_command_for_an_archive_leads_to_its_mailbox(home: Path) -> None:
         words = ["migrate", "--all", "--now", "--labels", "--label", "Unread=none", "M", archive]
         status, out, _ = run(words, home)
         row = row_in(out, archive)
-        ran = subprocess.run(["sh", "-c", row.command], cwd=home, stdout=subprocess.PIPE, text=True, check=True)
+        ran = run_printed(row.command, home)
+        equal(f"{archive}: its status", ran.status, 0)
         says = f"    then run this again, with the mailboxes that it printed last in place of {archive}"
         equal(f"{archive}: what to do with what it prints", (status, row.below[-1]), (1, says))
         assert (home / archive).is_file(), f"{archive} is gone"
-        printed = ran.stdout.splitlines()[-1]
+        printed = ran.out.splitlines()[-1]
         matches(f"{archive}: what is printed", printed, f"{home}/{archive}.../copy/{name}")
         expect([*words[:-1], printed], home, 0, None)
         equal(f"{archive}: the folders", folders_in(home / "M"), FOLDERS)
