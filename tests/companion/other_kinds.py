@@ -12,9 +12,9 @@ import tarfile
 import zipfile
 from pathlib import Path
 
-from tests.companion.kinds import LIKE_MAIL, NOT_KNOWN, labelled
+from tests.companion.kinds import ALONE, LIKE_MAIL, NOT_KNOWN, labelled
 from tests.support.checks import equal, matches
-from tests.support.homes import check_all, expect, mail_in, run
+from tests.support.homes import by_json, check_all, expect, mail_in, mailbox, run
 from tests.support.mail import A, B
 from tests.support.printed import commands_in, rows_in
 
@@ -150,6 +150,7 @@ KINDS = [
     (b"%d\n%s%s" % (len(MAIL), MAIL, LIST), "Apple Mail's emlx, of one message", MAKES % EMLX),
     # without the list it is not one
     (b"%d\n%s" % (len(MAIL), MAIL), "damaged", MAKES % f'({FROM_LINE} && cat {{}}) >"$d/copy"'),
+    (b"\0\0\0\1Bud1\0\0\x10\0", "no mail: Apple's index", LEAVE_OUT),
     # no mail: pictures by GIMP and others, whose first bytes are those of their formats
     (b'// <!-- <mdb:mork:z v="1.4"/> -->\n', "no mail: Thunderbird's index (.msf)", LEAVE_OUT),
     (b"SQLite format 3\0\x10\0\1\1\0\x40\x20\x20", "no mail: SQLite", LEAVE_OUT),
@@ -228,6 +229,23 @@ NAMED = [
     ("a.msf", MBOX, "mboxrd or mboxo, messages 1"),
     ("a.lock", MBOX, "mboxrd or mboxo, messages 1"),
 ]
+# files that mail programs write beside mailboxes: Apple's, Evolution's, Eudora's, Thunderbird's and a Takeout's
+INDEXES = (
+    *("table_of_contents", ".DS_Store", "Info.plist", "mbox.plist"),
+    *("sheds.cmeta", "sheds.ev-summary", "sheds.ibex.index", "sheds.ibex.index.data", "folders.db", "folder-tree.xml"),
+    *("In.toc", "OUT.TOC", "In.toc.001", "descmap.pce", "Filters.pce", "eudora.ini", "lmos.dat"),
+    *("Inbox.msf", "panacea.dat", "virtualFolders.dat", "msgFilterRules.dat", "profiles.ini", "feeditems.json"),
+    *("archive_browser.html", "Filters.json", "Blocked Addresses.json", "Vacation responder.json"),
+)
+# what is in such a file, and why it is left, if it is; None if it holds no mail
+IN_INDEXES = (
+    (MBOX, "done", None),
+    (b"\0\0\1\7Sheds\n\2 From a@b\0Subject: x\n", "no mail", None),
+    (b"", "no mail", None),
+    (b"\0\0\1\7Sheds\nsubject: x\n\2", "left", "not-known"),
+    (b"\0\0\1\7Sheds\n>From a\n\2", "left", "not-known"),
+    (b"\0\0\1\7Sheds\n" + MBOX, "left", "unclear"),
+)
 # how many lines stand below those that have more than one
 BELOW = {"not known": 4, "mboxrd or mboxo, messages 1": 2}
 NO_SENDER = b"From MAILER-DAEMON Thu Jan  1 00:00:00 1970"
@@ -359,5 +377,23 @@ def real_files(home: Path) -> None:
         equal(command, file.read_bytes(), MBOX)
 
 
+def indexes(home: Path) -> None:
+    """A file with the name of an index holds no mail unless something in it looks like mail. A mailbox stays one."""
+    for number, (text, verdict, reason) in enumerate(IN_INDEXES):
+        for name in INDEXES:
+            mailbox(home / f"old{number}" / name, text)
+        ran = by_json(["migrate", "--now", f"M{number}", f"old{number}"], home)
+        found = {os.path.basename(row["path"]): (row["verdict"], row["reason"], row["messages"]) for row in ran.rows}
+        equal(f"with {text!r}", found, dict.fromkeys(INDEXES, (verdict, reason, 1 if text == MBOX else None)))
+        tasks = {step.get("task") for row in ran.rows for step in row["next"]}
+        equal("whether each is passed over alone", [ALONE.strip() in tasks], [reason == "not-known"])
+    expect(
+        ["kind", "old1/table_of_contents"],
+        home,
+        1,
+        f"old1/table_of_contents: no mail: Apple's index\n    {LEAVE_OUT}\n",
+    )
+
+
 if __name__ == "__main__":
-    check_all(table, names, next_commands, first_line_by_hand, real_files)
+    check_all(table, names, indexes, next_commands, first_line_by_hand, real_files)

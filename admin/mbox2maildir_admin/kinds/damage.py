@@ -12,6 +12,7 @@ from ..nexts import Does, Task, Todo
 from ..terminal import shown
 from ..units import Line, Offset
 from .making import Looks, Makes, Recipe
+from .named import index_of
 from .others import FROM_LINE, ONE_MAIL, Holds
 from .starts import HEAD, is_from_line, nulls_of
 
@@ -33,6 +34,7 @@ NOT_KNOWN: Recipe = (Looks("file {}"), Task(Todo.PASS_OVER))
 ALONE = Task(Todo.PASS_OVER_ALONE)
 ASK_FILE: Recipe = (WITH_DATE, ALONE)
 LIKE_MAIL: Recipe = (Looks("file {}"), ALONE)
+LEAVE: Recipe = (Task(Todo.LEAVE),)
 # a line of this form may be one of mail
 LINE_OF_MAIL = re.compile(
     rb"(?m)^(?:>*From |(?i:From|Received|Date|Message-ID|Subject|Return-Path|MIME-Version)[ \t]*:)"
@@ -71,10 +73,18 @@ def finding_of(mailbox: Mailbox, is_mark: Callable[[Part], bool]) -> Finding:
     if is_rest_of_from_line(text):
         found.insert(0, Said(Line(1), "this may be the rest of a From_ line", line))
     if not found:
-        begins_so = [Said(Line(1), "", cut(head.split(b"\n")[0]))]
-        return Finding("not known", LIKE_MAIL if has_line_of_mail(mailbox) else NOT_KNOWN, Holds.UNKNOWN, begins_so)
+        return unknown(mailbox, cut(head.split(b"\n")[0]))
     rest = "tail -c +%d {}" % (blanks + 1) if blanks else "cat {}"
     return Finding("damaged", (Makes(WITH_FROM_LINE % rest),), Holds.MAIL, found)
+
+
+def unknown(mailbox: Mailbox, line: str) -> Finding:
+    """What a file is that begins with this line, and in which no message begins: an index by its name, or not known."""
+    is_like_mail, index = has_line_of_mail(mailbox), index_of(mailbox.path)
+    if index and not is_like_mail:
+        return Finding("no mail: " + index, LEAVE, Holds.NO_MAIL, [])
+    said = [Said(Line(1), "", line)]
+    return Finding("not known", LIKE_MAIL if is_like_mail else NOT_KNOWN, Holds.UNKNOWN, said)
 
 
 def has_line_of_mail(mailbox: Mailbox) -> bool:

@@ -27,6 +27,32 @@ EXPORTED = re.compile(rb"([^/]+)\.mbox/mbox\Z")
 ENDINGS = re.compile(r"(?:\.mbox)?(?:\.(?:gz|bz2|xz|zst|lz4))?(?:\.mboxrd)?\Z")
 # the names of empty files that are not mailboxes: hidden ones, locks, indexes, and Dovecot's files beside its counter
 EMPTY_AUXILIARY = re.compile(rb"\..*|.*\.(?:lock|msf)|dovecot-uidvalidity\.[0-9a-f]{8}", re.DOTALL)
+# nsMsgLocalStoreUtils.cpp: the names that Thunderbird takes for no folder
+BESIDE = re.compile(
+    rb"(?:msgfilterrules|rules|rulesbackup|popstate|sort)\.dat|(?:filterlog|junklog)\.html|mailfilt\.log|filters\.js"
+    rb"|feed(?:s|items)\.(?:json|rdf)(?:\.(?:tmp|backup|corrupt))?|feeditems_error.*|.*\.msf",
+    re.DOTALL | re.IGNORECASE,
+)
+# the names of files that mail programs write beside mailboxes
+INDEXES = [
+    (re.compile(rb"table_of_contents|\.DS_Store|(?:Info|mbox)\.plist"), "Apple's index"),
+    (
+        re.compile(
+            rb".+\.(?:cmeta|ev-summary(?:-meta)?|ibex\.index(?:\.data)?)|folders\.db|folder-tree\.xml", re.DOTALL
+        ),
+        "Evolution's index",
+    ),
+    (
+        re.compile(rb".+\.toc(?:\.\d{3})?|(?:descmap|filters)\.pce|eudora\.ini|lmos\.dat", re.DOTALL | re.IGNORECASE),
+        "Eudora's index",
+    ),
+    (BESIDE, "Thunderbird's index"),
+    (re.compile(rb"(?:panacea|virtualFolders)\.dat|(?:profiles|installs)\.ini"), "Thunderbird's index"),
+    (
+        re.compile(rb"archive_browser\.html|(?:Blocked Addresses|Delegates|Filters|Settings|Vacation responder)\.json"),
+        "a Takeout's settings",
+    ),
+]
 # the most bytes of a line that a program writes into its lock: ASCII, such as its number, which Dovecot's host follows
 LONGEST_LOCK = 256
 LINE_OF_LOCK = re.compile(rb"(?:\d+:|(?!From |%s))[\t -~]*(?:\r?\n)?\Z" % FIELD.pattern)
@@ -69,7 +95,13 @@ def is_no_mail(path: bytes) -> bool:
 
 def is_auxiliary(name: bytes) -> bool:
     """Whether a file of this name may be known to hold no mail. One of another name never is."""
-    return EMPTY_AUXILIARY.fullmatch(name) is not None
+    return EMPTY_AUXILIARY.fullmatch(name) is not None or bool(index_of(name))
+
+
+def index_of(path: bytes) -> str:
+    """What a file is by its name if a mail program writes such files; empty otherwise. One that holds mail is none."""
+    name = os.path.basename(path)
+    return next((kind for names, kind in INDEXES if names.fullmatch(name)), "")
 
 
 def is_lock(path: bytes) -> bool:

@@ -147,6 +147,7 @@ IMAGES = (
 )
 WITHOUT_MAIL = [
     no_mail(rb"// <!-- <mdb:mork", "Thunderbird's index (.msf)"),
+    no_mail(rb"\0\0\0\x01Bud1", "Apple's index"),
     no_mail(rb"SQLite format 3\0", "SQLite"),
     no_mail(rb"%PDF-\d", "PDF"),
     no_mail(IMAGES, "an image"),

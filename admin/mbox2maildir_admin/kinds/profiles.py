@@ -2,7 +2,6 @@
 part in the name of a folder, unless another account gives the same one."""
 import collections
 import os
-import re
 from typing import NamedTuple, Optional
 
 from ..looks import is_file, is_folder, may_be
@@ -11,18 +10,13 @@ from ..mbox.files import is_empty
 from ..terminal import is_text
 from .folders import FROM, Entry, head_of
 from .making import is_below
+from .named import BESIDE
 
 # the folders of a profile that have a folder for each account, what else each profile has, and what stands beside all
 OF_ACCOUNTS = (b"Mail", b"ImapMail")
 PREFERENCES, LIST = b"prefs.js", b"profiles.ini"
 # where profiles are below the folder with that list, on some systems
 PROFILES = b"Profiles"
-# nsMsgLocalStoreUtils.cpp: the names that Thunderbird takes for no folder
-BESIDE = re.compile(
-    rb"(?:msgfilterrules|rules|rulesbackup|popstate|sort)\.dat|(?:filterlog|junklog)\.html|mailfilt\.log|filters\.js"
-    rb"|feed(?:s|items)\.(?:json|rdf)(?:\.(?:tmp|backup|corrupt))?|feeditems_error.*|.*\.msf",
-    re.DOTALL | re.IGNORECASE,
-)
 
 
 class Place(NamedTuple):

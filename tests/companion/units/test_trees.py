@@ -94,7 +94,7 @@ class TreeTest(FolderTest):
                 raise PermissionError(errno.EACCES, "Permission denied", path)
             return open_file(path, flags)
 
-        with mock.patch("mbox2maildir_admin.readings.plans.open_file", open_refused):
+        with mock.patch("mbox2maildir_admin.kinds.named.open_file", open_refused):
             found = self.found()
         why = "Permission denied; run this next: ls -ld %s" % os.fsdecode(refused)
         left = {"b.lock": (why, Fate.LEFT), "c.lock": ("", Fate.NO_MAIL)}
