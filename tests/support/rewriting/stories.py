@@ -151,7 +151,8 @@ def lost_one_and_looked_at(trial: Trial) -> Iterator[str]:
 
 
 def differs_in_a_body(trial: Trial) -> Iterator[str]:
-    """Two mailboxes differ in what looks like a field, in a body after a line `From `. They have two messages."""
+    """Two mailboxes differ in what looks like a field, in a body after a line `From `. They have two messages, as a
+    human says."""
     story = Story(trial, 0)
     texts = [
         story.letter(b"hello\nFrom the shed:\nStatus: %s\nmore\n" % status, "mboxcl2").replace(
@@ -161,7 +162,7 @@ def differs_in_a_body(trial: Trial) -> Iterator[str]:
     ]
     for text in texts:
         story.write([text])
-        story.done()
+        story.done("--as", "mboxcl2")
     yield from counts("two that differ in a body", story.count(), 2)
 
 
