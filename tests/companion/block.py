@@ -105,6 +105,8 @@ def one_answer_for_many(home: Path) -> None:
         f"mbox2maildir-admin: --of {second},{first}: no question has this tie: ...\n",
     )
     assert "line 5: " in out and status == 1, out
+    err = run_printed(begins.replace(ties, first), home).err
+    matches("a single tie of nothing", err, f"mbox2maildir-admin: --of {first}: no question has this tie: ...\n")
     expect(["migrate", "--as", "mboxo", "--of", "1,2", "--text", "3", "M", "old"], home, 2, "", None)
 
 

@@ -45,7 +45,7 @@ def do_migrate(given: argparse.Namespace) -> Status:
         task(reporter, tally)
         reporter.ask(lambda words: task_of(given.read(words))(reporter, tally))
         unmet = [tie for tie in given.of.split(",") if tie not in reporter.kept.ties]
-        if "," in given.of and unmet:
+        if given.of and unmet and not is_one(given.operands[1:], UsersOptions.of(given)):
             complain(UNMET % ",".join(map(named, unmet)))
 
     return run_reported(migrate, reporter, given.report, "what was done is in the record: run the same command again")

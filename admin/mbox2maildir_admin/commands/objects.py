@@ -45,11 +45,6 @@ def fields_of(one: Detail) -> dict[str, Any]:
     return {"says": one.sentence(), **named_by, "text": one.text or None}
 
 
-def rounded(seconds: Optional[float]) -> Optional[float]:
-    """A time in milliseconds' steps, if it is known."""
-    return None if seconds is None else round(seconds, 3)
-
-
 def path_of(path: bytes) -> dict[str, Any]:
     """The fields of a path."""
     if is_text(path):
@@ -60,12 +55,6 @@ def path_of(path: bytes) -> dict[str, Any]:
 def folder_of(folder: bytes) -> dict[str, Any]:
     """The fields of a folder: its name, and its path below the Maildir."""
     return {"folder": folder_name(folder) or None, "directory": shown(folder) or None}
-
-
-def put_object(fields: dict[str, Any]) -> None:
-    """Prints an object. No object has a byte that is not UTF-8."""
-    put(json.dumps(fields))
-    flush()
 
 
 class ObjectReporter(Reporter):
@@ -85,7 +74,7 @@ class ObjectReporter(Reporter):
 
     def print_sums(self, line: str) -> None:
         """Prints the sums, and the line that says them."""
-        messages, size = self.amounts(*SUMMED)
+        (messages, size), last = self.amounts(*SUMMED), self.last_pass()
         self.print_object(
             {
                 "type": "sum",
@@ -97,7 +86,7 @@ class ObjectReporter(Reporter):
                 "still_there": {word: self.stand[word] for word in ("deleted", "changed")},
                 "bytes": size,
                 "seconds": round(self.seconds(), 3),
-                "last_pass_seconds": rounded(self.last_pass()),
+                "last_pass_seconds": None if last is None else round(last, 3),
                 "host": os.uname().nodename,
                 "version": self.version,
                 "says": line,
@@ -106,8 +95,9 @@ class ObjectReporter(Reporter):
         )
 
     def print_object(self, fields: dict[str, Any]) -> None:
-        """Prints an object."""
-        put_object(fields)
+        """Prints an object. No object has a byte that is not UTF-8."""
+        put(json.dumps(fields))
+        flush()
 
 
 class Report(ObjectReporter):
