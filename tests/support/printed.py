@@ -1,8 +1,6 @@
-"""What a migration printed, as tests read it: rows, what stands below each, and objects of JSON."""
-import json
+"""What a migration printed for people, as tests of that read it: rows, what stands below each, and the last block."""
 import re
-import shlex
-from typing import Any, NamedTuple
+from typing import NamedTuple
 
 # what stands before each line below a row, and before a command
 BELOW, COMMAND = "    ", "        "
@@ -120,18 +118,3 @@ def row_in(out: str, name: str) -> Printed:
 def commands_in(out: str) -> list[str]:
     """All commands that were printed."""
     return [command for row in rows_in(out) for command in row.commands]
-
-
-def lines_in(out: str) -> str:
-    """What was printed, without what stands below rows."""
-    return "".join(row.line + "\n" for row in rows_in(out))
-
-
-def typed(answer: dict[str, Any]) -> str:
-    """The command of an object of JSON, as the user who runs it types it."""
-    return str(answer["shell"]) if "shell" in answer else " ".join(map(shlex.quote, answer["argv"]))
-
-
-def objects_in(out: str) -> list[dict[str, Any]]:
-    """The objects that were printed."""
-    return [json.loads(line) for line in out.splitlines()]

@@ -2,7 +2,6 @@
 in the end. Those of a person with files take at most three commands. No appliance that serves NFS is at hand: a
 mailbox that nobody may write, on a file system that is mounted read-only, takes the place of what it serves."""
 import gzip
-import json
 import os
 import shlex
 import shutil
@@ -16,11 +15,12 @@ from tests.companion.spool import theirs
 from tests.support import accounts
 from tests.support.cases import LeftOut
 from tests.support.checks import equal, matches
-from tests.support.homes import check_all, expect, is_root, mailbox, run, run_whole, subjects, want_users
+from tests.support.homes import by_json, check_all, expect, is_root, mailbox, run, run_whole, subjects, want_users
 from tests.support.ledgers import RECORD
 from tests.support.mail import A, B, MAY, ONE, THREE, TWO
 from tests.support.printed import row_in
 from tests.support.processes import wait_for
+from tests.support.running import Run
 
 # how many commands a person with files needs at most, and how many users a small server has
 MOST, USERS = 3, 40
@@ -50,11 +50,11 @@ def a_file_of_thunderbird(home: Path) -> None:
     play(
         home,
         (
-            "migrate --dry-run --folder Archive/2019 Maildir Archives-2019",
+            "migrate --all --dry-run --folder Archive/2019 Maildir Archives-2019",
             0,
             row.format("would be done"),
         ),
-        ("migrate --folder Archive/2019 Maildir Archives-2019", 0, row.format("done")),
+        ("migrate --all --folder Archive/2019 Maildir Archives-2019", 0, row.format("done")),
         (
             "verify Maildir/.Archive.2019 Archives-2019",
             0,
@@ -80,8 +80,8 @@ def a_takeout_with_labels(home: Path) -> None:
     )
     play(
         home,
-        ("migrate --dry-run --labels Maildir all.mbox", 0, rows.format("would be done")),
-        ("migrate --labels Maildir all.mbox", 0, rows.format("done")),
+        ("migrate --all --dry-run --labels Maildir all.mbox", 0, rows.format("would be done")),
+        ("migrate --all --labels Maildir all.mbox", 0, rows.format("done")),
         (
             "verify Maildir all.mbox",
             0,
@@ -106,9 +106,9 @@ def mutt_without_a_server(home: Path) -> None:
     row = "mail/mia -> INBOX: mboxrd or mboxo, messages 1: done\n"
     play(
         home,
-        ("migrate Maildir mail/mia mbox sent", 1, row + left.format("mbox") + left.format("sent") + end),
-        ("migrate --folder mbox Maildir mbox", 0, "mbox -> mbox: ...: done\n1 mailbox: 1 done\n"),
-        ("migrate --folder sent Maildir sent", 0, "sent -> sent: ...: done\n1 mailbox: 1 done\n"),
+        ("migrate --all Maildir mail/mia mbox sent", 1, row + left.format("mbox") + left.format("sent") + end),
+        ("migrate --all --folder mbox Maildir mbox", 0, "mbox -> mbox: ...: done\n1 mailbox: 1 done\n"),
+        ("migrate --all --folder sent Maildir sent", 0, "sent -> sent: ...: done\n1 mailbox: 1 done\n"),
     )
     maildir = home / "Maildir"
     equal("the mail", [subjects(maildir / name) for name in ("", ".mbox", ".sent")], [["one"], ["two"], ["three"]])
@@ -178,7 +178,7 @@ def is_all_there(home: Path) -> None:
     play(
         home,
         (
-            "migrate --again Maildir box",
+            "migrate --all --again Maildir box",
             0,
             "box -> INBOX: ..., messages 3: done, placed 1 message...\n1 mailbox: 1 done\n",
         ),
@@ -196,8 +196,8 @@ def one_is_undone(home: Path) -> None:
     would = says.format("would be undone", "would remove", "would keep", "would be undone")
     play(
         home,
-        ("migrate --undo --dry-run Maildir wrong", 0, row + would),
-        ("migrate --undo Maildir wrong", 0, row + says.format("undone", "removed", "kept", "undone")),
+        ("migrate --all --undo --dry-run Maildir wrong", 0, row + would),
+        ("migrate --all --undo Maildir wrong", 0, row + says.format("undone", "removed", "kept", "undone")),
     )
     equal("the mail", subjects(home / "Maildir/.Old"), ["one", "two"])
 
@@ -228,7 +228,7 @@ def an_archive_of_a_list(home: Path) -> None:
         )
     files = " ".join(f"j/{name}.txt.gz" for name in months)
     rows = "".join(f"j/{name}.txt.gz -> lists/sheds: ..., messages 1: done\n" for name in months)
-    play(home, (f"migrate --folder lists/sheds Maildir {files}", 0, f"{rows}3 mailboxes: 3 done\n"))
+    play(home, (f"migrate --all --folder lists/sheds Maildir {files}", 0, f"{rows}3 mailboxes: 3 done\n"))
     equal("the mail", subjects(home / "Maildir/.lists.sheds"), ["one", "three", "two"])
 
 
@@ -245,7 +245,7 @@ def an_appliance_that_serves_files(home: Path) -> None:
         subprocess.run(["mount", *words], check=True)
     try:
         rows = "export/inbox -> INBOX: ...: done\nexport/lists -> lists: ...: done\n2 mailboxes: 2 done\n"
-        play(home, ("migrate Maildir export", 0, rows))
+        play(home, ("migrate --all Maildir export", 0, rows))
         subprocess.run(["cp", "-a", str(home / "Maildir"), str(home / "copied")], check=True)
         for maildir in ("Maildir", "copied"):
             equal(maildir, run(["verify", maildir, "export"], home)[0], 0)
@@ -258,17 +258,17 @@ def objects_for_a_program(home: Path) -> None:
     mailbox(home / "old/box", ONE)
     mailbox(home / "old/notes", b"a\nb\n" * 9)
 
-    def objects(words: Sequence[str], status: int) -> list[dict[str, object]]:
-        got, out, _ = run_whole(["migrate", "--json", *words, "Maildir", "old"], home)
-        equal(f"{words}", got, status)
-        return [json.loads(line) for line in out.splitlines()]
+    def ran(words: Sequence[str], status: int) -> Run:
+        found = by_json(["migrate", *words, "Maildir", "old"], home)
+        equal(f"{words}", found.status, status)
+        return found
 
-    def verdicts(words: Sequence[str], status: int) -> dict[object, object]:
-        return {row["path"]: row["reason"] or row["verdict"] for row in objects(words, status) if row["type"] == "row"}
+    def verdicts(words: Sequence[str], status: int) -> dict[str, str]:
+        return {row["path"]: row["reason"] or row["verdict"] for row in ran(words, status).rows}
 
     equal("at first", verdicts([], 1), {"old/box": "done", "old/notes": "not-known"})
     equal("passed over", verdicts(["--no-mail", "notes"], 0), {"old/box": "done before", "old/notes": "no mail"})
-    last = objects(["--no-mail", "notes"], 0)[-1]
+    last = ran(["--no-mail", "notes"], 0).sums
     equal("what is left by the sums", (last["type"], last["left"]), ("sum", []))
     assert (home / "Maildir" / RECORD).exists()
 
