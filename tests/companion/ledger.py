@@ -604,6 +604,24 @@ def rule_5_in_two_bare_forms(home: Home) -> None:
     home.has(0, 0, 0, why=row)
 
 
+def rule_5_renamed_in_two_bare_forms(home: Home) -> None:
+    """Other programs rename the files of such messages before --again, and one of them after it. One more message of
+    its form is placed."""
+    one, other = (letter(0, body=b"hello\n%sFrom the shed.\n" % quotes) for quotes in (b">", b">>"))
+    for text in (one + other, other + one):
+        home.begin()
+        home.write("OLD", text)
+        home.done("OLD")
+        for number, path in enumerate(home.those(0)):
+            path.rename(path.parent.parent / f"cur/1700{number}.host:2,S")
+        home.done("OLD", words=["--again"])
+        path = next(path for path in home.those(0) if b">From" not in path.read_bytes())
+        path.rename(path.with_name("18000.host:2,S"))
+        home.write("OLD", text + one)
+        row = home.done("OLD")["OLD"]
+        home.has(0, 0, 0, why=row)
+
+
 RULES = [
     rule_1_killed_under_a_name_that_it_had,
     rule_1_killed_again,
@@ -636,6 +654,7 @@ RULES = [
     rule_5_a_name_that_no_line_can_have,
     rule_5_in_several_forms,
     rule_5_in_two_bare_forms,
+    rule_5_renamed_in_two_bare_forms,
 ]  # type: list[Rule]
 
 

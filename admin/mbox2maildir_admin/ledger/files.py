@@ -109,13 +109,13 @@ class Files:
         place = self.inventory.table.place_of(digest + FIRST) if digest else None
         return None if place is None else self.inventory.bare(place)
 
-    def by_core(self, known: Container[bytes]) -> dict[bytes, list[bytes]]:
-        """All files but those that are known, by the cores of what they hold. They are read."""
-        found: collections.defaultdict[bytes, list[bytes]] = collections.defaultdict(list)
+    def by_core(self, known: Container[bytes]) -> dict[bytes, list[tuple[bytes, bytes]]]:
+        """All files but those that are known, by the cores of what they hold, with its bare form. They are read."""
+        found: collections.defaultdict[bytes, list[tuple[bytes, bytes]]] = collections.defaultdict(list)
         for before, path in self.numbered():
             forms = forms_in(path) if before not in known else None
             if forms:
-                found[forms[0]].append(before)
+                found[forms[0]].append((forms[1], before))
         return found
 
     def numbered(self) -> Iterator[tuple[bytes, bytes]]:

@@ -313,19 +313,21 @@ class Serving:
                 unnamed.remove(name)
                 match.seen.foreign.append(name)
 
-    def take_any(self, unnamed: Sequence[bytes]) -> None:
+    def take_any(self, unnamed: Sequence[tuple[bytes, bytes]]) -> None:
         """Takes any files with the core of the messages, first for those in the same form: those of the mailbox's own
-        lines, then those of others, then those without a line."""
-        bare_of = self.match.inventory.bare
-        files = [file for file in sorted(self.files, key=lambda one: not one.line_of(self.match.path)) if file.name]
-        for file in files:
-            same = (place for place in self.waiting if bare_of(place) == file.bare)
-            self.take_file(file, file.line_of(self.match.path) or file.lines[-1], same)
-        for file in files:
-            self.take_file(file, file.line_of(self.match.path) or file.lines[-1], self.waiting)
-        for name in unnamed:
-            if self.take(FOREIGN, name, self.waiting):
-                self.match.seen.foreign.append(name)
+        lines, then those of others, then those without a line, whose forms and names are given."""
+        path, rest = self.match.path, list(unnamed)
+        files = [file for file in sorted(self.files, key=lambda one: not one.line_of(path)) if file.name]
+        for is_same in (True, False):
+            for file in files:
+                line = file.line_of(path) or file.lines[-1]
+                self.take_file(file, line, self.waiting_in(file.bare, is_same))
+            rest = [one for one in rest if not self.take(FOREIGN, one[1], self.waiting_in(one[0], is_same))]
+        self.match.seen.foreign += [name for bare, name in unnamed if (bare, name) not in rest]
+
+    def waiting_in(self, bare: bytes, is_same: bool) -> Iterator[int]:
+        """The messages in a bare form that wait, or all that wait."""
+        return (place for place in self.waiting if not is_same or self.match.inventory.bare(place) == bare)
 
     def end(self) -> list[int]:
         """The places of the messages that are nowhere."""
