@@ -34,7 +34,7 @@ def play(home: Path, *steps: tuple[str, int, Optional[str]]) -> None:
     """Runs commands, each of which must end with a status and print these lines; `...` stands for anything in one."""
     assert len(steps) <= MOST, f"{len(steps)} commands"
     for command, status, lines in steps:
-        word, *words = shlex.split(command)
+        word, *words = shlex.split(command.split("mbox2maildir-admin ")[-1])
         expect([word, "--all", *words], home, status, lines)
 
 
