@@ -34,8 +34,7 @@ def play(home: Path, *steps: tuple[str, int, Optional[str]]) -> None:
     """Runs commands, each of which must end with a status and print these lines; `...` stands for anything in one."""
     assert len(steps) <= MOST, f"{len(steps)} commands"
     for command, status, lines in steps:
-        word, *words = shlex.split(command.split("mbox2maildir-admin ")[-1])
-        expect([word, "--all", *words], home, status, lines)
+        expect(shlex.split(command), home, status, lines)
 
 
 def a_file_of_thunderbird(home: Path) -> None:
@@ -56,7 +55,7 @@ def a_file_of_thunderbird(home: Path) -> None:
         ),
         ("migrate --all --folder Archive/2019 Maildir Archives-2019", 0, row.format("done")),
         (
-            "verify Maildir/.Archive.2019 Archives-2019",
+            "verify --all Maildir/.Archive.2019 Archives-2019",
             0,
             f"Archives-2019 -> Archive/2019: {THERE.format(3)}{ONE_WHOLE}",
         ),
@@ -83,7 +82,7 @@ def a_takeout_with_labels(home: Path) -> None:
         ("migrate --all --dry-run --labels Maildir all.mbox", 0, rows.format("would be done")),
         ("migrate --all --labels Maildir all.mbox", 0, rows.format("done")),
         (
-            "verify Maildir all.mbox",
+            "verify --all Maildir all.mbox",
             0,
             "".join(f"all.mbox -> {name}: {THERE.format(1)}" for name in ("INBOX", "Garden", "Junk", "Sent"))
             + "4 mailboxes: 4 whole\n",
@@ -163,7 +162,7 @@ def an_interruption(home: Path) -> None:
     play(
         home,
         ("migrate Maildir big", 0, None),
-        ("verify Maildir big", 0, f"big -> INBOX: {THERE.format(count)}{ONE_WHOLE}"),
+        ("verify --all Maildir big", 0, f"big -> INBOX: {THERE.format(count)}{ONE_WHOLE}"),
     )
     equal("how many there are", len(subjects(home / "Maildir")), count)
 
@@ -182,7 +181,7 @@ def is_all_there(home: Path) -> None:
             0,
             "box -> INBOX: ..., messages 3: done, placed 1 message...\n1 mailbox: 1 done\n",
         ),
-        ("verify Maildir box", 0, f"box -> INBOX: {THERE.format(3)}{ONE_WHOLE}"),
+        ("verify --all Maildir box", 0, f"box -> INBOX: {THERE.format(3)}{ONE_WHOLE}"),
     )
 
 
