@@ -84,12 +84,16 @@ RIGHT = (
     Right("readings.at_once.read_parts", "", "what cannot be read at once is read anew, one after the other"),
     Right("readings.unnamed.unnamed", "b'M'", "where no file without a name can be made, a name is removed at once"),
     Right("commands.migrate.joined", "b'M tree'", "the words are looked at one by one"),
-    Right("program.places_of_program", "mbox2maildir", "the program that is found is run next"),
     Right("migration.several.refuse", "b'tree/tmp'", "whoever reads the tree sees whether it is a Maildir"),
     Right("migration.places.recorded", "", "no folder is wanted for what holds no mail"),
     Right("migration.known.without_lost", "", "nor another one than the ledgers say"),
     Right("migration.places.beside", NO_MAIL, "what holds no mail is no copy, and has none"),
 )
+
+
+def rights_of(call: Call) -> list[Right]:
+    """Why all may be well though this call failed."""
+    return [right for right in RIGHT if right.is_for(call)]
 
 
 def small_tree(draw: Random, home: Path) -> World:
@@ -192,7 +196,8 @@ class Attempt:
         """What is wrong with a run in which a call fails, and with a run after it in which none fails."""
         world, run, failed = self.run(fault)
         wrong = list(wrong_of_fault(world, run))
-        if run.status == 0 and any(call.what in ASKING and self.is_here(call.about) for call in failed):
+        asked = [call for call in failed if call.what in ASKING and self.is_here(call.about)]
+        if run.status == 0 and not all(map(rights_of, asked)):
             wrong.append(f"status 0: {run.last}")
         if not wrong:
             wrong = [f"the run after it: {line}" for line in wrong_after(world, migrate(world))]
@@ -245,9 +250,9 @@ class EachCall(Attempt):
         world, run, failed = self.run(fault)
         wrong = list(wrong_of_fault(world, run))
         if run.status == 0:
-            rights = {call: [right for right in RIGHT if right.is_for(call)] for call in failed}
-            self.met.update(right for several in rights.values() for right in several)
-            wrong += [f"status 0: {run.last}"] * (not all(rights.values()))
+            rights = [rights_of(call) for call in failed]
+            self.met.update(right for several in rights for right in several)
+            wrong += [f"status 0: {run.last}"] * (not all(rights))
         return told(fault, failed, wrong)
 
 
