@@ -1,4 +1,4 @@
-"""Kinds: what a program that uses the verdict needs from it. tests/companion/kinds.py tests what is printed of each
+"""Kinds: what a program that uses the verdict needs from it. tests/tables/kinds.py tests what is printed of each
 kind."""
 import os
 import unittest

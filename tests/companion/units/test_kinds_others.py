@@ -1,4 +1,4 @@
-"""The table of kinds: each row by its beginning. tests/companion/other_kinds.py tests what is printed of whole
+"""The table of kinds: each row by its beginning. tests/tables/other_kinds.py tests what is printed of whole
 files."""
 import unittest
 

@@ -12,11 +12,11 @@ import tarfile
 import zipfile
 from pathlib import Path
 
-from tests.companion.kinds import ALONE, LIKE_MAIL, NOT_KNOWN, labelled
+from tests.tables.kinds import ALONE, LIKE_MAIL, NOT_KNOWN, labelled
 from tests.support.checks import equal, matches
-from tests.support.homes import by_json, check_all, expect, mail_in, mailbox, run
+from tests.support.homes import by_json, check_all, expect, mail_in, mailbox, run, run_printed
 from tests.support.mail import A, B
-from tests.support.printed import commands_in, rows_in
+from tests.support.printed import rows_in
 
 MBOX = A + b"\nhello\n\n"
 LEAVE_OUT = "leave it as it is"
@@ -300,9 +300,8 @@ def next_commands(home: Path) -> None:
     """The printed command makes what is converted, in the place of the file."""
     for text, copy in COPIES:
         (home / "a b").write_bytes(text)
-        _, out, _ = run(["kind", "a b"], home)
-        (command,) = commands_in(out)
-        subprocess.run(["sh", "-c", command], cwd=home, check=True)
+        command = by_json(["kind", "a b"], home).row.command
+        equal(f"{command}: its status", run_printed(command, home).status, 0)
         equal(command, (home / "a b").read_bytes(), copy)
         if text != MAIL[:-1]:
             equal(f"{command}: the copy's status", run(["kind", "a b"], home)[0], 0)
@@ -325,11 +324,10 @@ def first_line_by_hand(home: Path) -> None:
         ),
     ):
         (home / "notes").write_bytes(text)
-        _, out, _ = run(["kind", "notes"], home)
-        commands = commands_in(out)
+        commands = by_json(["kind", "notes"], home).row.commands
         for command, copy in zip(commands, words):
             (home / "notes").write_bytes(text)
-            subprocess.run(["sh", "-c", command], cwd=home, check=True)
+            equal(f"{command}: its status", run_printed(command, home).status, 0)
             equal(command, (home / "notes").read_bytes(), copy)
             equal(f"{command}: the copy's status", run(["kind", "notes"], home)[0], 0)
         equal("the commands", len(commands), len(words))
@@ -356,8 +354,7 @@ def real_files(home: Path) -> None:
         # no copy is beside it
         (home / "mail").unlink()
         os.utime(file, (1e9, 1e9))
-        _, out, _ = run(["kind", file.name], home)
-        (command,) = commands_in(out)
+        command = by_json(["kind", file.name], home).row.command
         if command == MIGRATE.replace("{}", file.name):
             out = run(command.split(), home)[1]
             matches(
@@ -372,8 +369,8 @@ def real_files(home: Path) -> None:
             )
             shutil.rmtree(home / "MAILDIR")
             continue
-        assert ending in ("lzma", "lz", "lzo"), f"{ending}: {out}"
-        subprocess.run(["sh", "-c", command], cwd=home, check=True)
+        assert ending in ("lzma", "lz", "lzo"), f"{ending}: {command}"
+        equal(f"{command}: its status", run_printed(command, home).status, 0)
         equal(command, file.read_bytes(), MBOX)
 
 

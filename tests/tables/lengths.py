@@ -3,7 +3,7 @@
 human is asked. Mail that Dovecot delivers has a length and no escapes, beside mail that has neither or both."""
 from pathlib import Path
 
-from tests.support.checks import equal, matches
+from tests.support.checks import equal
 from tests.support.homes import by_json, check_all, expect, mail_in, mailbox, run_printed
 from tests.support.mail import A, B, C, INTERNAL, ONE, THREE, with_length
 
