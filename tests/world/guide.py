@@ -167,6 +167,7 @@ def make_files(home: Path) -> None:
         "old/cut-start": BORIS[1:].encode() + b"\n" + inbox,
         "old/one-mail": b"From: alva@example.org\nSubject: one\n\nhello\n",
         "old/spool": (with_length(A, B + b"\nyes\n") + b"\n" + B + b"\n"),
+        "old/in-part": (with_length(A, b"From me\nSubject: x\n\nyes\n") + b"\n" + B + b"\n"),
         "old/inbox.mbx": b"*mbx*\r\n",
         "old/mail.mmdf": b"\1\1\1\1\n",
         "old/1.emlx": b"13\nSubject: one\n<?xml",
