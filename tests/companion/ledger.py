@@ -602,6 +602,16 @@ def rule_5_in_two_bare_forms(home: Home) -> None:
     home.write("OLD", letter(0, RO, other) + letter(0, RO, one) * 2)
     row = home.done("OLD")["OLD"]
     home.has(0, 0, 0, why=row)
+    home.begin()
+    home.write("OTHER", letter(0, body=one))
+    home.write("OLD", letter(0, body=one))
+    home.done("OTHER", "OLD")
+    as_if_killed(home.maildir)
+    home.write("OLD", letter(0, body=other) + letter(0, body=one))
+    home.done("OTHER", "OLD")
+    home.write("OTHER", letter(0, body=one) + letter(0, body=other))
+    row = home.done("OTHER")["OTHER"]
+    home.has(0, 0, why=row)
 
 
 def rule_5_renamed_in_two_bare_forms(home: Home) -> None:

@@ -125,6 +125,9 @@ def offers(files: list[File], path: str, bare: bytes) -> list[tuple[Offer, File,
     found: list[tuple[Offer, File, Line]] = []
     for file in files:
         own = file.line_of(path)
+        if own and own.state not in BROUGHT and own.message.word == SHARED and own.message.bare != bare:
+            # what a killed run has only shared, it shared in that form
+            own = None
         others = [line for line in reversed(file.lines) if line.path != path and line.message.bare == bare]
         brought = sorted((one for one in others if one.state in BROUGHT), key=lambda one: one.state is State.FORMER)
         if own and file.name and own.state is State.OPEN and own.message.word != SHARED:
