@@ -267,6 +267,25 @@ def rule_6_a_file_that_two_mailboxes_lack(home: Home) -> None:
     home.has()
 
 
+def rule_6_a_file_for_two_mailboxes(home: Home) -> None:
+    """A reader deletes the message of a mailbox. Another one brings it twice, by --again, and a third one has one of
+    these. Once the second is undone, the first and the third have the same file."""
+    home.write("OLD", letters(5))
+    home.done("OLD")
+    home.take(5)
+    home.write("OTHER", letters(5, 5))
+    home.done("OTHER", words=["--again"])
+    home.write("THIRD", letters(5))
+    home.done("THIRD")
+    row = home.undo("OTHER")["OTHER"]
+    home.has(5, why=row)
+    want_said(row, 1, "has too")
+    home.undo("OLD")
+    home.has(5)
+    home.undo("THIRD")
+    home.has()
+
+
 def rule_6_a_renamed_file_and_a_third_mailbox(home: Home) -> None:
     """The same, and a third mailbox shares the file that was placed under the name anew: it stays, and the row counts
     the one that has another name."""
@@ -478,6 +497,7 @@ RULES = [
     rule_6_a_renamed_file_of_equal_messages,
     rule_6_the_only_file_was_renamed,
     rule_6_a_file_that_two_mailboxes_lack,
+    rule_6_a_file_for_two_mailboxes,
     rule_6_a_renamed_file_and_a_third_mailbox,
     rule_6_kept_and_brought_later,
     rule_6_again_after_an_undo,

@@ -37,8 +37,14 @@ class Shares:
         self.lacking: collections.defaultdict[bytes, list[File]] = collections.defaultdict(list)
         self.find(files)
         own = [(line, file) for file in files for line in [file.line_of(path)] if line]
-        # what the mailbox had once may have other bytes than what it has
-        own.sort(key=lambda one: (one[0].state is State.FORMER, (one[1].name is None) != is_resumed))
+        # what the mailbox had once may have other bytes than what it has; and what stays for others comes first
+        own.sort(
+            key=lambda one: (
+                not self.others(one[1], *MAY_HAVE),
+                one[0].state is State.FORMER,
+                (one[1].name is None) != is_resumed,
+            )
+        )
         for line, file in own:
             self.take(line, file)
 
@@ -74,10 +80,14 @@ class Shares:
             self.foreign += 1
         elif holders:
             self.kept[holders[-1].path] += 1
+            if lacking and not any(lacking[-1].line_of(other.path) for other in holders):
+                # those that lack theirs have this one too
+                self.hand_over(one, lacking.pop())
         elif not self.has[one.core]:
             self.lost += 1
         elif lacking and is_there:
             self.has[one.core] -= 1
+            self.kept[self.others(lacking[-1], State.HELD)[-1].path] += 1
             self.hand_over(one, lacking.pop())
         else:
             self.has[one.core] -= 1
@@ -89,8 +99,6 @@ class Shares:
 
     def hand_over(self, one: Brought, lacking: File) -> None:
         """Has a file stay for the mailboxes that lack theirs."""
-        others = self.others(lacking, State.HELD)
-        self.kept[others[-1].path] += 1
-        for other in others:
+        for other in self.others(lacking, State.HELD):
             if other.path not in self.begun:
                 self.handed[other.path].append((other.message, one))
