@@ -36,7 +36,11 @@ FIELDS = [
     b"Return-Path: <alva@example.org>\n", b"Content-Length: 3\n", b"Status: RO\n", b"X-UID: 7\n", b"X-Status: F\n",
     b"content-length:  999999\n", b"X-IMAPbase: 1 2\n", b"Subject: a\n", b"Received: by x\n\tfor y\n", b"Lines: 3\n",
 ]  # fmt: skip
-DATED = re.compile(rb"(?m)^From .* [A-Z][a-z][a-z] [A-Z][a-z][a-z] +\d+ \d\d:\d\d:\d\d \d{4}\r?$")
+# a line that looks like a From_ line: with a date, before a field, or with a word alone between blank lines
+LIKE_FROM = re.compile(
+    rb"(?m)^From .*(?: [A-Z][a-z][a-z] [A-Z][a-z][a-z] +\d+ \d\d:\d\d:\d\d \d{4}\r?$|\n(?:>+From .*\n)*[!-9;-~]+:)"
+    rb"|\n\r?\nFrom \S+\r?\n\r?\n"
+)
 ID = re.compile(rb"(?m)^Message-ID: <(\d+)@")
 # by the letters of Status and X-Status
 LETTERS = {b"A": "R", b"D": "T", b"F": "F", b"R": "S", b"T": "D"}
@@ -162,7 +166,7 @@ class History:
     def holds(self, message: bytes) -> bool:
         """Whether a mailbox of the dialect can hold a message, so that nobody is asked how it is read: by its length, a
         line that looks like a From_ line belongs to a mail."""
-        is_asked = self.dialect.quotes == "none" and DATED.search(message)
+        is_asked = self.dialect.quotes == "none" and LIKE_FROM.search(message)
         return self.dialect.holds(message) and not is_asked
 
     def paths(self) -> dict[str, str]:
