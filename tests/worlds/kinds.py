@@ -3,7 +3,9 @@ from collections.abc import Callable, Iterable
 from typing import NamedTuple
 
 from tests.support.cases import Failed
-from tests.worlds import decisions, labels, mutated, shared, stray
+from tests.worlds import decisions, labels, mutated, passes, rewritten, shared, stray, trees, undone
+from tests.worlds.fates import drawn
+from tests.worlds.history import History
 from tests.worlds.stage import Stage
 
 # how many lines are printed of what is wrong with a world, and how long one may be
@@ -17,7 +19,25 @@ class Kind(NamedTuple):
     tried: int
 
 
+def lived(kind: Callable[[Stage, int], History]) -> Callable[[Stage, int], list[str]]:
+    """A kind of histories."""
+    return lambda stage, seed: kind(stage, seed).play()
+
+
 KINDS = {
+    # one mailbox that programs and people rewrite between runs, each of whose printed commands is run
+    "rewritten": Kind(lived(rewritten.Rewritten), 12),
+    # the same, whose runs are killed again and again
+    "killed": Kind(lived(rewritten.Killed), 6),
+    # the same, which is undone beside others
+    "undone": Kind(lived(undone.Undone), 10),
+    # several, between which mail is moved; folders, ledgers and mailboxes are renamed, deleted, lost or restored
+    "trees": Kind(lived(trees.Trees), 12),
+    # the same, which are prepared while people use them: all is then as after one run
+    "passes": Kind(lived(passes.Passes), 6),
+    # trees, spools and homes, each of whose names has one fate; and the same where one call of the system fails
+    "fates": Kind(drawn.one_world, 12),
+    "some_faults": Kind(drawn.one_fault, 12),
     # one mailbox of a program, several in a tree, and users in a spool, that are decided about
     "decisions": Kind(decisions.one_mailbox, 85),
     "said_of_trees": Kind(decisions.in_a_tree, 6),
@@ -27,7 +47,7 @@ KINDS = {
     # Takeouts, which go into folders by the labels of their messages
     "labels": Kind(labels.one_world, 16),
     # mailboxes that share messages
-    "shared": Kind(shared.one_world, 30),
+    "shared": Kind(shared.one_world, 13),
     # texts and names of strangers
     "stray": Kind(stray.one_world, 30),
 }

@@ -1,10 +1,28 @@
-"""What must be there."""
+"""What must be in the folders of a Maildir, by what mailboxes had and people did: each message as often as the mailbox
+had it that had it most often; and, by Message-IDs, in no more files than it was in mailboxes.
+
+It knows the texts of mailboxes, by a splitter of the tests' own, and the bytes of files, and nothing of what a run
+notes. What a run does beyond that must be said, by a number in a row.
+"""
+import collections
+import contextlib
+import copy
+import functools
+import re
 import typing
 from collections import Counter
-from collections.abc import Iterable
-from typing import TypeVar
+from collections.abc import Iterable, Iterator, Mapping
+from pathlib import Path
+from typing import NamedTuple, TypeVar
+
+from tests.support.archives import texts_of
+from tests.support.running import Row
+from tests.support.splitter import WORDS, is_from, split
+from tests.worlds.letters import INTERNAL, content, id_of, without
 
 Thing = TypeVar("Thing")
+Counts = typing.Counter[bytes]
+INBOX = "INBOX"
 
 
 def most(several: Iterable[Iterable[Thing]]) -> typing.Counter[Thing]:
@@ -13,3 +31,237 @@ def most(several: Iterable[Iterable[Thing]]) -> typing.Counter[Thing]:
     for things in several:
         found |= Counter(things)
     return found
+
+
+class Reading(NamedTuple):
+    """The messages of a text by a word: what they are, whoever rewrote them, and by their Message-IDs; and the bytes
+    that a file with one of them may have. Nothing must be there of Dovecot's own message, but it may."""
+
+    contents: Counts
+    ids: Counts
+    bytes: frozenset[bytes]
+
+
+@functools.lru_cache(maxsize=256)
+def reading(text: bytes, word: str, lines: frozenset[int] = frozenset()) -> Reading:
+    """How a text is read by a word, and with lines that are said to be mail."""
+    several = split(text, word, lines) if text and is_from(text) else ()
+    mail = [one for one in several if INTERNAL not in one]
+    files = frozenset(one for whole in several for one in (whole, without(whole)))
+    return Reading(Counter(map(content, mail)), Counter(map(id_of, mail)), files)
+
+
+def readings(text: bytes) -> dict[str, Reading]:
+    """How a text is read by each word."""
+    return {word: reading(text, word) for word in WORDS}
+
+
+class Shelf:
+    """What lies in a folder, or in all: how often each message may be there, came from elsewhere, was taken away by
+    people and is not back, with the folder or without it, and is there."""
+
+    def __init__(self) -> None:
+        self.most: Counts = Counter()
+        self.foreign: Counts = Counter()
+        self.taken: Counts = Counter()
+        self.gone: Counts = Counter()
+        self.seen: Counts = Counter()
+
+    def look(self, now: Counts) -> None:
+        """People have changed what is there."""
+        for what, count in (now - self.seen).items():
+            back = min(count, self.taken[what])
+            self.taken[what] -= back
+            self.foreign[what] += count - back
+        for what, count in (self.seen - now).items():
+            self.foreign[what] -= min(count, self.foreign[what])
+            self.taken[what] += count
+        self.seen = now
+
+    def take(self, what: bytes) -> None:
+        """People have taken away a message."""
+        self.foreign[what] -= min(1, self.foreign[what])
+        self.taken[what] += 1
+        self.seen[what] -= 1
+
+    def ran(self, now: Counts) -> typing.Counter[str]:
+        """A run has changed what is there. Returns how much is there too often, came back, and went away."""
+        told = Counter(gone=sum((self.seen - now).values()))
+        for what, count in (now - self.seen).items():
+            may_be = self.most[what] + self.foreign[what]
+            over = max(0, min(count, now[what] - may_be))
+            never = max(0, may_be - self.seen[what] - self.taken[what])
+            back = max(0, min(count - over - never, self.taken[what]))
+            self.taken[what] -= back
+            self.foreign[what] += over
+            told.update(doubled=over, back=back)
+        self.seen = now
+        return told
+
+    def undone(self, now: Counts) -> None:
+        """All that a mailbox brought was undone. What people had taken away may be there again then."""
+        self.taken.clear()
+        self.seen = now
+
+
+class Oracle:
+    """The folders of a Maildir, by the names that mail programs show."""
+
+    def __init__(self, maildir: Path, is_one: bool = False) -> None:
+        # whether only one mailbox goes into it, so that nothing is there too often, whatever is said
+        self.maildir, self.is_one = maildir, is_one
+        self.shelves: collections.defaultdict[str, Shelf] = collections.defaultdict(Shelf)
+        self.all = Shelf()
+        # how often each mailbox had each message at most, by Message-IDs; and the bytes that a file may have
+        self.had: collections.defaultdict[int, Counts] = collections.defaultdict(Counter)
+        self.bytes: set[bytes] = set()
+        # what runs that were killed have done, and nobody has said yet, by folders
+        self.owed: collections.defaultdict[str, typing.Counter[str]] = collections.defaultdict(Counter)
+        # what was there when a wrong answer was given, by which the same mail is read in another way
+        self.before_misread: Counts = Counter()
+        self.is_misread = False
+
+    def kept(self) -> "Oracle":
+        """The same as it is now."""
+        return copy.deepcopy(self)
+
+    def kept_with(self, later: "Oracle") -> "Oracle":
+        """The same once more. Files may have the bytes that came later."""
+        again = self.kept()
+        again.bytes |= later.bytes
+        return again
+
+    def files(self) -> Iterator[tuple[str, Path]]:
+        """The files of all mail, each with its folder."""
+        for folder in [self.maildir, *sorted(self.maildir.glob(".*"))]:
+            name = INBOX if folder == self.maildir else folder.name[1:].replace(".", "/")
+            for sub in ("new", "cur"):
+                for path in sorted((folder / sub).glob("*")):
+                    yield name, path
+
+    def mail(self) -> Iterator[tuple[str, Path, bytes]]:
+        """The same with what is in them. A file that is renamed meanwhile is found in `cur`."""
+        for name, path in self.files():
+            with contextlib.suppress(FileNotFoundError):
+                yield name, path, path.read_bytes()
+
+    def counts(self) -> tuple[dict[str, Counts], Counts]:
+        """How often each message is in each folder, and each Message-ID in all."""
+        here: collections.defaultdict[str, Counts] = collections.defaultdict(Counter)
+        ids: Counts = Counter()
+        for name, _, mail in self.mail():
+            if INTERNAL not in mail:
+                here[name][content(mail)] += 1
+                ids[id_of(mail)] += 1
+        return here, ids
+
+    def look(self) -> None:
+        """People have changed what is there."""
+        here, ids = self.counts()
+        for name in {*here, *self.shelves}:
+            self.shelves[name].look(here.get(name, Counter()))
+        self.all.look(ids)
+
+    def take(self, name: str, mail: bytes) -> None:
+        """People take away a file while a run is at work, which may place more meanwhile."""
+        for shelf, what in ((self.shelves[name], content(mail)), (self.all, id_of(mail))):
+            shelf.take(what)
+
+    def undone(self) -> None:
+        """All that a mailbox brought was undone. Nothing that came back before is said any more."""
+        self.owed.clear()
+        here, ids = self.counts()
+        for name in {*here, *self.shelves}:
+            self.shelves[name].undone(here.get(name, Counter()))
+        self.all.undone(ids)
+
+    def misread(self) -> None:
+        """A wrong answer is given. Files stay that right ones have placed."""
+        here, _ = self.counts()
+        self.before_misread, self.is_misread = sum(here.values(), Counter()), True
+
+    def forget(self, name: str) -> None:
+        """People delete a folder, and with it what is known of what went there. A mailbox that has changed since, and
+        has another name, is one that nobody knows."""
+        shelf = self.shelves[name]
+        shelf.gone += shelf.seen + shelf.taken
+        shelf.taken, shelf.seen = Counter(), Counter()
+
+    def rename(self, old: str, new: str) -> None:
+        """People have given a folder another name. Nothing is under the old one any more, where another folder may come
+        to be."""
+        self.shelves[new] = self.shelves.pop(old, Shelf())
+        self.shelves[old] = copy.deepcopy(self.shelves[new])
+        self.forget(old)
+        self.owed[new] = self.owed.pop(old, Counter())
+
+    def see(self, mailbox: int, folder: str, several: Iterable[Reading]) -> None:
+        """A run will see a mailbox, which goes into a folder, and may be read in each of these ways."""
+        for one in several:
+            self.bytes |= one.bytes
+            self.shelves[folder].most |= one.contents
+            self.had[mailbox] |= one.ids
+        self.all.most = sum(self.had.values(), Counter())
+
+    def ran(self, rows: Mapping[str, Row], is_killed: bool) -> Iterator[str]:
+        """A run has ended, or was killed. Returns what is wrong with it."""
+        here, ids = self.counts()
+        for name in {*here, *self.shelves}:
+            told = self.shelves[name].ran(here.get(name, Counter()))
+            if told["gone"]:
+                yield f"{told['gone']} went away from {name}"
+            if self.is_one and told["doubled"]:
+                yield f"{told['doubled']} too often in {name}"
+            self.owed[name].update(doubled=told["doubled"], back=told["back"])
+        told = self.all.ran(ids)
+        self.owed[""].update(doubled=0 if self.is_misread else told["doubled"])
+        for name, _, mail in self.mail():
+            if mail not in self.bytes:
+                yield f"other bytes in {name}: {mail[:200]!r}"
+        if not is_killed:
+            yield from self.unsaid(rows)
+
+    def unsaid(self, rows: Mapping[str, Row]) -> Iterator[str]:
+        """What no row has said that was done. What was left may be said later."""
+        for name, owed in self.owed.items():
+            mine = [row for row in rows.values() if not name or (row["folder"] or INBOX) == name]
+            said = sum(number for row in mine for number in numbers_in(row))
+            # a mailbox that was moved in its tree goes into two folders, and its row says so
+            said += sum(owed.values()) * any(re.search(r"\btoo\b", texts_of(row)) for row in mine)
+            is_settled = bool(mine) and all(row["verdict"] != "left" for row in mine)
+            for what, count in list(owed.items()):
+                if count and said < count and is_settled:
+                    yield f"{count} {what} in {name or 'all'}, unsaid"
+                if said >= count or is_settled:
+                    owed[what] = 0
+
+    def missing(self, row: Row, several: Iterable[Reading]) -> Iterator[str]:
+        """What is wrong with what is not there of a mailbox that is done, in whichever way it was read."""
+        wrong = [list(self.missing_as(row, one)) for one in several]
+        if all(wrong):
+            yield from min(wrong, key=len)
+
+    def missing_as(self, row: Row, one: Reading) -> Iterator[str]:
+        """The same if it was read in this way."""
+        shelf = self.shelves[row["folder"] or INBOX]
+        gone = 0
+        for what, count in one.contents.items():
+            taken = shelf.taken[what] + shelf.gone[what]
+            if shelf.seen[what] + taken < count:
+                yield f"done, and {shelf.seen[what]} of {count} there, {taken} taken: {what[:100]!r}"
+            gone += max(0, count - shelf.seen[what])
+        if gone and not numbers_in(row) and "gone" not in texts_of(row):
+            yield f"{gone} gone from {row['folder']}, unsaid"
+
+    def read_otherwise(self, row: Row, own: Reading, others: Iterable[Reading]) -> Iterator[str]:
+        """What is there of a mailbox that is read in one way, and belongs to another reading of it."""
+        shelf = self.shelves[row["folder"] or INBOX]
+        for what in {what for one in others for what in one.contents} - {*own.contents}:
+            if shelf.seen[what] > max(shelf.foreign[what], self.before_misread[what]):
+                yield f"read otherwise too: {what[:150]!r}"
+
+
+def numbers_in(row: Row) -> list[int]:
+    """The numbers that a row says, besides those of names."""
+    text = re.sub(r"[^\s'\"]*/[^\s'\"]*", "", texts_of(Row(row, next=None)))
+    return [int(number) for number in re.findall(r"(?<![\w.])\d+(?![\w.])", text)]

@@ -1,6 +1,7 @@
 """The folder of a world, in which the companion is run as the owner of the mail, or as root for users."""
 import os
 import shutil
+import subprocess
 import time
 from pathlib import Path
 
@@ -20,6 +21,9 @@ class Place(Copies):
 
     def clear(self, is_for_users: bool = False) -> None:
         """Begins with an empty folder, in which its owner is at work, or root for users."""
+        if os.geteuid():
+            # it may have folders that cannot be entered
+            subprocess.run(["chmod", "-R", "u+rwx", self.home], check=False, stderr=subprocess.DEVNULL)
         shutil.rmtree(self.home, ignore_errors=True)
         self.home.mkdir()
         self.account = None if is_for_users else self.owner

@@ -78,7 +78,7 @@ class Stage:
         """The users. Without them the world is left out."""
         want_users()
         if not self.made:
-            self.made = made = Accounts(self.top / "homes")
+            self.made = made = Accounts(self.place.home / "homes")
             self.stack.enter_context(users({user: made.home(user) for user in made.names}))
             self.stack.enter_context(users({made.second: made.home(made.second)}, like=made.names[0]))
         return self.made

@@ -257,7 +257,7 @@ def one_world(stage: Stage, seed: int) -> Iterator[str]:
     user = draw.choice(list(USERS) + [""] * 6) if are_own() else ""
     with users({user: stage.top / "stray"} if user else {}) if are_own() else contextlib.nullcontext():
         world = World(stage, draw, user)
-        for options in (["--dry-run"], list[str]()):
-            yield from world.migrated(*options)
+        yield from world.migrated("--dry-run")
+        yield from world.migrated()
         if not user:
             yield from world.others()

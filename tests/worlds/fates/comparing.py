@@ -7,9 +7,9 @@ from collections.abc import Iterator, Sequence
 from typing import Optional
 
 from tests.support.checks import LATER
-from tests.support.fates.running import Outcome, Row, migrate, rows_of
-from tests.support.fates.texts import Fate
-from tests.support.fates.world import INBOX, Choice, Thing, World
+from tests.worlds.fates.running import Outcome, Row, migrate, rows_of
+from tests.worlds.fates.texts import Fate
+from tests.worlds.fates.world import INBOX, Choice, Thing, World
 
 # the words of a fate in a first run, in a further run, and in one that makes nothing
 FIRST, AGAIN, DRY = "done", "done before", "would be done"

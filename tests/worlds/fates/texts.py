@@ -5,13 +5,14 @@ import enum
 import gzip
 import io
 import lzma
+import re
 import sqlite3
 import struct
 import tarfile
 import tempfile
 import zipfile
 import zlib
-from collections.abc import Callable
+from collections.abc import Callable, Sequence
 from pathlib import Path
 from random import Random
 from typing import NamedTuple
@@ -34,6 +35,9 @@ class Content(NamedTuple):
     says: str = ""
     # whether nobody can say what it is, so that --no-mail may apply to it
     is_unknown: bool = False
+
+
+Maker = Callable[[Random], Content]
 
 
 class Message(NamedTuple):
@@ -108,6 +112,11 @@ def not_known(data: bytes) -> Content:
     return Content(data, Fate.LEFT, (), "not known", True)
 
 
+def always(content: Content) -> Maker:
+    """The same whatever is drawn."""
+    return lambda _: content
+
+
 # Mail
 
 
@@ -120,16 +129,8 @@ def mboxrd(draw: Random) -> Content:
 def mboxo(draw: Random) -> Content:
     """mboxo, of mail without a `>From ` of its own: it is read as it was written."""
     several = messages(draw, PLAIN + QUOTABLE[:1])
-    text = b""
-    for one in several:
-        lines = io.BytesIO(one.whole)
-        text += (
-            one.from_line
-            + b"\n"
-            + b"".join(b">" + line if line.startswith(b"From ") else line for line in lines)
-            + b"\n"
-        )
-    return done(text, several)
+    texts = (one.from_line + b"\n" + re.sub(rb"(?m)^From ", b">From ", one.whole) + b"\n" for one in several)
+    return done(b"".join(texts), several)
 
 
 def with_lengths(several: list[Message], more: int = 0) -> bytes:
@@ -221,18 +222,6 @@ def of_sqlite(_: Random) -> Content:
         return no_mail(path.read_bytes())
 
 
-def mork(_: Random) -> Content:
-    """An index of Thunderbird."""
-    return no_mail(b'// <!-- <mdb:mork:z v="1.4"/> -->\n< <(a=c)> // (f=iso-8859-1)\n  (B8=keywords)(84=flags)>\n')
-
-
-def pdf(_: Random) -> Content:
-    """A PDF."""
-    return no_mail(
-        b"%PDF-1.4\n%\xe2\xe3\xcf\xd3\n1 0 obj\n<< /Type /Catalog >>\nendobj\ntrailer\n<< /Root 1 0 R >>\n%%EOF\n"
-    )
-
-
 def png(_: Random) -> Content:
     """An image of one pixel."""
 
@@ -241,32 +230,6 @@ def png(_: Random) -> Content:
 
     head, pixel = struct.pack(">IIBBBBB", 1, 1, 8, 0, 0, 0, 0), zlib.compress(b"\0\0")
     return no_mail(b"\x89PNG\r\n\x1a\n" + chunk(b"IHDR", head) + chunk(b"IDAT", pixel) + chunk(b"IEND", b""))
-
-
-def jpeg(_: Random) -> Content:
-    """The beginning of a photograph."""
-    return no_mail(b"\xff\xd8\xff\xe0\0\x10JFIF\0\1\1\0\0\1\0\1\0\0\xff\xdb\0C\0" + bytes(range(1, 65)) + b"\xff\xd9")
-
-
-def gif(_: Random) -> Content:
-    """A picture of one pixel."""
-    return no_mail(b"GIF89a\1\0\1\0\x80\0\0\xff\xff\xff\0\0\0,\0\0\0\0\1\0\1\0\0\2\2D\1\0;")
-
-
-def rules(_: Random) -> Content:
-    """Thunderbird's rules."""
-    return no_mail(
-        b'version="9"\nlogging="no"\nname="lists"\nenabled="yes"\ntype="17"\naction="Move to folder"\n'
-        b'actionValue="mailbox://nobody@Local%20Folders/lists"\ncondition="AND (subject,contains,sheds)"\n'
-    )
-
-
-def popstate(_: Random) -> Content:
-    """What Thunderbird knows about a POP3 server."""
-    return no_mail(
-        b"# POP3 State File\n# This is a generated file!  Do not edit.\n\n"
-        b"*mail.example.org mia\nk 00000001 1700000000\n"
-    )
 
 
 def index(draw: Random) -> Content:
@@ -289,38 +252,42 @@ def index_cache(draw: Random) -> Content:
     return no_mail(struct.pack("<BBBxIIIIIII", 1, 8, 1, number, number, 0, 1, 0, 368, 0) + bytes(336))
 
 
-def subscriptions(_: Random) -> Content:
-    """Dovecot 2.3's list of subscriptions."""
-    return no_mail(b"V\t2\n\nSent\nlists\tsheds\n")
-
-
 def mailbox_log(draw: Random) -> Content:
     """Dovecot 2.3's log of subscriptions. Only its name says what it is, not its beginning."""
     return no_mail(b"\4\0\0\0" + bytes(draw.getrandbits(8) for _ in range(20)))
 
 
+MORK = b'// <!-- <mdb:mork:z v="1.4"/> -->\n< <(a=c)> // (f=iso-8859-1)\n  (B8=keywords)(84=flags)>\n'
+PDF = b"%PDF-1.4\n%\xe2\xe3\xcf\xd3\n1 0 obj\n<< /Type /Catalog >>\nendobj\ntrailer\n<< /Root 1 0 R >>\n%%EOF\n"
+# the beginning of a photograph, and a picture of one pixel
+JPEG = b"\xff\xd8\xff\xe0\0\x10JFIF\0\1\1\0\0\1\0\1\0\0\xff\xdb\0C\0" + bytes(range(1, 65)) + b"\xff\xd9"
+GIF = b"GIF89a\1\0\1\0\x80\0\0\xff\xff\xff\0\0\0,\0\0\0\0\1\0\1\0\0\2\2D\1\0;"
+# Thunderbird's rules, and what it knows about a POP3 server
+RULES = b"""\
+version="9"
+logging="no"
+name="lists"
+enabled="yes"
+type="17"
+action="Move to folder"
+actionValue="mailbox://nobody@Local%20Folders/lists"
+condition="AND (subject,contains,sheds)"
+"""
+POPSTATE = b"""\
+# POP3 State File
+# This is a generated file!  Do not edit.
+
+*mail.example.org mia
+k 00000001 1700000000
+"""
+# Dovecot 2.3's list of subscriptions
+SUBSCRIPTIONS = b"V\t2\n\nSent\nlists\tsheds\n"
+
+
 # Mail of another kind, or an archive: left, by its name
 
 
-def outlook_pst(_: Random) -> Content:
-    """Outlook's folders in one file."""
-    head = b"!BDN" + struct.pack("<IHHHBB", 0x1234, 0x4D53, 23, 19, 1, 1)
-    return left(head + bytes(600), "readpst -r")
-
-
-def outlook_express(_: Random) -> Content:
-    """A folder of Outlook Express."""
-    return left(
-        b"\xcf\xad\x12\xfe\xc5\xfd\x74\x6f\x66\xe3\xd1\x11\x9a\x4e\x00\xc0\x4f\xa3\x09\xd4" + bytes(600), "next"
-    )
-
-
-def outlook_msg(_: Random) -> Content:
-    """A message of Outlook."""
-    return left(b"\xd0\xcf\x11\xe0\xa1\xb1\x1a\xe1" + bytes(16) + b"\x3e\0\3\0\xfe\xff\x09\0" + bytes(600), "next")
-
-
-def compressed(pack: Callable[[bytes], bytes]) -> Callable[[Random], Content]:
+def compressed(pack: Callable[[bytes], bytes]) -> Maker:
     """A compressed mailbox."""
 
     def make(draw: Random) -> Content:
@@ -330,9 +297,14 @@ def compressed(pack: Callable[[bytes], bytes]) -> Callable[[Random], Content]:
     return make
 
 
-def packed(pack: Callable[[bytes], bytes], says: str) -> Callable[[Random], Content]:
+def packed(pack: Callable[[bytes], bytes], says: str) -> Maker:
     """A compressed mailbox, or an archive, that is left."""
     return lambda draw: left(pack(in_mboxrd(messages(draw, PLAIN))), says)
+
+
+def of_mail(form: Callable[[bytes], bytes], says: str, lines: Sequence[bytes] = PLAIN) -> Maker:
+    """A message in a form of its own."""
+    return lambda draw: left(form(message(draw, [*lines]).whole), says)
 
 
 def zipped(text: bytes) -> bytes:
@@ -353,31 +325,26 @@ def tarred(text: bytes) -> bytes:
     return whole.getvalue()
 
 
-def rar(_: Random) -> Content:
-    """An archive of RAR."""
-    return left(b"Rar!\x1a\x07\x01\x00" + bytes(200), "next")
-
-
-def seven(_: Random) -> Content:
-    """An archive of 7-Zip."""
-    return left(b"7z\xbc\xaf\x27\x1c\0\4" + bytes(200), "next")
-
-
-def zstd(_: Random) -> Content:
-    """The beginning of what zstd compressed."""
-    return left(b"\x28\xb5\x2f\xfd\x24\x05\x29\0\0hello" + bytes(9), "zstd")
-
-
-def encrypted(_: Random) -> Content:
-    """A mailbox that was encrypted, in letters."""
-    return left(b"-----BEGIN PGP MESSAGE-----\n\nhQEMA5vJ1x8sYw2sAQf/Zm9v\n=abcd\n-----END PGP MESSAGE-----\n", "gpg")
-
-
-def dbox(draw: Random) -> Content:
+def in_dbox(mail: bytes) -> bytes:
     """A message in Dovecot's own format."""
-    mail = message(draw, PLAIN).whole
     head = b"2 M1e C4f1b0a2c\n\1\2N                     %016x\n" % len(mail)
-    return left(head + mail + b"\n\1\3\nR4f1b0a2c\nV%x\n\n" % len(mail), "copy the account")
+    return head + mail + b"\n\1\3\nR4f1b0a2c\nV%x\n\n" % len(mail)
+
+
+def in_emlx(mail: bytes) -> bytes:
+    """A message of Apple Mail: its size, the message, and what is known about it."""
+    return b'%-10d\n%s<?xml version="1.0"?>\n<plist version="1.0">\n<dict/>\n</plist>\n' % (len(mail), mail)
+
+
+def in_babyl(mail: bytes) -> bytes:
+    """A mailbox of Emacs."""
+    return b"BABYL OPTIONS: -*- rmail -*-\nVersion: 5\n\x1f\x0c\n0, unseen,,\n*** EOOH ***\n%s\x1f" % mail
+
+
+def in_mbx(mail: bytes) -> bytes:
+    """A mailbox of UW-IMAP."""
+    mail, head = mail.replace(b"\n", b"\r\n"), b"*mbx*\r\n4d5e6f7000000001\r\n".ljust(2048, b"\r")
+    return head + b" 3-Mar-2025 09:12:44 +0000,%d;000000000000-00000001\r\n%s" % (len(mail), mail)
 
 
 def mmdf(draw: Random) -> Content:
@@ -385,28 +352,11 @@ def mmdf(draw: Random) -> Content:
     return left(b"".join(b"\1\1\1\1\n%s\1\1\1\1\n" % one.whole for one in messages(draw, PLAIN)), "MMDF")
 
 
-def emlx(draw: Random) -> Content:
-    """A message of Apple Mail: its size, the message, and what is known about it."""
-    mail = message(draw, PLAIN).whole
-    return left(
-        b'%-10d\n%s<?xml version="1.0"?>\n<plist version="1.0">\n<dict/>\n</plist>\n' % (len(mail), mail), "next"
-    )
-
-
-def babyl(draw: Random) -> Content:
-    """A mailbox of Emacs."""
-    return left(
-        b"BABYL OPTIONS: -*- rmail -*-\nVersion: 5\n\x1f\x0c\n0, unseen,,\n*** EOOH ***\n%s\x1f"
-        % message(draw, PLAIN).whole,
-        "Babyl",
-    )
-
-
-def mbx(draw: Random) -> Content:
-    """A mailbox of UW-IMAP."""
-    mail = message(draw, [b"hello"]).whole.replace(b"\n", b"\r\n")
-    head = b"*mbx*\r\n4d5e6f7000000001\r\n".ljust(2048, b"\r")
-    return left(head + b" 3-Mar-2025 09:12:44 +0000,%d;000000000000-00000001\r\n%s" % (len(mail), mail), "mailutil")
+# Outlook's folders in one file, a folder of Outlook Express, and a message of Outlook, as far as their heads
+PST = b"!BDN" + struct.pack("<IHHHBB", 0x1234, 0x4D53, 23, 19, 1, 1) + bytes(600)
+DBX = b"\xcf\xad\x12\xfe\xc5\xfd\x74\x6f\x66\xe3\xd1\x11\x9a\x4e\x00\xc0\x4f\xa3\x09\xd4" + bytes(600)
+MSG = b"\xd0\xcf\x11\xe0\xa1\xb1\x1a\xe1" + bytes(16) + b"\x3e\0\3\0\xfe\xff\x09\0" + bytes(600)
+PGP = b"-----BEGIN PGP MESSAGE-----\n\nhQEMA5vJ1x8sYw2sAQf/Zm9v\n=abcd\n-----END PGP MESSAGE-----\n"
 
 
 # What nobody knows
@@ -418,22 +368,11 @@ def text_of(draw: Random) -> Content:
 
 
 def bytes_of(draw: Random) -> Content:
-    """Bytes without a meaning."""
-    # it has two lines, so that it is no lock whatever its name
+    """Bytes without a meaning. It has two lines, so that it is no lock whatever its name."""
     return not_known(b"\xf7\x13\n" + bytes(draw.getrandbits(8) for _ in range(draw.randrange(400))) + b"\n")
 
 
-def program(_: Random) -> Content:
-    """The beginning of a program."""
-    return not_known(b"\x7fELF\2\1\1" + bytes(9) + b"\2\0\x3e\0" + bytes(300))
-
-
-def script(_: Random) -> Content:
-    """A script."""
-    return not_known(b"#!/bin/sh\necho From here on\n")
-
-
-Makers = dict[str, Callable[[Random], Content]]
+Makers = dict[str, Maker]
 
 MAIL: Makers = {
     "mboxrd": mboxrd,
@@ -457,36 +396,41 @@ DOUBTFUL: Makers = {
 }
 KNOWN_AS_NO_MAIL: Makers = {
     "SQLite": of_sqlite,
-    "Mork": mork,
-    "PDF": pdf,
+    "Mork": always(no_mail(MORK)),
+    "PDF": always(no_mail(PDF)),
     "PNG": png,
-    "JPEG": jpeg,
-    "GIF": gif,
-    "rules": rules,
-    "popstate": popstate,
+    "JPEG": always(no_mail(JPEG)),
+    "GIF": always(no_mail(GIF)),
+    "rules": always(no_mail(RULES)),
+    "popstate": always(no_mail(POPSTATE)),
     "index": index,
     "log of an index": index_log,
     "cache of an index": index_cache,
-    "subscriptions": subscriptions,
+    "subscriptions": always(no_mail(SUBSCRIPTIONS)),
 }
 OF_ANOTHER_KIND: Makers = {
-    "pst": outlook_pst,
-    "dbx": outlook_express,
-    "msg": outlook_msg,
+    "pst": always(left(PST, "readpst -r")),
+    "dbx": always(left(DBX, "next")),
+    "msg": always(left(MSG, "next")),
     "gzip of gzip": packed(lambda text: gzip.compress(gzip.compress(text)), "compressed by gzip"),
     "cut gzip": packed(lambda text: gzip.compress(text)[:-1], "it is incomplete"),
     "bzip2 and more": packed(lambda text: bz2.compress(text) + b"BZh8", "stream 2"),
     "lzma": packed(lambda text: lzma.compress(text, lzma.FORMAT_ALONE), "lzma"),
     "zip": packed(zipped, "unzip"),
     "tar": packed(tarred, "tar"),
-    "rar": rar,
-    "7z": seven,
-    "zstd": zstd,
-    "PGP": encrypted,
-    "dbox": dbox,
+    "rar": always(left(b"Rar!\x1a\x07\x01\x00" + bytes(200), "next")),
+    "7z": always(left(b"7z\xbc\xaf\x27\x1c\0\4" + bytes(200), "next")),
+    "zstd": always(left(b"\x28\xb5\x2f\xfd\x24\x05\x29\0\0hello" + bytes(9), "zstd")),
+    "PGP": always(left(PGP, "gpg")),
+    "dbox": of_mail(in_dbox, "copy the account"),
     "MMDF": mmdf,
-    "emlx": emlx,
-    "Babyl": babyl,
-    "mbx": mbx,
+    "emlx": of_mail(in_emlx, "next"),
+    "Babyl": of_mail(in_babyl, "Babyl"),
+    "mbx": of_mail(in_mbx, "mailutil", [b"hello"]),
 }
-UNKNOWN: Makers = {"text": text_of, "bytes": bytes_of, "ELF": program, "script": script}
+UNKNOWN: Makers = {
+    "text": text_of,
+    "bytes": bytes_of,
+    "ELF": always(not_known(b"\x7fELF\2\1\1" + bytes(9) + b"\2\0\x3e\0" + bytes(300))),
+    "script": always(not_known(b"#!/bin/sh\necho From here on\n")),
+}

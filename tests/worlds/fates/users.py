@@ -1,46 +1,16 @@
 """Random spools, and homes of users who are made for the test."""
-import contextlib
 import os
 import pwd
 import shutil
-from collections.abc import Iterator
 from pathlib import Path
 from random import Random
 from typing import Optional
 
-from tests.support.accounts import users
-from tests.support.fates.names import MUTE, name
-from tests.support.fates.texts import Content, Fate
-from tests.support.fates.trees import Grower, inbox
-from tests.support.fates.world import INBOX, Branch, Thing, World
-
-# the users of a test, and another name of the first of them
-PREFIX, COUNT, SECOND = "m90", 4, "info"
-# no other account has this in its home
-TREE = "m90-mail"
-
-
-class Accounts:
-    """Users. Their homes are below one folder, in which each world makes them anew."""
-
-    def __init__(self, homes: Path) -> None:
-        self.homes = homes
-        self.names = [f"{PREFIX}{number}" for number in range(COUNT)]
-        # a second name of the first user
-        self.second = f"{PREFIX}{SECOND}"
-
-    def home(self, user: str) -> Path:
-        """The home of a user."""
-        return self.homes / (self.names[0] if user == self.second else user)
-
-
-@contextlib.contextmanager
-def accounts(homes: Path) -> Iterator[Accounts]:
-    """Makes users for a while."""
-    made = Accounts(homes)
-    with users({user: made.home(user) for user in made.names}):
-        with users({made.second: made.home(made.second)}, like=made.names[0]):
-            yield made
+from tests.worlds.fates.names import MUTE, name
+from tests.worlds.fates.texts import Content, Fate
+from tests.worlds.fates.trees import Grower, inbox
+from tests.worlds.fates.world import INBOX, Branch, Thing, World
+from tests.worlds.stage import COUNT, PREFIX, TREE, Accounts
 
 
 class Spool:

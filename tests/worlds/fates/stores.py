@@ -2,9 +2,9 @@
 from collections.abc import Sequence
 from random import Random
 
-from tests.support.fates import texts
-from tests.support.fates.names import Name, name
-from tests.support.fates.world import Branch
+from tests.worlds.fates import texts
+from tests.worlds.fates.names import Name, name
+from tests.worlds.fates.world import Branch
 
 # what servers write into a Maildir, beside mail
 OF_SERVERS = {

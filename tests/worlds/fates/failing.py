@@ -1,18 +1,12 @@
-"""Starts a program in Python whose calls of the system fail: python3 failing.py PROGRAM WORD..
-
-FATES_FAIL is the number of the call that fails, counted from 1, with the number of its error, as `17:5`. FATES_LOG
-names a file that gets a line for each call that failed, or for each call if none is to fail: its number, what was
-called, about what, and the functions of the companion that called it, the innermost first. A child of the program goes
-on counting by itself. The program is not changed: the names in `os`, `fcntl`, `io` and `builtins` that it calls stand
-for other functions.
-"""
+"""Calls of the system that fail in a copy of this process, in which the companion runs. A file gets a line for each
+call that failed, or for each call if none is to fail: its number, what was called, about what, and the functions of the
+companion that called it, the innermost first. A child of the program goes on counting by itself. The program is not
+changed: the names in `os`, `fcntl`, `io` and `builtins` that it calls stand for other functions."""
 import builtins
 import fcntl
 import inspect
 import io
 import os
-import runpy
-import sys
 from collections.abc import Callable, Iterator
 from typing import Any
 
@@ -55,11 +49,11 @@ class Counter:
         self.own: tuple[str, ...] = ()
 
     def begin(self, own: str, log: str, fail: str) -> None:
-        """Begins to count the calls of a program."""
+        """Begins to count the calls of a program. The one that fails has this number, before a colon and its error."""
         number, _, error = fail.partition(":")
         self.count, self.number, self.error, self.log = 0, int(number), int(error), log
         # the program itself is found and read without faults
-        self.own = (own, os.path.dirname(os.path.realpath(own)))
+        self.own = (own, os.path.join(os.path.dirname(own), PACKAGE[:-1]))
 
     def call(self, what: str, about: object = None) -> None:
         """Begins a call, which may fail."""
@@ -198,15 +192,3 @@ def put_in_place() -> None:
 
     os.scandir = scandir  # type: ignore
     builtins.open = io.open = os.fdopen = opened  # type: ignore
-
-
-def main() -> None:
-    """Starts the program."""
-    sys.argv = sys.argv[1:]
-    counter.begin(sys.argv[0], os.environ["FATES_LOG"], os.environ.get("FATES_FAIL", "0:0"))
-    put_in_place()
-    runpy.run_path(sys.argv[0], run_name="__main__")
-
-
-if __name__ == "__main__":
-    main()

@@ -4,7 +4,7 @@ import re
 from collections.abc import Sequence
 from typing import NamedTuple, Optional
 
-from tests.support.fates.world import Thing, World
+from tests.worlds.fates.world import Thing, World
 from tests.support.homes import want_no_people
 from tests.support.printed import rows_in, unquoted
 from tests.support.running import OWNER, Desk
@@ -52,15 +52,14 @@ class Outcome:
         return int(self.sum[word] or 0) if self.sum else 0
 
 
-def migrate(world: World, options: Sequence[str] = (), start: Sequence[str] = (), **settings: str) -> Outcome:
+def migrate(world: World, options: Sequence[str] = (), **settings: str) -> Outcome:
     """Runs `migrate` in a world, as its user."""
     words = ["migrate", "--all", *options, *world.options, "--", *map(os.fsdecode, world.words)]
     want_no_people(words)
     desk = Desk(
         world.home, world.home.parent / "bin", "" if world.is_for_users else OWNER, HOME=str(world.home), **settings
     )
-    ran = desk.run_any([*start, *desk.command(words)], given=world.input)
-    return Outcome(*ran)
+    return Outcome(*desk.run_any(words, given=world.input))
 
 
 def rows_of(world: World, outcome: Outcome, wrong: list[str]) -> list[Row]:

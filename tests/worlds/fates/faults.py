@@ -15,19 +15,18 @@ from typing import NamedTuple
 
 from tests.support.checks import LATER
 from tests.support.copies import Copies
-from tests.support.fates import texts
-from tests.support.fates.comparing import FIRST, Comparison, files_of, folder_on_disk
-from tests.support.fates.failing import counter, put_in_place
-from tests.support.fates.names import name
-from tests.support.fates.running import Outcome, migrate
-from tests.support.fates.stores import maildir, mh_folder
-from tests.support.fates.texts import Fate
-from tests.support.fates.trees import ready
-from tests.support.fates.users import TREE, Accounts
-from tests.support.fates.world import INBOX, Branch, Thing, World
+from tests.worlds.fates import texts
+from tests.worlds.fates.comparing import FIRST, Comparison, files_of, folder_on_disk
+from tests.worlds.fates.failing import counter, put_in_place
+from tests.worlds.fates.names import name
+from tests.worlds.fates.running import Outcome, migrate
+from tests.worlds.fates.stores import maildir, mh_folder
+from tests.worlds.fates.texts import Fate
+from tests.worlds.fates.trees import ready
+from tests.worlds.fates.world import INBOX, Branch, Thing, World
+from tests.worlds.stage import TREE, Accounts
 from tests.support.running import COMPANION, OWNER
 
-START = Path(__file__).with_name("failing.py")
 ERRORS = [errno.EIO, errno.EACCES, errno.ENOMEM, errno.ESTALE]
 # the errors of a world in which each call fails, and how many processes run it
 EACH, JOBS = [errno.ENOMEM, errno.EIO, errno.EACCES], 4
@@ -119,7 +118,7 @@ def with_left(draw: Random, home: Path) -> World:
     tree = Branch(world, bytes(home / "tree" / "more"), "tree/more")
     maildir(tree, name("Md"), [texts.one_mail(draw).data])
     mh_folder(tree, name("mh"), [texts.one_mail(draw).data])
-    tree.file(name("x.pst"), texts.outlook_pst(draw))
+    tree.file(name("x.pst"), texts.OF_ANOTHER_KIND["pst"](draw))
     tree.link(name("link"), "../Inbox")
     tree.pipe(name("pipe"))
     return world
@@ -149,11 +148,23 @@ def a_spool(who: Accounts) -> Make:
     return spool_of
 
 
+class FailingDesk(Copies):
+    """Runs the companion in copies of this process, in which a call fails. The calls are noted in a file."""
+
+    log, fault = "", NONE
+
+    def main(self) -> int:
+        """What is run in the copy."""
+        counter.begin(str(self.programs / COMPANION), self.log, self.fault.told())
+        put_in_place()
+        return super().main()
+
+
 class Attempt:
     """A world in which one call fails."""
 
-    def __init__(self, make: Make, home: Path) -> None:
-        self.make, self.home, self.log = make, home, home.parent / "calls"
+    def __init__(self, make: Make, home: Path, programs: Path) -> None:
+        self.make, self.home, self.programs, self.log = make, home, programs, home.parent / "calls"
 
     def begin(self) -> World:
         """Makes the world anew."""
@@ -170,17 +181,12 @@ class Attempt:
         world = self.begin()
         self.log.write_bytes(b"")
         self.log.chmod(0o666)
-        outcome, lines = self.outcome(world, fault), self.log.read_text(encoding="utf-8", errors="replace").splitlines()
+        desk = FailingDesk(self.home, self.programs, "" if world.is_for_users else OWNER)
+        desk.log, desk.fault = str(self.log), fault
+        ran = desk.run_any(["migrate", "--all", *world.options, "--", *map(os.fsdecode, world.words)])
+        lines = self.log.read_text(encoding="utf-8", errors="replace").splitlines()
         calls = (line.split("\t") for line in lines)
-        return world, outcome, [Call(int(number), *words) for number, *words in calls]
-
-    def outcome(self, world: World, fault: Fault) -> Outcome:
-        """Runs a world in which one call fails, or none. It begins as the companion's own first line begins it."""
-        start = self.home.parent / "bin" / START.name
-        if not start.exists():
-            shutil.copy(str(START), str(start))
-        words = ["/usr/bin/env", "python3", "-I", "-B", str(start)]
-        return migrate(world, start=words, FATES_LOG=str(self.log), FATES_FAIL=fault.told())
+        return world, Outcome(*ran), [Call(int(number), *words) for number, *words in calls]
 
     def faults(self) -> list[Fault]:
         """All faults that there may be: each call with each error."""
@@ -204,34 +210,14 @@ class Attempt:
         return told(fault, failed, wrong)
 
 
-class FailingDesk(Copies):
-    """Runs the companion in copies of this process, in which a call fails. The calls are noted in a file."""
-
-    log, fault = "", NONE
-
-    def main(self) -> int:
-        """What is run in the copy."""
-        counter.begin(str(self.programs / COMPANION), self.log, self.fault.told())
-        put_in_place()
-        return super().main()
-
-
 class EachCall(Attempt):
-    """A world in which each call fails once. It is run in copies of this process, which take less time."""
+    """A world in which each call fails once."""
 
     def __init__(self, make: Make, home: Path, programs: Path) -> None:
-        super().__init__(make, home)
-        self.desk = FailingDesk(home, programs, OWNER)
-        self.desk.log = str(self.log)
+        super().__init__(make, home, programs)
         self.met: set[Right] = set()
         # else each copy would have to move what is collected
         gc.freeze()
-
-    def outcome(self, world: World, fault: Fault) -> Outcome:
-        """Runs a world in which one call fails, or none."""
-        self.desk.fault = fault
-        ran = self.desk.run_any(["migrate", "--all", *world.options, "--", *map(os.fsdecode, world.words)])
-        return Outcome(*ran)
 
     def faults(self) -> list[Fault]:
         """Each call with one error, and with further ones so that each place in the code meets all of three."""

@@ -8,8 +8,8 @@ from collections.abc import Sequence
 from pathlib import Path
 from typing import Optional
 
-from tests.support.fates.names import Name, name
-from tests.support.fates.texts import Content, Fate
+from tests.worlds.fates.names import Name, name
+from tests.worlds.fates.texts import Content, Fate
 from tests.support.homes import hand_over
 
 # how old a file is, in seconds: nobody has written to it for a while, and a lock of that age does not count

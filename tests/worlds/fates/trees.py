@@ -6,10 +6,10 @@ from pathlib import Path
 from random import Random
 from typing import Optional
 
-from tests.support.fates import stores, texts
-from tests.support.fates.names import MUTE, SOUND, Stems, name
-from tests.support.fates.texts import Content, Fate
-from tests.support.fates.world import INBOX, Branch, Thing, World
+from tests.worlds.fates import stores, texts
+from tests.worlds.fates.names import MUTE, SOUND, Stems, name
+from tests.worlds.fates.texts import Content, Fate
+from tests.worlds.fates.world import INBOX, Branch, Thing, World
 
 EVERYTHING = {**texts.MAIL, **texts.DOUBTFUL, **texts.KNOWN_AS_NO_MAIL, **texts.OF_ANOTHER_KIND, **texts.UNKNOWN}
 DEEPEST = 4
@@ -197,7 +197,7 @@ def subscriptions(grower: Grower, branch: Branch) -> None:
     """Dovecot's list of folders, or mail in its place."""
     one = name(".subscriptions", "-subscriptions")
     if grower.draw.random() < 0.2:
-        branch.file(one, grower.draw.choice([texts.subscriptions(grower.draw), grower.mail_of()]))
+        branch.file(one, grower.draw.choice([texts.KNOWN_AS_NO_MAIL["subscriptions"](grower.draw), grower.mail_of()]))
 
 
 def of_a_tree(draw: Random, home: Path) -> World:

@@ -1,0 +1,232 @@
+"""A history: mailboxes in the home of a user whom a Dovecot serves, over many runs, between which people and programs
+rewrite them, and work in the Maildir. After each run an oracle says what is wrong."""
+import gzip
+import itertools
+import os
+import shutil
+import subprocess
+import time
+from collections.abc import Callable, Iterator, Mapping, Sequence
+from pathlib import Path
+from random import Random
+from typing import NamedTuple, Optional
+
+from tests.support.running import COMPANION, NEVER, Kill, Row, Run
+from tests.worlds.letters import KINDS, Letter
+from tests.worlds.oracle import Oracle, Reading, readings
+from tests.worlds.place import ENDED, Place
+from tests.worlds.rewriters import USER, Mailbox, Rewriter
+from tests.worlds.stage import Stage
+
+INBOX = "inbox"
+# how long a name stays before its owner changes one, in seconds: more than the kernel's clock ticks and lags
+QUIET = 0.06
+
+
+class Box(NamedTuple):
+    """A mailbox: its number, which stays, its path below the home, and the kind of its deliveries."""
+
+    number: int
+    path: str
+    kind: str
+
+
+class History:
+    """A history of a seed. A kind of them says what happens."""
+
+    def __init__(self, stage: Stage, seed: int, is_one: bool = False) -> None:
+        self.stage, self.seed, self.server = stage, seed, stage.server()
+        self.draw = Random(f"{type(self).__name__} {seed}")
+        self.home = Path(self.server.home(USER))
+        self.place = stage.place = Place(self.home, stage.top / "bin")
+        self.maildir = self.home / "Maildir"
+        self.boxes: list[Box] = []
+        self.letters: list[Letter] = []
+        # what a mail program took for a message of a mailbox, and put into another one as such: it may be a part of one
+        self.parts: set[bytes] = set()
+        self.oracle = Oracle(self.maildir, is_one)
+        self.seen, self.steps = stage.seen, stage.steps
+        self.wrong: list[str] = []
+        # the Maildir as it was kept
+        self.kept: Optional[Oracle] = None
+        # the options of each run, and the folder into which all mailboxes go, if it is one
+        self.words: list[str] = []
+        self.folder, self.numbers = "", itertools.count(1)
+        # why the last run left something, and how all ended, if it did
+        self.asked, self.ended = "", ""
+
+    def play(self) -> list[str]:
+        """Tries it. Returns what is wrong."""
+        try:
+            self.begin()
+            self.live()
+        except AssertionError as failed:
+            self.wrong.append(str(failed))
+        self.seen[f"ended {': '.join(filter(None, [self.ended or 'never', self.asked]))}"] += 1
+        return self.wrong
+
+    def live(self) -> None:
+        """What happens in it."""
+
+    def begin(self) -> None:
+        """Makes a fresh home."""
+        shutil.rmtree(self.home, ignore_errors=True)
+        self.server.make_home(USER)
+        (self.home / "mail").mkdir()
+
+    def mailbox(self, box: Box) -> Mailbox:
+        """A mailbox as those see it who rewrite it."""
+        return Mailbox(self.home / box.path, box.kind, self.server, self.draw, self.letters)
+
+    def make(self, path: str, least: int, most: int) -> Box:
+        """Makes a mailbox of so many new letters, and of some that another one has."""
+        box = Box(len(self.boxes), path, self.draw.choice(KINDS))
+        mailbox = self.mailbox(box)
+        pieces = [mailbox.letter() for _ in range(self.draw.randint(least, most))]
+        others = self.letters[: -len(pieces)]
+        for letter in self.draw.sample(others, min(len(others), self.draw.randint(0, 3))):
+            pieces.append(letter.delivered(box.kind, self.draw.randint(0, 9)))
+        mailbox.write(pieces)
+        self.boxes.append(box)
+        return box
+
+    def new_name(self) -> str:
+        """A name that nothing has."""
+        return f"{self.draw.choice(['old', 'lists', 'sent'])}{next(self.numbers)}"
+
+    def plain(self) -> list[Box]:
+        """The mailboxes that are not compressed."""
+        return [box for box in self.boxes if not box.path.endswith(".gz")]
+
+    def text_of(self, box: Box) -> bytes:
+        """The text of a mailbox."""
+        text = (self.home / box.path).read_bytes()
+        return gzip.decompress(text) if box.path.endswith(".gz") else text
+
+    def sent(self) -> set[bytes]:
+        """All that somebody sent, and what programs took for that."""
+        return {letter.mail() for letter in self.letters} | self.parts
+
+    def best(self, box: Box) -> Reading:
+        """How a mailbox is read by the word that reads most of it as it was sent."""
+        sent = self.sent()
+        return max(
+            readings(self.text_of(box)).values(),
+            key=lambda one: sum(count for what, count in one.contents.items() if what in sent),
+        )
+
+    def right_words(self, box: Box) -> set[str]:
+        """The words by which a mailbox has nothing but what somebody sent."""
+        sent = self.sent()
+        return {word for word, one in readings(self.text_of(box)).items() if sent.issuperset(one.contents)}
+
+    def target(self, box: Box) -> str:
+        """The folder into which a mailbox goes that no run has seen."""
+        name = box.path[: -len(".gz")] if box.path.endswith(".gz") else box.path
+        return self.folder or name.partition("/")[2] or "INBOX"
+
+    def own_all(self) -> None:
+        """Gives all to its owner, and makes mailboxes look as if they had been left alone."""
+        self.place.own(*self.home.rglob("*"))
+        for box in self.boxes:
+            os.utime(self.home / box.path, (1.7e9,) * 2)
+
+    def rewrite(self, box: Box, how: Rewriter) -> None:
+        """A program, or a person, rewrites a mailbox."""
+        self.steps.append(f"({how.__name__} {box.path})")
+        self.seen[how.__name__] += 1
+        how(self.mailbox(box))
+        self.own_all()
+
+    def is_served(self, box: Box) -> bool:
+        """Whether the server shows a mailbox."""
+        return box.path == INBOX
+
+    def happens(self, deeds: "Deeds") -> None:
+        """One of these deeds is done, which are done so often."""
+        (deed,) = self.draw.choices([*deeds], [*deeds.values()])
+        self.seen[f"step {deed.__name__}"] += 1
+        deed(self)
+        self.own_all()
+        self.oracle.look()
+
+    def meanwhile(self) -> None:
+        """What happens while a run is at work."""
+
+    def ways(self, box: Box) -> list[Reading]:
+        """How a mailbox may be read."""
+        return [*readings(self.text_of(box)).values()]
+
+    def run(self, words: Sequence[str], kill: Kill = NEVER, in_shell: str = "") -> tuple[Run, dict[str, Row]]:
+        """Runs the companion, and looks at what it did."""
+        for box in self.boxes:
+            self.oracle.see(box.number, self.target(box), self.ways(box))
+        ran = self.place.in_shell(in_shell) if in_shell else self.place.run_later(words, kill, self.meanwhile)
+        rows = {str(row["path"]): row for row in ran.rows}
+        # a mailbox may go on in another folder, which people have given another name
+        for box in self.boxes:
+            row = rows.get(box.path)
+            if row and row["folder"] and row["folder"] != self.target(box):
+                self.oracle.see(box.number, row["folder"], self.ways(box))
+        self.stage.told(ran, *words, kill=kill)
+        self.wrong += self.oracle.ran(rows, ran.is_killed)
+        if not ran.is_killed:
+            self.check(ran, rows)
+        return ran, rows
+
+    def check(self, ran: Run, rows: dict[str, Row]) -> None:
+        """What is done is there, unless people took it away, which is said."""
+        if ran.status not in (0, 1):
+            self.wrong.append(f"status {ran.status}: {ran.output[-300:]}")
+        for box in self.boxes:
+            row = rows.get(box.path)
+            if row and row["verdict"] in ENDED:
+                self.wrong += self.oracle.missing(row, [self.best(box)])
+
+    def commands(self) -> list[list[str]]:
+        """The words that migrate everything."""
+        return [["Maildir", *(box.path for box in self.boxes)]]
+
+    def migrate(self, *options: str, kill: Kill = NEVER) -> dict[str, Row]:
+        """Runs all. Returns the rows of what was left."""
+        left: dict[str, Row] = {}
+        for command in self.commands():
+            rows = self.run(["migrate", "--json", "--now", *self.words, *options, *command], kill)[1]
+            left.update((path, row) for path, row in rows.items() if row["verdict"] == "left")
+        return left
+
+    def moment(self) -> Kill:
+        """A moment of a run, by how much there is to do."""
+        count = len(self.letters)
+        if self.draw.random() < 0.5:
+            return Kill(event=self.draw.randint(1, 50 + 10 * count))
+        return Kill(call=self.draw.randint(1, 6 + 6 * count))
+
+    @staticmethod
+    def next_of(left: dict[str, Row]) -> Iterator[tuple[str, str]]:
+        """The commands that rows print and that change something, each with the path of its mailbox."""
+        for path, row in left.items():
+            for command in row.commands:
+                if COMPANION in command and " kind " not in command or command.startswith("rm "):
+                    yield path, command
+
+    def is_quiet(self) -> bool:
+        """Whether nobody has just changed a name in the Maildir. What happens in that moment is not known from what a
+        run did, by the times of the disk."""
+        folders = [self.maildir / sub for sub in ("new", "cur")]
+        return all(folder.is_dir() and folder.stat().st_mtime < time.time() - QUIET for folder in folders)
+
+    def save(self) -> Path:
+        """Keeps the home as it is."""
+        saved = self.home.parent / f"saved-{next(self.numbers)}"
+        subprocess.run(["cp", "-a", self.home, saved], check=True)
+        return saved
+
+    def restore(self, saved: Path) -> None:
+        """Brings the home back as it was kept."""
+        shutil.rmtree(self.home)
+        saved.rename(self.home)
+
+
+# what is done in a history, and how often each
+Deeds = Mapping[Callable[[History], None], int]
