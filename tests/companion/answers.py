@@ -111,7 +111,7 @@ def of_several(home: Path) -> None:
     quoted = A + b"\n>From x\n>>From y\n\n"
     for name, text in (("tree/quoted", quoted), ("tree/part", PART), ("tree/cl2", with_length(A, MAY)), ("one", ONE)):
         mailbox(home / name, text)
-    ran = by_json(["migrate", "--now", "--as", "mboxo", "M", "tree", "one"], home)
+    ran = by_json("migrate --now --as mboxo M tree one", home)
     equal("--as mboxo: status", ran.status, 1)
     answers = [*ran.of("tree/part").answers.items()]
     tie = tie_in(answers[0][0])
@@ -132,7 +132,7 @@ def of_several(home: Path) -> None:
         ],
     )
     equal("the answer", run_printed(answers[1][0], home).status, 0)
-    expect(["migrate", "--all", "M", "tree", "one"], home, 0, "4 mailboxes: 4 done before\n")
+    expect("migrate --all M tree one", home, 0, "4 mailboxes: 4 done before\n")
     body = next(mail_in(home / "M/.quoted")).read_bytes()
     equal("mboxo keeps what has two", body, quoted.split(b"\n", 1)[1][:-1].replace(b"\n>From", b"\nFrom"))
 
@@ -231,14 +231,14 @@ def without_asking_again(home: Path) -> None:
             for number, (change, holds) in enumerate([LATER[0], LATER[-1]]):
                 what = f"{name} by {command}, change {number}"
                 mailbox(home / "box", change(text))
-                status, out, _ = run(["migrate", "--all", "--now", "M", "box"], home)
+                status, out, _ = run("migrate --all --now M box", home)
                 equal(
                     f"{what}: {out}", (status, "as it was answered before" in out), (0, True) if holds else (1, False)
                 )
                 equal(f"{what}: the mail", len(list(mail_in(home / "M"))), count + 1)
                 equal(f"{what}: the notes", notes_in(home), [note])
             mailbox(home / "other", text)
-            equal(f"{name}: another mailbox", run(["migrate", "--now", "--folder", "O", "M", "other"], home)[0], 1)
+            equal(f"{name}: another mailbox", run("migrate --now --folder O M other", home)[0], 1)
             shutil.rmtree(home / "M")
 
 
@@ -248,14 +248,14 @@ def after_an_undo(home: Path) -> None:
     mailbox(home / "box", text)
     command, count = answers_in(["migrate", "--now", "M", "box"], home)[0]
     equal(f"{command}: lines and status", (" --text 6 " in command, run_printed(command, home).status), (True, 0))
-    expect(["migrate", "--now", "--undo", "M", "box"], home, 0, None)
-    equal("after an undo", run(["migrate", "--now", "M", "box"], home)[0], 1)
+    expect("migrate --now --undo M box", home, 0, None)
+    equal("after an undo", run("migrate --now M box", home)[0], 1)
     equal(f"{command}: status", run_printed(command, home).status, 0)
     noted = text.replace(b"\n\n", b"\n" + NOTED + b"\n", 1)
     mailbox(home / "box", noted + NEW)
     shutil.rmtree(home / "M/new")
     (home / "M/new").mkdir()
-    status, out, _ = run(["migrate", "--all", "--now", "--again", "M", "box"], home)
+    status, out, _ = run("migrate --all --now --again M box", home)
     equal(f"with other numbers: {out}", (status, len(list(mail_in(home / "M")))), (0, count + 1))
 
 
@@ -263,13 +263,13 @@ def that_leaves_no_message(home: Path) -> None:
     """A mailbox all of whose mail an answer leaves out is done, and is looked at as it was answered, until it grows."""
     box, deleted = home / "Trash", A + b"X-Mozilla-Status: 0009\n\nhello\n\n"
     mailbox(box, deleted)
-    expect(["migrate", "--drop-deleted", "--folder", "Trash", "M", "Trash"], home, 0, None)
+    expect("migrate --drop-deleted --folder Trash M Trash", home, 0, None)
     for text, count, status in ((deleted, 0, 0), (deleted + B + b"\n", 2, 1)):
         mailbox(box, text)
         verdict = f"not whole, nowhere {count}" if count else "whole"
         row = f"Trash -> Trash: messages {count}: {verdict}\n"
-        expect(["verify", "--all", "M", "Trash"], home, status, row + "...\n" * count + "1 mailbox: ...\n")
-        expect(["dates", "M", "Trash"], home, status, f"Trash: messages {count}, dated 0\n", None)
+        expect("verify --all M Trash", home, status, row + "...\n" * count + "1 mailbox: ...\n")
+        expect("dates M Trash", home, status, f"Trash: messages {count}, dated 0\n", None)
 
 
 def of_several_that_are_done(home: Path) -> None:
@@ -278,13 +278,13 @@ def of_several_that_are_done(home: Path) -> None:
     for name, text in (("done", quoted), ("new", quoted.replace(b"one", b"two"))):
         mailbox(home / "tree" / name, text)
         if name == "done":
-            expect(["migrate", "M", "tree"], home, 0, None)
-    ran = by_json(["migrate", "--as", "mboxo", "M", "tree"], home)
+            expect("migrate M tree", home, 0, None)
+    ran = by_json("migrate --as mboxo M tree", home)
     done, new = ran.of("tree/done"), ran.of("tree/new")
     equal("of several", (ran.status, new["kind"], new["messages"], new["verdict"]), (0, "mboxo by --as", 1, "done"))
     says = "it was read as mboxrd, and --as mboxo gives other messages"
     equal("the one that is done", (done["verdict"], done["says"], done["next"]), ("done before", says, []))
-    alone = by_json(["migrate", "--as", "mboxo", "--folder", "done", "M", "tree/done"], home).row
+    alone = by_json("migrate --as mboxo --folder done M tree/done", home).row
     equal("alone", alone.command, "mbox2maildir-admin migrate --undo --folder done M tree/done")
 
 
@@ -327,7 +327,7 @@ def deleted_since(home: Path) -> None:
 def deleted_mail_that_was_kept(home: Path) -> None:
     """Where deleted mail was kept, this answer comes first when it is asked again."""
     box = mailbox(home / "box", marked("one", "-two"))
-    expect(["migrate", "--all", "--as", "mboxrd", "M", "box"], home, 0, "...messages 2: done...\n...\n")
+    expect("migrate --all --as mboxrd M box", home, 0, "...messages 2: done...\n...\n")
     mailbox(box, marked("one", "-two", "-three"))
     equal("the answers", drops(["migrate", "M", "box"], home), [(False, 3), (True, 1)])
 
@@ -341,7 +341,7 @@ def all_mail_deleted(home: Path) -> None:
     for words in (drop, ["migrate", "--all", "M", "box"]):
         expect(words, home, 0, f"box -> INBOX: done before, {says}\n1 mailbox: 1 done before\n")
     out = "box -> INBOX: messages 0: undone, removed 0 messages\n1 mailbox: 1 undone\n"
-    expect(["migrate", "--all", "--undo", "M", "box"], home, 0, out)
+    expect("migrate --all --undo M box", home, 0, out)
     equal("the answers", drops(["migrate", "M", "box"], home), [(True, 0), (False, 2)])
 
 
@@ -351,9 +351,7 @@ def by_what_it_brought(home: Path) -> None:
     may = MAY + b">From the shed.\n"
     text = with_length(A, may) + b"\n"
     mailbox(home / "box", text)
-    expect(
-        ["migrate", "--all", "--now", "M", "box"], home, 0, "box -> INBOX: mboxcl2, quoted, messages 1: done...\n...\n"
-    )
+    expect("migrate --all --now M box", home, 0, "box -> INBOX: mboxcl2, quoted, messages 1: done...\n...\n")
     mailbox(home / "box", text + NEW + B + b"\nyes\nFrom me to you.\n\n")
     equal("a line in new mail", len(answers_in(["migrate", "--now", "M", "box"], home)), 2)
     mailbox(home / "box", text + NEW)
@@ -375,13 +373,13 @@ def of_words_that_were_typed(home: Path) -> None:
     what it was given for. It is noted too of one about which nothing was asked."""
     for name, text in (("tree/part", PART), ("tree/sure", ONE), ("tree/more", PART.replace(b"hello", b"hallo"))):
         mailbox(home / name, text)
-    expect(["migrate", "--now", "--as", "mboxcl2", "M", "tree"], home, 0, None)
+    expect("migrate --now --as mboxcl2 M tree", home, 0, None)
     notes = notes_in(home)
     equal("whose answers are noted", sorted(note.split()[0] for note in notes), ["more", "part", "sure"])
     equal("what each is for", len({tie for note in notes for tie in re.findall(r"\bof=(\w+)", note)}), 2)
     mailbox(home / "tree/part", PART + NEW)
     mailbox(home / "tree/more", PART.replace(b"hello", b"hallo") + B + b"\nyes\nFrom me to you.\n\n")
-    ran = by_json(["migrate", "--now", "M", "tree"], home)
+    ran = by_json("migrate --now M tree", home)
     there = sorted((row["path"], row["verdict"]) for row in ran.rows)
     wanted = [("tree/more", "left"), ("tree/part", "done"), ("tree/sure", "done before")]
     equal("without the word", (ran.status, there), (1, wanted))

@@ -55,7 +55,7 @@ def migrated(home: Path) -> Iterator[None]:
         for name in ("sent", "lists/sheds"):
             theirs(mailbox(home / "homes/m61two/mail" / name, ONE), "m61two")
         as_spool(home / "spool")
-        equal("migrate", run(["migrate", "--users", "--now", "--tree", "mail", "spool"], home)[0], 0)
+        equal("migrate", run("migrate --users --now --tree mail spool", home)[0], 0)
         yield
 
 

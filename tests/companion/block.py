@@ -29,7 +29,7 @@ def one_mailbox(home: Path) -> None:
     row = "{} -> INBOX: mboxrd or mboxo, messages 1: would be done{}\n1 mailbox: 1 would be done\n".format
     for name, looks in (("sound", ""), ("cut", ", its last line has no line end: check that the file is complete")):
         equal(name, run(["migrate", "--dry-run", "M", name], home), (0, row(name, looks), ""))
-    status, out, _ = run(["migrate", "--dry-run", "M", "asked"], home)
+    status, out, _ = run("migrate --dry-run M asked", home)
     equal("a question: status, and groups", (status, groups_in(out)), (1, []))
     matches("a question", out.splitlines()[0], "asked -> INBOX: not quoted, messages 1: left (unclear): line 5: ...")
 
@@ -44,7 +44,7 @@ def groups(home: Path) -> None:
     for name, text in (("notes", b"milk\nbread\n"), ("blob", b"\0\1\2"), ("draft", b"hello\nSubject: x\n")):
         mailbox(home / "old" / name, text)
     os.mkfifo(home / "old/pipe")
-    status, out, err = run(["migrate", "--now", "M", "old"], home)
+    status, out, err = run("migrate --now M old", home)
     equal("status and errors", (status, err), (1, ""))
     rows = [
         f"old/{name}: messages 1: done" for name in ("Gr&APwA3w-e -> Gr\u00fc\u00dfe", "cut -> cut", "sound -> sound")
@@ -82,7 +82,7 @@ def one_answer_for_many(home: Path) -> None:
     for number in range(3):
         mailbox(home / f"old/ask{number}", asked(number))
     mailbox(home / "old/quoted", A + b"\n>>From me\n>From you\n\n" + B + b"\nhello\n\n")
-    _, out, _ = run(["migrate", "--now", "M", "old"], home)
+    _, out, _ = run("migrate --now M old", home)
     (question,) = groups_in(out)
     begins = question.answers()[1].command
     ties = begins.split("--of ")[1].split()[0]
@@ -95,7 +95,7 @@ def one_answer_for_many(home: Path) -> None:
     matches("a tie of nothing", err, "mbox2maildir-admin: --of 0123456789abcdef: no question has this tie: ...\n")
     folders = {number: len(list(mail_in(home / f"M/.ask{number}"))) for number in (0, 2)}
     equal("their messages", folders, {0: 2, 2: 2})
-    _, out, _ = run(["migrate", "--all", "--now", "M", "old"], home)
+    _, out, _ = run("migrate --all --now M old", home)
     assert f"--of {second} " in out and "--of" not in out.replace(f"--of {second} ", ""), out
     mailbox(home / "old/ask1", asked(1) + b"From the shed\n\n")
     status, out, err = run_printed(begins.replace(ties, f"{second},{first}"), home)
@@ -107,7 +107,7 @@ def one_answer_for_many(home: Path) -> None:
     assert "line 5: " in out and status == 1, out
     err = run_printed(begins.replace(ties, first), home).err
     matches("a single tie of nothing", err, f"mbox2maildir-admin: --of {first}: no question has this tie: ...\n")
-    expect(["migrate", "--as", "mboxo", "--of", "1,2", "--text", "3", "M", "old"], home, 2, "", None)
+    expect("migrate --as mboxo --of 1,2 --text 3 M old", home, 2, "", None)
 
 
 def many_of_one_kind(home: Path) -> None:
@@ -119,13 +119,13 @@ def many_of_one_kind(home: Path) -> None:
         mailbox(home / f"old/pipe{number:02}", ONE)
         (home / f"old/pipe{number:02}").unlink()
         os.mkfifo(home / f"old/pipe{number:02}")
-    _, out, _ = run(["migrate", "--dry-run", "--now", "M", "old"], home)
+    _, out, _ = run("migrate --dry-run --now M old", home)
     first, second, pipes = groups_in(out)
     equal("how many", [len(one.rows) for one in (first, second)], [20, 1])
     equal("titles", [first.title, second.title], [TITLE("20 mailboxes"), TITLE("1 mailbox")])
     assert pipes.title.startswith("no-file: 23 mailboxes: "), pipes.title
     assert "\n  old/pipe19  it is not a regular file\n  and 3 more (--all names them)\n" in out, out
-    whole = run(["migrate", "--all", "--dry-run", "--now", "M", "old"], home)[1]
+    whole = run("migrate --all --dry-run --now M old", home)[1]
     equal("with --all", whole.count("left (no-file)"), 23)
 
 
@@ -156,10 +156,10 @@ def of_users(home: Path) -> None:
 
 def words_of_rows(home: Path) -> None:
     """`explain` has each word of the schema, in its order, and names a word that is none."""
-    status, out, err = run(["explain"], home)
+    status, out, err = run("explain", home)
     words = [*SCHEMA["$defs"]["reason"]["enum"], *SCHEMA["$defs"]["remark"]["enum"]]
     equal("all words", (status, [line.split(": ")[0] for line in out.splitlines()], err), (0, words, ""))
-    status, out, err = run(["explain", "locked", "lockd"], home)
+    status, out, err = run("explain locked lockd", home)
     equal("a word", (status, out[:14]), (1, "locked: left: "))
     matches("no word", err, "mbox2maildir-admin: lockd: no such word: ...\n")
 
@@ -170,7 +170,7 @@ def output_that_ends(home: Path) -> None:
         mailbox(home / f"old/{number}", ONE)
     said = run_printed("mbox2maildir-admin migrate --now M old | head -n 1", home).out
     assert said.startswith("old/0 -> 0: messages 1: done"), said
-    again = by_json(["migrate", "M", "old"], home)
+    again = by_json("migrate M old", home)
     equal("what was said to be done", again.of("old/0")["verdict"], "done before")
 
 

@@ -71,8 +71,8 @@ def kept_flags(home: Path) -> None:
         migrates(home, text, f"{says}: would be done, {count} messages with flags of {program}", ["--dry-run"])
         migrates(home, text, f"{says}: done, {count} messages with flags of {program}")
         equal(f"the flags of {program}", places(home / "M"), [place for _, place in rows])
-        expect(["migrate", "--all", "M", "box"], home, 0, "1 mailbox: 1 done before\n")
-        expect(["verify", "M", "box"], home, 0, None)
+        expect("migrate --all M box", home, 0, "1 mailbox: 1 done before\n")
+        expect("verify M box", home, 0, None)
         (home / "M").rename(home / program)
 
 
@@ -90,7 +90,7 @@ def read_meanwhile(home: Path) -> None:
     """What somebody opened or flagged keeps its flags, and so does what was done before the mailbox grew."""
     text = b"".join(message(number, MOZILLA % "0005") for number in range(3))
     mailbox(home / "box", text)
-    expect(["mbox2maildir", "convert", "M", "box"], home, 0, None)
+    expect("mbox2maildir convert M box", home, 0, None)
     for number, flags in ((0, ""), (1, "R")):
         path = next(path for path in mail_in(home / "M") if f"Subject: {number}\n" in path.read_text())
         path.rename(home / "M/cur" / f"{path.name}:2,{flags}")

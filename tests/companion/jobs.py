@@ -200,7 +200,7 @@ def without_their_parent(home: Path) -> None:
         child.wait()
         wait_for_lock(home / "M")
     os.rename(home / "real", home / "bin/mbox2maildir")
-    equal("the next run", run(["migrate", "M", "old"], home)[0], 1)
+    equal("the next run", run("migrate M old", home)[0], 1)
     for name, text in texts.items():
         equal(name, sorted(map(digest_of, bodies_of(text))), sorted(bases(folder_of(home / "M", name))))
 

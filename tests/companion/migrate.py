@@ -25,7 +25,18 @@ from tests.support.checks import (
     without_progress,
     without_work,
 )
-from tests.support.homes import ADMIN, check_all, expect, files_of, mail_in, mailbox, run, run_whole, subjects
+from tests.support.homes import (
+    ADMIN,
+    check_all,
+    expect,
+    files_of,
+    mail_in,
+    mailbox,
+    run,
+    run_printed,
+    run_whole,
+    subjects,
+)
 from tests.support.ledgers import LEDGER, RECORD
 from tests.support.mail import A, B, C, MAY, ONE, THREE, TWO, numbered, with_length
 from tests.support.printed import commands_in, row_in
@@ -72,7 +83,7 @@ def done(home: Path, said: str, before: int = 0, words: Sequence[str] = ("M", "b
 def done_before(home: Path, gone: int, placed: int) -> None:
     """Migrates a mailbox that was done before, and whose folder has lost this much mail."""
     says = f"{gone} of the {placed} messages that were placed in its folder are gone, or another program renamed them"
-    expect(["migrate", "--all", "M", "box"], home, 0, f"box -> INBOX: done before, {says}\n1 mailbox: 1 done before\n")
+    expect("migrate --all M box", home, 0, f"box -> INBOX: done before, {says}\n1 mailbox: 1 done before\n")
 
 
 def left(
@@ -96,7 +107,7 @@ def once_and_never_again(home: Path) -> None:
     mailbox(home / "box", ONE + TWO + THREE)
     before = (home / "box").stat()
     expect(
-        ["migrate", "--all", "--dry-run", "M", "box"],
+        "migrate --all --dry-run M box",
         home,
         0,
         "box -> INBOX: mboxrd or mboxo, messages 3: would be done\n1 mailbox: 1 would be done\n",
@@ -110,7 +121,7 @@ def once_and_never_again(home: Path) -> None:
     equal("the first date", file_of(home / "M", "one").stat().st_mtime % 60, 44)
     after = (home / "box").stat()
     equal("the mailbox", (after.st_mtime, after.st_ino), (before.st_mtime, before.st_ino))
-    expect(["verify", "--all", "M", "box"], home, 0, None)
+    expect("verify --all M box", home, 0, None)
 
     file_of(home / "M", "one").unlink()
     moved = file_of(home / "M", "two")
@@ -122,15 +133,10 @@ def once_and_never_again(home: Path) -> None:
     says = "3 messages there already, from .../box; 1 that .../box brought are gone; 1 message of other programs ..."
     back = "this stores the messages that are nowhere, and brings back deleted mail"
     out = f"copy -> INBOX: ...: done, {says}\n    {back}:\n        mbox2maildir-admin migrate --again M copy\n...\n"
-    expect(["migrate", "--all", "M", "copy"], home, 0, out)
+    expect("migrate --all M copy", home, 0, out)
     (home / "moved").mkdir()
     (home / "box").rename(home / "moved/box")
-    expect(
-        ["migrate", "--all", "M", "moved/box"],
-        home,
-        0,
-        "moved/box -> INBOX: done before, ...\n1 mailbox: 1 done before\n",
-    )
+    expect("migrate --all M moved/box", home, 0, "moved/box -> INBOX: done before, ...\n1 mailbox: 1 done before\n")
     equal("what is there", subjects(home / "M"), ["three", "two"])
     # what is new in it is brought, and --again brings what is gone
     (home / "moved/box").rename(home / "box")
@@ -154,13 +160,8 @@ def known_by_its_mail(home: Path) -> None:
     mailbox(home / "box", ONE + TWO)
     done(home, "messages 2: done")
     mailbox(home / "box", looked(ONE, TWO))
-    expect(["migrate", "--all", "M", "box"], home, 0, "1 mailbox: 1 done before\n")
-    expect(
-        ["migrate", "--all", "--dovecot", "M", "box"],
-        home,
-        0,
-        "box -> INBOX: done before, ...\n1 mailbox: 1 done before\n",
-    )
+    expect("migrate --all M box", home, 0, "1 mailbox: 1 done before\n")
+    expect("migrate --all --dovecot M box", home, 0, "box -> INBOX: done before, ...\n1 mailbox: 1 done before\n")
     grow(home / "box", THREE)
     done(home, "messages 3: done, it grew by 1 message")
     mailbox(home / "box", looked(ONE, TWO, THREE))
@@ -169,16 +170,16 @@ def known_by_its_mail(home: Path) -> None:
         "copy -> INBOX: mboxrd or mboxo, messages 3: done, 3 messages there already, from .../box; "
         "3 messages of these with flags in it that the file lacks\n"
     )
-    expect(["migrate", "--all", "M", "box", "copy"], home, 0, row + "2 mailboxes: 1 done, ...\n")
+    expect("migrate --all M box copy", home, 0, row + "2 mailboxes: 1 done, ...\n")
     equal("what is there", subjects(home / "M"), ["one", "three", "two"])
     for text, gone in ((looked(ONE, THREE), 1), (THREE, 1), (looked(THREE), 0)):
         mailbox(home / "box", text)
-        out = run(["migrate", "--all", "M", "box"], home)[1]
+        out = run("migrate --all M box", home)[1]
         said = f"{gone} message gone from it that it had brought"
         equal(f"{text!r}: {out}", ("1 done before\n" in out, said in out), (True, bool(gone)))
     equal("what is there after that", subjects(home / "M"), ["one", "three", "two"])
     mailbox(home / "box", b"")
-    expect(["migrate", "--all", "M", "box"], home, 0, "box -> INBOX: empty, messages 0: done\n1 mailbox: 1 done\n")
+    expect("migrate --all M box", home, 0, "box -> INBOX: empty, messages 0: done\n1 mailbox: 1 done\n")
     # so are other messages if enough of what it had is gone
     mailbox(home / "box", numbered("first", 5))
     done(home, "messages 5: done, it grew by 5 messages")
@@ -200,7 +201,7 @@ def several(home: Path) -> None:
     for name, text in (("box", ONE), ("two", TWO), ("none", b""), (".hidden", b""), ("box.lock~", b"x\n")):
         mailbox(home / name, text)
     expect(
-        ["migrate", "--all", "--folder", "Old/2004-x", "M", "box", "two", "none", ".hidden", "gone"],
+        "migrate --all --folder Old/2004-x M box two none .hidden gone",
         home,
         1,
         "box -> Old/2004-x: mboxrd or mboxo, messages 1: done\ntwo -> Old/2004-x: mboxrd or mboxo, messages 1: done\n"
@@ -226,13 +227,13 @@ def last_line(home: Path) -> None:
     ):
         _, out, _ = run_whole(["migrate", "--all", *options.split(), "M", "old"], home)
         matches(f"{options}: the last line", out.splitlines()[-1], f"4 mailboxes: {sums}, 1 left; {work} in ... s")
-    _, out, _ = run_whole(["migrate", "--all", "M", "old"], home)
+    _, out, _ = run_whole("migrate --all M old", home)
     equal("where nothing was done", out.splitlines()[-1], "4 mailboxes: 3 done before, 1 left")
-    _, out, _ = run_whole(["migrate", "--all", "M", "old/one"], home)
+    _, out, _ = run_whole("migrate --all M old/one", home)
     equal("where one was done before", out, "1 mailbox: 1 done before\n")
-    _, out, _ = run_whole(["migrate", "--all", "N", "old/nothing"], home)
+    _, out, _ = run_whole("migrate --all N old/nothing", home)
     matches("where nothing was to be done", out.splitlines()[-1], "1 mailbox: 1 done; 0 messages, 0 bytes in ... s")
-    _, out, _ = run_whole(["migrate", "--all", "N", "old/one"], home)
+    _, out, _ = run_whole("migrate --all N old/one", home)
     page = text_of(TOP / "docs/mbox2maildir-admin.1")
     words = shlex.split(match_in(r"(?m)^\.Dl (sed .*messages.*)$", page)[1])
     cut = subprocess.run(words, input=out.encode(), stdout=subprocess.PIPE, check=True)
@@ -248,7 +249,7 @@ def kinds(home: Path) -> None:
     mailbox(home / "crlf", crlf)
     mailbox(home / "note.msf", b"// <!-- <mdb:mork")
     expect(
-        ["migrate", "--all", "--dry-run", "M", "mark", "cl2", "crlf", "note.msf"],
+        "migrate --all --dry-run M mark cl2 crlf note.msf",
         home,
         0,
         "mark -> INBOX: mboxrd or mboxo, messages 1: would be done\n"
@@ -335,27 +336,16 @@ def waits(home: Path) -> None:
     brought."""
     mailbox(home / "box", ONE, 0)
     (home / "two").write_bytes(TWO)
-    settings = {**os.environ, "PATH": f"{home}/bin:{os.environ['PATH']}", "LC_ALL": "C.UTF-8"}
-    ran = subprocess.Popen(
-        [str(ADMIN), "migrate", "M", "box"],
-        cwd=str(home),
-        env=settings,
-        stdout=subprocess.PIPE,
-        stderr=subprocess.PIPE,
-        universal_newlines=True,
-    )
+    ran = Desk(home).start(["migrate", "M", "box"])
     assert ran.stderr, "it is a pipe"
-    matches(
-        "what is said of it",
-        ran.stderr.readline(),
-        "mbox2maildir-admin: box: waiting ... seconds, because it changed a moment ago\n",
-    )
+    says = "mbox2maildir-admin: box: waiting ... seconds, because it changed a moment ago\n"
+    matches("what is said of it", ran.stderr.readline().decode(), says)
     delivery = "cat two >>box; touch -d '2 minutes ago' box"
     subprocess.run(["flock", "-n", "box", "sh", "-c", delivery], cwd=str(home), check=True)
     out, err = ran.communicate(timeout=PATIENCE)
     equal(
         "its rows",
-        (without_work(out), without_progress(err)),
+        (without_work(out.decode()), without_progress(err.decode())),
         ("box -> INBOX: mboxrd or mboxo, messages 2: done\n1 mailbox: 1 done\n", ""),
     )
     row = "fresh -> INBOX: mboxrd or mboxo, messages 1: done\n1 mailbox: 1 done\n"
@@ -367,7 +357,7 @@ def copies_beside(home: Path) -> None:
     mailbox alone, and what may be its copy stays left, until it is moved away or gets a folder by name."""
     text = A + b"\nFrom here on.\n\nFrom there on.\n\n"
     mailbox(home / "box", text)
-    equal("its copy", run(["quote", "--as", "unquoted", "-o", "box.mboxrd", "box"], home)[0], 0)
+    equal("its copy", run("quote --as unquoted -o box.mboxrd box", home)[0], 0)
     mailbox(home / "box.mboxrd", (home / "box.mboxrd").read_bytes())
     mailbox(home / "box.gz", gzip.compress(text))
     words, move = [
@@ -386,12 +376,7 @@ def copies_beside(home: Path) -> None:
     expect([*command.split()[1:2], "--as", "unquoted", *command.split()[2:]], home, 0, None)
     expect(words, home, 1, "".join([*copies, "3 mailboxes: 1 done before, 2 left\n"]))
     equal("what is there", len(list(mail_in(home / "M"))), 1)
-    expect(
-        ["migrate", "--all", "--folder", "Other", "M", "box.mboxrd"],
-        home,
-        0,
-        "box.mboxrd -> Other: ...: done\n1 mailbox: ...\n",
-    )
+    expect("migrate --all --folder Other M box.mboxrd", home, 0, "box.mboxrd -> Other: ...: done\n1 mailbox: ...\n")
     (home / "box.gz").unlink()
     expect(words, home, 1, None)
     expect([*words[:4], words[5]], home, 0, "2 mailboxes: 2 done before\n")
@@ -424,16 +409,11 @@ def grown(home: Path) -> None:
 
     text = with_length(A, MAY) + b"\n"
     mailbox(home / "box", text)
-    expect(
-        ["migrate", "--all", "N", "box"],
-        home,
-        0,
-        "box -> INBOX: mboxcl2, quoted, messages 1: done\n1 mailbox: 1 done\n",
-    )
+    expect("migrate --all N box", home, 0, "box -> INBOX: mboxcl2, quoted, messages 1: done\n1 mailbox: 1 done\n")
     file_of(home / "N", "one").unlink()
     grow(home / "box", with_length(B, MAY) + b"\n" + with_length(C, MAY) + b"\n")
     expect(
-        ["migrate", "--all", "N", "box"],
+        "migrate --all N box",
         home,
         0,
         "box -> INBOX: mboxcl2, quoted, messages 3: done, it grew by 2 messages\n1 mailbox: 1 done\n",
@@ -447,26 +427,26 @@ def grown(home: Path) -> None:
     before = (home / "O" / RECORD).read_bytes()
     says = "it grew by 2 messages; 1 message gone from it that it had brought"
     expect(
-        ["migrate", "--all", "--dry-run", "O", "box"],
+        "migrate --all --dry-run O box",
         home,
         0,
         f"box -> INBOX: ...: would be done, {says}\n1 mailbox: 1 would be done\n",
     )
     equal("the record after --dry-run", (home / "O" / RECORD).read_bytes(), before)
-    status, out, _ = run(["migrate", "--all", "O", "box"], home)
+    status, out, _ = run("migrate --all O box", home)
     equal("a message that was cut: status", status, 1)
     os.unlink(home / match_in(r"\n        rm (.*)\n", out)[1])
     done(home, f"messages 3: done, {says}", words=("O", "box"))
     equal("after it is gone", subjects(home / "O"), ["one", "three", "two"])
-    expect(["verify", "--all", "O", "box"], home, 0, None)
+    expect("verify --all O box", home, 0, None)
     # also if everything that is converted is a quoted copy
     whole = (ONE + TWO).replace(b"\n", b"\r\n")
     mailbox(home / "box", whole[:-2])
-    expect(["migrate", "P", "box"], home, 0, None)
+    expect("migrate P box", home, 0, None)
     mailbox(home / "box", whole[:-2] + b"more\r\n\r\n")
-    out = run(["migrate", "--all", "P", "box"], home)[1]
+    out = run("migrate --all P box", home)[1]
     os.unlink(home / match_in(r"\n        rm (.*)\n", out)[1])
-    expect(["migrate", "P", "box"], home, 0, None)
+    expect("migrate P box", home, 0, None)
     equal(
         "a message with CR LF that was cut",
         [path.read_bytes()[-11:] for path in files_of(home / "P").values() if "two" in path.read_text()],
@@ -500,7 +480,7 @@ def begun(home: Path) -> None:
     # one was deleted
     killed_after(home, "O", ONE + TWO)
     file_of(home / "O", "one").unlink()
-    status, out, _ = run(["migrate", "--all", "O", "box"], home)
+    status, out, _ = run("migrate --all O box", home)
     equal("one deleted: status", status, 0)
     assert (
         int(match_in(r"up to (\d) messages? that had been deleted", out)[1]) >= 1
@@ -543,11 +523,11 @@ def converted(home: Path) -> None:
     """What was converted by hand is dated and verified, and never converted again. If only some of it is there, nobody
     knows why."""
     mailbox(home / "box", ONE + TWO)
-    run(["mbox2maildir", "convert", "N", "box"], home)
+    run("mbox2maildir convert N box", home)
     done(home, "messages 2: done, 2 messages there already, by no mailbox", words=("N", "box"))
     equal("its date", file_of(home / "N", "two").stat().st_mtime % 60, 2)
     equal("its lines", steps(home / "N"), ["begun", "done"])
-    run(["mbox2maildir", "convert", "O", "box"], home)
+    run("mbox2maildir convert O box", home)
     file_of(home / "O", "one").unlink()
     left(home, f"1 of its messages are there, and no ledger says why: ...\n{DOUBLES} O box", ("O", "box"))
     equal("no line", steps(home / "O"), [])
@@ -597,10 +577,10 @@ def programs_that_fail(home: Path) -> None:
     equal("it is not done", steps(home / "O"), ["begun"])
     fake(home, f"exec '{home}/real' \"$@\"")
     grow(box, b"llo\n\n")
-    status, out, _ = run(["migrate", "--all", "O", "box"], home)
+    status, out, _ = run("migrate --all O box", home)
     equal("a message that was cut: status", status, 1)
     os.unlink(home / match_in(r"\n        rm (.*)\n", out)[1])
-    status, out, _ = run(["migrate", "--all", "O", "box"], home)
+    status, out, _ = run("migrate --all O box", home)
     equal("after it is gone", (status, subjects(home / "O")), (0, ["four", "one", "three", "two"]))
     killed_while_written(home)
     # it writes after the program has read it, of which this is a copy
@@ -608,7 +588,7 @@ def programs_that_fail(home: Path) -> None:
     box = mailbox(home / "crlf", crlf)
     fake(home, f"'{home}/real' \"$@\"; printf 'more\\r\\n\\r\\n' >>'{box}'")
     expect(
-        ["migrate", "--all", "Copy", "crlf"],
+        "migrate --all Copy crlf",
         home,
         LATER,
         "crlf -> INBOX: ...left (changed): it changed while it was converted: ...\n...\n",
@@ -616,8 +596,8 @@ def programs_that_fail(home: Path) -> None:
     equal("it is not done either", steps(home / "Copy"), ["begun"])
     fake(home, f"exec '{home}/real' \"$@\"")
     grow(box, b"")
-    os.unlink(home / match_in(r"\n        rm (.*)\n", run(["migrate", "--all", "Copy", "crlf"], home)[1])[1])
-    expect(["migrate", "--all", "Copy", "crlf"], home, 0, "crlf -> INBOX: ...messages 2: done...\n1 mailbox: 1 done\n")
+    os.unlink(home / match_in(r"\n        rm (.*)\n", run("migrate --all Copy crlf", home)[1])[1])
+    expect("migrate --all Copy crlf", home, 0, "crlf -> INBOX: ...messages 2: done...\n1 mailbox: 1 done\n")
     equal(
         "what is there of the copy",
         sorted(path.read_bytes()[-6:] for path in files_of(home / "Copy").values()),
@@ -634,20 +614,20 @@ def killed_while_written(home: Path) -> None:
         f"printf 'From d Mon Mar  3 12:00:00 2025\\nSubject: four\\n\\nhe' >>'{box}'; "
         f"kill -9 $PPID; exec '{home}/real' \"$@\"",
     )
-    equal("it is killed", run(["migrate", "P", "box"], home)[0], -9)
+    equal("it is killed", run("migrate P box", home)[0], -9)
     # what the killed one left has the record locked until it ends
     with open(home / "P" / RECORD, "rb") as record:
         fcntl.flock(record, fcntl.LOCK_EX)
     fake(home, f"exec '{home}/real' \"$@\"")
     grow(box, b"llo\n\n" + THREE)
-    status, out, _ = run(["migrate", "--all", "P", "box"], home)
+    status, out, _ = run("migrate --all P box", home)
     _, cut = shlex.split(row_in(out, "box").command)
     equal("a message that was cut, with nobody there", status, 1)
     equal("what is named", (home / cut).read_bytes(), b"Subject: four\n\nhe")
     os.unlink(home / cut)
     equal(
         "after it is gone",
-        (run(["migrate", "P", "box"], home)[0], subjects(home / "P")),
+        (run("migrate P box", home)[0], subjects(home / "P")),
         (0, ["four", "one", "three", "two"]),
     )
 
@@ -677,10 +657,10 @@ def locks(home: Path) -> None:
     left(home, with_lock, kind="", status=LATER)
     mailbox(home / "box.lock", b"", 1300)
     mailbox(home / "empty", b"")
-    expect(["migrate", "--all", "M", "empty"], home, 0, "empty -> INBOX: empty, messages 0: done\n1 mailbox: 1 done\n")
+    expect("migrate --all M empty", home, 0, "empty -> INBOX: empty, messages 0: done\n1 mailbox: 1 done\n")
     with holding(home / "M" / RECORD, "flock"):
         expect(
-            ["migrate", "M", "box"],
+            "migrate M box",
             home,
             LATER,
             "",
@@ -702,7 +682,7 @@ def locks(home: Path) -> None:
     # a mailbox that changed a moment ago is waited for, unless the start takes that long; a time in the future does not
     # count
     mailbox(home / "box", ONE, 57)
-    expect(["migrate", "--all", "N", "box"], home, 0, "box -> INBOX: ..., messages 1: done\n1 mailbox: 1 done\n", None)
+    expect("migrate --all N box", home, 0, "box -> INBOX: ..., messages 1: done\n1 mailbox: 1 done\n", None)
     age = time.time() - (home / "box").stat().st_mtime
     assert age > 59, f"it was not waited for until a mailbox was quiet, but {age} seconds"
     mailbox(home / "box", ONE, -1000)
@@ -731,7 +711,7 @@ def records_of_others(home: Path) -> None:
     ]  # type: list[tuple[Callable[[], object], str]]
     for make, why in makes:
         make()
-        expect(["migrate", "M", "box"], home, 1, "", f"mbox2maildir-admin: M/{RECORD}: {why}\n")
+        expect("migrate M box", home, 1, "", f"mbox2maildir-admin: M/{RECORD}: {why}\n")
         equal(f"{why}: what is there", len(files_of(home / "M")), 0)
         if record.is_dir():
             record.rmdir()
@@ -765,7 +745,7 @@ def of_another_version(home: Path) -> None:
     lines = [(RECORD, b"mbox2maildir-record\t2\n"), (RECORD, b""), *((LEDGER, line) for line in ledgers)]
     for name, first in lines:
         mailbox(home / "box", ONE + TWO)
-        expect(["migrate", "M", "box"], home, 0, None)
+        expect("migrate M box", home, 0, None)
         path = home / "M" / name
         path.write_bytes(first + path.read_bytes().partition(b"\n")[2])
         grow(home / "box", THREE)
@@ -775,7 +755,7 @@ def of_another_version(home: Path) -> None:
             equal(f"{words}: {out}{err}", (status, (out + err).count(f"M/{name}: {says}--again\n")), (1, 1))
             equal(words, {one: one.read_bytes() for one in (home / "M").rglob("*") if one.is_file()}, before)
         path.unlink()
-        expect(["migrate", "--again", "M", "box"], home, 0, None)
+        expect("migrate --again M box", home, 0, None)
         equal("what is there", subjects(home / "M"), ["one", "three", "two"])
         shutil.rmtree(home / "M")
 
@@ -788,12 +768,7 @@ def links(home: Path) -> None:
     (home / "outside").write_bytes(ONE.partition(b"\n")[2][:-1])
     os.symlink("../../outside", home / "M/cur/17.host:2,S")
     done(home, "messages 2: done")
-    expect(
-        ["verify", "--all", "M", "box"],
-        home,
-        0,
-        "box -> INBOX: messages 2: whole\n1 mailbox: 1 whole\n",
-    )
+    expect("verify --all M box", home, 0, "box -> INBOX: messages 2: whole\n1 mailbox: 1 whole\n")
 
 
 # the last line of what is said of wrong words
@@ -847,11 +822,7 @@ def refused(home: Path) -> None:
         os.chown(home / "theirs", 65534, 65534)
         os.chown(home / "box", 0, 0)
         expect(
-            ["migrate", "theirs/M", "box"],
-            home,
-            1,
-            "",
-            f"mbox2maildir-admin: {home}/theirs: it belongs to nobody\n...\n...\n",
+            "migrate theirs/M box", home, 1, "", f"mbox2maildir-admin: {home}/theirs: it belongs to nobody\n...\n...\n"
         )
         equal("what is in it", list((home / "theirs/M").iterdir()), [])
         roots_alone(home)
@@ -873,10 +844,10 @@ def roots_alone(home: Path) -> None:
     equal("what is there", [*(home / "theirs/a/b").iterdir(), *(home / "open/a/b").iterdir()], [])
     # in a sticky folder nobody can replace what belongs to root
     (home / "open").chmod(0o1777)
-    expect(["migrate", "open/a/b/M", "box"], home, 0, None)
+    expect("migrate open/a/b/M box", home, 0, None)
     (home / "open/a/b/M/new").chmod(0o777)
     expect(
-        ["migrate", "open/a/b/M", "box"],
+        "migrate open/a/b/M box",
         home,
         1,
         "",
@@ -924,24 +895,17 @@ def broken_off(home: Path) -> None:
         )
         (home / "at-work").unlink()
     fake(home, f"exec '{home}/real' \"$@\"")
-    ran = subprocess.run(
-        ["bash", "-c", f"{ADMIN} migrate M two >/dev/full"],
-        cwd=home,
-        capture_output=True,
-        text=True,
-        check=False,
-        env={**os.environ, "PATH": f"{home}/bin:{os.environ['PATH']}"},
-    )
+    ran = run_printed("mbox2maildir-admin migrate M two >/dev/full", home)
     equal(
         "an output that is full",
-        (ran.returncode, ran.stderr),
+        (ran.status, ran.err),
         (
             1,
             "mbox2maildir-admin: the output could not be written: No space "
             "left on device; what was done is in the record: run the same command again\n",
         ),
     )
-    expect(["migrate", "--all", "M", "box", "two"], home, 0, "2 mailboxes: 2 done before\n")
+    expect("migrate --all M box two", home, 0, "2 mailboxes: 2 done before\n")
     equal("what is there", subjects(home / "M"), ["one", "two"])
 
 

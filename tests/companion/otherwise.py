@@ -27,7 +27,7 @@ def by_again(home: Path) -> None:
         mailbox(home / "box", text)
         expect(["migrate", "--as", then, "M", "box"], home, 0, None)
         wanted = files(home)
-        expect(["migrate", "--undo", "M", "box"], home, 0, None)
+        expect("migrate --undo M box", home, 0, None)
         expect(["migrate", "--as", first, "M", "box"], home, 0, None)
         there = files(home)
         assert there != wanted, (there, wanted)
@@ -44,13 +44,13 @@ def by_again(home: Path) -> None:
         equal("what is there", files(home), [])
         expect(["migrate", "--as", then, "M", "box"], home, 0, None)
         equal("read as the word says", files(home), wanted)
-        expect(["migrate", "--undo", "M", "box"], home, 0, None)
+        expect("migrate --undo M box", home, 0, None)
 
 
 def done_before(home: Path) -> None:
     """Without --again it is done before, and its row has the undo. A word that gives the same messages says nothing."""
     mailbox(home / "box", WITH_LENGTH)
-    expect(["migrate", "--as", "mboxcl2", "M", "box"], home, 0, None)
+    expect("migrate --as mboxcl2 M box", home, 0, None)
     there = files(home)
     for word, is_said in (("mboxcl2", False), ("mboxcl", False), ("mboxrd", True), ("mboxo", True), ("unquoted", True)):
         ran = by_json(["migrate", "--as", word, "M", "box"], home)
@@ -76,10 +76,10 @@ def of_several(home: Path) -> None:
 def rewritten(home: Path) -> None:
     """A mailbox that was rewritten is left too, with the command that reads it as it was read then."""
     mailbox(home / "box", WITH_LENGTH)
-    expect(["migrate", "--as", "mboxcl2", "M", "box"], home, 0, None)
+    expect("migrate --as mboxcl2 M box", home, 0, None)
     there = files(home)
     mailbox(home / "box", B + b"\nmore\n\n" + WITH_LENGTH)
-    command = by_json(["migrate", "--again", "--as", "mboxrd", "M", "box"], home).row.command
+    command = by_json("migrate --again --as mboxrd M box", home).row.command
     equal(f"what is there: {command}", files(home), there)
     match_in(r"migrate --again --as mboxcl2 M box\Z", command)
     equal("the next command", run_printed(command, home).status, 0)
@@ -91,7 +91,7 @@ def rewritten_and_read_alike(home: Path) -> None:
     messages: what is new in it is brought."""
     text = crlf(ONE + TWO)
     mailbox(home / "box", text)
-    expect(["migrate", "M", "box"], home, 0, None)
+    expect("migrate M box", home, 0, None)
     mailbox(home / "box", THREE + text)
     said = run_to_the_end(home, "mbox2maildir-admin migrate M box")
     match_in(r"(?s)\A\$ mbox2maildir-admin migrate M box: 0: .*grew by 1 message", "".join(said))
@@ -102,13 +102,13 @@ def decided_and_cut(home: Path) -> None:
     """A mailbox that was done by an answer, and about which something is asked still, is done before once it has lost a
     message, and its row says so."""
     mailbox(home / "box", crlf(ONE) + TWO + b"From Tuesday on\n\nhi\n\n" + THREE)
-    row = by_json(["migrate", "M", "box"], home).row
+    row = by_json("migrate M box", home).row
     (decide,) = (line for line in row.commands if "--as unquoted" in line)
     equal("the answer", run_printed(decide, home).status, 0)
     there = files(home)
     mailbox(home / "box", crlf(ONE) + TWO + b"From Tuesday on\n\nhi\n")
     said = "box -> INBOX: done before, 1 message gone from it that it had brought\n"
-    expect(["migrate", "--all", "M", "box"], home, 0, said + "1 mailbox: 1 done before\n")
+    expect("migrate --all M box", home, 0, said + "1 mailbox: 1 done before\n")
     equal("what is there", files(home), there)
 
 

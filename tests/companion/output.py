@@ -1,11 +1,10 @@
 """Outputs that fail, and which modules a run loads."""
 import re
-import subprocess
 from collections.abc import Sequence
 from pathlib import Path
 
 from tests.support.checks import equal
-from tests.support.homes import ADMIN, check_all, mailbox
+from tests.support.homes import ADMIN, check_all, mailbox, run, run_printed
 from tests.support.mail import A, ONE
 
 COMMANDS = "kind", "quote", "dates", "migrate", "verify", "back"
@@ -15,37 +14,27 @@ def output_fails(home: Path) -> None:
     """A reader that goes away, a full output, and a closed one: at most one line, and status 1."""
     (home / "box").write_bytes(A + b"\n")
     mailbox(home / "old/box", ONE)
-    for words in (["kind", *["box"] * 3000], ["quote", "-o", "-", "box"], ["--help"]):
+    for words in ("kind" + " box" * 3000, "quote -o - box", "--help"):
         for to, says in (
             ("| true", None),
             (">/dev/full", "mbox2maildir-admin: the output could not be written: No space left on device\n"),
             (">&-", None),
         ):
-            ran = subprocess.run(
-                ["bash", "-c", f'set -o pipefail; "$@" {to}', "bash", ADMIN, *words],
-                cwd=home,
-                capture_output=True,
-                text=True,
-                check=False,
-            )
+            ran = run(["/bin/bash", "-c", f'set -o pipefail; "$@" {to}', "bash", ADMIN, *words.split()], home)
             for trace in ("Traceback", "Exception", "\n."):
-                assert not re.search(trace, ran.stderr), f"{words[:2]} {to}: {ran.stderr}"
+                assert not re.search(trace, ran.err), f"{words[:20]} {to}: {ran.err}"
             if to == ">&-":
-                equal(f"{words[:2]} {to}: status", ran.returncode, 1)
-            if says and words != ["--help"]:
-                equal(f"{words[:2]} {to}", (ran.returncode, ran.stderr), (1, says))
+                equal(f"{words[:20]} {to}: status", ran.status, 1)
+            if says and words != "--help":
+                equal(f"{words[:20]} {to}", (ran.status, ran.err), (1, says))
     for to, status in (("2>&-", 1), ("2>/dev/full", 1), (">&- 2>&-", 1), (">/dev/full 2>/dev/full", 1), ("<&-", 1)):
-        silent = subprocess.run(
-            ["sh", "-c", f'"$@" {to}', "sh", ADMIN, "kind", "box", "none"], cwd=home, capture_output=True, check=False
-        )
-        equal(f"kind {to}: status", silent.returncode, status)
+        equal(f"kind {to}: status", run_printed(f"mbox2maildir-admin kind box none {to}", home).status, status)
 
 
 def loaded(words: Sequence[str], home: Path) -> set[str]:
     """The modules that a run loads: those of the library, and those of the package without its name."""
-    alone = ["python3", "-I", "-S", "-B", "-v", str(home / "bin" / ADMIN.name)]
-    ran = subprocess.run([*alone, *words], cwd=home, check=True, stdout=subprocess.PIPE, stderr=subprocess.PIPE)
-    found = re.findall(r"(?m)^import '(\S+)' #", ran.stderr.decode())
+    alone = ["/usr/bin/env", "python3", "-I", "-S", "-B", "-v", str(home / "bin" / ADMIN.name)]
+    found = re.findall(r"(?m)^import '(\S+)' #", run([*alone, *words], home).err)
     return {name.partition("mbox2maildir_admin.")[2] or name for name in found}
 
 

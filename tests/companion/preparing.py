@@ -63,16 +63,11 @@ def printed(home: Path) -> None:
     equal("the verdicts", [one.get("verdict") for one in objects[:2]], ["prepared"] * 2)
     equal("their sum", (status, objects[2]["verdicts"]["prepared"]), (0, 2))
     equal("an estimate is in it", objects[2]["last_pass_seconds"] > 0, True)
-    expect(
-        ["migrate", "--all", "--undo", "M", "old/b"],
-        home,
-        0,
-        "old/b -> b: messages 1: undone, removed 1 message\n...\n",
-    )
+    expect("migrate --all --undo M old/b", home, 0, "old/b -> b: messages 1: undone, removed 1 message\n...\n")
     (home / "old").rename(home / "older")
     last = row.replace("old/", "older/") % ("a", "a", 2) + "done, 2 prepared before\n"
     last += row.replace("old/", "older/") % ("b", "b", 1) + "done\n"
-    expect(["migrate", "--all", "--now", "M", "older"], home, 0, f"{last}2 mailboxes: 2 done\n")
+    expect("migrate --all --now M older", home, 0, f"{last}2 mailboxes: 2 done\n")
     equal("the mail", (subjects(home / "M/.a"), subjects(home / "M/.b")), (["three", "two"], ["two"]))
     equal("lists", list((home / "M").rglob("mbox2maildir-prepared")), [])
 
@@ -117,13 +112,13 @@ def one_at_work(home: Path) -> None:
             while not (home / "begun").exists():
                 equal("the first pass", first.poll(), None)
                 time.sleep(0.1)
-            status, out, err = run(["migrate", "--all", "--now", "M", "box"], home)
+            status, out, err = run("migrate --all --now M box", home)
             equal("the last pass", (status, out), (LATER, ""))
             matches("what it says", err, "mbox2maildir-admin: another migrate is at work in M, ...\n")
         finally:
             (home / "go").touch()
     equal("the status of the first pass", first.returncode, 0)
-    expect(["migrate", "--all", "--now", "M", "box"], home, 0, "box -> INBOX: ...: done, 1 prepared before\n...\n")
+    expect("migrate --all --now M box", home, 0, "box -> INBOX: ...: done, 1 prepared before\n...\n")
 
 
 def left_over(home: Path) -> None:
@@ -132,7 +127,7 @@ def left_over(home: Path) -> None:
     doveconf(home, MBOX)
     for name in "abc":
         mailbox(home / "old" / name, ONE + TWO)
-    expect(["migrate", "--prepare", "M", "old"], home, 0, None)
+    expect("migrate --prepare M old", home, 0, None)
     (home / "old").rename(home / "disk")
     (home / "old").mkdir()
     out = "".join(
@@ -142,10 +137,10 @@ def left_over(home: Path) -> None:
         f"        mbox2maildir-admin migrate --undo --now --folder {name} M {home}/old/{name}\n"
         for name in "abc"
     )
-    expect(["migrate", "--all", "--now", "M", "old"], home, 1, f"{out}3 mailboxes: 3 left\n")
+    expect("migrate --all --now M old", home, 1, f"{out}3 mailboxes: 3 left\n")
     (home / "old").rmdir()
     (home / "disk").rename(home / "old")
-    status, out, _ = run(["migrate", "--all", "--now", "--folder", "a", "M", "old/a"], home)
+    status, out, _ = run("migrate --all --now --folder a M old/a", home)
     said = [row.line.replace("mboxrd or mboxo, messages 2: ", "") for row in rows_in(out)[:-1]]
     says = "left (prepared): it is only prepared, and no mailbox of this command goes there"
     wanted = ["old/a -> a: done, 2 prepared before", *(f"{home}/old/{name} -> {name}: {says}" for name in "bc")]
@@ -169,14 +164,12 @@ def started_again(home: Path) -> None:
     for options in (["--prepare"], ["--now"]):
         expect(["migrate", *options, "M", "old"], home, 0, None)
     (home / "M/.a/new/1700000000.M1.host").write_bytes(b"Subject: new\n\nhello\n")
-    ran = by_json(["back", "--now", "M", "old"], home)
+    ran = by_json("back --now M old", home)
     equal(f"what came is in the mailbox: {ran.out}", (ran.status, b"\nSubject: new\n" in box.read_bytes()), (0, True))
     (move,) = (command for one in ran.objects for command in one.commands)
     equal(move, run_printed(move, home).status, 0)
-    expect(["migrate", "--all", "--prepare", "M", "old"], home, 0, "old/a -> a: ...messages 2: prepared\n...\n")
-    expect(
-        ["migrate", "--all", "--now", "M", "old"], home, 0, "old/a -> a: ...messages 2: done, 2 prepared before\n...\n"
-    )
+    expect("migrate --all --prepare M old", home, 0, "old/a -> a: ...messages 2: prepared\n...\n")
+    expect("migrate --all --now M old", home, 0, "old/a -> a: ...messages 2: done, 2 prepared before\n...\n")
     equal("the mail", subjects(home / "M/.a"), ["new", "one"])
 
 
@@ -208,12 +201,12 @@ def words_hold(home: Path) -> None:
     expect([*prepare[:3], "--as", "mboxo", "M", "box"], home, 0, None)
     # what is asked later has answers by the same word
     mailbox(home / "box", QUOTED + B + b"\nyes\n\nFrom now on\n\n")
-    words = [re.findall(r"--as (\w+)", one)[0] for one in by_json(["migrate", "--now", "M", "box"], home).row.answers]
+    words = [re.findall(r"--as (\w+)", one)[0] for one in by_json("migrate --now M box", home).row.answers]
     equal("a new question", words, ["unquoted", "mboxo"])
     mailbox(home / "box", QUOTED)
-    expect(["migrate", "--undo", "M", "box"], home, 0, None)
+    expect("migrate --undo M box", home, 0, None)
     out = "box -> INBOX: mboxrd or mboxo, messages 1: done, `>>From ` loses a `>` in 1 line ...\n1 mailbox: 1 done\n"
-    expect(["migrate", "--all", "--now", "M", "box"], home, 0, out)
+    expect("migrate --all --now M box", home, 0, out)
 
 
 def without_deleted_mail(home: Path) -> None:
@@ -232,10 +225,10 @@ def without_deleted_mail(home: Path) -> None:
                 f"box -> INBOX: ...messages {count}: prepared, {says}...\n...\n",
             )
         mailbox(box, text + gone.replace(b"one", b"two"))
-        equal("more is deleted", len(by_json(["migrate", "--now", "M", "box"], home).row.answers), 2)
+        equal("more is deleted", len(by_json("migrate --now M box", home).row.answers), 2)
         mailbox(box, text)
         out = f"box -> INBOX: ...messages {count}: done, {says}; as it was answered before...\n...\n"
-        expect(["migrate", "--all", "--now", "M", "box"], home, 0, out)
+        expect("migrate --all --now M box", home, 0, out)
         equal("the mail", len(list(mail_in(home / "M"))), count)
         shutil.rmtree(home / "M")
 

@@ -90,7 +90,7 @@ def an_answer_is_its_command(home: Path) -> None:
     about after all others."""
     boxes(home)
     for choice in range(4):
-        printed = run(["migrate", "--all", "--now", "--no-questions", "N", "old"], home)[1]
+        printed = run("migrate --all --now --no-questions N old", home)[1]
         chosen = [
             row_in(printed, f"old/{name}").commands[-2:][way]
             for name, way in (("lines", choice & 1), ("word", choice >> 1))
@@ -155,7 +155,7 @@ def nobody_is_asked(home: Path) -> None:
         assert "type a letter" not in said and "question" not in said, f"{script}: {said}"
         assert "--as" in said and "left" in said, f"{script}: {said}"
     equal("whether anything was made", (home / "M").exists(), False)
-    equal("an undo", run(["migrate", "--undo", "--no-questions", "M", "box"], home)[0], 1)
+    equal("an undo", run("migrate --undo --no-questions M box", home)[0], 1)
 
 
 def what_was_typed_before_is_no_answer(home: Path) -> None:
@@ -191,7 +191,7 @@ def what_was_typed_before_is_no_answer(home: Path) -> None:
 def it_is_broken_off(home: Path) -> None:
     """Ctrl-C leaves the mailbox and those that follow, and Ctrl-D only the mailbox. Nothing else changes."""
     boxes(home)
-    expect(["migrate", "--now", "M", "old/one"], home, 0, None)
+    expect("migrate --now M old/one", home, 0, None)
     before, words = files_of(home), ["migrate", "--all", "--now", "--folder", "x", "M", "old/lines", "old/word"]
     printed = run([*words, "--no-questions"], home)[1]
     sums = "2 mailboxes: 2 left\n"
@@ -215,7 +215,7 @@ def nothing_is_held(home: Path) -> None:
     """While a question waits, nothing is locked, and others may migrate into the same Maildir. If one of them is at
     work when the answer comes, the mailbox is left with its commands."""
     boxes(home)
-    printed = run(["migrate", "--all", "--now", "--no-questions", "M", "old"], home)[1]
+    printed = run("migrate --all --now --no-questions M old", home)[1]
     shutil.rmtree(home / "M")
     there = sorted(path.name for path in (home / "old").iterdir())
     with terminal_of(home, "migrate", "--now", "M", "old") as terminal:
@@ -225,7 +225,7 @@ def nothing_is_held(home: Path) -> None:
                 fcntl.lockf(file, fcntl.LOCK_EX | fcntl.LOCK_NB)
                 fcntl.flock(file, fcntl.LOCK_EX | fcntl.LOCK_NB)
         equal("the files beside them", sorted(path.name for path in (home / "old").iterdir()), there)
-        expect(["migrate", "--now", "--folder", "More", "M", "old/one"], home, 0, None)
+        expect("migrate --now --folder More M old/one", home, 0, None)
         with open(home / "M" / RECORD, "rb") as record:
             fcntl.flock(record, fcntl.LOCK_EX)
             terminal.type(letter_of(question, row_in(printed, "old/lines").commands[0]) + "\n")
@@ -343,7 +343,7 @@ def one_letter_for_all(home: Path) -> None:
     ties = re.findall(r"\bof=(\w+)", (home / "M" / RECORD).read_text())
     equal("the ties of the answers", set(ties), {re.findall(r" --of (\S+) ", command)[0] for command in commands})
     mailbox(home / "copy", ONE)
-    sums = run_whole(["migrate", "--all", "--folder", "Archive", "M", "copy", "one"], home)[1].split("\n")[-2]
+    sums = run_whole("migrate --all --folder Archive M copy one", home)[1].split("\n")[-2]
     matches("the sums", sums, "2 mailboxes: 1 done, 1 done before; 1 message, 1 of them there already, ...")
 
 
@@ -372,7 +372,7 @@ def each_has_one_row(home: Path) -> None:
     own."""
     boxes(home)
     box = mailbox(home / "old/box", ONE)
-    run(["migrate", "--all", "--prepare", "--unread", "--no-questions", "M", "old"], home)
+    run("migrate --all --prepare --unread --no-questions M old", home)
     mailbox(box, b"a note, no mail\n")
     with terminal_of(home, "migrate", "--now", "M", "old") as terminal:
         for _ in range(2):

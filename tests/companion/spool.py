@@ -59,7 +59,7 @@ def spool(home: Path) -> None:
         nobody = "nobody-at-all: left (no-user): no such user\n"
         (home / "spool").chmod(0o700)
         expect(
-            ["migrate", "--users", "spool"],
+            "migrate --users spool",
             home,
             1,
             "",
@@ -68,7 +68,7 @@ def spool(home: Path) -> None:
         )
         (home / "spool").chmod(0o711)
         expect(
-            ["migrate", "--all", "--users", "--dry-run", "spool", "m61one", "m61gone"],
+            "migrate --all --users --dry-run spool m61one m61gone",
             home,
             1,
             "m61gone: left (no-user): no such user\n"
@@ -77,12 +77,12 @@ def spool(home: Path) -> None:
         )
         equal("what --dry-run made", list((home / "homes/m61one").iterdir()), [])
         expect(
-            ["migrate", "--all", "--users", "--dry-run", "spool"],
+            "migrate --all --users --dry-run spool",
             home,
             1,
             "...\n" * 7 + "... mailboxes: 3 would be done, ...2 left; ...3 users: 3 from the spool\n",
         )
-        status, out, err = run(["migrate", "--all", "--users", "--tree", "mail", "--jobs", "2", "spool"], home)
+        status, out, err = run("migrate --all --users --tree mail --jobs 2 spool", home)
         equal("--users", (status, err), (1, ""))
         equal(
             "the lines of --users",
@@ -244,7 +244,7 @@ def names_of_a_list(home: Path) -> None:
     """A list names users too. An account of the system counts as one then, and a list without names is refused."""
     (home / "list").write_bytes(b"m61two\n\nm61gone\ndaemon\n")
     expect(
-        ["migrate", "--all", "--users", "--names", "list", "spool", "m61one"],
+        "migrate --all --users --names list spool m61one",
         home,
         1,
         "m61gone: left (no-user): no such user\ndaemon: left (no-mailbox): no mailbox of that name in ...\n"
@@ -253,18 +253,12 @@ def names_of_a_list(home: Path) -> None:
     )
     (home / "list").write_bytes(b"daemon\n")
     expect(
-        ["migrate", "--all", "--users", "--tree", "mail", "--names", "list", "spool"],
+        "migrate --all --users --tree mail --names list spool",
         home,
         1,
         "daemon: left (home): the home of its user belongs to root: ...\n1 mailbox: 1 left; ...\n",
     )
-    expect(
-        ["migrate", "--users", "--names", "-", "spool"],
-        home,
-        1,
-        "",
-        "mbox2maildir-admin: standard input: it contains no name\n",
-    )
+    expect("migrate --users --names - spool", home, 1, "", "mbox2maildir-admin: standard input: it contains no name\n")
     # a variable that is not set stands neither for all users nor for no folder
     for option in ("--names", "--tree", "--maildir"):
         says = f"mbox2maildir-admin: {option}: it takes a name, which is empty here\n...\n"
@@ -273,7 +267,7 @@ def names_of_a_list(home: Path) -> None:
     (home / "disk").mkdir()
     (home / "homes/m61two").rename(home / "disk/m61two")
     os.symlink(home / "disk/m61two", home / "homes/m61two")
-    status, out, err = run(["migrate", "--all", "--users", "--tree", "mail", "spool", "m61two"], home)
+    status, out, err = run("migrate --all --users --tree mail spool m61two", home)
     equal(
         "a home over a link", (status, err, out.splitlines()[-1][:36]), (1, "", "4 mailboxes: 3 done before, 1 left; ")
     )
@@ -385,7 +379,7 @@ def hostile_spool(home: Path) -> None:
     for ending in ("gz", "mboxrd"):
         theirs(mailbox(old / f"m61one.{ending}", TWO), "m61two")
     expect(
-        ["migrate", "--all", "--users", "--maildir", "Sticky", "sticky/spool", "m61one"],
+        "migrate --all --users --maildir Sticky sticky/spool m61one",
         home,
         1,
         "m61one.gz: left (other-owner): it belongs to m61two\nm61one.mboxrd: left (other-owner): it belongs to m61two\n"
@@ -404,7 +398,7 @@ def hostile_homes(home: Path) -> None:
     (home / "open").chmod(0o777)
 
     def attempt(what: str, wanted: str) -> None:
-        status, out, err = run(["migrate", "--all", "--users", "--tree", "mail", "spool", "m61one"], home)
+        status, out, err = run("migrate --all --users --tree mail spool m61one", home)
         equal(f"{what}: status and standard error", (status, err), (1, ""))
         assert re.search(wanted, out), f"{what}: {out}"
         equal(
@@ -447,7 +441,7 @@ def hostile_homes(home: Path) -> None:
     attempt("links and odd names in the tree", r"mail/Sent: left \(link\): it is a symbolic link")
     shutil.rmtree(one / "mail")
     (one).rename(home / "homes/gone")
-    status, out, _ = run(["migrate", "--all", "--users", "spool", "m61one"], home)
+    status, out, _ = run("migrate --all --users spool m61one", home)
     assert status == 1 and "left (home): the home of its user is missing" in out, f"no home: {out}"
     (home / "homes/gone").rename(one)
     os.unlink(home / "spool/m61one")

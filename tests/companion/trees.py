@@ -51,7 +51,7 @@ def trees(home: Path) -> None:
         "mbox2maildir-admin migrate --folder NAME M tree/twice\n"
     )
     end = ["10 mailboxes: 5 done, 5 left; 3 other files: no mail"]
-    status, got, err = run(["migrate", "--all", "M", "tree"], home)
+    status, got, err = run("migrate --all M tree", home)
     lines = got.splitlines()
     equal("the lines of a tree", sorted(lines[: -len(end)]), sorted(out.splitlines()))
     equal("the end of a tree", (status, err, lines[-len(end) :]), (1, "", end))
@@ -68,11 +68,11 @@ def trees(home: Path) -> None:
     )
     equal(
         "a tree again",
-        run(["migrate", "--all", "M", "tree"], home)[1].splitlines()[-1],
+        run("migrate --all M tree", home)[1].splitlines()[-1],
         "10 mailboxes: 5 done before, 5 left; 3 other files: no mail",
     )
     expect(
-        ["migrate", "--all", "--folder", "Second", "M", "tree/twice"],
+        "migrate --all --folder Second M tree/twice",
         home,
         0,
         "tree/twice -> Second: mboxrd or mboxo, messages 1: done\n...\n",
@@ -89,7 +89,7 @@ def folders_of_messages(home: Path) -> None:
     mailbox(home / "tree/mh/sheds", ONE)
     (home / "tree/p/cur").mkdir(parents=True)
     mailbox(home / "tree/p/garden", TWO)
-    out = run(["migrate", "--all", "M", "tree"], home)[1]
+    out = run("migrate --all M tree", home)[1]
     next_of = {row.name[5:]: row.command for row in rows_in(out) if row.commands}
     wanted = (
         f"tree/lists: left (maildir): it is a Maildir\n{RUN}mv -nT tree/lists M/.lists\n"
@@ -104,7 +104,7 @@ def folders_of_messages(home: Path) -> None:
     shutil.rmtree(home / "tree/mh")
     os.utime(home / "tree/mh.mbox", (1e9, 1e9))
     expect(
-        ["migrate", "--all", "M", "tree"],
+        "migrate --all M tree",
         home,
         0,
         "tree/mh.mbox -> mh: mboxrd or mboxo, messages 12: done, 12 messages without a date; its name was mh.mbox\n"
@@ -126,7 +126,7 @@ def folders_of_messages(home: Path) -> None:
         (home / "tree/lists" / sub).mkdir(parents=True)
         (home / "tree/more" / sub).mkdir(parents=True)
     mailbox(home / "tree/more/notes", b"!BDN")
-    out = run(["migrate", "--all", "M", "tree"], home)[1]
+    out = run("migrate --all M tree", home)[1]
     for name, task in (
         ("lists", "move the files in its new and cur into those of M/.lists"),
         ("more", "move out of it what is not part of a Maildir, and run this again"),
@@ -134,8 +134,8 @@ def folders_of_messages(home: Path) -> None:
         assert f"tree/{name}: left (maildir): it is a Maildir\n    {task}\n" in out, out
     # the Maildir into which everything goes is not part of the tree
     mailbox(home / "whole/box", ONE)
-    expect(["migrate", "--all", "whole/M", "whole"], home, 0, "whole/box -> box: ...: done\n1 mailbox: 1 done\n")
-    expect(["migrate", "--all", "whole/M", "whole"], home, 0, "1 mailbox: 1 done before\n")
+    expect("migrate --all whole/M whole", home, 0, "whole/box -> box: ...: done\n1 mailbox: 1 done\n")
+    expect("migrate --all whole/M whole", home, 0, "1 mailbox: 1 done before\n")
 
 
 def stays(home: Path) -> None:
@@ -145,32 +145,30 @@ def stays(home: Path) -> None:
     for name, folder in old.items():
         mailbox(home / name, ONE)
         expect(["migrate", "--folder", folder, "M", name], home, 0, None)
-    expect(["migrate", "--all", "M", "tree"], home, 0, "2 mailboxes: 2 done before\n")
+    expect("migrate --all M tree", home, 0, "2 mailboxes: 2 done before\n")
     grow(home / "tree/Sent/mbox", TWO)
     out = "tree/Sent/mbox -> Sent/mbox: mboxrd or mboxo, messages 2: done, it grew by 1 message\n"
-    expect(["migrate", "--all", "M", "tree"], home, 0, f"{out}2 mailboxes: 1 done, 1 done before\n")
+    expect("migrate --all M tree", home, 0, f"{out}2 mailboxes: 1 done, 1 done before\n")
     equal("what was made", sorted(path.name for path in (home / "M").glob(".*")), [".Haus", ".Sent.mbox"])
     # so do verify and dates find it there
     lines = [
         "tree/.inbox.directory/Haus -> Haus: messages 1: whole\n",
         "tree/Sent/mbox -> Sent/mbox: messages 2: whole\n",
     ]
-    expect(["verify", "--all", "M", "tree"], home, 0, "".join(lines) + "2 mailboxes: 2 whole\n")
+    expect("verify --all M tree", home, 0, "".join(lines) + "2 mailboxes: 2 whole\n")
     out = "tree/.inbox.directory/Haus: messages 1, dated 1\ntree/Sent/mbox: messages 2, dated 2\n"
-    expect(["dates", "M", "tree"], home, 0, out)
+    expect("dates M tree", home, 0, out)
     # without a record they are named as they are now
-    expect(["migrate", "N", "tree"], home, 0, None)
+    expect("migrate N tree", home, 0, None)
     equal("folders", sorted(path.name for path in (home / "N").glob(".*")), [".INBOX.Haus", ".Sent"])
     # what somebody else has put in the place of one goes there too
     mailbox(home / "tree/Sent/mbox", THREE)
     lines[1] = "tree/Sent/mbox -> Sent/mbox: messages 1: not whole, nowhere 1\n    message 1 (line 1): nowhere\n"
-    expect(
-        ["verify", "--all", "M", "tree"], home, 1, "".join(lines) + "2 mailboxes: 1 whole, 1 not whole (1 nowhere)\n"
-    )
+    expect("verify --all M tree", home, 1, "".join(lines) + "2 mailboxes: 1 whole, 1 not whole (1 nowhere)\n")
     says = "messages 1: done, it grew by 1 message; 2 messages gone from it that it had brought"
     out = f"tree/Sent/mbox -> Sent/mbox: mboxrd or mboxo, {says}\n"
-    expect(["migrate", "--all", "M", "tree"], home, 0, f"{out}2 mailboxes: 1 done, 1 done before\n")
-    expect(["migrate", "--all", "M", "tree"], home, 0, "2 mailboxes: 2 done before\n")
+    expect("migrate --all M tree", home, 0, f"{out}2 mailboxes: 1 done, 1 done before\n")
+    expect("migrate --all M tree", home, 0, "2 mailboxes: 2 done before\n")
     by_hand(home)
 
 
@@ -181,7 +179,7 @@ def by_hand(home: Path) -> None:
         mailbox(home / "hand" / name, text)
     mailbox(home / "else/box", THREE)
     os.symlink("../else/box", home / "hand/link")
-    last = run(["migrate", "--all", "O", "hand"], home)[1].splitlines()[-1]
+    last = run("migrate --all O hand", home)[1].splitlines()[-1]
     equal("before it is done by hand", last, "3 mailboxes: 3 left")
     for name, folder in (("hand/twice", "One"), ("hand/twice.mbox", "INBOX"), ("else/box", "Linked")):
         expect(
@@ -190,10 +188,10 @@ def by_hand(home: Path) -> None:
             0,
             f"{name} -> {folder}: ...: done\n1 mailbox: 1 done\n",
         )
-    expect(["migrate", "--all", "O", "hand"], home, 0, "3 mailboxes: 3 done before\n")
+    expect("migrate --all O hand", home, 0, "3 mailboxes: 3 done before\n")
     grow(home / "else/box", ONE)
     out = "hand/link -> Linked: mboxrd or mboxo, messages 2: done, it grew by 1 message\n"
-    expect(["migrate", "--all", "O", "hand"], home, 0, f"{out}3 mailboxes: 1 done, 2 done before\n")
+    expect("migrate --all O hand", home, 0, f"{out}3 mailboxes: 1 done, 2 done before\n")
 
 
 def links_that_are_named(home: Path) -> None:
@@ -203,15 +201,10 @@ def links_that_are_named(home: Path) -> None:
     os.symlink("else/box", home / "box")
     os.symlink("../else/box", home / "tree/below")
     os.symlink("tree", home / "folder")
-    expect(
-        ["migrate", "--all", "M", "box"],
-        home,
-        0,
-        "box -> INBOX: mboxrd or mboxo, messages 1: done\n1 mailbox: 1 done\n",
-    )
+    expect("migrate --all M box", home, 0, "box -> INBOX: mboxrd or mboxo, messages 1: done\n1 mailbox: 1 done\n")
     out = "folder/below: left (link): it is a symbolic link to ../else/box\n    ...\n"
     out += "folder/work -> work: ..., messages 1: done\n"
-    expect(["migrate", "--all", "N", "folder"], home, 1, f"{out}2 mailboxes: 1 done, 1 left\n")
+    expect("migrate --all N folder", home, 1, f"{out}2 mailboxes: 1 done, 1 left\n")
 
 
 def prepared_by_hand(home: Path) -> None:
@@ -296,7 +289,7 @@ def passed_over_by_path(home: Path) -> None:
     (home / "tree/more.zip").unlink()
     says = "tree/{}: no mail, by migrate --no-mail\n"
     says = "tree/box -> box: messages 1: whole\n" + says.format("letter") + says.format("photos.zip")
-    expect(["verify", "--all", "M", "tree"], home, 0, says + "1 mailbox: 1 whole; 2 other files: no mail\n")
+    expect("verify --all M tree", home, 0, says + "1 mailbox: 1 whole; 2 other files: no mail\n")
     # a file that stands for mail by then is a mailbox
     mailbox(home / "tree/photos.zip", TWO)
     out = (
@@ -314,9 +307,9 @@ def nothing_outside(home: Path) -> None:
     mailbox(home / "tree/box", TWO)
     there = mailbox(home / "else/letter", ONE)
     os.symlink("../else/letter", home / "tree/link")
-    expect(["migrate", "--folder", "Letters", "M", "else/letter"], home, 0, None)
+    expect("migrate --folder Letters M else/letter", home, 0, None)
     mailbox(there, mail)
-    row = by_json(["migrate", "--now", "M", "tree"], home).of("tree/link")
+    row = by_json("migrate --now M tree", home).of("tree/link")
     equal("the row", (row["folder"], row["kind"]), ("Letters", "one mail without a From_ line"))
     equal("its command", run_printed(row.command, home).status, 0)
     equal("what the link leads to", there.read_bytes(), mail)
@@ -350,12 +343,12 @@ def passed_over_later(home: Path) -> None:
     whole = "tree/notes.mbox -> notes: messages 1: whole\n"
     rows = says.replace("mbox2maildir-admin: ", "").replace("left out: ", "")
     sums = "1 mailbox: 1 whole; 3 other files: no mail\n"
-    expect(["verify", "--all", "M", "tree", "alone"], home, 0, f"{whole}{rows}{sums}")
-    expect(["dates", "M", "tree", "alone"], home, 0, "tree/notes.mbox: messages 1, dated 1\n", says)
+    expect("verify --all M tree alone", home, 0, f"{whole}{rows}{sums}")
+    expect("dates M tree alone", home, 0, "tree/notes.mbox: messages 1, dated 1\n", says)
     mailbox(home / "tree/x/b.junk", ONE[1:])
     left = "tree/x/b.junk: left (not-known): no From line at the start\n...\n...kind tree/x/b.junk\n"
     sums = "2 mailboxes: 1 whole, 1 left; 1 other file: no mail\n"
-    expect(["verify", "--all", "M", "tree"], home, 1, whole + left + rows.splitlines(True)[0] + sums)
+    expect("verify --all M tree", home, 1, whole + left + rows.splitlines(True)[0] + sums)
 
 
 def make_profile(path: Path) -> None:
@@ -413,7 +406,7 @@ def profile(home: Path) -> None:
         [subjects(home / "N"), subjects(home / "N/.imap-example-org.INBOX")],
         [["one"], []],
     )
-    expect(["migrate", "--all", "N", "thunderbird"], home, 0, "5 mailboxes: 5 done before; 14 other files: no mail\n")
+    expect("migrate --all N thunderbird", home, 0, "5 mailboxes: 5 done before; 14 other files: no mail\n")
     # the Inbox of one account is INBOX if no other one has mail in its Inbox
     mailbox(home / top / "ImapMail/imap.example.net/INBOX", b"")
     equal("the only Inbox", by_json(["migrate", "--dry-run", "P", top], home).of(inbox)["folder"], "INBOX")
@@ -437,10 +430,10 @@ def two_names(home: Path) -> None:
     done = "mboxrd or mboxo, messages 1: done"
     out = f"tree/Sent -> Sent: {done}, also named tree/old/Trash\n"
     out += f"tree/old/Trash -> old/Trash: {done}, also named tree/Sent\n"
-    expect(["migrate", "--all", "M", "tree"], home, 0, out + "2 mailboxes: 2 done\n")
+    expect("migrate --all M tree", home, 0, out + "2 mailboxes: 2 done\n")
     equal("the folders", [subjects(home / "M" / name) for name in (".Sent", ".old.Trash")], [["one"]] * 2)
-    expect(["migrate", "--all", "M", "tree"], home, 0, "2 mailboxes: 2 done before\n")
-    expect(["verify", "--all", "M", "tree"], home, 0, None)
+    expect("migrate --all M tree", home, 0, "2 mailboxes: 2 done before\n")
+    expect("verify --all M tree", home, 0, None)
     # what is named by itself is one of them, and a symbolic link is none
     os.symlink("tree", home / "link")
     names = "other", "tree/Sent", "tree/old/Trash"
@@ -450,9 +443,9 @@ def two_names(home: Path) -> None:
         for name, folder, others in zip(names, ("INBOX", "Sent", "old/Trash"), also)
     )
     last = "3 mailboxes: 3 done; 2 other files: no mail\n"
-    expect(["migrate", "--all", "N", "other", "tree", "link"], home, 0, out + last)
+    expect("migrate --all N other tree link", home, 0, out + last)
     grow(sent, TWO)
-    run(["migrate", "--all", "M", "tree"], home)
+    run("migrate --all M tree", home)
     equal("after it grew", [subjects(home / "M" / name) for name in (".Sent", ".old.Trash")], [["one", "two"]] * 2)
 
 
@@ -464,28 +457,26 @@ def in_two_commands(home: Path) -> None:
     left = "older/Sent: left (no-folder): another mailbox goes into Sent too\n" + RUN
     left += "mbox2maildir-admin migrate --folder NAME M older/Sent\n"
     out = f"old/Sent -> Sent: {done}\n{left}2 mailboxes: 1 done, 1 left\n"
-    expect(["migrate", "--all", "M", "old", "older"], home, 1, out)
+    expect("migrate --all M old older", home, 1, out)
     out = f"older/Sent -> Sent: {done}, its folder has mail of .../old/Sent too\n1 mailbox: 1 done\n"
-    expect(["migrate", "--all", "M", "older"], home, 0, out)
+    expect("migrate --all M older", home, 0, out)
     grow(two, THREE)
     out = "older/Sent -> Sent: mboxrd or mboxo, messages 2: done, it grew by 1 message\n1 mailbox: 1 done\n"
-    expect(["migrate", "--all", "M", "older"], home, 0, out)
+    expect("migrate --all M older", home, 0, out)
     # whoever names the folder knows it, and so does whoever has moved the first mailbox away
     expect(["migrate", "--folder", "Sent", "M", mailbox(home / "Sent", TWO)], home, 0, None)
-    assert (
-        "its folder has mail of" not in run(["migrate", "--all", "--dry-run", "--folder", "Sent", "N", "Sent"], home)[1]
-    )
-    expect(["migrate", "N", "old"], home, 0, None)
+    assert "its folder has mail of" not in run("migrate --all --dry-run --folder Sent N Sent", home)[1]
+    expect("migrate N old", home, 0, None)
     os.rename(one, home / "gone")
     shutil.rmtree(home / "old")
     os.unlink(home / "gone")
     out = "older/Sent -> Sent: mboxrd or mboxo, messages 2: done\n1 mailbox: 1 done\n"
-    expect(["migrate", "--all", "N", "older"], home, 0, out)
+    expect("migrate --all N older", home, 0, out)
     # of INBOX this is said of each that comes to it
     mailbox(home / "tree/Inbox", TWO)
     out = f"tree/Inbox -> INBOX: {done}, INBOX has the mail of {home}/first too\n1 mailbox: 1 done\n"
     expect(["migrate", "O", mailbox(home / "first", ONE)], home, 0, None)
-    expect(["migrate", "--all", "O", "tree"], home, 0, out)
+    expect("migrate --all O tree", home, 0, out)
 
 
 def exported(home: Path) -> None:
@@ -497,13 +488,13 @@ def exported(home: Path) -> None:
     done = "mboxrd or mboxo, messages 1: done"
     rows = f"{work}/mbox -> Work: {done}\n{sent}/mbox -> Sent-Messages: {done}, its name was Sent.Messages\n"
     expect(["migrate", "--all", "M", work, sent], home, 0, rows + "2 mailboxes: 2 done\n")
-    expect(["migrate", "--all", "M", "export"], home, 0, "2 mailboxes: 2 done before\n")
+    expect("migrate --all M export", home, 0, "2 mailboxes: 2 done before\n")
     expect(["migrate", "--all", "N", work], home, 0, f"{work}/mbox -> INBOX: {done}\n1 mailbox: 1 done\n")
     expect(["verify", "--all", "N", work], home, 0, f"{work}/mbox -> INBOX: messages 1: whole\n...\n")
-    expect(["migrate", "--all", "N", "export"], home, 0, "...\n2 mailboxes: 1 done, 1 done before\n")
+    expect("migrate --all N export", home, 0, "...\n2 mailboxes: 1 done, 1 done before\n")
     equal("the folders", [subjects(home / "N" / name) for name in ("", ".Sent-Messages")], [["one"], ["two"]])
     mailbox(home / "Other.mbox/mbox", THREE)
-    row = by_json(["migrate", "N", "Other.mbox"], home).row
+    row = by_json("migrate N Other.mbox", home).row
     equal("what joins no other mail unasked", row.commands[0].split()[2:4], ["--folder", "Other"])
 
 
@@ -513,7 +504,7 @@ def in_question(home: Path) -> None:
     deleted = TWO.replace(b"\n\n", b"\nX-Mozilla-Status: 0009\n\n", 1)
     for name, text in (("twice", ONE), ("twice.mbox", deleted)):
         mailbox(home / "tree" / name, text)
-    ran = by_json(["migrate", "M", "tree"], home)
+    ran = by_json("migrate M tree", home)
     left = ("no-folder", "another mailbox goes into twice too")
     equal("what lacks its folder", (ran.status, [(row["reason"], row["says"]) for row in ran.rows]), (1, [left] * 2))
     command = ran.of("tree/twice.mbox").command
@@ -526,18 +517,18 @@ def into_another_folder(home: Path) -> None:
     """A mailbox that is done, and gets another folder: its mail is in both, which the row says once, with the command
     that removes the first. Nothing is said of a folder that no longer has it."""
     box = mailbox(home / "box", ONE + TWO)
-    expect(["migrate", "--folder", "A", "M", "box"], home, 0, None)
+    expect("migrate --folder A M box", home, 0, None)
     undo = "mbox2maildir-admin migrate --undo --folder A M box"
     out = "box -> B: mboxrd or mboxo, messages 2: done, 2 messages of it went into A too\n"
     out += f"    this removes what it placed there:\n        {undo}\n1 mailbox: 1 done\n"
-    expect(["migrate", "--all", "--folder", "B", "M", "box"], home, 0, out)
-    expect(["migrate", "--all", "--folder", "B", "M", "box"], home, 0, "1 mailbox: 1 done before\n")
+    expect("migrate --all --folder B M box", home, 0, out)
+    expect("migrate --all --folder B M box", home, 0, "1 mailbox: 1 done before\n")
     expect(undo.split()[1:], home, 0, None)
     equal("what the command left", [subjects(home / "M" / name) for name in (".A", ".B")], [[], ["one", "two"]])
     grow(box, THREE)
     shutil.rmtree(home / "M/.B")
     out = "box -> C: mboxrd or mboxo, messages 3: done\n1 mailbox: 1 done\n"
-    expect(["migrate", "--all", "--folder", "C", "M", "box"], home, 0, out)
+    expect("migrate --all --folder C M box", home, 0, out)
 
 
 if __name__ == "__main__":

@@ -38,53 +38,53 @@ def rows(fate: str, says: str = "", messages: int = 3) -> str:
 def there_and_back(home: Path) -> None:
     """What a mailbox placed is removed, whatever its flags, and it can be migrated as if nothing had happened."""
     mailbox(home / "box", ONE + TWO + THREE)
-    expect(["migrate", "M", "box"], home, 0, None)
+    expect("migrate M box", home, 0, None)
     for number, path in enumerate(list(mail_in(home / "M"))):
         path.rename(home / "M/cur" / (path.name + ":2," + "FS"[:number]))
     (home / "M/new/17.host").write_bytes(b"Subject: new\n\n")
-    expect(["migrate", "--all", "--undo", "--dry-run", "M", "box"], home, 0, rows("would be undone"))
+    expect("migrate --all --undo --dry-run M box", home, 0, rows("would be undone"))
     equal("after --dry-run", subjects(home / "M"), ["new", "one", "three", "two"])
     expect(UNDO, home, 0, rows("undone"))
     equal("after --undo", subjects(home / "M"), ["new"])
     nothing = "no ledger has it, so nothing shows which files are its own"
     expect(UNDO, home, 1, f"box -> INBOX: left (undo): {nothing}\n1 mailbox: 1 left\n")
     says = "1 message of other programs in the folder"
-    expect(["migrate", "--all", "M", "box"], home, 0, f"box -> INBOX: ...: done, {says}\n1 mailbox: 1 done\n")
+    expect("migrate --all M box", home, 0, f"box -> INBOX: ...: done, {says}\n1 mailbox: 1 done\n")
     equal("migrated again", subjects(home / "M"), ["new", "one", "three", "two"])
 
 
 def folders_and_users_words(home: Path) -> None:
     """The folder is that of the record, or the one that is named. A tree's mailbox is undone by its path."""
     mailbox(home / "tree/sent", ONE)
-    expect(["migrate", "M", "tree"], home, 0, None)
-    expect(["migrate", "--folder", "Old", "M", "tree/sent"], home, 0, None)
+    expect("migrate M tree", home, 0, None)
+    expect("migrate --folder Old M tree/sent", home, 0, None)
     several = "the record has it in several folders: Old, sent\n    run this again with --folder NAME"
     undo = ["migrate", "--all", "--undo", "M", "tree/sent"]
     expect(undo, home, 1, f"tree/sent: left (undo): {several}\n1 mailbox: 1 left\n")
     out = "tree/sent -> Old: messages 1: undone, removed 1 message\n1 mailbox: 1 undone\n"
-    expect(["migrate", "--all", "--undo", "--folder", "Old", "M", "tree/sent"], home, 0, out)
+    expect("migrate --all --undo --folder Old M tree/sent", home, 0, out)
     expect(undo, home, 0, out.replace("Old", "sent"))
-    expect(["migrate", "--undo", "N", "tree/sent"], home, 1, "", "mbox2maildir-admin: N: it has no record, so ...\n")
+    expect("migrate --undo N tree/sent", home, 1, "", "mbox2maildir-admin: N: it has no record, so ...\n")
     # people renamed its folder, and it grew
-    expect(["migrate", "--folder", "Old", "M", "tree/sent"], home, 0, None)
+    expect("migrate --folder Old M tree/sent", home, 0, None)
     (home / "M/.Old").rename(home / "M/.New")
     mailbox(home / "tree/sent", ONE + TWO)
     out = "tree/sent -> New: mboxrd or mboxo, messages 2: done, it grew by 1 message\n1 mailbox: 1 done\n"
-    expect(["migrate", "--all", "--folder", "Old", "M", "tree/sent"], home, 0, out)
+    expect("migrate --all --folder Old M tree/sent", home, 0, out)
     out = "tree/sent -> New: messages 2: undone, removed 2 messages\n1 mailbox: 1 undone\n"
     expect(undo, home, 0, out)
     expect(undo, home, 1, "...no ledger has it...\n1 mailbox: 1 left\n")
     # of programs
     mailbox(home / "tree/sent", ONE)
-    expect(["migrate", "M", "tree/sent"], home, 0, None)
-    out = run(["migrate", "--undo", "--json", "M", "tree/sent"], home)[1]
+    expect("migrate M tree/sent", home, 0, None)
+    out = run("migrate --undo --json M tree/sent", home)[1]
     assert '"verdict": "undone", "reason": null, "says": "removed 1 message"' in out, out
 
 
 def who_is_at_work(home: Path) -> None:
     """A mailbox that was written to is waited for. A record and a folder that others have locked are left alone."""
     mailbox(home / "box", ONE)
-    expect(["migrate", "M", "box"], home, 0, None)
+    expect("migrate M box", home, 0, None)
     record = os.open(home / "M/mbox2maildir-record", os.O_RDWR)
     fcntl.flock(record, fcntl.LOCK_EX)
     expect(UNDO, home, LATER, "", "mbox2maildir-admin: another migrate is at work in M, ...\n")
@@ -133,17 +133,17 @@ def a_second_batch(home: Path) -> None:
     """--again converts those mailboxes of a folder that were edited as a whole, and no others."""
     for name in ("a", "b"):
         mailbox(home / "tree" / name, numbered("first", 5))
-    expect(["migrate", "M", "tree"], home, 0, None)
+    expect("migrate M tree", home, 0, None)
     mailbox(home / "tree/a", numbered("second", 5))
     next(mail_in(home / "M/.b")).unlink()
-    status, out, _ = run(["migrate", "--all", "M", "tree"], home)
+    status, out, _ = run("migrate --all M tree", home)
     assert status == 1 and "tree/a -> a: mboxrd or mboxo, messages 5: left (rewritten): 5 messages that" in out, out
     out = (
         "tree/a -> a: mboxrd or mboxo, messages 5: done, placed 5 messages\n"
         "tree/b -> b: done before, 1 of the 5 messages that were placed in its folder are gone, ...\n"
         "2 mailboxes: 1 done, 1 done before\n"
     )
-    expect(["migrate", "--all", "--again", "M", "tree"], home, 0, out)
+    expect("migrate --all --again M tree", home, 0, out)
     equal("what is there", [len(subjects(home / "M" / name)) for name in (".a", ".b")], [10, 4])
 
 
@@ -176,7 +176,7 @@ def twins(home: Path) -> None:
                 status, out, _ = run(["migrate", "--all", *options, "M", "twin"], home)
                 equal(f"{what}: {out}", (status, "1 done before" in out), (0, True))
             equal(f"{what}: nothing comes back", len(subjects(home / "M")), 2)
-            expect(["migrate", "--undo", "M", "twin"], home, 0, None)
+            expect("migrate --undo M twin", home, 0, None)
             equal(f"{what}: what is left", len(subjects(home / "M")), 0)
 
 
@@ -192,7 +192,7 @@ def deleted_of_a_twin(home: Path) -> None:
             path.unlink()
         status, out, _ = run(UNDO, home)
         equal(f"--undo: {out}", status, 0)
-        out = run(["migrate", "--all", "M", "twin"], home)[1]
+        out = run("migrate --all M twin", home)[1]
         equal(f"what came back: {out}", (subjects(home / "M"), "1 done before" in out), ([], True))
 
 
@@ -203,10 +203,10 @@ def read_since(home: Path) -> None:
     for name in ("box", "twin"):
         expect(["migrate", "M", name], home, 0, None)
     mailbox(home / "twin", READ)
-    expect(["migrate", "M", "twin"], home, 0, None)
+    expect("migrate M twin", home, 0, None)
     expect(UNDO, home, 0, rows("undone", "removed 0 messages; kept 3 messages that .../twin has too"))
     equal("what is there", subjects(home / "M"), ["one", "three", "two"])
-    out = run(["migrate", "--all", "M", "twin"], home)[1]
+    out = run("migrate --all M twin", home)[1]
     assert "1 done before" in out, out
 
 
@@ -217,7 +217,7 @@ def of_other_mail(home: Path) -> None:
     for name in ("box", "twin"):
         expect(["migrate", "M", name], home, 0, None)
     says = "twin -> INBOX: messages 3: undone, removed 0 messages; kept 3 messages that .../box has too\n"
-    expect(["migrate", "--all", "--undo", "M", "twin"], home, 0, says + "1 mailbox: 1 undone\n")
+    expect("migrate --all --undo M twin", home, 0, says + "1 mailbox: 1 undone\n")
     expect(UNDO, home, 0, rows("undone"))
     equal("what is there", subjects(home / "M"), [])
 
@@ -236,15 +236,15 @@ def interrupted(home: Path) -> None:
     equal("its lines", [line.split(b"\t")[0] for line in lines], [b"undoing", b"undone"])
     record.write_bytes(before + lines[0])
     ledger.write_bytes(brought)
-    expect(["migrate", "--all", "M", "twin"], home, 0, "1 mailbox: 1 done before\n")
-    out = run(["migrate", "--all", "M", "box"], home)[1]
+    expect("migrate --all M twin", home, 0, "1 mailbox: 1 done before\n")
+    out = run("migrate --all M box", home)[1]
     match_in(
         r"left \(undo\): its undo was interrupted\n    run this next:\n"
         r"        mbox2maildir-admin migrate --undo M box\n",
         out,
     )
     expect(UNDO, home, 0, None)
-    expect(["migrate", "--all", "M", "twin"], home, 0, "1 mailbox: 1 done before\n")
+    expect("migrate --all M twin", home, 0, "1 mailbox: 1 done before\n")
     equal("what is there", subjects(home / "M"), ["one", "three", "two"])
 
 

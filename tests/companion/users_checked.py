@@ -36,11 +36,11 @@ def of_many(home: Path) -> None:
             for path in [other / "Maildir", *(other / "Maildir").rglob("*")]:
                 shutil.chown(path, other.name, other.name)
         sum_of = f"{COUNT} mailboxes: %s; {COUNT} users: {COUNT} from the spool\n"
-        expect(["verify", "--users", "spool"], home, 0, sum_of % f"{COUNT} whole")
+        expect("verify --users spool", home, 0, sum_of % f"{COUNT} whole")
         lacking = {names[3], names[COUNT // 2], names[-1]}
         for name in lacking:
             next(mail_in(home / "homes" / name / "Maildir")).unlink()
-        status, out, err = run(["verify", "--users", "spool"], home)
+        status, out, err = run("verify --users spool", home)
         equal("status and standard error", (status, err), (1, ""))
         (group,) = groups_in(out)
         equal("the group", group.title, "not whole: 3 mailboxes")
@@ -60,7 +60,7 @@ def spool_of_three(home: Path) -> None:
         theirs(mailbox(home / "spool" / name, (ONE, TWO, THREE)[number]), name)
     for name, text in (("lists/sheds", ONE + TWO), ("sent", ONE), (".subscriptions", b"sent\n"), ("empty", b"")):
         theirs(mailbox(home / "homes/m61two/mail" / name, text), "m61two")
-    equal("migrate", run(["migrate", "--users", "--now", "--tree", "mail", "spool"], home)[0], 0)
+    equal("migrate", run("migrate --users --now --tree mail spool", home)[0], 0)
 
 
 def each_reason(home: Path) -> None:

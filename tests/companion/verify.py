@@ -1,13 +1,13 @@
 """What `verify` says of a Maildir: what other programs and people do to it, files of another owner, and faults."""
 import os
 import random
-import subprocess
 import threading
 from pathlib import Path
 
 from tests.support.checks import equal, matches
-from tests.support.homes import ADMIN, check_all, expect, mailbox, run, want_root
+from tests.support.homes import check_all, expect, mailbox, run, want_root
 from tests.support.mail import A, ONE
+from tests.support.running import OWNER, Desk
 
 
 def closed_files(home: Path) -> None:
@@ -17,25 +17,19 @@ def closed_files(home: Path) -> None:
         mailbox(home / path, ONE)
     (home / "old/closed").chmod(0)
     (home / "old/a/box").chmod(0)
-    ran = subprocess.run(
-        ["setpriv", "--reuid=65534", "--regid=65534", "--clear-groups", home / "bin" / ADMIN.name, "kind", "old"],
-        cwd=home,
-        capture_output=True,
-        text=True,
-        check=False,
-    )
-    equal("closed files: status and errors", (ran.returncode, ran.stderr), (1, ""))
+    ran = Desk(home, user=OWNER).run(["kind", "old"])
+    equal("closed files: status and errors", (ran.status, ran.err), (1, ""))
     wanted = {"old/a/box: left (error): Permission denied", "old/closed: left (error): Permission denied"}
     wanted |= {"old/open: mboxrd or mboxo, messages 1"}
-    equal("closed files: what is not printed", wanted - {*ran.stdout.splitlines()}, set())
+    equal("closed files: what is not printed", wanted - {*ran.out.splitlines()}, set())
 
 
 def ten_messages(home: Path) -> tuple[list[str], list[str]]:
     """A mailbox of ten messages, some of them equal, and its Maildir. Returns texts and bases."""
     texts = [f"Subject: {number}\n\n{number}\n" for number in range(7)] + ["Subject: 0\n\n0\n", "same\n", "same\n"]
     (home / "box").write_text("".join(f"From a@b Mon Mar  3 09:12:44 2025\n{text}\n" for text in texts))
-    run(["mbox2maildir", "convert", "M", "box"], home)
-    bases = [line.split()[1] for line in run(["mbox2maildir", "list", "box"], home)[1].splitlines()]
+    run("mbox2maildir convert M box", home)
+    bases = [line.split()[1] for line in run("mbox2maildir list box", home)[1].splitlines()]
     equal("the base of a second message", bases[7], f"{bases[0][:64]}.2")
     return texts, bases
 
@@ -55,11 +49,11 @@ def verified(home: Path) -> None:
     def move(number: int, name: str) -> None:
         os.rename(home / "M/new" / bases[number], home / "M" / name)
 
-    expect(["verify", "--all", "M", "box"], home, 0, WHOLE)
+    expect("verify --all M box", home, 0, WHOLE)
     move(0, f"cur/{bases[0]}:2,S")
     (home / "M/tmp" / bases[0]).write_text("half")
     (home / "M/new/17.M1.host").write_text("another's mail\n")
-    expect(["verify", "--all", "M", "box", "box"], home, 0, WHOLE.splitlines(True)[0] * 2 + "2 mailboxes: 2 whole\n")
+    expect("verify --all M box box", home, 0, WHOLE.splitlines(True)[0] * 2 + "2 mailboxes: 2 whole\n")
 
     # the names that mbsync, mailutils and offlineimap give to mail that they saw
     move(1, f"cur/{bases[1]},U=1:2,S")
@@ -73,7 +67,7 @@ def verified(home: Path) -> None:
             (3, "1700000000_0.1.host,U=3,FMD5=...:2,"),
         )
     )
-    expect(["verify", "--all", "M", "box"], home, 0, checked("whole, under another name 3", "whole", said))
+    expect("verify --all M box", home, 0, checked("whole, under another name 3", "whole", said))
 
     # moved away; cut, grown and changed; and no regular file
     move(4, "tmp/gone")
@@ -87,7 +81,7 @@ def verified(home: Path) -> None:
         for number, line in ((5, 26), (6, 31), (8, 41), (9, 44))
     ]
     expect(
-        ["verify", "--all", "M", "box"],
+        "verify --all M box",
         home,
         1,
         checked(
@@ -108,7 +102,7 @@ def there_twice(home: Path) -> None:
     (home / f"M/cur/{bases[0][:64]}.3:2,").write_text(texts[0])
     # offlineimap's
     (home / "M/cur/1700000000_0.1.host,U=3,FMD5=7e33429f656f1e6e9d79b29c3f82c57e:2,").write_text(texts[4])
-    status, out, err = run(["verify", "--all", "M", "box"], home)
+    status, out, err = run("verify --all M box", home)
     equal("verify: status and standard error", (status, err), (1, ""))
     more = [
         f"    a second copy of a message: M/cur/{name}\n"
@@ -127,7 +121,7 @@ def there_twice(home: Path) -> None:
     os.unlink(home / "M/new" / bases[7])
     matches(
         "a copy",
-        run(["verify", "--all", "M", "box"], home)[1].splitlines()[0],
+        run("verify --all M box", home)[1].splitlines()[0],
         "...: not whole, under another name 1; ...",
     )
     print("admin: verify: messages with new names, other bytes, and none")
@@ -139,10 +133,10 @@ def of_another_owner(home: Path) -> None:
     _, bases = ten_messages(home)
     for path in (home / "M", *(home / "M").rglob("*")):
         os.chown(path, 65534, 65534)
-    expect(["verify", "--all", "M", "box"], home, 0, WHOLE)
+    expect("verify --all M box", home, 0, WHOLE)
     os.chown(home / "M/new" / bases[4], 0, 0)
     expect(
-        ["verify", "--all", "M", "box"],
+        "verify --all M box",
         home,
         1,
         checked(
@@ -156,11 +150,11 @@ def of_another_owner(home: Path) -> None:
 def verified_by_others(home: Path) -> None:
     """A mailbox that has mail in its From_ line; faults; and a program that lists something else."""
     (home / "box").write_text("From a\n\nhello\n\n")
-    run(["mbox2maildir", "convert", "M", "box"], home)
+    run("mbox2maildir convert M box", home)
     (home / "mac").write_bytes(A.replace(b"\n", b"\r"))
-    run(["mbox2maildir", "convert", "M", "mac"], home)
+    run("mbox2maildir convert M mac", home)
     expect(
-        ["verify", "--all", "M", "mac"],
+        "verify --all M mac",
         home,
         1,
         "mac -> INBOX: messages 1: not whole, doubtful lines 1\n    line 1: this From_ line may contain mail\n"
@@ -168,7 +162,7 @@ def verified_by_others(home: Path) -> None:
     )
     (home / "no-mbox").write_text("hello\n")
     expect(
-        ["verify", "--all", "M", "no-mbox", "none", "M"],
+        "verify --all M no-mbox none M",
         home,
         1,
         "no-mbox: left (not-known): no From line at the start\n    find out what it is:\n"
@@ -176,14 +170,12 @@ def verified_by_others(home: Path) -> None:
         "M: left (maildir): it is a Maildir, not a mailbox\n    leave it as it is\n3 mailboxes: 3 left\n",
     )
     (home / "empty").mkdir()
-    expect(
-        ["dates", "M", "empty"], home, 1, "", "mbox2maildir-admin: empty: it contains no mailbox\n    there is ...\n"
-    )
+    expect("dates M empty", home, 1, "", "mbox2maildir-admin: empty: it contains no mailbox\n    there is ...\n")
     for words, sums in ((["verify", "--all", "M"], "1 mailbox: 1 left\n"), (["kind"], "")):
         says = "empty: left (no-mailbox): it contains no mailbox\n    there is nothing to be done\n"
         expect([*words, "empty"], home, 1, says + sums)
     says = "mac: left (no-maildir): it was not migrated: None is no Maildir\n...\n...migrate None mac\n...\n"
-    expect(["verify", "--all", "None", "mac"], home, 1, says)
+    expect("verify --all None mac", home, 1, says)
     for script, says in (
         ("exit 0", "`mbox2maildir list` gave fewer messages than were read here"),
         ("echo 1 abc.1", "line 1: message 1 differs from what `mbox2maildir list` gave"),
@@ -195,13 +187,13 @@ def verified_by_others(home: Path) -> None:
             os.rename(home / "bin/mbox2maildir", home / "real")
         (home / "bin/mbox2maildir").write_text(f"#!/bin/sh\n{script}\n")
         (home / "bin/mbox2maildir").chmod(0o755)
-        expect(["verify", "--all", "M", "box"], home, 1, f"box: left (...): {says}\n1 mailbox: 1 left\n")
+        expect("verify --all M box", home, 1, f"box: left (...): {says}\n1 mailbox: 1 left\n")
 
 
 def read_meanwhile(home: Path) -> None:
     """A mail program that moves and flags mail without a pause hides none of it, and doubles none."""
     (home / "box").write_text("".join(f"From a@b Mon Mar  3 09:12:44 2025\n{number}\n\n" for number in range(500)))
-    run(["mbox2maildir", "convert", "M", "box"], home)
+    run("mbox2maildir convert M box", home)
     ended, dice = threading.Event(), random.Random(1)
     moved = []  # type: list[Path]
 
@@ -215,13 +207,8 @@ def read_meanwhile(home: Path) -> None:
     mover.start()
     try:
         for _ in range(3):
-            expect(
-                ["verify", "--all", "M", "box"],
-                home,
-                0,
-                "box -> INBOX: messages 500: whole\n1 mailbox: 1 whole\n",
-            )
-            expect(["dates", "M", "box"], home, 0, "box: messages 500, dated 500\n", None)
+            expect("verify --all M box", home, 0, "box -> INBOX: messages 500: whole\n1 mailbox: 1 whole\n")
+            expect("dates M box", home, 0, "box: messages 500, dated 500\n", None)
     finally:
         ended.set()
         mover.join()

@@ -1,6 +1,7 @@
 """How tests run the programs: in a fresh folder, which has them in bin/."""
 import os
 import pwd
+import shlex
 import shutil
 import tempfile
 import time
@@ -8,7 +9,7 @@ from collections.abc import Callable, Iterator, Sequence
 from contextlib import contextmanager
 from functools import partial
 from pathlib import Path
-from typing import Optional
+from typing import Optional, Union
 
 from tests.support import accounts
 from tests.support.cases import LeftOut, run_cases
@@ -19,6 +20,8 @@ from tests.support.running import BY_OTHERS, COMPANION, OWNER, Desk, Run, Word
 
 ADMIN = TOP / "admin" / COMPANION
 PACKAGE = TOP / "admin/mbox2maildir_admin"
+# a command by its words, or as it is typed
+Command = Union[str, Sequence[Word]]
 # a disk in memory, and the room that tests want there
 MEMORY, ROOM = "/dev/shm", 1 << 28
 
@@ -52,24 +55,31 @@ def want_no_people(words: Sequence[Word]) -> None:
         want_users()
 
 
-def run(words: Sequence[Word], home: Path, **settings: str) -> Run:
+def words_of(command: Command) -> Sequence[Word]:
+    """The words of a command."""
+    return shlex.split(command) if isinstance(command, str) else command
+
+
+def run(words: Command, home: Path, **settings: str) -> Run:
     """Runs a command, or the companion with these words, which must never die of a fault of its own. Returns what it
     prints without the time that it took, and without how far it was each minute."""
     status, out, err = run_whole(words, home, **settings)
     return Run(status, without_work(out), without_progress(err))
 
 
-def run_whole(words: Sequence[Word], home: Path, **settings: str) -> Run:
+def run_whole(words: Command, home: Path, **settings: str) -> Run:
     """The same, with everything that it prints. Python heeds the locale when it begins, and children of other users
     load what they need: such a run is no copy of this process, which would take less time."""
+    words = words_of(words)
     want_no_people(words)
     is_copy = "LC_ALL" not in settings and "--users" not in words
     return (Copies if is_copy else Desk)(home, None, "", **settings).run(words, BY_OTHERS)
 
 
-def by_json(words: Sequence[Word], home: Path, **settings: str) -> Run:
+def by_json(words: Command, home: Path, **settings: str) -> Run:
     """Runs a command with `--json`, for its rows."""
-    return run_whole([*words[:1], "--json", *words[1:]], home, **settings)
+    command, *others = words_of(words)
+    return run_whole([command, "--json", *others], home, **settings)
 
 
 def run_printed(command: str, home: Path, *more: str) -> Run:
@@ -78,7 +88,7 @@ def run_printed(command: str, home: Path, *more: str) -> Run:
 
 
 def expect(
-    words: Sequence[Word], home: Path, status: int, out: Optional[str], err: Optional[str] = "", **settings: str
+    words: Command, home: Path, status: int, out: Optional[str], err: Optional[str] = "", **settings: str
 ) -> None:
     """The same, for a known status and output. An output may be None if anything may come."""
     got, *texts = run(words, home, **settings)

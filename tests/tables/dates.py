@@ -110,9 +110,9 @@ def dates(home: Path) -> None:
 
     by_header = datetime.fromisoformat("2025-03-04T10:00:00+00:00").timestamp()
     (home / "one").write_bytes((A + b"Date: 4 Mar 2025 10:00 Z\n\n") * 2)
-    run(["mbox2maildir", "convert", "One", "one"], home)
+    run("mbox2maildir convert One one", home)
     expect(
-        ["dates", "One", "one", "none", "--header"],
+        "dates One one none --header",
         home,
         1,
         "one: messages 2, dated 2, by header 2\n",
@@ -127,12 +127,12 @@ def dates(home: Path) -> None:
     )
     # which the option takes if all From_ lines have one date, and only then, as the help says
     (home / "two").write_bytes((A + b"Date: 4 Mar 2025 10:00 Z\n\n") + B + b"Date: 4 Mar 2025 10:00 Z\n\n")
-    run(["mbox2maildir", "convert", "Two", "two"], home)
-    expect(["dates", "--header", "Two", "two"], home, 0, "two: messages 2, dated 2\n")
-    told = " ".join(run(["dates", "--help"], home)[1].split())
+    run("mbox2maildir convert Two two", home)
+    expect("dates --header Two two", home, 0, "two: messages 2, dated 2\n")
+    told = " ".join(run("dates --help", home)[1].split())
     equal("its help", told.endswith(" take the dates of the headers Date if all From_ lines have the same date"), True)
     says = "mbox2maildir-admin: one: it was not migrated: None is no Maildir\n...\n...migrate None one\n"
-    expect(["dates", "None", "one"], home, 1, "", says)
+    expect("dates None one", home, 1, "", says)
     print(f"admin: dates: {len(forms)} messages have the dates of their From_ lines")
 
 
@@ -140,11 +140,11 @@ def dates_of_headers(home: Path, forms: Sequence[tuple[str, Optional[str]]]) -> 
     """If a From_ line has no date, the date of the header counts, and it is said for how many messages."""
     text = "".join(f"From {form}\nDate: Tue, 4 Mar 2025\n 10:00:00 GMT\n\nhello\n\n" for form, _ in forms)
     (home / "headers").write_bytes(text.encode())
-    run(["mbox2maildir", "convert", "H", "headers"], home)
-    bases = [line.split()[1] for line in run(["mbox2maildir", "list", "headers"], home)[1].splitlines()]
+    run("mbox2maildir convert H headers", home)
+    bases = [line.split()[1] for line in run("mbox2maildir list headers", home)[1].splitlines()]
     count = sum(moment is None for _, moment in forms)
     said = f"headers: messages {len(forms)}, dated {len(forms)}, by header {count}\n"
-    expect(["dates", "H", "headers"], home, 0, said, TZ=NEW_YORK)
+    expect("dates H headers", home, 0, said, TZ=NEW_YORK)
     moments = {base: path.stat().st_mtime for base, path in files_of(home / "H").items()}
     for (form, moment), base in zip(forms, bases):
         wanted = datetime.fromisoformat(moment or "2025-03-04T10:00:00+00:00").timestamp()
@@ -157,22 +157,22 @@ def dates_that_stay(home: Path) -> None:
     (home / "box").write_text(
         "".join(f"From a{number} Mon Mar  3 09:12:{number} 2025 +0000\n\n{number}\n\n" for number in range(10, 60))
     )
-    run(["mbox2maildir", "convert", "M", "box"], home)
+    run("mbox2maildir convert M box", home)
     counts = "box: messages 50, dated {}\n".format
-    expect(["dates", "M", "box"], home, 0, counts(50))
+    expect("dates M box", home, 0, counts(50))
     before = {path: path.stat().st_ctime_ns for path in files_of(home / "M").values()}
-    expect(["dates", "M", "box"], home, 0, counts(50))
+    expect("dates M box", home, 0, counts(50))
     equal("files that had their dates", {path: path.stat().st_ctime_ns for path in before}, before)
     for path in list(before)[:20]:
         path.unlink()
     lines = ["mbox2maildir-admin: box: message ... (line ...): not found in M\n"] * 10
-    expect(["dates", "M", "box"], home, 1, counts(30), "".join([*lines, "mbox2maildir-admin: box: and 10 more\n"]))
+    expect("dates M box", home, 1, counts(30), "".join([*lines, "mbox2maildir-admin: box: and 10 more\n"]))
 
     (home / "old").write_text("From a@b Mon Jan  1 00:00:00 1900 +0000\n\nold\n\n")
-    run(["mbox2maildir", "convert", "Old", "old"], home)
+    run("mbox2maildir convert Old old", home)
     (path,) = files_of(home / "Old").values()
     moment = path.stat().st_mtime_ns
-    status, out, err = run(["dates", "Old", "old"], home)
+    status, out, err = run("dates Old old", home)
     if status:
         equal(
             "a date that the file system has not",
@@ -197,20 +197,15 @@ def many_dates(home: Path) -> None:
             for number, moment in enumerate(moments)
         )
     )
-    names = [line.split()[1] for line in run(["mbox2maildir", "list", "many"], home)[1].splitlines()]
+    names = [line.split()[1] for line in run("mbox2maildir list many", home)[1].splitlines()]
     for sub in ("new", "cur"):
         (home / "Many" / sub).mkdir(parents=True)
     for number, name in enumerate(names):
         (home / "Many/cur" / f"{name}:2,S").write_text(f"Subject: {number}\n\n{number}\n")
-    expect(["dates", "Many", "many"], home, 0, f"many: messages {MANY}, dated {MANY}\n")
+    expect("dates Many many", home, 0, f"many: messages {MANY}, dated {MANY}\n")
     found = [(home / "Many/cur" / f"{name}:2,S").stat().st_mtime - first for name in names]
     equal("messages with another date", [pair for pair in enumerate(found) if pair[0] != pair[1]], [])
-    expect(
-        ["verify", "--all", "Many", "many"],
-        home,
-        0,
-        f"many -> INBOX: messages {MANY}: whole\n1 mailbox: 1 whole\n",
-    )
+    expect("verify --all Many many", home, 0, f"many -> INBOX: messages {MANY}: whole\n1 mailbox: 1 whole\n")
     print(f"admin: dates: {MANY} messages of one folder")
 
 

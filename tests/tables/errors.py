@@ -212,21 +212,21 @@ def a_maildir_with_a_mailbox(home: Path) -> None:
         equal(f"{words}: messages", len(list((home / f"M{number}").rglob("new/*"))), count)
     # what was noted before the Maildir was made is in the record
     rows = "notes: no mail, by migrate --no-mail\nbox -> INBOX: messages 1: whole\n"
-    expect(["verify", "--all", "M7", "notes", "box"], home, 0, rows + "1 mailbox: 1 whole; 1 other file: no mail\n")
+    expect("verify --all M7 notes box", home, 0, rows + "1 mailbox: 1 whole; 1 other file: no mail\n")
 
 
 def what_is_missing(home: Path) -> None:
     """A path that is not there has a reason of its own, and a command that found no mailbox has status 1."""
     mailbox(home / "box", ONE)
     (home / "folder").mkdir()
-    status, out, _ = run(["migrate", "--json", "--now", "M", "none", "box/x", "box"], home)
+    status, out, _ = run("migrate --json --now M none box/x box", home)
     rows = [json.loads(line) for line in out.splitlines()]
     found = [(row["path"], row["verdict"], row["reason"]) for row in rows[:-1]]
     wanted = [("none", "left", "missing"), ("box/x", "left", "missing"), ("box", "done", None)]
     equal("rows", (status, found), (1, wanted))
-    expect(["migrate", "--all", "M", "folder"], home, 1, "no mailboxes\n")
+    expect("migrate --all M folder", home, 1, "no mailboxes\n")
     left = "none -> INBOX: left (missing): ...\n...\n...\n1 mailbox: 1 left\n"
-    expect(["migrate", "--all", "--undo", "M", "none"], home, 1, left)
+    expect("migrate --all --undo M none", home, 1, left)
 
 
 def not_in_quotes(home: Path) -> None:
@@ -252,7 +252,7 @@ def not_in_quotes(home: Path) -> None:
             (1, True, len(paths) + 1),
         )
         equal(f"{given}: what was made", [path.name for path in home.iterdir() if path.name in ("M", "My")], [])
-    both = run(["migrate", "--all", "--now", "--folder", "Both", "M", "./a", "./b"], home)
+    both = run("migrate --all --now --folder Both M ./a ./b", home)
     equal("two files beside it", (both[0], both[1].splitlines()[-1]), (0, "2 mailboxes: 2 done"))
 
 

@@ -46,8 +46,7 @@ def what_files_are(home: Path) -> None:
     migrate = ["mbox2maildir-admin", "migrate"]
     equal("the answers", answers, {"belongs-above": (migrate, 1), "begins-here": (migrate, 2)})
     migrated = {
-        one["path"]: one
-        for one in map(json.loads, run(["migrate", "--json", "--dry-run", "M", "old"], home)[1].splitlines()[:-1])
+        one["path"]: one for one in map(json.loads, run("migrate --json --dry-run M old", home)[1].splitlines()[:-1])
     }
     equal("its lines as migrate shows them", question["lines"], migrated["old/doubtful"]["lines"])
     equal("answers as migrate has them", list(answers), [one["answer"] for one in migrated["old/doubtful"]["next"]])
@@ -57,7 +56,7 @@ def what_is_there(home: Path) -> None:
     """Each mailbox has an object with its counts, and with what is nowhere, has other bytes or is there twice."""
     for name, text in (("a", ONE + TWO), ("b", TWO)):
         mailbox(home / "old" / name, text)
-    expect(["migrate", "--all", "--now", "M", "old"], home, 0, "...\n...\n2 mailboxes: 2 done\n")
+    expect("migrate --all --now M old", home, 0, "...\n...\n2 mailboxes: 2 done\n")
     *whole, _ = objects(["verify", "M", "old"], home)
     equal(
         "if all is there",

@@ -166,7 +166,7 @@ def no_place_beside(home: Path) -> None:
     then = shlex.quote(f'{makes} && mbox2maildir-admin migrate MAILDIR "$d/copy"')
     aside = f'd=$(mktemp -d {home}/cut.XXXXXX) && mv -nT spool/cut "$d/original"'
     says = f"spool/cut: damaged\n...\n...\n{RUN}runuser -u {owner.pw_name} -- sh -c {then} && {aside}\n"
-    expect(["kind", "spool/cut"], home, 1, says)
+    expect("kind spool/cut", home, 1, says)
 
 
 def delivered_to_meanwhile(home: Path) -> None:
@@ -344,15 +344,13 @@ def no_copy_is_cut(home: Path) -> None:
     ran = run_printed("ulimit -f 2048 && exec mbox2maildir-admin quote -o copy big", home)
     equal("quote of a big file", ran[::2], (1, "mbox2maildir-admin: copy: File too large\n"))
     expect(
-        ["quote", "big", "-o", "big"],
+        "quote big -o big",
         home,
         1,
         "",
         "mbox2maildir-admin: big: big already exists\n    name a file that is not there\n",
     )
-    expect(
-        ["quote", "big", "-o", "none/x"], home, 1, "", "mbox2maildir-admin: none: No such file or directory\n...\n...\n"
-    )
+    expect("quote big -o none/x", home, 1, "", "mbox2maildir-admin: none: No such file or directory\n...\n...\n")
     equal("the files", set(os.listdir(home)), before)
 
 

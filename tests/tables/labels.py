@@ -93,9 +93,7 @@ def each_label_is_a_folder(home: Path) -> None:
         f"t.mbox -> a-b: {KIND}, messages 2: would be done, its labels are a.b and a-b\n"
         f"t.mbox -> 'bills, old': {KIND}, messages 1: would be done\n"
     )
-    expect(
-        ["migrate", "--all", "--labels", "--dry-run", "M", "t.mbox"], home, 0, f"{rows}10 mailboxes: 10 would be done\n"
-    )
+    expect("migrate --all --labels --dry-run M t.mbox", home, 0, f"{rows}10 mailboxes: 10 would be done\n")
     equal("whether --dry-run made anything", (home / "M").exists(), False)
     expect(LABELS, home, 0, rows.replace("would be ", "") + "10 mailboxes: 10 done\n")
     equal("the folders", folders_in(home / "M"), FOLDERS)
@@ -104,25 +102,25 @@ def each_label_is_a_folder(home: Path) -> None:
     equal("what the record begins with", (lines[0][0], lines[0][7].count(" in=")), ("labels", len(FOLDERS)))
     equal("what is done", sorted(line[1] for line in lines if line[0] == "done"), sorted(one or "." for one in FOLDERS))
     expect(LABELS, home, 0, "10 mailboxes: 10 done before\n")
-    status, out, _ = run(["verify", "--all", "M", "t.mbox"], home)
+    status, out, _ = run("verify --all M t.mbox", home)
     # each line begins as that of the migration does
     heads = [line.split(": ")[0] for line in rows.splitlines()]
     equal("verify", (status, [line.split(": ")[0] for line in out.splitlines()[:-1]]), (0, heads))
     next((home / "M/.Junk/new").iterdir()).unlink()
-    equal("verify of what is gone", run(["verify", "--all", "M", "t.mbox"], home)[0], 1)
+    equal("verify of what is gone", run("verify --all M t.mbox", home)[0], 1)
 
 
 def one_folder_for_each(home: Path) -> None:
     """The first label of the user's own; without one Inbox, Sent, Drafts, Spam, Trash; else Archive."""
     takeout(home, [*RESERVED, ("ten", "Trash,Spam,Inbox,Sent"), ("eleven", "Important,Trash,Spam")])
-    expect(["migrate", "--labels", "one", "M", "t.mbox"], home, 0, None)
+    expect("migrate --labels one M t.mbox", home, 0, None)
     wanted = {
         **{name: FOLDERS[name] for name in (".Archive", ".Gr&APwA3w-e", ".Trash", ".bills, old", ".a-b")},
         **{"": ["one", "ten"], ".Junk": ["eleven", "three"], ".Work.A": ["two"]},
     }
     equal("the folders", folders_in(home / "M"), wanted)
     # a Maildir of this name is named with a slash
-    expect(["migrate", "--labels", "./one", "t.mbox"], home, 0, None)
+    expect("migrate --labels ./one t.mbox", home, 0, None)
     equal("the folders of all labels", folders_in(home / "one")[".Sent"], ["ten", "two"])
     out = f"t.mbox: left (another-reading): it was migrated with other words about its labels: --labels one\n{UNDO}"
     expect(LABELS, home, 1, out)
@@ -188,13 +186,13 @@ def a_label_says_what_was_read(home: Path) -> None:
     row += f"t.mbox -> Archive: {KIND}, messages 1: done\n"
     row += f"t.mbox -> Sent: {KIND}, messages 1: done, {UNREAD.format(1)}\n"
     row += "".join(f"t.mbox -> {label}: {KIND}, messages 1: done, {UNREAD.format(1)}\n" for label in "xyz")
-    expect(["migrate", "--all", "--labels", "P", "t.mbox"], home, 0, row + "6 mailboxes: 6 done\n")
+    expect("migrate --all --labels P t.mbox", home, 0, row + "6 mailboxes: 6 done\n")
     said = [word for pair in ("x=read", "y=unread", "z=starred") for word in ("--label", pair)]
     expect([*LABELS[:3], *said, "Q", "t.mbox"], home, 0, None)
     equal("what was said", flags_in(home / "Q"), {"one": "S", "four": "F"})
     equal("folders", folders_in(home / "Q"), {"": ["one", "two"], ".Archive": ["three"], ".Sent": ["four"]})
     out = f"t.mbox -> INBOX: {KIND}, messages 4: done, {UNREAD.format(3)}; labelled Sent 1: ...\n1 mailbox: 1 done\n"
-    expect(["migrate", "--all", "O", "t.mbox"], home, 0, out)
+    expect("migrate --all O t.mbox", home, 0, out)
 
 
 def a_label_gives_no_folder(home: Path) -> None:
@@ -202,7 +200,7 @@ def a_label_gives_no_folder(home: Path) -> None:
     long = "x" * 255
     for label in ("a//b", "/a", "..", "a/../b", "=?UTF-8?Q?a=01b?=", long):
         takeout(home, [("one", "Inbox"), ("two", f"Inbox,{label}"), ("three", "Sent"), ("four", "Sent")])
-        row = by_json(["migrate", "--labels", "M", "t.mbox"], home).row
+        row = by_json("migrate --labels M t.mbox", home).row
         equal(f"{label}: {row}", (row["reason"], row["says"].startswith("message 2 has the label ")), ("labels", True))
         equal("whether anything was made", (home / "M").exists(), False)
     equal("without the label", run_printed(row.commands[0], home).status, 0)
@@ -234,7 +232,7 @@ def a_later_takeout(home: Path) -> None:
     expect(LABELS, home, 0, "2 mailboxes: 2 done before\n")
     row = "beside -> INBOX: ...: done, 2 messages there already, from .../t.mbox\n"
     out = f"{row}beside -> Sent: ...\n2 mailboxes: 2 done\n"
-    expect(["migrate", "--all", "--labels", "M", "beside"], home, 0, out)
+    expect("migrate --all --labels M beside", home, 0, out)
     equal("the folders", folders_in(home / "M"), there)
     takeout(home, [("one", "Work,Opened"), ("two", "Sent,Work"), ("three", "Inbox"), ("four", "Sent")], "beside")
     out = (
@@ -242,7 +240,7 @@ def a_later_takeout(home: Path) -> None:
         "beside -> Sent: ...: done, it grew by 1 message\n"
         f"beside -> Work: {KIND}, messages 2: done, 1 message with flags of Gmail\n3 mailboxes: 2 done, 1 done before\n"
     )
-    expect(["migrate", "--all", "--labels", "M", "beside"], home, 0, out)
+    expect("migrate --all --labels M beside", home, 0, out)
     wanted = {"": ["one", "three"], ".Sent": ["four", "two"], ".Work": ["one", "two"]}
     equal("the folders then", folders_in(home / "M"), wanted)
 
@@ -253,12 +251,12 @@ def with_labels_and_without(home: Path) -> None:
     says = "labelled Spam 1, Trash 1, Sent 1, Drafts 1: with --labels, labels become folders"
     row = f"t.mbox -> INBOX: {KIND}, messages 9: done, 2 messages with flags of Gmail; {says}\n"
     out = f"{row}1 mailbox: 1 done\n"
-    expect(["migrate", "--all", "M", "t.mbox"], home, 0, out)
+    expect("migrate --all M t.mbox", home, 0, out)
     out = (
         f"t.mbox: left (another-reading): it was migrated without --labels, so all of its mail is in one folder\n{UNDO}"
     )
     expect(LABELS, home, 1, out)
-    expect(["migrate", "--undo", "M", "t.mbox"], home, 0, None)
+    expect("migrate --undo M t.mbox", home, 0, None)
     expect(LABELS, home, 0, None)
     says = "it was migrated with --labels, so its mail is in the folders of its labels"
     out = f"t.mbox: left (another-reading): {says}\n{UNDO}"
@@ -273,7 +271,7 @@ def with_labels_and_without(home: Path) -> None:
     (home / "old").mkdir()
     (home / "t.mbox").rename(home / "old/t.mbox")
     mailbox(home / "old/other", ONE)
-    expect(["migrate", "M", "old"], home, 1, None)
+    expect("migrate M old", home, 1, None)
     equal("the folders", folders_in(home / "M"), {**FOLDERS, ".other": ["one"]})
 
 
@@ -283,17 +281,17 @@ def the_record_knows_the_folders(home: Path) -> None:
     expect(LABELS, home, 0, None)
     for folder in (".Junk", ".Work.A"):
         next((home / "M" / folder / "new").iterdir()).unlink()
-    expect(["migrate", "--again", "M", "t.mbox"], home, 0, None)
+    expect("migrate --again M t.mbox", home, 0, None)
     equal("the folders", folders_in(home / "M"), FOLDERS)
     (home / "t.mbox").rename(home / "moved")
-    expect(["migrate", "--all", "--labels", "M", "moved"], home, 0, "10 mailboxes: 10 done before\n")
-    equal("verify", run(["verify", "--all", "M", "moved"], home)[0], 0)
-    expect(["migrate", "--undo", "--dry-run", "M", "moved"], home, 0, None)
+    expect("migrate --all --labels M moved", home, 0, "10 mailboxes: 10 done before\n")
+    equal("verify", run("verify --all M moved", home)[0], 0)
+    expect("migrate --undo --dry-run M moved", home, 0, None)
     equal("the folders", folders_in(home / "M"), FOLDERS)
-    status, out, _ = run(["migrate", "--all", "--undo", "M", "moved"], home)
+    status, out, _ = run("migrate --all --undo M moved", home)
     equal("the undo", (status, out.splitlines()[-1]), (0, "10 mailboxes: 10 undone"))
     equal("what is there", folders_in(home / "M"), {})
-    expect(["migrate", "M", "moved"], home, 0, None)
+    expect("migrate M moved", home, 0, None)
     equal("without labels", len(folders_in(home / "M")[""]), 9)
 
 

@@ -74,7 +74,7 @@ def decided(home: Path) -> None:
     """Where nothing shows that mail begins within a length, no mail does, and the row says so."""
     for name, (text, _) in DECIDED.items():
         mailbox(home / "old" / name, text)
-    ran = by_json(["migrate", "--now", "M", "old"], home)
+    ran = by_json("migrate --now M old", home)
     equal("the status", ran.status, 0)
     for name, (text, bodies) in DECIDED.items():
         found = [one.read_bytes().split(b"\n\n", 1)[1] for one in mail_in(home / f"M/.{name}")]
@@ -82,14 +82,14 @@ def decided(home: Path) -> None:
         said = [one["says"] for one in ran.of(f"old/{name}")["remarks"] if one["remark"] == "by-lengths"]
         count = sum(body.count(b"\nFrom ") for body in bodies)
         equal(f"{name}: what is said", said, [SAYS(f"{count} line" + "s" * (count > 1))])
-    expect(["migrate", "--now", "M", "old"], home, 0, f"{len(DECIDED)} mailboxes: {len(DECIDED)} done before\n")
+    expect("migrate --now M old", home, 0, f"{len(DECIDED)} mailboxes: {len(DECIDED)} done before\n")
 
 
 def asked(home: Path) -> None:
     """A human is asked about all that may be mail, also where each message has a length."""
     for name, (text, _) in ASKED.items():
         mailbox(home / "old" / name, text)
-    ran = by_json(["migrate", "--dry-run", "--now", "M", "old"], home)
+    ran = by_json("migrate --dry-run --now M old", home)
     equal("the status", ran.status, 1)
     for name, (_, counts) in ASKED.items():
         row = ran.of(f"old/{name}")

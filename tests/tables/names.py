@@ -66,7 +66,7 @@ def names_of_folders(home: Path) -> None:
         mailbox(home / "-old" / name, A + b"\n")
     wanted = {name: encoded(name if folder is None else folder) for name, folder in NAMES.items()}
     wanted.update((name, name) for name in ENCODED)
-    ran = by_json(["migrate", "--", "M", "-old"], home)
+    ran = by_json("migrate -- M -old", home)
     left = [row for row in ran.rows if row["verdict"] != "done"]
     equal("a tree: what is left", (left, ran.status, ran.err), ([], 0, ""))
     equal(

@@ -133,7 +133,7 @@ def of_a_tree(home: Path) -> None:
         equal(f"{kind}: status, and what came: {out}", (status, subjects_below(home / "M")), (0, wanted))
         aside = list(home.glob(f"{kind}.*/original"))
         assert text in [one.read_bytes() for one in aside], f"{kind}: {aside}"
-        equal(f"{kind}: once more", run(["migrate", "--now", "M", "old"], home)[0], 0)
+        equal(f"{kind}: once more", run("migrate --now M old", home)[0], 0)
         for name in ("M", "old"):
             shutil.rmtree(home / name)
 

@@ -16,9 +16,9 @@ def options_anywhere(home: Path) -> None:
     done = "box -> INBOX: mboxrd or mboxo, messages 1: done\n1 mailbox: 1 done\n"
     for number, words in enumerate(("--now {} box", "{} --now box", "{} box --now", "{} --jobs 1 box --now")):
         expect(["migrate", "--all", *words.format(f"M{number}").split()], home, 0, done)
-    expect(["verify", "--all", "M0", "--", "--now"], home, 0, "--now -> INBOX: messages 1: whole\n1 mailbox: 1 whole\n")
-    expect(["dates", "M0", "box", "--header"], home, 0, "box: messages 1, dated ...\n", None)
-    expect(["quote", "box", "--as", "mboxo", "--output", "copy"], home, 0, "copy: messages 1, lines quoted 0\n")
+    expect("verify --all M0 -- --now", home, 0, "--now -> INBOX: messages 1: whole\n1 mailbox: 1 whole\n")
+    expect("dates M0 box --header", home, 0, "box: messages 1, dated ...\n", None)
+    expect("quote box --as mboxo --output copy", home, 0, "copy: messages 1, lines quoted 0\n")
 
 
 def helps(home: Path) -> None:
@@ -30,7 +30,7 @@ def helps(home: Path) -> None:
         equal(f"{words}: status, errors, and lines that are too long", (status, err), (0, ""))
         equal(f"{words}: lines that are too long", [line for line in out.splitlines() if len(line) > 80], [])
         equal(f"{words}: examples", len(re.findall(r"(?m)^  (?:# )?mbox2maildir-admin ", out)), examples)
-    groups = re.findall(r"(?m)^(\w.*):$", run(["migrate", "--help"], home)[1])
+    groups = re.findall(r"(?m)^(\w.*):$", run("migrate --help", home)[1])
     wanted = [
         "options",
         "how",

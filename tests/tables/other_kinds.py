@@ -324,12 +324,12 @@ def first_line_by_hand(home: Path) -> None:
         ),
     ):
         (home / "notes").write_bytes(text)
-        commands = by_json(["kind", "notes"], home).row.commands
+        commands = by_json("kind notes", home).row.commands
         for command, copy in zip(commands, words):
             (home / "notes").write_bytes(text)
             equal(f"{command}: its status", run_printed(command, home).status, 0)
             equal(command, (home / "notes").read_bytes(), copy)
-            equal(f"{command}: the copy's status", run(["kind", "notes"], home)[0], 0)
+            equal(f"{command}: the copy's status", run("kind notes", home)[0], 0)
         equal("the commands", len(commands), len(words))
 
 
@@ -384,12 +384,7 @@ def indexes(home: Path) -> None:
         equal(f"with {text!r}", found, dict.fromkeys(INDEXES, (verdict, reason, 1 if text == MBOX else None)))
         tasks = {step.get("task") for row in ran.rows for step in row["next"]}
         equal("whether each is passed over alone", [ALONE.strip() in tasks], [reason == "not-known"])
-    expect(
-        ["kind", "old1/table_of_contents"],
-        home,
-        1,
-        f"old1/table_of_contents: no mail: Apple's index\n    {LEAVE_OUT}\n",
-    )
+    expect("kind old1/table_of_contents", home, 1, f"old1/table_of_contents: no mail: Apple's index\n    {LEAVE_OUT}\n")
 
 
 if __name__ == "__main__":

@@ -1,7 +1,4 @@
 """Each remark of a row has its word: what is done with mailboxes, and the words of the rows that come of it."""
-import json
-import os
-import subprocess
 from functools import partial
 from pathlib import Path
 from typing import Union
@@ -9,8 +6,9 @@ from typing import Union
 from tests.tables.labels import message
 from tests.support.cases import run_cases
 from tests.support.checks import equal
-from tests.support.homes import at_home, mailbox, run
+from tests.support.homes import at_home, by_json, mailbox, run_printed
 from tests.support.mail import A, C, ONE, THREE, TWO, with_length
+from tests.support.running import Run
 from tests.support.schema import SCHEMA
 
 # a mailbox is written, a line is run by a shell, or a command of the companion
@@ -192,17 +190,17 @@ ELSEWHERE |= {"by-lengths", "keywords-added", "labelled", "other-form", "there-a
 
 def words_of(steps: list[Step], home: Path) -> set[str]:
     """The words of the remarks in the rows of the last command."""
-    out, env = "", {"PATH": f"{home}/bin:{os.environ['PATH']}"}
+    ran = Run(0, "")
     for step in steps:
         if isinstance(step, tuple):
             mailbox(home / step[0], step[1])
         elif step.startswith("!"):
-            subprocess.run(["sh", "-c", step[1:]], cwd=home, env=env, check=True, stdout=subprocess.DEVNULL)
+            equal(step, run_printed(step[1:], home).status, 0)
         else:
             word, *others = step.split()
             now = [] if word == "verify" else ["--now"]
-            out = run([word, "--json", *now, *others], home)[1]
-    return {one["remark"] for line in out.splitlines() for one in json.loads(line).get("remarks", [])}
+            ran = by_json([word, *now, *others], home)
+    return {word for row in ran.rows for word in row.remarks}
 
 
 def is_told(steps: list[Step], wanted: set[str], home: Path) -> None:

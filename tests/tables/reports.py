@@ -25,14 +25,14 @@ def beside_what_is_printed(home: Path) -> None:
     mailbox(home / "old/a", ONE + TWO)
     mailbox(home / "old/note", b"hello\n")
     mailbox(home / "old/.hidden", b"")
-    status, out, err = run(["migrate", "--all", "--now", "--report", "report", "M", "old"], home)
+    status, out, err = run("migrate --all --now --report report M old", home)
     equal("status, errors and lines", (status, err, out.count("old/")), (1, "", 3))
     *rows, sums = objects_of(home / "report")
     found = {row["path"]: (row["verdict"], row["reason"]) for row in rows}
     equal("rows", found, {"old/a": ("done", None), "old/note": ("left", "not-known"), "old/.hidden": ("no mail", None)})
     equal("the sums", sums["says"].split("; 2 messages")[0], out.splitlines()[-1])
     equal("its mode", stat.S_IMODE((home / "report").stat().st_mode), 0o600)
-    status, out, _ = run(["migrate", "--now", "--json", "--report", "objects", "M", "old"], home)
+    status, out, _ = run("migrate --now --json --report objects M old", home)
     *printed, _ = map(json.loads, out.splitlines())
     equal("with --json", objects_of(home / "objects")[:-1], printed)
 
@@ -40,8 +40,8 @@ def beside_what_is_printed(home: Path) -> None:
 def of_an_undo(home: Path) -> None:
     """An undo has a report too."""
     mailbox(home / "box", ONE)
-    equal("status", run(["migrate", "M", "box"], home)[0], 0)
-    expect(["migrate", "--all", "--undo", "--report", "r", "M", "box"], home, 0, "...\n1 mailbox: 1 undone\n")
+    equal("status", run("migrate M box", home)[0], 0)
+    expect("migrate --all --undo --report r M box", home, 0, "...\n1 mailbox: 1 undone\n")
     equal("its verdict", [one.get("verdict") for one in objects_of(home / "r")], ["undone", None])
 
 
@@ -59,7 +59,7 @@ def only_a_new_file(home: Path) -> None:
     equal("the mailbox", ((home / "box").read_bytes(), (home / "M").exists()), (ONE, False))
     (home / "full").mkdir()
     (home / "full/file").write_text("", encoding="utf-8")
-    equal("a folder that is no Maildir", run(["migrate", "--report", "r", "full", "box"], home)[0], 1)
+    equal("a folder that is no Maildir", run("migrate --report r full box", home)[0], 1)
     equal("its report", (home / "r").exists(), False)
 
 

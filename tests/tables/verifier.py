@@ -43,7 +43,7 @@ def is_left(deed: str, why: str, home: Path) -> None:
     plant(home, deed)
     word, status = ("changed", LATER) if why == CHANGED else ("not-verified", 1)
     row = f"box -> INBOX: mboxrd or mboxo, messages 3: left ({word}): {why}\n"
-    expect(["migrate", "--all", "M", "box"], home, status, row + "1 mailbox: 1 left\n")
+    expect("migrate --all M box", home, status, row + "1 mailbox: 1 left\n")
     lines = (home / "M/mbox2maildir-record").read_text(encoding="utf-8").splitlines()[1:]
     equal("the record", [line.split("\t")[0] for line in lines], ["begun"])
     equal("what was verified", ends_in(home / "M"), 0)
@@ -60,12 +60,7 @@ def plant(home: Path, deed: str) -> None:
 def a_copy(home: Path) -> None:
     """A copy that another program makes meanwhile is its own mail, and no second copy of this program's."""
     plant(home, 'cp "$1" cur/17.host:2,S')
-    expect(
-        ["migrate", "--all", "M", "box"],
-        home,
-        0,
-        "box -> INBOX: mboxrd or mboxo, messages 3: done\n1 mailbox: 1 done\n",
-    )
+    expect("migrate --all M box", home, 0, "box -> INBOX: mboxrd or mboxo, messages 3: done\n1 mailbox: 1 done\n")
     equal("what was verified", ends_in(home / "M"), 1)
 
 
@@ -75,10 +70,7 @@ def comes_back(home: Path) -> None:
     shutil.move(str(home / "real"), str(home / "bin/mbox2maildir"))
     says = "up to 1 message that had been deleted or moved came back"
     expect(
-        ["migrate", "--all", "M", "box"],
-        home,
-        0,
-        f"box -> INBOX: mboxrd or mboxo, messages 3: done, {says}\n1 mailbox: 1 done\n",
+        "migrate --all M box", home, 0, f"box -> INBOX: mboxrd or mboxo, messages 3: done, {says}\n1 mailbox: 1 done\n"
     )
     equal("files", len(list((home / "M/new").iterdir())), 3)
 

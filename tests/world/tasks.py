@@ -134,13 +134,13 @@ def forty_users_with_dovecot(home: Path) -> None:
             maildir = home / "homes" / name / "Maildir"
             equal(name, (subjects(maildir), subjects(maildir / ".lists")), (["one"], ["two"]))
             assert "\n7 " in (maildir / "dovecot-uidlist").read_text(), name
-        equal("verify", run(["verify", "--users", "--tree", "mail", "spool"], home)[0], 0)
+        equal("verify", run("verify --users --tree mail spool", home)[0], 0)
 
 
 def a_doubtful_line(home: Path) -> None:
     """A line of mail looks like the beginning of one: the row shows it, and the command below it decides."""
     mailbox(home / "old", A + b"\nhello\n\n" + MAY + b"\n" + B + b"\nbye\n\n")
-    out = run(["migrate", "--all", "--folder", "Old", "Maildir", "old"], home)[1]
+    out = run("migrate --all --folder Old Maildir old", home)[1]
     row = row_in(out, "old")
     assert "| From the first of May we are here." in "\n".join(row.below), out
     equal("what is there", (home / "Maildir").exists(), False)
@@ -170,9 +170,9 @@ def an_interruption(home: Path) -> None:
 def is_all_there(home: Path) -> None:
     """Somebody deleted a message: `verify` says so, and `--again` brings it back."""
     mailbox(home / "box", ONE + TWO + THREE)
-    expect(["migrate", "Maildir", "box"], home, 0, None)
+    expect("migrate Maildir box", home, 0, None)
     next(path for path in (home / "Maildir/new").iterdir() if b"Subject: two" in path.read_bytes()).unlink()
-    status, out, _ = run(["verify", "Maildir", "box"], home)
+    status, out, _ = run("verify Maildir box", home)
     equal("verify", (status, "nowhere" in out, out.count("message 2 (line ")), (1, True, 1))
     play(
         home,
@@ -189,7 +189,7 @@ def one_is_undone(home: Path) -> None:
     """What one mailbox brought goes again, and what another one has too stays."""
     mailbox(home / "good", ONE + TWO)
     mailbox(home / "wrong", TWO + THREE)
-    expect(["migrate", "--folder", "Old", "Maildir", "good", "wrong"], home, 0, None)
+    expect("migrate --folder Old Maildir good wrong", home, 0, None)
     says = "{}, {} 1 message; {} 1 message that .../good has too\n1 mailbox: 1 {}\n"
     row = "wrong -> Old: messages 2: "
     would = says.format("would be undone", "would remove", "would keep", "would be undone")
@@ -205,7 +205,7 @@ def three_archives_that_overlap(home: Path) -> None:
     """One folder gets each message once, and the last line says how many were there already."""
     for name, text in (("a", ONE + TWO), ("b", TWO + THREE), ("c", ONE + THREE)):
         mailbox(home / name, text)
-    out = run_whole(["migrate", "--all", "--folder", "Archive", "Maildir", "a", "b", "c"], home)[1]
+    out = run_whole("migrate --all --folder Archive Maildir a b c", home)[1]
     rows = (
         "a -> Archive: mboxrd or mboxo, messages 2: done\n"
         "b -> Archive: mboxrd or mboxo, messages 2: done, 1 message there already, from .../a\n"

@@ -76,7 +76,7 @@ def is_left(home: Path, why: str, instead: str) -> None:
         row = f"{ROW}left (no-sync): {CUT}{why}\n    {instead}\n1 mailbox: 1 left\n"
         expect(["migrate", "--all", option, "disk/M", "box"], home, 1, row)
     equal("whether a Maildir was made", (home / "disk/M").exists(), False)
-    expect(["migrate", "--all", "--any-disk", "disk/M", "box"], home, 0, f"{ROW}done, {CUT}{why}\n1 mailbox: 1 done\n")
+    expect("migrate --all --any-disk disk/M box", home, 0, f"{ROW}done, {CUT}{why}\n1 mailbox: 1 done\n")
 
 
 def bindfs(home: Path) -> None:
@@ -115,7 +115,7 @@ def overlay(home: Path) -> None:
     """One that syncs."""
     mailbox(home / "box", ONE)
     with mounted(home / "disk", ["mount", "-t", "overlay", "overlay", "-o", layers(home), str(home / "disk")]):
-        expect(["migrate", "--all", "disk/M", "box"], home, 0, f"{ROW}done\n1 mailbox: 1 done\n")
+        expect("migrate --all disk/M box", home, 0, f"{ROW}done\n1 mailbox: 1 done\n")
 
 
 def not_tried(home: Path) -> None:
@@ -124,8 +124,8 @@ def not_tried(home: Path) -> None:
     with mounted(home / "disk", ["fuse-overlayfs", "-o", layers(home), str(home / "disk")]):
         says = f"{CUT}fuse.fuse-overlayfs was not tried"
         row = f"{ROW}would be done, {says}\n1 mailbox: 1 would be done\n"
-        expect(["migrate", "--all", "--dry-run", "disk/M", "box"], home, 0, row)
-        expect(["migrate", "--all", "disk/M", "box"], home, 0, f"{ROW}done, {says}\n1 mailbox: 1 done\n")
+        expect("migrate --all --dry-run disk/M box", home, 0, row)
+        expect("migrate --all disk/M box", home, 0, f"{ROW}done, {says}\n1 mailbox: 1 done\n")
 
 
 @contextlib.contextmanager
