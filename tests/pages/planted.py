@@ -1,15 +1,15 @@
 """The mistakes that are planted by hand fit the sources: the text that each replaces is there once, and so is the test
-that is to see it. With a mistake of the companion a module is still Python."""
-import ast
+that is to see it."""
 import re
 from collections.abc import Callable, Iterator
 from functools import partial
 
-from tests.companion import mutants as companion
+from tests.mistakes.__main__ import LIST, place_of, places
+from tests.mistakes.copies import module_of
+from tests.mistakes.lists import Planted, listed
 from tests.program import mutants as program
 from tests.support.cases import find_nothing
 from tests.support.checks import TOP, text_of
-from tests.support.planting import listed
 
 
 def said_by(look: Callable[[], object]) -> Iterator[str]:
@@ -35,24 +35,16 @@ def is_test(name: str) -> bool:
     return name in ("", "the prover") or path.is_file() and re.search(rf"\b{case}\b", text_of(path)) is not None
 
 
-def said_of_text(mutant: companion.Mutant) -> Iterator[str]:
-    """What is said of a mistake that no test sees, since no module is loaded with it."""
-    try:
-        ast.parse(mutant.text)
-    except SyntaxError as fault:
-        yield f"{mutant}: {fault}"
-
-
 def wrong_companion() -> Iterator[str]:
     """Mistakes of the companion."""
-    places = companion.all_places()
-    for mutant in listed(companion.LIST, companion.Mutant)[0]:
-        yield from said_by(partial(mutant.find, places))
-        yield from said_of_text(mutant)
-        test = mutant.seen.partition(":")[0]
-        is_unit = (TOP / companion.UNITS / f"{test}.py").is_file()
-        if test and not is_unit and test not in companion.FOLDERS:
-            yield f"no test: {test}"
+    there = places()
+    for one in listed(LIST, Planted)[0]:
+        yield from said_by(partial(place_of, one, there))
+        name, _, case = one.seen.partition(":")
+        if name:
+            yield from said_by(partial(module_of, name))
+            if case and not re.search(rf"\b{case}\b", text_of(TOP / f"{module_of(name).replace('.', '/')}.py")):
+                yield f"no case: {one.seen}"
 
 
 if __name__ == "__main__":

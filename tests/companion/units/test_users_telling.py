@@ -9,11 +9,9 @@ from unittest import mock
 
 from mbox2maildir_admin.faults import Reason
 from mbox2maildir_admin.migration.outcomes import Fate, Row
-from mbox2maildir_admin.nexts import Answer, Command, Does, Next, Quote, Remark, Task, Todo, in_shell, lines_below
+from mbox2maildir_admin.nexts import Answer, Command, Quote, Remark, in_shell
 from mbox2maildir_admin.progress import Spent
-from mbox2maildir_admin.users.telling import LONGEST, Teller, Whose, number_of, row_of
-
-from tests.support.nexts import told
+from mbox2maildir_admin.users.telling import LONGEST, Teller, Whose, row_of
 
 ROW = Row(b"/home/mia/a\nb", b".Sent", "mboxrd or mboxo", 3, Fate.DONE, "")
 MIA = Whose("mia", "mia", {b"": b"/var/mail/mia"})
@@ -112,79 +110,6 @@ class RowTest(unittest.TestCase):
             self.assertEqual(self.heard(replace(ROW, path=path)).path, path)
         # a letter that stands for no byte
         self.assertRaises(ValueError, row_of, ["\ud800", "", "", 1, "done", "", None, "", None, *NOTHING], MIA)
-
-    def test_what_a_terminal_would_obey_is_escaped(self) -> None:
-        bell = "\x1b]0;x\x07"
-        more = [[["grew", bell]], [[7, bell, 1]], []]
-        row = row_of(["a", "b", "\x1b[2J", 1, "done", "\x07", None, "", None, *more], MIA)
-        self.assertEqual((row.kind, row.why), ("\\x1b[2J", "\\x07"))
-        self.assertEqual((row.remarks[0].says, row.quotes[0].text), ("\\x1b]0;x\\x07",) * 2)
-
-    def test_what_is_next_is_done_with_the_rights_of_the_user(self) -> None:
-        """Whoever the child says it is for, and whatever it names."""
-        then: Next = (
-            Answer(Command.of("rm", "a b")),
-            Answer(Command.of("rm", "x", user="root"), Does.STORES, 3),
-            *in_shell("rm a && rm 'b c'"),
-            Task(Todo.MOVE_TO, ("x: y",)),
-        )
-        wanted = [
-            "    run this next:",
-            "        runuser -u mia -- rm 'a b'",
-            "    this stores the messages that are nowhere: 3 messages:",
-            "        runuser -u mia -- rm x",
-            "    run this next:",
-            "        runuser -u mia -- sh -c 'rm a && rm '\"'\"'b c'\"'\"''",
-            "    as mia, move it to 'x: y'",
-        ]
-        self.assertEqual(list(lines_below((), self.heard(replace(ROW, next=then)).next)), wanted)
-
-    def test_who_does_what_is_done_by_hand(self) -> None:
-        """In a folder of the user root could be led elsewhere. In the spool only root can move a file."""
-        copy, theirs = "if one is a copy, move it out of here", "as mia, "
-        for path, todo, says in (
-            (b"mail/x", Todo.FOLLOW, theirs + "migrate what it points to"),
-            (b"mail/x", Todo.COPY_AWAY, theirs + copy),
-            (b"", Todo.COPY_AWAY, copy),
-            (b"", Todo.FOLLOW, theirs + "migrate what it points to"),
-            (b"mail/x", Todo.PASS_OVER, "if it holds no mail, pass over it by --no-mail"),
-        ):
-            then = self.heard(replace(ROW, path=path, next=(Task(todo),))).next
-            self.assertEqual(list(lines_below((), then)), ["    " + says])
-
-    def test_what_only_root_can_do_is_for_the_mailbox_of_the_spool(self) -> None:
-        then = in_shell("make", Does.MAKE_ELSEWHERE)
-        aside = ' && d=$(mktemp -d /var/mia.XXXXXX) && mv -nT /var/mail/mia "$d/original"'
-        for path, more in ((b"", aside), (b"mail/x", ""), (b"/etc/passwd", "")):
-            row = self.heard(replace(ROW, path=path, next=then))
-            self.assertTrue(told(row).endswith(": runuser -u mia -- sh -c make" + more), told(row))
-
-    def test_what_nobody_would_tell(self) -> None:
-        for remarks, quotes, then in (
-            ([["Grew!", "x"]], [], []),
-            ([["grew"]], [], []),
-            ([], [[-1, "x"]], []),
-            ([], [["7", "x"]], []),
-            ([], [], [["answer", "run", None, [], ""]]),
-            ([], [], [["answer", "run", None, ["rm"], "rm"]]),
-            ([], [], [["answer", "no word", None, ["rm"], ""]]),
-            ([], [], [["answer", "run", -1, ["rm"], ""]]),
-            ([], [], [["answer", "run", None, [7], ""]]),
-            ([], [], [["answer", "run", None, ["a\0b"], ""]]),
-            ([], [], [["answer", "run", None, ["\ud800"], ""]]),
-            ([], [], [["task", "no word", []]]),
-            ([], [], [["task", "move-to", []]]),
-            ([], [], [["what", "run", None, ["rm"], ""]]),
-            ([], [], [["task", "leave", []]] * 65),
-        ):
-            words = ["", "", "", 1, "left", "", None, "", None, remarks, quotes, then]
-            with self.assertRaises((ValueError, TypeError, AttributeError, LookupError), msg=words):
-                row_of(words, MIA)
-
-    def test_numbers(self) -> None:
-        self.assertEqual(number_of(1 << 62), 1 << 62)
-        for value in (-1, 1 << 63, 1.0, float("inf"), "1", None):
-            self.assertRaises(ValueError, number_of, value)
 
 
 if __name__ == "__main__":

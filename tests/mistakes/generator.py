@@ -1,85 +1,11 @@
-"""Mistakes that are planted into sources to see whether tests notice: as a list has them, or as a generator makes them
-of Python.
-
-A mistake of a list is: `in:`, a place, for all that follow; `old:`, a text that stands once there; `new:`, the mistake
-in its place; `harm:`, what a user would suffer; and `seen:`, the test that sees it. One that nobody would notice has
-`harmless:`, the reason, in place of the last two. `same:` is the text of lines that have no mistake, with the reason. A
-line that begins with `#` is a comment.
-"""
+"""Makes mistakes in a module of Python: another operator, number or condition, two arguments exchanged, a statement or
+a part of one left out."""
 import ast
 import io
 import tokenize
-from collections.abc import Iterator
+from collections.abc import Iterator, Sequence
 from itertools import accumulate
-from pathlib import Path
-from typing import NamedTuple, Optional, TypeVar
-
-from tests.support.checks import text_of
-
-
-class Planted:
-    """A mistake in a place: texts, and what replaces each."""
-
-    def __init__(self, place: str) -> None:
-        self.place = place
-        self.pairs = []  # type: list[tuple[str, str]]
-        self.harm = self.seen = self.harmless = self.errors = ""
-        self.number = 0
-
-    def __str__(self) -> str:
-        old, new = self.pairs[0]
-        return f"{self.number} {self.place.split()[-1]}: {old} -> {new or 'nothing'}"
-
-    def stands_once(self, text: str) -> bool:
-        """Whether each text that is replaced is in another text exactly once."""
-        return all(text.count(old) == 1 for old, _ in self.pairs)
-
-    def applied(self, text: str) -> str:
-        """A text with the mistake."""
-        for old, new in self.pairs:
-            text = text.replace(old, new)
-        return text
-
-    def set(self, key: str, value: str) -> bool:
-        """Takes a line of the list, and returns whether it belongs to a mistake."""
-        if key == "old":
-            self.pairs.append((value, ""))
-        elif key in ("new", "new:"):
-            self.pairs[-1] = (self.pairs[-1][0], value)
-        elif key in ("harm", "seen", "harmless", "errors"):
-            setattr(self, key, value)
-        else:
-            return False
-        return True
-
-
-AnyPlanted = TypeVar("AnyPlanted", bound=Planted)
-
-
-def listed(path: Path, of: type[AnyPlanted]) -> tuple[list[AnyPlanted], dict[str, str]]:
-    """The mistakes of a list, and the lines that have none by its word."""
-    found, same, place = [], {}, ""  # type: list[AnyPlanted], dict[str, str], str
-    one = None  # type: Optional[AnyPlanted]
-    for number, line in enumerate(text_of(path).splitlines(), 1):
-        key, _, value = line.partition(": ")
-        if not line.strip() or line.startswith("#"):
-            one = None
-        elif key == "in":
-            place = value
-        elif key == "same":
-            text, _, reason = value.rpartition(" | ")
-            same[text] = reason
-        else:
-            if key == "old" and one is None:
-                one = of(place)
-                found.append(one)
-                one.number = len(found)
-            if one is None or not one.set(key, value):
-                raise SystemExit(f"mutants: line {number} of the list: {line}")
-    for one in found:
-        if not one.harmless and not (one.harm and one.seen):
-            raise SystemExit(f"mutants: {one}: wants harm and seen, or harmless")
-    return found, same
+from typing import NamedTuple, Optional
 
 
 class Change(NamedTuple):
@@ -113,6 +39,7 @@ COMPARISONS = {
 }
 OTHERS = {"and": "or", "or": "and", "+": "-", "-": "+"}
 NAMES = {"True": "False", "False": "True"}
+CALLED = {"any": "all", "all": "any", "min": "max", "max": "min", "lstat": "stat", "stat": "lstat"}
 OPENS, CLOSES = ("(", "[", "{"), (")", "]", "}")
 # after these a parenthesis encloses an expression
 KEYWORDS = {"and", "or", "not", "in", "is", "if", "else", "elif", "while", "for", "return", "yield", "assert", "lambda"}
@@ -135,6 +62,12 @@ class Module:
             if token[0] not in left_out
         ]
         self.numbers = {token.start: number for number, token in enumerate(self.tokens) if token.text}
+        # the tuples that no value is: between brackets, and those that values are given to
+        self.types = {
+            id(node.slice if isinstance(node, ast.Subscript) else node)
+            for node in ast.walk(self.tree)
+            if isinstance(node, ast.Subscript) or isinstance(getattr(node, "ctx", None), ast.Store)
+        }
 
     def offset(self, line: int, column: int) -> int:
         """The offset in the text of a line and a column."""
@@ -164,13 +97,18 @@ class Module:
 
     def changes(self) -> Iterator[Change]:
         """Each mistake that is made in the module."""
-        for token in self.tokens:
+        for token, following in zip(self.tokens, self.tokens[1:]):
             if token.kind == tokenize.NUMBER and token.text.isdigit():
                 yield Change(token.start, token.end, str(int(token.text) + 1))
+            elif token.text.startswith("0o"):
+                yield Change(token.start, token.end, oct(int(token.text, 8) ^ 0o022))
             elif token.text in NAMES:
                 yield Change(token.start, token.end, NAMES[token.text])
+            elif token.text in CALLED and following.text == "(":
+                yield Change(token.start, token.end, CALLED[token.text])
         for node in ast.walk(self.tree):
             yield from self.changes_of(node)
+            yield from self.parts_left_out(node)
 
     def changes_of(self, node: ast.AST) -> Iterator[Change]:
         """The mistakes that are made in a node."""
@@ -185,7 +123,7 @@ class Module:
         elif isinstance(node, ast.UnaryOp) and isinstance(node.op, ast.Not):
             first = self.tokens[self.numbers[self.offset(node.lineno, node.col_offset)]]
             yield Change(first.start, first.end, "")
-        elif isinstance(node, (ast.If, ast.While)):
+        elif isinstance(node, (ast.If, ast.While, ast.IfExp)):
             yield from self.negated(node.test)
         elif isinstance(node, ast.Call) and len(node.args) > 1:
             yield from self.swapped(node.args[0])
@@ -204,9 +142,51 @@ class Module:
     def negated(self, test: ast.AST) -> Iterator[Change]:
         """The contrary of a condition, unless an operator in it says so."""
         if not isinstance(test, (ast.Compare, ast.UnaryOp)):
-            first = self.number_of(test)
-            start, end = self.tokens[first].start, self.tokens[self.end_of(first, (":",))].start
-            yield Change(start, end, f"not ({self.text[start:end]})")
+            start, end = self.span_of(test)
+            yield Change(start, end, f"(not ({self.text[start:end]}))")
+
+    def span_of(self, node: ast.AST) -> tuple[int, int]:
+        """Where a node begins and ends, with the parentheses that enclose nothing else."""
+        first = self.numbers[self.offset(getattr(node, "lineno"), getattr(node, "col_offset"))]
+        end = self.offset(getattr(node, "end_lineno"), getattr(node, "end_col_offset"))
+        last = next(number for number in range(first, len(self.tokens)) if self.tokens[number].end >= end)
+        while self.tokens[first - 1].text == "(" and self.tokens[last + 1].text == ")" and self.is_around(first - 1):
+            first, last = first - 1, last + 1
+        return self.tokens[first].start, self.tokens[last].end
+
+    def parts_left_out(self, node: ast.AST) -> Iterator[Change]:
+        """A node without one of its parts: an operand, an element, an argument that has a name, a condition, a fault
+        that is caught, or a context."""
+        if isinstance(node, ast.BoolOp):
+            yield from self.each_left_out(node.values)
+        elif isinstance(node, ast.BinOp) and isinstance(node.op, ast.BitOr):
+            yield from self.each_left_out([node.left, node.right])
+        elif isinstance(node, (ast.List, ast.Set)) or isinstance(node, ast.Tuple) and id(node) not in self.types:
+            yield from self.each_left_out(node.elts)
+        elif isinstance(node, ast.Call):
+            places = [number for number, one in enumerate(node.keywords, len(node.args)) if one.arg]
+            yield from self.each_left_out([*node.args, *node.keywords], places)
+        elif isinstance(node, ast.comprehension):
+            for test in node.ifs:
+                yield Change(*self.span_of(test), "True")
+        elif isinstance(node, ast.IfExp):
+            yield from (
+                Change(*self.span_of(node), self.text[slice(*self.span_of(one))]) for one in (node.body, node.orelse)
+            )
+        elif isinstance(node, ast.With) and not any(item.optional_vars for item in node.items):
+            start = self.offset(node.lineno, node.col_offset)
+            yield Change(start, self.span_of(node.items[-1].context_expr)[1], "if True")
+        elif isinstance(node, ast.ExceptHandler) and node.type:
+            yield Change(*self.span_of(node.type), "ZeroDivisionError")
+
+    def each_left_out(self, parts: Sequence[ast.AST], places: Optional[Sequence[int]] = None) -> Iterator[Change]:
+        """Several parts without one of them, of those at some places or of all."""
+        spans = [self.span_of(part) for part in parts]
+        for place in range(len(spans)) if places is None else places:
+            if place:
+                yield Change(spans[place - 1][1], spans[place][1], "")
+            elif len(spans) > 1:
+                yield Change(spans[0][0], spans[1][0], "")
 
     def swapped(self, left: ast.AST) -> Iterator[Change]:
         """The first two arguments of a call, exchanged."""

@@ -1,0 +1,1 @@
+"""Mistakes that are made in the companion, to see whether its tests notice."""
