@@ -15,7 +15,7 @@ from .looks import is_file, is_folder, real_path
 from .nexts import Todo, run_next, task
 from .signals import INTERRUPTS, Process, running, status_of
 from .terminal import named
-from .units import Line, Offset
+from .units import Offset
 
 # how often the progress of a conversion is said, in milliseconds
 BEAT = 300
@@ -133,18 +133,14 @@ class Listing:
         ) as child:
             yield cls(child)
 
-    def compare(self, number: int, line: Line, base: bytes, size: int) -> None:
-        """Checks that the next line is that of a message: its number, its base and its size. Raises Fault, with the
-        line where the message begins, if it is not."""
+    def has(self, number: int, base: bytes, size: int) -> bool:
+        """Whether the next line is that of a message: its number, its base and its size. Raises Fault if there is
+        none."""
         row = self.rows.readline().split(b" ")
         if row == [b""]:
             self.want_success()
             raise Fault("`%s list` gave fewer messages than were read here" % PROGRAM, Reason.MISREAD)
-        wanted = [b"%d" % number, binascii.hexlify(base[:32]) + base[32:], b"%d" % size]
-        if row[:2] + row[4:5] != wanted:
-            raise Fault(
-                "line %d: message %d differs from what `%s list` gave" % (line, number, PROGRAM), Reason.MISREAD
-            )
+        return row[:2] + row[4:5] == [b"%d" % number, binascii.hexlify(base[:32]) + base[32:], b"%d" % size]
 
     def end(self) -> None:
         """Checks that no line follows, and that the program did not fail. Raises Fault otherwise."""

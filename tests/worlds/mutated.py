@@ -137,15 +137,15 @@ def named_lines(draw: Random, text: bytes) -> tuple[frozenset[int], frozenset[in
 
 def copied(path: bytes, word: str, mail: frozenset[int], begin: frozenset[int]) -> Optional[bytes]:
     """The companion's copy of a file; None if the companion refuses it."""
-    pieces: list[bytes] = []
     with Mailbox.open(path) as mailbox:
         try:
             reading = Reading(word, frozenset(map(Line, mail)), frozenset(map(Line, begin)))
-            quoter = Quoter(reading, mailbox, Offset(0), pieces.append).run()
-            quoter.check(quoter.given, quoter.counts().messages)
+            quoter = Quoter(reading, mailbox, Offset(0))
+            copy = b"".join(quoter.run())
+            quoter.check(len(copy), quoter.counts().messages)
         except Fault:
             return None
-    return b"".join(pieces)
+    return copy
 
 
 def one_text(stage: Stage, seed: int) -> Iterator[str]:

@@ -7,10 +7,10 @@ from collections.abc import Iterator, Sequence
 from typing import NamedTuple, Optional
 
 from ..faults import Left, Reason
-from ..flags.dovecot_headers import FIELD, HEAD, Field, Head, head_of, header_at, internal_head
+from ..flags.dovecot_headers import FIELD, HEAD, Field, Head, head_of, internal_head
 from ..kinds.starts import text_start
+from ..mbox.fields import LONGEST, Header
 from ..mbox.files import BLOCK
-from ..mbox.hidden import LONGEST
 from ..mbox.mailbox import Mailbox
 
 # so many bytes each disk writes at once, or not at all
@@ -36,14 +36,13 @@ class Base(NamedTuple):
         start = text_start(mailbox) if mailbox.size else None
         if start is None:
             return None
-        header = header_at(mailbox, start)
-        for found in FIELD.finditer(header):
+        header = Header.at(mailbox, start)
+        for found in FIELD.finditer(header.text):
             head = head_of(Field(found[1].lower(), found[3]))
             if head and found.start(3) - found.start() <= LONGEST:
-                offset = start + mailbox.at(start, BLOCK).find(b"\n") + 1
                 own, end = internal_head(mailbox, start)
-                rest = mailbox.at(offset + len(header), BLOCK) if own and end == mailbox.end else b""
-                return cls(head, offset, header, found.start(3), found.end(3), rest)
+                rest = mailbox.at(header.offset + len(header.text), BLOCK) if own and end == mailbox.end else b""
+                return cls(head, header.offset, header.text, found.start(3), found.end(3), rest)
         return None
 
     def header_with(self, validity: int, last: int, keywords: Sequence[bytes]) -> Optional[bytes]:

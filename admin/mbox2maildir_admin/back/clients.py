@@ -1,14 +1,14 @@
 """The fields in which a mail program keeps the flags of a message that goes back into its mailbox. `migrate` reads them
 only if each message has them. Those that a message has already are taken out only there: elsewhere they may be its
 sender's."""
+import io
 import re
 from collections.abc import Callable
 from typing import NamedTuple
 
 from ..flags.clients import CLIENTS, EVOLUTION, THUNDERBIRD, kept_in
-from ..flags.dovecot_headers import header_at
-from ..mbox.core import Core, whole_field
-from ..mbox.hidden import HIDDEN
+from ..mbox.core import forms_of
+from ..mbox.fields import HIDDEN, Header, pattern_of
 from ..mbox.inventory import Inventory
 from ..mbox.mailbox import Mailbox
 from ..units import Place
@@ -32,14 +32,14 @@ class Client(NamedTuple):
         kept = kept_in(mailbox, inventory) if len(inventory) else None
         if not kept:
             return cls()
-        headers = (header_at(mailbox, inventory.offset(Place(place))) for place in range(len(inventory)))
+        headers = (Header.at(mailbox, inventory.offset(Place(place))).text for place in range(len(inventory)))
         found = filter(None, map(EVOLUTION_NUMBER.search, headers))
         return cls(kept.program, max((int(one[1], 16) for one in found), default=0))
 
     def bare(self, letter: Letter) -> Letter:
         """A message without the fields of this program, and without those by which mailboxes are read everywhere."""
         header, gap, body = parted(letter.text)
-        fields = whole_field((*HIDDEN, *KEPT.get(self.program, ())))
+        fields = pattern_of((*HIDDEN, *KEPT.get(self.program, ())))
         taken = tuple(found[0].split(b":")[0].strip() for found in fields.finditer(b"\n" + header))
         return letter._replace(text=fields.sub(b"", b"\n" + header)[1:] + gap + body, taken=taken) if taken else letter
 
@@ -65,9 +65,8 @@ def for_evolution(letter: Letter, number: int) -> list[bytes]:
 
 def for_takeout(letter: Letter, _: int) -> list[bytes]:
     """The fields of Gmail. The thread is of this message alone."""
-    core = Core()
-    core.update(letter.text)
-    thread = int.from_bytes(core.end()[0], "big") >> 1 & (1 << THREAD_BITS) - 1
+    core = forms_of(io.BytesIO(letter.text).read)[0]
+    thread = int.from_bytes(core, "big") >> 1 & (1 << THREAD_BITS) - 1
     labels = [b"Opened" if "S" in letter.flags else b"Unread", *[b"Starred"] * ("F" in letter.flags)]
     return [b"X-GM-THRID: %d" % thread, b"X-Gmail-Labels: " + b",".join(labels)]
 

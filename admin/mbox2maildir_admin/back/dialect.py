@@ -4,8 +4,8 @@ import time
 from typing import NamedTuple, Optional
 
 from ..kinds.starts import FIELD
-from ..mbox.core import EMPTY_LINE
 from ..mbox.dates import TOO_LATE
+from ..mbox.pieces import header_of
 from ..readings.reading import BY_LENGTHS, CR, CRLF, MBOXCL2, MBOXO, MBOXRD, UNQUOTED, Reading
 
 FROM, FROM_OR_QUOTED = re.compile(rb"^(?=From )", re.M), re.compile(rb"^(?=>*From )", re.M)
@@ -94,10 +94,8 @@ class Dialect(NamedTuple):
 
 def parted(text: bytes) -> tuple[bytes, bytes, bytes]:
     """The header of a message, the empty line after it, and the body."""
-    found = EMPTY_LINE.search(b"\n" + text)
-    if not found:
-        return text, b"", b""
-    return text[: found.start()], found[0][1:], text[found.end() - 1 :]
+    end, body = header_of(text, 0)
+    return text[:end], text[end:body], text[body:]
 
 
 def sender_in(header: bytes) -> bytes:

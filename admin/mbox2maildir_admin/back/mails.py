@@ -23,8 +23,8 @@ from ..maildir.files import listings_of
 from ..maildir.folders import INBOX, folder_named
 from ..maildir.making import SUBFOLDERS
 from ..mbox.bases import BASE, before_info
-from ..mbox.core import Core
-from ..mbox.files import BLOCK, open_file
+from ..mbox.core import forms_of
+from ..mbox.files import open_file
 from ..nexts import run_next
 from ..terminal import named, operand
 from ..units import Say, silent
@@ -218,15 +218,11 @@ def mails_in(folder: bytes, path: bytes, say: Say) -> Iterator[Mail]:
 def core_in(path: bytes) -> Optional[bytes]:
     """The core of the message in a file, as a mailbox would have it: its last line has ended. None for what is no
     file."""
-    core, block = Core(), b""
     try:
         with open_file(path, os.O_NOFOLLOW) as file:
-            for block in iter(lambda: file.read(BLOCK), b""):
-                core.update(block)
+            return forms_of(file.read, is_ended=True)[0]
     except Fault:
         return None
-    core.update(b"" if block.endswith(b"\n") else b"\n")
-    return core.end()[0]
 
 
 def sorted_mail(root: bytes, record: Record, say: Say = silent) -> Sorted:

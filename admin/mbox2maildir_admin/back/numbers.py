@@ -8,10 +8,11 @@ import time
 from collections.abc import Iterator, Sequence
 from typing import NamedTuple, Optional
 
-from ..flags.dovecot_headers import MOST_VALIDITY, Head, Reading, header_at
+from ..flags.dovecot_headers import MOST_VALIDITY, Head, Reading
 from ..ledger.history import names_of
 from ..ledger.ledger import Ledger
 from ..ledger.record import Record, is_gone
+from ..mbox.fields import Header
 from ..mbox.inventory import Inventory
 from ..mbox.mailbox import Mailbox
 from ..migration.steps import Opened
@@ -128,7 +129,7 @@ class Numbering:
             reading = Reading()
             reading.last = self.given
             for place in map(Place, range(len(inventory))):
-                reading.add(header_at(mailbox, inventory.offset(place)))
+                reading.add(Header.at(mailbox, inventory.offset(place)).text)
             self.last = max(reading.uids)
             pairs = ((inventory.core(Place(place)), uid) for place, uid in enumerate(reading.uids))
             self.numbered = list(pairs) if self.lacking else []

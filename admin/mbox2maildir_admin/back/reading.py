@@ -1,5 +1,6 @@
 """How a mailbox is read, before and after something is appended, and whether that gives back what was written."""
 import contextlib
+import io
 import os
 from collections.abc import Callable, Iterable, Iterator, Sequence
 from typing import NamedTuple, Optional
@@ -7,7 +8,7 @@ from typing import NamedTuple, Optional
 from ..faults import Fault, Left, Reason
 from ..kinds.starts import text_start
 from ..ledger.record import is_gone
-from ..mbox.core import Core
+from ..mbox.core import forms_of
 from ..mbox.dates import is_dated
 from ..mbox.inventory import Inventory
 from ..mbox.mailbox import Mailbox
@@ -39,7 +40,7 @@ class Forms(NamedTuple):
     @classmethod
     def of(cls, text: bytes) -> "Forms":
         """The forms of a message."""
-        pairs = [forms_of(one) for one in ([text] if text.endswith(b"\n") else [text, text + b"\n"])]
+        pairs = [forms_of_text(one) for one in ([text] if text.endswith(b"\n") else [text, text + b"\n"])]
         return cls(pairs[-1][0], tuple(bare for _, bare in pairs))
 
     def is_at(self, inventory: Inventory, place: int) -> bool:
@@ -54,11 +55,9 @@ class Written(NamedTuple):
     text: bytes
 
 
-def forms_of(text: bytes) -> tuple[bytes, bytes]:
+def forms_of_text(text: bytes) -> tuple[bytes, bytes]:
     """The core and the bare form of a message."""
-    core = Core()
-    core.update(text)
-    return core.end()
+    return forms_of(io.BytesIO(text).read)
 
 
 def reading_now(mailbox: Mailbox) -> str:

@@ -21,8 +21,7 @@ from ..migration.rows import Shows
 from ..migration.trees import Tree
 from ..nexts import NOTHING, Answer, Command, Next, Quote, Todo, User, task
 from ..progress import say_of
-from ..readings.asking import answers_to
-from ..readings.plans import OtherKind, Question, question_of
+from ..readings.plans import OtherKind, Question, answers_to, question_of
 from ..readings.reading import UNDECIDED, Reading
 from ..readings.texts import choice_of, form_of
 from ..readings.verdict import Verdict, look_at

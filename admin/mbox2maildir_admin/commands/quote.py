@@ -8,10 +8,9 @@ from ..flags.dovecot_headers import internal_head
 from ..mbox.mailbox import Mailbox
 from ..nexts import Command
 from ..progress import say_of
-from ..readings.asking import answers_to
 from ..readings.copies import Copy
-from ..readings.plans import Plan, Question, plan_of
-from ..readings.quoting import quoted_into, write_copy
+from ..readings.plans import Plan, Question, answers_to, plan_of
+from ..readings.quoting import Quoter, write_copy, written
 from ..readings.reading import PLAIN, Reading
 from ..terminal import named, operand, put, write
 from ..units import Say, silent
@@ -44,7 +43,8 @@ def quote_file(decision: Reading, file: bytes, output: bytes, is_bare: bool = Fa
             head, end = internal_head(mailbox, start)
             start, messages = (end, messages - 1) if head else (start, messages)
         if output == STANDARD_OUTPUT:
-            quoter, _ = quoted_into(write, how, mailbox, start, is_bare)
+            quoter = Quoter(how, mailbox, start, keeps_lengths=False)
+            written(quoter, write, is_bare)
             quoter.check(quoter.given, quoter.counts().messages, messages)
             return True
         with Copy.open(output) as copy:

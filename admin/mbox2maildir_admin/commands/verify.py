@@ -86,10 +86,10 @@ def verify_file(maildir: bytes, file: bytes, program: bytes, tell: Observer, fol
     tell.begin()
     with open_text(file, maildir, say, plans.recorded) as text:
         check, bare = check_of(program, maildir, text, say)
-    if plans.plan:
-        # it was decided then that no mail is in its From_ lines
-        check.doubts = Lines()
-    tell.row(row_of(file, folder, check, bare))
+        if plans.plan:
+            # it was decided then that no mail is in its From_ lines
+            check.doubts = Lines()
+        tell.row(row_of(file, folder, check, bare))
     return check.is_right()
 
 
@@ -124,8 +124,8 @@ def row_of(path: bytes, folder: bytes, check: Check, bare: int) -> Row:
 def details_of(check: Check) -> Iterator[Detail]:
     """What is said of the first messages, files and lines of each sort that are not as they were converted."""
     for word, state in STATES.items():
-        for place, line, path in islice(check.found(state), NAMED):
-            yield Detail(SORTS[word][1], word, line, place + 1, path)
+        for place, path in islice(check.found(state), NAMED):
+            yield Detail(SORTS[word][1], word, check.inventory.lines[place], place + 1, path)
     for word, paths in (("double", check.doubles), ("other-owner", sorted(check.strangers.values()))):
         yield from (Detail(SORTS[word][1], word, path=path) for path in paths[:NAMED])
     for line, *_ in check.doubts.first:

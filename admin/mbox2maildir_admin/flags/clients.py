@@ -8,16 +8,18 @@ import sys
 from collections.abc import Callable, Iterable, Iterator, Sequence
 from typing import NamedTuple, Optional
 
+from ..mbox.fields import VALUE, Header
 from ..mbox.inventory import Inventory
 from ..mbox.mailbox import Mailbox
 from ..nexts import Remark
 from ..units import Place, counted
-from .dovecot_headers import header_at
 
 # the flags of a Maildir by their letters: draft, flagged, passed on, replied, seen, trashed
 FLAG_LETTERS = "DFPRST"
 # Thunderbird, nsMsgMessageFlags.idl: Read, Replied, Marked, Forwarded
 THUNDERBIRD = {0x0001: "S", 0x0002: "R", 0x0004: "F", 0x1000: "P"}
+# Expunged
+EXPUNGED = 0x0008
 # Evolution, camel-message-info.h: ANSWERED, DELETED, DRAFT, FLAGGED, SEEN, FORWARDED
 EVOLUTION = {1 << 0: "R", 1 << 1: "T", 1 << 2: "D", 1 << 3: "F", 1 << 4: "S", 1 << 10: "P"}
 # RFC 2047, 2: encoded words, of which a letter may have parts in two, and what separates two of them
@@ -26,10 +28,10 @@ BETWEEN_ENCODED = re.compile(r"(?<=\?=)[ \t]+(?==\?)")
 FOLD = re.compile(r"\r?\n[ \t]+")
 
 
-def field(name: bytes, value: bytes = rb"(?P<value>[^\n]*(?:\n[ \t][^\n]*)*)") -> Callable[[bytes], Optional[str]]:
+def field(name: bytes, value: bytes = rb"(?P<value>(?s:.*))") -> Callable[[bytes], Optional[str]]:
     """Returns a function that reads the value of the first field of this name in a header, or None if the value is not
     of this form."""
-    first = re.compile(rb"^%s:([^\n]*(?:\n[ \t][^\n]*)*)" % name, re.I | re.M)
+    first = re.compile(rb"^%s%s" % (name, VALUE), re.I | re.M)
     wanted = re.compile(rb"[ \t]*%s\s*\Z" % value, re.I)
 
     def read(header: bytes) -> Optional[str]:
@@ -45,6 +47,13 @@ mozilla_status = field(b"X-Mozilla-Status", rb"(?P<value>[0-9a-f]{4})")
 evolution_flags = field(b"X-Evolution", rb"[0-9a-f]{8}-(?P<value>[0-9a-f]{4})(?:;.*)?")
 gmail_thread = field(b"X-GM-THRID", rb"(?P<value>\d+)")
 gmail_labels = field(b"X-Gmail-Labels")
+
+
+def is_deleted(header: bytes) -> Optional[bool]:
+    """Whether Thunderbird has marked a message as deleted, which stays in the file until the folder is compacted; None
+    if its header has no mark."""
+    status = mozilla_status(header) if b"x-mozilla-status" in header.lower() else None
+    return None if status is None else bool(int(status, 16) & EXPUNGED)
 
 
 def letters_of(bits: Optional[str], table: dict[int, str]) -> Optional[str]:
@@ -141,7 +150,7 @@ def kept_in(mailbox: Mailbox, inventory: Inventory) -> Optional[Kept]:
     for program, read in CLIENTS.items():
         several: list[str] = []
         for place in map(Place, range(len(inventory))):
-            found = read(header_at(mailbox, inventory.offset(place)))
+            found = read(Header.at(mailbox, inventory.offset(place)).text)
             if found is None:
                 break
             # many messages have the same

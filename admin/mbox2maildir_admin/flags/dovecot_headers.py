@@ -9,8 +9,7 @@ import re
 from collections.abc import Iterable, Iterator
 from typing import NamedTuple, Optional
 
-from ..mbox.files import BLOCK
-from ..mbox.hidden import LONGEST
+from ..mbox.fields import LONGEST, VALUE, Header
 from ..mbox.mailbox import Mailbox
 from ..nexts import Remark
 from ..terminal import NAMED, named
@@ -21,10 +20,7 @@ from ..units import Offset, Place
 # for new mail than any folder gets
 MOST_VALIDITY, LETTERS, MOST_UID = (1 << 32) - 1, 26, 4294967293 - (1 << 24)
 LONGEST_KEYWORD, LONGEST_INTERNAL = 50, 1 << 13
-FIELD = re.compile(
-    rb"^(x-imapbase|x-imap|x-uid|x-keywords|x-status|status)([ \t]*):([^\n]*(?:\n[ \t][^\n]*)*)", re.I | re.M
-)
-DOVECOT_HEADER_END = re.compile(rb"\n\r?(?:\n|From )")
+FIELD = re.compile(rb"^(x-imapbase|x-imap|x-uid|x-keywords|x-status|status)([ \t]*)" + VALUE, re.I | re.M)
 HEAD = re.compile(rb"[ \t]?([0-9]+) [ \t\r\n]*([0-9]+)(?=[ \t\r\n]|\Z)")
 UID = re.compile(rb"[ \t]?([0-9]+)[ \t\r\n]*\Z")
 # the characters that no IMAP atom has
@@ -65,23 +61,6 @@ class Field(NamedTuple):
     is_spaced: bool = False
 
 
-def header_at(mailbox: Mailbox, offset: Offset) -> bytes:
-    """The header of the message whose From_ line is at an offset, without that line."""
-    for count in (1 << 13, 1 << 16, BLOCK << 2):
-        text = mailbox.at(offset, count)
-        start = text.find(b"\n") + 1 or len(text)
-        found = DOVECOT_HEADER_END.search(text, start - 1)
-        if found or len(text) < count:
-            break
-    return text[start : found.start() + 1] if found else text[start:]
-
-
-def header_of(message: bytes) -> bytes:
-    """The header of a message without a From_ line."""
-    found = DOVECOT_HEADER_END.search(b"\n" + message)
-    return message[: found.start()] if found else message
-
-
 def fields_of(header: bytes) -> list[Field]:
     """The fields of a header that count, in their order: hidden ones whose colon is near enough."""
     found = (field for field in FIELD.finditer(header) if field.start(3) - field.start() <= LONGEST)
@@ -119,7 +98,7 @@ def internal_head(mailbox: Mailbox, start: Offset) -> tuple[Optional[Head], Offs
     message += b"\n" * bool(next_mark)
     if len(message) == LONGEST_INTERNAL:
         return None, start
-    header = header_at(mailbox, start)
+    header = Header.at(mailbox, start).text
     subject = SUBJECT.search(header)
     body = message[message.find(b"\n") + 1 + len(header) :].lstrip(b"\r\n")
     head = next(filter(None, map(head_of, fields_of(header))), None)
@@ -224,7 +203,7 @@ class Reading:
 def first_head(mailbox: Mailbox, start: Offset) -> Optional[Head]:
     """The head of a mailbox whose text begins at an offset; None if Dovecot has given it no UIDs."""
     reading = Reading(internal_head(mailbox, start)[0])
-    reading.add(header_at(mailbox, start))
+    reading.add(Header.at(mailbox, start).text)
     return reading.head
 
 

@@ -5,9 +5,10 @@ from typing import Optional
 
 from ..maildir.files import names_of
 from ..mbox.bases import OWN, before_info
+from ..mbox.fields import Header
 from ..mbox.mailbox import Mailbox
 from ..units import Offset
-from .dovecot_headers import Field, fields_of, flags_of, header_at, marks_of
+from .dovecot_headers import Field, fields_of, flags_of, marks_of
 from .renaming import INFO
 
 # the offset of a message by the base of its file; None if there is none
@@ -28,7 +29,7 @@ def known_in(
         base, info = OWN.match(name), name[len(before_info(name)) :]
         offset = offset_of(base[0]) if base else None
         if offset is not None and (not info or info.startswith(INFO)):
-            now = flags_in(header_at(mailbox, Offset(offset)), is_bare)
+            now = flags_in(Header.at(mailbox, Offset(offset)).text, is_bare)
             yield frozenset(info[len(INFO) :].decode("latin-1")), now
 
 

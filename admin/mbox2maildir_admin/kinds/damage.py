@@ -7,7 +7,7 @@ from ..mbox.dates import is_dated
 from ..mbox.files import BLOCK, LONG
 from ..mbox.lines import Said, cut
 from ..mbox.mailbox import Mailbox
-from ..mbox.parts import MARK, Part, parts_of
+from ..mbox.pieces import Piece, pieces_of
 from ..nexts import Does, Task, Todo
 from ..terminal import shown
 from ..units import Line, Offset
@@ -50,10 +50,12 @@ class Finding(NamedTuple):
     remarks: list[Said]
 
 
-def finding_of(mailbox: Mailbox, is_mark: Callable[[Part], bool]) -> Finding:
-    """Finds out what a file is that does not begin with mbox text. A mark begins a message if `is_mark` says so."""
-    begins = first_from_line(mailbox, is_mark)
-    found = [Said(begins.line, BEGINS % (begins.offset + 1), shown(begins.piece[:72]))] if begins else []
+def finding_of(mailbox: Mailbox, begins_message: Callable[[Piece], bool]) -> Finding:
+    """Finds out what a file is that does not begin with mbox text. A line `From ` begins a
+    message if `begins_message` says so."""
+    begins = first_from_line(mailbox, begins_message)
+    line_of = mailbox.line_at
+    found = [Said(line_of(begins.offset), BEGINS % (begins.offset + 1), shown(begins.from_line[:72]))] if begins else []
     head = mailbox.at(0, HEAD)
     if head.startswith(b"From "):
         why = [Said(Line(1), NO_FROM_LINE, shown(head.split(b"\n")[0][:72]))]
@@ -65,7 +67,7 @@ def finding_of(mailbox: Mailbox, is_mark: Callable[[Part], bool]) -> Finding:
     line = shown(text.split(b"\n")[0][:72])
     if is_from_line(text):
         # only blank bytes come before it
-        first = Said(mailbox.line_at(blanks), BEGINS % (blanks + 1), line)
+        first = Said(line_of(blanks), BEGINS % (blanks + 1), line)
         found = [first, *(found if begins and begins.offset != blanks else [])]
         return Finding("damaged", (Makes("tail -c +%d {} >{copy}" % (blanks + 1)),), Holds.MAIL, found)
     if not begins and begins_with_mail(head):
@@ -99,10 +101,9 @@ def has_line_of_mail(mailbox: Mailbox) -> bool:
         before = before[before.find(b"\n") + 1 :] if b"\n" in before else b" "
 
 
-def first_from_line(mailbox: Mailbox, is_mark: Callable[[Part], bool]) -> Optional[Part]:
+def first_from_line(mailbox: Mailbox, begins_message: Callable[[Piece], bool]) -> Optional[Piece]:
     """The first line that begins a message, if there is one."""
-    marks = (part for part in parts_of(mailbox.again()) if part.what == MARK and not part.quotes)
-    return next((mark for mark in marks if is_mark(mark)), None)
+    return next((one for one in pieces_of(mailbox.again().read) if one.begins and begins_message(one)), None)
 
 
 def length_of_blanks(mailbox: Mailbox) -> Offset:

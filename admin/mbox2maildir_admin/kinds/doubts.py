@@ -7,17 +7,15 @@ of numbers, by which lines are named, has these too.
 """
 import array
 import hashlib
-import re
 from collections.abc import Iterator, Mapping
 from types import MappingProxyType
 from typing import NamedTuple, Optional
 
+from ..mbox.fields import NOTED_FIELD
 from ..mbox.files import LONG
-from ..mbox.hidden import FROM, NOTED, pattern_of
 from ..mbox.lines import AROUND
 from ..mbox.mailbox import Mailbox
-from ..mbox.messages import may_hold_mail
-from ..mbox.parts import Part
+from ..mbox.pieces import FROM, Piece
 from ..units import Line, Offset
 from .sorts import DOUBTFUL
 
@@ -29,9 +27,8 @@ CERTAIN = "dated", "undated"
 ASKED_ABOUT = "inside", *DOUBTFUL, "like the first"
 # how many digits of a SHA-256 a tie has
 DIGITS = 16
-# how many bytes before and after a line are looked at, and what does not count among them
+# how many bytes before and after a line are looked at
 NEAR = 8 * LONG
-FIELDS = re.compile(pattern_of(NOTED).pattern + rb"[^\n]*(?:\n[ \t][^\n]*)*")
 
 
 class Ties(NamedTuple):
@@ -47,31 +44,29 @@ class Doubts:
     """The doubtful lines of a text, while it is looked at."""
 
     def __init__(self) -> None:
-        # of each line: its number, why it is doubtful, and its offset
-        self.lines, self.whys, self.offsets = array.array("Q"), array.array("B"), array.array("Q")
+        # of each line: why it is doubtful, and its offset; and its number once all are known
+        self.whys, self.offsets, self.lines = array.array("B"), array.array("Q"), array.array("Q")
         self.known: Optional[tuple[str, Ties]] = None
 
-    def take(self, sort: str, mark: Part) -> None:
-        """Takes a line of `>` and `From ` of this sort."""
-        if sort in ASKED_ABOUT or sort in CERTAIN and may_hold_mail(mark.piece):
-            is_like_first = sort == "like the first" and not may_hold_mail(mark.piece)
-            self.add(mark.line, mark.offset, LIKE_FIRST if is_like_first else MAY_BEGIN)
+    def take(self, sort: str, piece: Piece, holds_mail: bool) -> None:
+        """Takes a line `From ` of this sort, which may hold mail."""
+        if sort in ASKED_ABOUT or sort in CERTAIN and holds_mail:
+            is_like_first = sort == "like the first" and not holds_mail
+            self.add(piece.offset, LIKE_FIRST if is_like_first else MAY_BEGIN)
 
-    def add(self, line: Line, offset: Offset, why: int = MAY_BEGIN) -> None:
-        """Adds a line, unless it was added for the same reason."""
-        if self.offsets and (self.offsets[-1], self.whys[-1]) == (offset, why):
-            return
-        for column, value in ((self.lines, line), (self.whys, why), (self.offsets, offset)):
-            column.append(value)
+    def add(self, offset: Offset, why: int = MAY_BEGIN) -> None:
+        """Adds the line that has an offset, unless it was added for the same reason."""
+        if not self.offsets or (self.offsets[-1], self.whys[-1]) != (offset, why):
+            self.offsets.append(offset)
+            self.whys.append(why)
 
-    def end(self, have_dates: bool, are_deleted: bool) -> None:
+    def end(self, mailbox: Mailbox, have_dates: bool, are_deleted: bool) -> None:
         """Ends the text. If no From_ line has a date, those like the first one are certain; and marks of deleted mail
         count only if each message has one."""
         dropped = {*([] if have_dates else [LIKE_FIRST]), *([] if are_deleted else [DELETED])}
-        rows = [row for row in zip(self.lines, self.whys, self.offsets) if row[1] not in dropped]
-        self.lines, self.whys, self.offsets = (
-            array.array(kind, [row[place] for row in rows]) for place, kind in enumerate("QBQ")
-        )
+        rows = [row for row in zip(self.whys, self.offsets) if row[0] not in dropped]
+        self.whys, self.offsets = (array.array(kind, [row[place] for row in rows]) for place, kind in enumerate("BQ"))
+        self.lines = array.array("Q", mailbox.lines_at(self.offsets))
 
     def numbers(self) -> list[Line]:
         """The numbers of the lines that may begin messages, in their order."""
@@ -106,11 +101,11 @@ def before(mailbox: Mailbox, offset: int) -> list[bytes]:
     begin = max(0, offset - NEAR)
     text = b"\n" * (begin == 0) + mailbox.at(begin, offset - begin)
     text = text[max(0, text.find(b"\n", text.rfind(b"\n" + FROM) + 1)) :]
-    return FIELDS.sub(b"", text).split(b"\n")[1:][-AROUND - 1 :]
+    return NOTED_FIELD.sub(b"", text).split(b"\n")[1:][-AROUND - 1 :]
 
 
 def from_on(mailbox: Mailbox, offset: int) -> list[bytes]:
     """The rest of the line of an offset, and the lines after it up to a line `From `, without empty ones at the end."""
     own, end, rest = mailbox.at(offset, NEAR).partition(b"\n")
-    lines = FIELDS.sub(b"", (end + rest).split(b"\n" + FROM, 1)[0]).split(b"\n")[1:][:AROUND]
+    lines = NOTED_FIELD.sub(b"", (end + rest).split(b"\n" + FROM, 1)[0]).split(b"\n")[1:][:AROUND]
     return [own, *b"\n".join(lines).rstrip(b"\n").split(b"\n")]

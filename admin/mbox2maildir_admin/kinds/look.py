@@ -4,29 +4,35 @@ import re
 from collections.abc import Callable, Iterator
 from typing import Optional
 
+from ..flags.clients import is_deleted
 from ..flags.dovecot_headers import internal_head
 from ..mbox.dates import is_dated
+from ..mbox.fields import LENGTH, Header
 from ..mbox.files import LONG
-from ..mbox.headers import LENGTH, Header, header_offset
-from ..mbox.hidden import FROM
-from ..mbox.lines import Lines, Reasons, Said
+from ..mbox.inventory import may_hold_mail
+from ..mbox.lines import Lines, Reasons, Said, number_lines
 from ..mbox.mailbox import Mailbox
-from ..mbox.messages import may_hold_mail
-from ..mbox.parts import MARK, TEXT, Part, parts_of
+from ..mbox.pieces import FROM, Piece, header_of
+from ..mbox.plain import NOTE, Marked, Plain, marked
 from ..terminal import NAMED
 from ..units import Line, Offset
-from .deleted import Deleted, deleted_in
 from .doubts import CUT, DELETED, Doubts
-from .joins import Joins
+from .joins import joins_in
 from .sorts import AGAINST, DOUBTFUL, KEEPING, MAY_BE_MAIL, SAID, WITHIN
 from .starts import FIELD, end_of_row
 from .undated import ending_of, shape_of
 from .within import ADDRESS, Escapes, is_after_blank, may_be_mail
 
 GIT = re.compile(rb"From [0-9a-f]{40,64} Mon Sep 17 00:00:00 2001\r?\Z")
-NOTE = b"DON'T DELETE THIS MESSAGE -- FOLDER INTERNAL DATA"
 # what the header of a message has of which something is to be said, in lower case
 LOOKED_AT = b"content-length", b"x-mozilla-status", b"x-gm-thrid", NOTE.lower()
+# the words by which a line `From ` is quoted
+QUOTES = re.compile(rb"\n(>+)From [^\n]*")
+
+
+def signs_of(piece: Piece) -> tuple[bool, bool]:
+    """Whether the line `From ` of a piece has a date, and whether a header follows it."""
+    return is_dated(piece.from_line), FIELD.match(piece.data, piece.body) is not None
 
 
 class Look:
@@ -38,179 +44,170 @@ class Look:
         self.after_nulls = start > 0 and mailbox.at(0, 1) == b"\0"
         # the lines, by their sorts
         self.seen: collections.defaultdict[str, Lines] = collections.defaultdict(Lines)
-        # the line of the message that ends by its length, and the offset at which it ends; the offset at which the body
-        # of the last message begins; and the line of the first message without a length
-        self.claimed_by, self.claimed, self.body, self.without = Line(0), Offset(0), Offset(0), Line(0)
+        # the offset of the message that ends by its length, and that at which it ends; the offset at which the body of
+        # the last message begins; and whether a message has no length
+        self.claimed_by, self.claimed, self.body, self.without = 0, 0, 0, False
         # whether the first message is the one by which Dovecot keeps an empty mailbox
         self.internal = bool(internal_head(mailbox, start)[0])
-        self.joins, self.doubts, self.escapes = Joins(mailbox), Doubts(), Escapes()
+        self.doubts, self.escapes = Doubts(), Escapes()
         # what the first From_ line looks like without a date, and in what all of them end, if none has one
         first = mailbox.at(start, LONG).split(b"\n")[0]
         self.shape, self.ending = shape_of(first), ending_of(first)
-        # whether the length of the last message says that something is missing
-        self.is_cut = False
-        # whether all of the text was looked at
-        self.is_whole = False
+        # whether the length of the last message says that something is missing, and whether all was looked at
+        self.is_cut = self.is_whole = False
 
     def read(self, enough: Optional["Enough"] = None) -> "Look":
         """Looks at the whole text, or only at its beginning if that is enough."""
         for _ in self.passed():
             if enough and enough(self):
+                number_lines(self.mailbox, self.seen.values())
                 break
         return self
 
-    def passed(self) -> Iterator[Part]:
-        """Looks at each part of the text, and passes it on."""
-        part = None
-        self.mailbox.file.seek(self.start)
-        for part in parts_of(self.mailbox.file, self.start, self.mailbox.line_at(self.start), self.is_plain):
-            if part.rest:
-                self.plain(part)
-            elif part.what == MARK:
-                self.mark(part)
-            elif part.what == TEXT:
-                self.text(part)
-            yield part
+    def passed(self) -> Iterator[Marked]:
+        """Looks at each piece of the text, and passes it on."""
+        piece = None
+        for piece, plain in marked(self.mailbox.pieces(self.start)):
+            if plain and piece.offset >= self.claimed and piece.offset > self.start:
+                self.plain(piece, plain)
+            elif piece.begins:
+                self.begin(piece)
+            if piece.has_word or not plain:
+                self.text(piece)
+            yield piece, plain
         # a message that ends there by its length is complete
-        if part and not part.piece.endswith(b"\n") and self.claimed != self.mailbox.end:
-            last = Line(part.line + part.piece.count(b"\n"))
-            self.seen["cut" if self.is_cut else "no end"].add(last)
+        if piece and not piece.data.endswith(b"\n") and self.claimed != self.mailbox.end:
+            self.seen["cut" if self.is_cut else "no end"].add(self.mailbox.end)
             if self.is_cut:
-                self.doubts.add(last, self.mailbox.end, CUT)
-        self.doubts.end(self.count("dated") > 0, self.are_deleted())
-        self.seen["doubtful" if self.count("dated") else "undated"].take(self.seen.pop("like the first", Lines()))
-        self.ending = None if self.count("dated") else self.ending
+                self.doubts.add(self.mailbox.end, CUT)
+        have_dates = self.count("dated") > 0
+        self.doubts.end(self.mailbox, have_dates, self.are_deleted())
+        self.seen["doubtful" if have_dates else "undated"].take(self.seen.pop("like the first", Lines()))
+        self.ending = None if have_dates else self.ending
+        number_lines(self.mailbox, self.seen.values())
         self.mailbox.check()
         self.is_whole = True
 
-    def is_plain(self, offset: Offset, from_line: bytes, rest: bytes) -> bool:
-        """Whether nothing is to be said of a message after the first but that it is one: its From_ line has a date, a
-        header follows that has none of the fields that are looked at, and it has no CR."""
-        if offset <= self.start or offset < self.claimed or b"\r" in rest or b"\r" in from_line:
-            return False
-        header = rest[: rest.find(b"\n\n") + 1].lower()
-        is_odd = may_hold_mail(from_line) or GIT.match(from_line) or any(map(header.__contains__, LOOKED_AT))
-        return not is_odd and FIELD.match(header, 0, LONG) is not None and is_dated(from_line)
-
-    def plain(self, mark: Part) -> None:
-        """Takes such a message."""
-        self.seen["dated"].add(mark.line, mark.piece, self.claimed_by)
-        self.doubts.take("dated", mark)
+    def plain(self, piece: Piece, plain: Plain) -> None:
+        """Looks at a plain message, but the first one. It has no length."""
         self.messages += 1
-        self.claimed, self.claimed_by, self.is_cut = Offset(0), mark.line, False
-        self.body = Offset(mark.offset + len(mark.piece) + mark.rest.find(b"\n\n") + 3)
-        self.without = self.without or mark.line
+        self.seen["dated"].count += 1
+        self.claimed, self.claimed_by, self.body = 0, piece.offset, piece.offset + plain.end + 1
+        self.without, self.is_cut = True, False
 
-    def text(self, part: Part) -> None:
-        """Looks at a piece of mail."""
+    def text(self, piece: Piece) -> None:
+        """Looks at lines of mail."""
+        data = piece.data
         # the search for a single byte is the faster one by far
-        if b"\r" in part.piece and not self.seen["CR in text"].count and b"\r\n" in part.piece:
-            before = part.piece.count(b"\n", 0, part.piece.index(b"\r\n"))
-            self.seen["CR in text"].add(Line(part.line + before))
-        for join in self.joins.found_in(part, self.body):
-            if join.offset >= self.claimed:
-                self.seen["joined"].add(join.line, join.from_line)
-                self.doubts.add(join.line, join.offset)
-
-    def mark(self, mark: Part) -> None:
-        """Looks at a line of `>` and `From `, and at the header after it."""
-        inside, header = mark.offset < self.claimed, None
-        dated = not mark.quotes and is_dated(mark.piece)
-        if mark.quotes:
-            sort = "quoted twice" if mark.quotes > 1 else "quoted, by length" if inside else "quoted"
-        elif inside:
-            is_doubtful = not dated and may_be_mail(self.mailbox, mark, self.claimed)
-            sort = "inside, dated" if dated else "inside, like mail" if is_doubtful else "inside"
-        else:
-            header = Header.read(self.mailbox, mark)
-            sort = self.sort_of(mark, header, dated)
-        self.seen[sort].add(mark.line, mark.piece, self.claimed_by)
-        self.doubts.take(sort, mark)
-        if inside:
-            self.escapes.take(self.mailbox, mark, self.claimed_by)
-        if not mark.quotes and mark.offset > self.start:
-            self.contradict(mark, sort, dated, header)
-        if header and sort != "text":
-            self.messages += 1
-            self.from_line(mark)
-            self.header(header, mark)
-            self.length(header, mark)
-
-    def contradict(self, mark: Part, sort: str, dated: bool, header: Optional[Header]) -> None:
-        """Notes which words a line `From ` after the first contradicts, among the words that say how a text was
-        written. No header was read for a line within a message."""
-        inside = header is None
-        begins = header.begins if header else self.mailbox.at(header_offset(self.mailbox, mark), LONG)
-        has_header, by = FIELD.match(begins) is not None, self.claimed_by if inside else Line(0)
-        if dated and has_header and not inside:
+        if b"\r" in data and not self.count("CR in text"):
+            place = data.find(b"\r\n", piece.body)
+            if place >= 0:
+                self.seen["CR in text"].add(piece.offset + place)
+        if not piece.has_word:
             return
-        is_bare = not dated and not has_header
-        for sort, is_so in (
+        for quote in QUOTES.finditer(b"\n" + data) if piece.has_quote else ():
+            inside = piece.offset + quote.start() < self.claimed
+            sort = "quoted twice" if len(quote[1]) > 1 else "quoted, by length" if inside else "quoted"
+            self.seen[sort].add(piece.offset + quote.start(), quote[0][1:])
+            if inside:
+                self.escapes.quoted.add(self.claimed_by)
+        for join in joins_in(self.mailbox, piece, self.body):
+            if join.offset >= self.claimed:
+                self.seen["joined"].add(join.offset, join.from_line)
+                self.doubts.add(join.offset)
+
+    def begin(self, piece: Piece) -> None:
+        """Looks at a line `From `, and at the header after it."""
+        from_line, inside, (dated, has_header) = piece.from_line, piece.offset < self.claimed, signs_of(piece)
+        if inside:
+            is_doubtful = not dated and may_be_mail(self.mailbox, piece, self.claimed)
+            sort = "inside, dated" if dated else "inside, like mail" if is_doubtful else "inside"
+            self.escapes.take_bare(self.mailbox, piece, self.claimed_by)
+        else:
+            sort = self.sort_of(piece, dated, has_header)
+        self.seen[sort].add(piece.offset, from_line, self.claimed_by if inside else None)
+        self.doubts.take(sort, piece, may_hold_mail(from_line))
+        if piece.offset > self.start:
+            self.contradict(piece, sort, dated, has_header)
+        if not inside and sort != "text":
+            self.messages += 1
+            self.message(piece, from_line)
+
+    def contradict(self, piece: Piece, sort: str, dated: bool, has_header: bool) -> None:
+        """Notes which words a line `From ` after the first contradicts, among the words that say how a text was
+        written."""
+        inside, is_bare = sort in WITHIN, not dated and not has_header
+        for against, is_so in (
             ("against each line", inside or is_bare),
             ("against lengths", (has_header if dated else sort in MAY_BE_MAIL) if inside else is_bare),
             ("against dates", dated and not has_header),
         ):
             if is_so:
-                self.seen[sort].add(mark.line, mark.piece, by)
+                self.seen[against].add(piece.offset, piece.from_line, self.claimed_by if inside else None)
 
-    def sort_of(self, mark: Part, header: Header, dated: bool) -> str:
-        """What a line `From ` before something like a header looks like: a From_ line that is "dated" or "undated"; an
-        "odd" one without a header; a "doubtful" one without a date; one "like the first" that has no date either, which
-        is "doubtful" if others have dates, or "undated"; or "text"."""
-        has_header, first = FIELD.match(header.text), mark.offset == self.start
+    def sort_of(self, piece: Piece, dated: bool, has_header: bool) -> str:
+        """What a line `From ` outside of right lengths looks like: a From_ line that is "dated" or "undated"; an "odd"
+        one without a header; a "doubtful" one without a date; one "like the first" that has no date either, which is
+        "doubtful" if others have dates, or "undated"; or "text"."""
+        is_first = piece.offset == self.start
         if dated:
-            return "dated" if first or has_header or self.is_alone(header) else "odd"
-        if first:
+            return "dated" if is_first or has_header or self.is_alone(piece) else "odd"
+        if is_first:
             return "undated" if has_header else "text"
-        blank = is_after_blank(self.mailbox, mark)
-        if blank and (has_header or ADDRESS.match(mark.piece)):
-            is_like_first = has_header and self.count("undated") and shape_of(mark.piece) == self.shape
+        blank = is_after_blank(self.mailbox, piece)
+        if blank and (has_header or ADDRESS.match(piece.from_line)):
+            is_like_first = has_header and self.count("undated") and shape_of(piece.from_line) == self.shape
             return "like the first" if is_like_first else "doubtful"
         self.seen["text after a blank line"].count += blank
         return "text"
 
-    def is_alone(self, header: Header) -> bool:
-        """Whether neither a header nor text follows a From_ line."""
-        if not header.is_empty():
-            return False
-        return self.mailbox.at(end_of_row(self.mailbox, header.end, b"\r\n"), len(FROM)) in (b"", FROM)
+    def is_alone(self, piece: Piece) -> bool:
+        """Whether neither a header nor text follows a From_ line, but an empty line or the end."""
+        end, body = header_of(piece.data, piece.body)
+        body, is_empty = piece.offset + body, not piece.data[piece.body : end].strip(b"\r\n")
+        is_there = body > piece.offset + piece.body or body == self.mailbox.size
+        rest = end_of_row(self.mailbox, Offset(body), b"\r\n")
+        return is_there and is_empty and self.mailbox.at(rest, len(FROM)) in (b"", FROM)
 
-    def from_line(self, mark: Part) -> None:
-        """Looks at a From_ line itself."""
-        if may_hold_mail(mark.piece):
-            self.seen["holds mail"].add(mark.line, mark.piece)
-        elif mark.piece.endswith(b"\r"):
-            self.seen["CR LF"].add(mark.line, mark.piece[:-1])
-        if GIT.match(mark.piece):
-            self.seen["git"].add(mark.line)
+    def message(self, piece: Piece, from_line: bytes) -> None:
+        """Looks at the From_ line and at the header of a message."""
+        if may_hold_mail(from_line):
+            self.seen["holds mail"].add(piece.offset, from_line)
+        elif from_line.endswith(b"\r"):
+            self.seen["CR LF"].add(piece.offset, from_line[:-1])
+        if GIT.match(from_line):
+            self.seen["git"].add(piece.offset)
+        end, body = header_of(piece.data, piece.body)
+        self.claimed, self.claimed_by, self.body, self.is_cut = 0, piece.offset, piece.offset + body, False
+        lower = piece.data[piece.body : end].lower()
+        # most mail has nothing of it
+        if any(map(lower.__contains__, LOOKED_AT)):
+            self.header(Header.of(piece), piece)
+        else:
+            self.without = True
 
-    def header(self, header: Header, mark: Part) -> None:
-        """Looks at the header of a message."""
+    def header(self, header: Header, piece: Piece) -> None:
+        """Looks at what programs wrote into the header of a message, and at its length."""
         if header[b"x-gm-thrid"]:
-            self.seen["Gmail"].add(mark.line)
-        # most mail has none, and it takes long to look for its value
-        deleted = deleted_in(header.text) if b"x-mozilla-status" in header else None
+            self.seen["Gmail"].add(piece.offset)
+        deleted = is_deleted(header.text) if b"x-mozilla-status" in header else None
+        if deleted is not None:
+            self.seen["Thunderbird"].add(piece.offset)
         if deleted:
-            self.seen["Thunderbird"].add(mark.line)
-        if deleted is Deleted.YES:
-            self.seen["deleted"].add(header.line_of(b"x-mozilla-status"))
-            self.doubts.add(mark.line, mark.offset, DELETED)
+            self.seen["deleted"].add(header.offset_of(b"x-mozilla-status"))
+            self.doubts.add(piece.offset, DELETED)
         if NOTE in header.text and header[b"subject"] == NOTE:
-            self.seen["internal"].add(mark.line)
-
-    def length(self, header: Header, mark: Part) -> None:
-        """Looks at the length of a message."""
+            self.seen["internal"].add(piece.offset)
         end = header.message_end(self.mailbox)
-        self.claimed, self.claimed_by, self.body = end or Offset(0), mark.line, header.end
-        self.is_cut = False
+        self.claimed = end or 0
         if end:
-            self.seen["lengths"].add(mark.line)
+            self.seen["lengths"].add(piece.offset)
         elif end == 0:
             length = header[b"content-length"]
             self.is_cut = LENGTH.match(length) is not None and header.end + int(length) > self.mailbox.size
-            self.seen["wrong"].add(header.line_of(b"content-length"), b"Content-Length: " + length)
-        elif not self.without and not (self.internal and mark.offset == self.start):
-            self.without = mark.line
+            self.seen["wrong"].add(header.offset_of(b"content-length"), b"Content-Length: " + length)
+        elif not (self.internal and piece.offset == self.start):
+            self.without = True
 
     def have_lengths(self) -> bool:
         """Whether each message has a right length, except the one by which Dovecot keeps an empty mailbox."""

@@ -5,7 +5,7 @@ import re
 from typing import Optional
 
 from ..mbox.dates import ends_in_iso
-from ..mbox.hidden import FROM
+from ..mbox.pieces import FROM
 
 # a sender in one word: an address, or the sender of what the mail system itself sends
 SENDER = re.compile(rb"[^\s@]+@[^\s@]+|MAILER[-_]DAEMON")

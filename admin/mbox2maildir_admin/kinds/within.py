@@ -3,10 +3,8 @@ have put `>` before others."""
 import re
 
 from ..mbox.files import LONG
-from ..mbox.headers import header_offset
 from ..mbox.mailbox import Mailbox
-from ..mbox.parts import Part
-from ..units import Line, Offset
+from ..mbox.pieces import Piece
 from .starts import FIELD
 
 # what rmail puts between a From_ line and the header
@@ -17,17 +15,15 @@ EMPTY_LINE = (b"\n", b"\r\n")
 
 
 class Escapes:
-    """The messages with right lengths, by their first lines, that have a line `>From `, and those that have a line
+    """The messages with right lengths, by their offsets, that have a line `>From `, and those that have a line
     `From ` after a blank one, so that no program has escaped it."""
 
     def __init__(self) -> None:
-        self.quoted, self.bare = set[Line](), set[Line]()
+        self.quoted, self.bare = set[int](), set[int]()
 
-    def take(self, mailbox: Mailbox, mark: Part, by: Line) -> None:
-        """Takes a line of `>` and `From ` within the message that begins in a line."""
-        if mark.quotes:
-            self.quoted.add(by)
-        elif is_after_blank(mailbox, mark):
+    def take_bare(self, mailbox: Mailbox, piece: Piece, by: int) -> None:
+        """Takes a line `From ` within the message that begins at an offset."""
+        if is_after_blank(mailbox, piece):
             self.bare.add(by)
 
     def are_possible(self) -> bool:
@@ -35,19 +31,19 @@ class Escapes:
         return not self.quoted <= self.bare
 
 
-def is_after_blank(mailbox: Mailbox, mark: Part) -> bool:
-    """Whether a blank line stands before a line."""
-    return mailbox.at(mark.offset - 3, 3).endswith((b"\n\n", b"\n\r\n"))
+def is_after_blank(mailbox: Mailbox, piece: Piece) -> bool:
+    """Whether a blank line stands before a piece."""
+    return mailbox.at(piece.offset - 3, 3).endswith((b"\n\n", b"\n\r\n"))
 
 
-def may_be_mail(mailbox: Mailbox, mark: Part, end: Offset) -> bool:
+def may_be_mail(mailbox: Mailbox, piece: Piece, end: int) -> bool:
     """Whether a line `From ` without a date, in a message that ends at an offset, may begin another one: a header
     follows, perhaps after what rmail puts before that, or it has an address alone, or a word alone between blank
     lines."""
-    offset = header_offset(mailbox, mark)
+    from_line, offset = piece.from_line, piece.offset + piece.body
     begins = mailbox.at(offset, LONG)
     by_rmail = BY_RMAIL.match(begins)
-    if ADDRESS.match(mark.piece) or FIELD.match(begins, by_rmail.end() if by_rmail else 0):
+    if ADDRESS.match(from_line) or FIELD.match(begins, by_rmail.end() if by_rmail else 0):
         return True
-    is_between = offset < end and begins.startswith(EMPTY_LINE) and is_after_blank(mailbox, mark)
-    return is_between and ONE_WORD.match(mark.piece) is not None
+    is_between = offset < end and begins.startswith(EMPTY_LINE) and is_after_blank(mailbox, piece)
+    return is_between and ONE_WORD.match(from_line) is not None

@@ -4,15 +4,14 @@ from collections.abc import Iterator
 from typing import Optional
 
 from ..flags.clients import labels_in
-from ..flags.dovecot_headers import header_at
+from ..mbox.fields import VALUE, Header
 from ..mbox.inventory import Inventory
 from ..mbox.mailbox import Mailbox
 from ..units import Place
 
 # Google writes both fields before those that were sent; what a sender writes comes after them
-VALUE = rb":([^\n]*(?:\n[ \t][^\n]*)*)(?:\n|\Z)"
-FIRST = re.compile(rb"X-GM-THRID%s(?:X-Gmail-Labels)%s" % (VALUE, VALUE), re.I)
-LABELS_FIRST = re.compile(rb"X-Gmail-Labels%s(?:X-GM-THRID)%s" % (VALUE, VALUE), re.I)
+FIRST = re.compile(rb"X-GM-THRID%s\nX-Gmail-Labels%s(?:\n|\Z)" % (VALUE, VALUE), re.I)
+LABELS_FIRST = re.compile(rb"X-Gmail-Labels%s\nX-GM-THRID%s(?:\n|\Z)" % (VALUE, VALUE), re.I)
 
 
 def field_of(header: bytes) -> Optional[bytes]:
@@ -30,4 +29,4 @@ def labels_of(header: bytes) -> Optional[list[str]]:
 def headers_in(mailbox: Mailbox, inventory: Inventory) -> Iterator[bytes]:
     """The headers of the messages of a text."""
     for place in map(Place, range(len(inventory))):
-        yield header_at(mailbox, inventory.offset(place))
+        yield Header.at(mailbox, inventory.offset(place)).text

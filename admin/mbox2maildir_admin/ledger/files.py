@@ -8,8 +8,8 @@ from ..faults import Fault
 from ..looks import is_link
 from ..maildir.files import digest_of, names_of
 from ..mbox.bases import BASE, DIGEST, FIRST, base_in, before_info, is_own
-from ..mbox.core import Core
-from ..mbox.files import BLOCK, open_file
+from ..mbox.core import forms_of
+from ..mbox.files import open_file
 from ..mbox.inventory import Inventory
 from ..units import Say, silent
 
@@ -127,14 +127,11 @@ class Files:
 
 def forms_in(path: bytes) -> Optional[tuple[bytes, bytes]]:
     """The core and the bare form of the message in a file; None if there is no file. No symbolic link is followed."""
-    core = Core()
     try:
         with open_file(path, os.O_NOFOLLOW) as file:
-            for block in iter(lambda: file.read(BLOCK), b""):
-                core.update(block)
+            return forms_of(file.read)
     except (Fault, OSError):
         return None
-    return core.end()
 
 
 def digest_of_file(path: bytes, sizes: Container[int]) -> Optional[bytes]:

@@ -126,7 +126,8 @@ def part_of(inventory: Inventory, places: Sequence[int], bases: Iterable[Optiona
     """Some messages of a text, with other bases."""
     part = Inventory()
     part.table = Table.of(base for base in bases if base)
-    for name in ("sizes", "lines", "offsets", "unquoted", "dates"):
+    part.count_lines = lambda: (inventory.lines[place] for place in places)
+    for name in ("sizes", "offsets", "unquoted", "dates"):
         row = getattr(inventory, name)
         setattr(part, name, array.array(row.typecode, (row[place] for place in places)))
     return part

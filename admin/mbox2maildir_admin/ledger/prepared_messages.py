@@ -78,7 +78,7 @@ class Noted:
         # how long it took to read the mailbox as a last pass does, and to look at its files, in milliseconds
         self.reading = self.looking = 0
         self.messages = Inventory()
-        self.messages.table = table
+        self.messages.table, self.messages.lines = table, array.array("Q")
 
     def foreseen(self) -> int:
         """How many milliseconds a last pass would take for the mailbox as it is. It looks at the files several times:

@@ -10,7 +10,7 @@ from ..looks import is_there
 from ..mbox.bases import BASE, before_info, is_own
 from ..mbox.inventory import Inventory
 from ..terminal import NAMED, named
-from ..units import Line, Place, Say, counted, silent
+from ..units import Place, Say, counted, silent
 from .ahead import Read, readable, threads_for
 from .either import Others
 from .files import digest_of, listings_of, paths_of
@@ -26,10 +26,9 @@ class State(enum.IntEnum):
 
 
 class Found(NamedTuple):
-    """A message, the number of its first line, and the path of its file if that has another name than its own."""
+    """A message, and the path of its file if that has another name than its own."""
 
     place: Place
-    line: Line
     path: bytes
 
 
@@ -183,7 +182,7 @@ class Check:
         """The messages that are found in this state."""
         for place in map(Place, range(len(self.states))):
             if self.states[place] == state:
-                yield Found(place, Line(self.inventory.lines[place]), self.paths.get(place, b""))
+                yield Found(place, self.paths.get(place, b""))
 
     def is_right(self) -> bool:
         """Whether each message is there exactly once, in a file of its owner."""

@@ -7,13 +7,12 @@ from typing import NamedTuple, Optional
 
 from ..mbox.bases import Table
 from ..mbox.dates import seconds_of_header
-from ..mbox.headers import Header
+from ..mbox.fields import Header
 from ..mbox.inventory import NO_DATE, Inventory
 from ..mbox.mailbox import Mailbox
-from ..mbox.parts import MARK, Part
 from ..nexts import Remark
 from ..terminal import named
-from ..units import Line, Place, Say, counted, silent
+from ..units import Place, Say, counted, silent
 from .files import listings_of
 
 # the dates that each file system can hold
@@ -75,9 +74,7 @@ class Dating:
         """Takes the dates of the headers for those messages that have none."""
         for place in map(Place, range(self.messages)):
             if self.dates[place] == NO_DATE:
-                line = Line(self.inventory.lines[place])
-                mark = Part(MARK, self.inventory.offset(place), line, self.from_line(place))
-                date = seconds_of_header(Header.read(self.mailbox, mark)[b"date"])
+                date = seconds_of_header(Header.at(self.mailbox, self.inventory.offset(place))[b"date"])
                 if date is not None:
                     self.dates[place] = date
                     self.by_header += 1

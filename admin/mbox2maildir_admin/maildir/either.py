@@ -13,9 +13,8 @@ from collections.abc import Iterable, Iterator, Sequence
 from typing import NamedTuple, Optional
 
 from ..mbox.bases import Table, base_in
-from ..mbox.inventory import Inventory
+from ..mbox.inventory import Inventory, messages_of
 from ..mbox.mailbox import Mailbox
-from ..mbox.messages import bare_messages_of
 from ..units import Offset, Place
 from .files import listings_of
 
@@ -30,8 +29,8 @@ class Bare(NamedTuple):
     def read(cls, mailbox: Mailbox, start: Offset) -> "Bare":
         """Reads the messages of a text that begins at an offset."""
         table, sizes = Table(), array.array("Q")
-        for message in bare_messages_of(mailbox, start):
-            table.add(message.digest.digest())
+        for message in messages_of(mailbox, start, is_bare=True):
+            table.add(message.digest)
             sizes.append(message.size)
         mailbox.check()
         return cls(table, sizes)

@@ -2,243 +2,110 @@
 
 The bare form is the message without the header fields that mail programs note for themselves. The core is the bare form
 without the CRs at the ends of its lines and without the `>` before `From ` at the beginnings of lines, and it ends with
-one line end. A field begins at the beginning of a line, and ends and is found as `hidden` says.
+one line end. A field begins at the beginning of a line, and ends and is found as `fields` says.
 
-Most messages are their own bare form and their own core. So both are made beside the digest of the message, and nothing
-is hashed for them until they differ: from there on the one that differs has a digest of its own.
+Most messages are their own bare form and their own core. So nothing is hashed for these until they differ: from there
+on the one that differs has a digest of its own.
 """
 import hashlib
 import re
-from collections.abc import Iterable, Iterator
-from typing import Optional, Protocol
+from collections.abc import Iterator
 
-from .files import BLOCK
-from .hidden import LONGEST, NOTED, pattern_of
+from .fields import NOTED_FIELD, without
+from .pieces import NEVER, Read, header_of, pieces_of
 
 # how many bytes of a digest are kept
 SHORT = 16
-# it ends a header; within a message, no line `From ` does
-EMPTY_LINE = re.compile(rb"\n\r?\n")
-FIRST_FIELD = re.compile(pattern_of(NOTED).pattern[1:])
-# rows of `>` before `From `, what each of them has, and the end of a piece that may begin one
+# rows of `>` before `From `, what each of them has, and the end of a text that may begin one, or is a CR
 QUOTES, QUOTED = re.compile(rb"\n>+(?=From )"), b">From "
-QUOTES_BEGUN = re.compile(rb">+(?:F(?:r(?:om?)?)?)?\Z")
+BEGUN = re.compile(rb"(?:(?:^|\n)>+(?:F(?:r(?:om?)?)?)?|\r)\Z")
 
 
-def whole_field(names: tuple[bytes, ...]) -> re.Pattern[bytes]:
-    """Finds a field of one of these names, with the lines that continue it, after the end of a line."""
-    return re.compile(pattern_of(names).pattern + rb"[^\n]*(?:\n[ \t][^\n]*)*")
+def bare_of(text: bytes) -> bytes:
+    """The bare form of the beginning of a message, which has all of the header."""
+    return without(NOTED_FIELD, text, 0, header_of(text, 0)[0])
 
 
-WHOLE_FIELD = whole_field(NOTED)
+def core_of(text: bytes) -> bytes:
+    """The core of lines of the bare form."""
+    if b"\r" in text:
+        text = text.replace(b"\r\n", b"\n")
+    return QUOTES.sub(b"\n", b"\n" + text)[1:] if QUOTED in text else text
 
 
-class Hash(Protocol):
-    """A digest of `hashlib`."""
+class Digests:
+    """The digests of a message, and of its bare form and its core, which begin with the header."""
 
-    def update(self, data: bytes, /) -> None:
-        """Takes the next bytes."""
+    def __init__(self, with_cores: bool = True) -> None:
+        self.whole = self.bare = self.core = hashlib.sha256()
+        self.size, self.with_cores = 0, with_cores
+        # how many line ends of the core wait for what follows them, and whether the last line so far has ended
+        self.held, self.is_ended = 0, False
 
-    def digest(self) -> bytes:
-        """The digest of all bytes that were taken."""
+    def take(self, mail: bytes) -> None:
+        """Takes the next lines."""
+        if self.with_cores:
+            self.take_core(mail)
+        self.whole.update(mail)
+        self.size += len(mail)
 
-    def copy(self) -> "Hash":
-        """Another one that has taken the same."""
-
-
-class Unquoter:
-    """Removes rows of `>` before `From ` at the beginnings of lines, and CRs at the ends of lines, from a text that
-    comes in pieces."""
-
-    __slots__ = "is_fresh", "rest"
-
-    def __init__(self, is_fresh: bool = True) -> None:
-        """The text begins a line if it is fresh."""
-        self.is_fresh, self.rest = is_fresh, b""
-
-    def of(self, piece: bytes) -> bytes:
-        """Returns what is known of the text after the next piece. An end that may begin such a row, or is a CR, waits
-        for more."""
-        text = (b"\n" if self.is_fresh else b" ") + self.rest + piece
-        begun = QUOTES_BEGUN.match(text, text.rfind(b"\n") + 1)
-        self.rest = begun[0] if begun else b"\r" * text.endswith(b"\r")
-        text = text[: len(text) - len(self.rest)].replace(b"\r\n", b"\n")
-        self.is_fresh = text.endswith(b"\n")
-        return (QUOTES.sub(b"\n", text) if QUOTED in text else text)[1:]
-
-
-class LongHeader:
-    """Leaves the noted fields out of a message whose header comes in several pieces, line by line."""
-
-    __slots__ = "rest", "is_within", "hides", "is_over"
-
-    def __init__(self) -> None:
-        # the beginning of a line, which waits for more
-        self.rest = b""
-        # whether the next bytes go on with a long line, whether its field is left out, and whether the header has ended
-        self.is_within = self.hides = self.is_over = False
-
-    def of(self, piece: bytes) -> bytes:
-        """Returns what stays of the text after the next piece. A line that is not complete waits for more until it is
-        long enough for a decision."""
-        text, self.rest = self.rest + piece, b""
-        return b"".join(self.lines(text))
-
-    def lines(self, text: bytes) -> Iterator[bytes]:
-        """The lines that stay, and all that follows the header."""
-        at = 0
-        while at < len(text) and not self.is_over:
-            begin, at = at, text.find(b"\n", at) + 1 or len(text)
-            is_whole = text.endswith(b"\n", begin, at)
-            if not self.is_within and not is_whole and at - begin < LONGEST:
-                self.rest = text[begin:]
-                return
-            if not self.is_within:
-                self.decide(text[begin:at])
-            self.is_within = not is_whole
-            if not self.hides:
-                yield text[begin:at]
-        yield text[at:]
-
-    def decide(self, line: bytes) -> None:
-        """Takes the beginning of a line. A line that continues a field is like it."""
-        if line in (b"\n", b"\r\n"):
-            self.hides, self.is_over = False, True
-        elif not line.startswith((b" ", b"\t")):
-            self.hides = FIRST_FIELD.match(line) is not None
-
-    def end(self) -> bytes:
-        """Returns what stays of a last line that has no end."""
-        if self.rest:
-            self.decide(self.rest)
-        return b"" if self.hides else self.rest
-
-
-def beginning_of(pieces: Iterable[bytes]) -> Iterator[bytes]:
-    """The core of a message that comes in pieces, or of the beginning of one, as far as no further piece could change
-    it. The line ends at its end stay as they are."""
-    header, unquoter = LongHeader(), Unquoter()
-    for piece in pieces:
-        yield unquoter.of(header.of(piece))
-
-
-class Differing:
-    """The digest of a core, from where it differs from the bare form."""
-
-    __slots__ = "hash", "last", "held", "unquoter"
-
-    def __init__(self, digest: Hash, last: bytes) -> None:
-        """The digest has what comes before, which ends with this byte."""
-        self.hash, self.last, self.unquoter = digest, last, Unquoter(last in (b"", b"\n"))
-        # how many line ends wait for what follows them
-        self.held = 0
-
-    def update(self, text: bytes) -> None:
-        """Takes the next bytes of the bare form."""
-        self.take(self.unquoter.of(text))
-
-    def take(self, text: bytes) -> None:
-        """Takes the next bytes of the core. Line ends count only if something follows them."""
-        line = text.rstrip(b"\n")
-        if line:
-            for start in range(0, self.held, BLOCK):
-                self.hash.update(b"\n" * min(BLOCK, self.held - start))
-            self.hash.update(line)
-            self.held, self.last = 0, line[-1:]
-        self.held += len(text) - len(line)
-
-    def digest(self) -> bytes:
-        """Ends the core, and returns its digest."""
-        self.take(self.unquoter.rest)
-        if self.last != b"\n":
-            self.hash.update(b"\n")
-        return self.hash.digest()
-
-
-class InPass:
-    """The digests of a message's core and of its bare form, made while the message itself is hashed."""
-
-    __slots__ = "bare", "core", "header", "is_begun", "last"
-
-    def __init__(self) -> None:
-        # the digest of the bare form once that differs from the message, and that of the core once that differs from
-        # the bare form
-        self.bare: Optional[Hash] = None
-        self.core: Optional[Differing] = None
-        # the header, if not all of it is in the first piece
-        self.header: Optional[LongHeader] = None
-        # the last byte so far of a core that does not differ
-        self.is_begun, self.last = False, b""
-
-    def take(self, piece: bytes, digest: Hash, may_be_quoted: bool) -> None:
-        """Takes the next bytes, which the digest of the message has not had yet. Unless they may be quoted, no line of
-        theirs begins with `>` and `From `."""
-        text = piece
-        if self.header:
-            # what waited may be quoted
-            text, may_be_quoted = self.header.of(piece), True
-        elif not self.is_begun:
-            self.is_begun, text = True, self.begin(piece)
-        if text is not piece and self.bare is None:
-            self.bare = digest.copy()
-        self.add(text, digest, may_be_quoted)
-
-    def begin(self, piece: bytes) -> bytes:
-        """Returns what stays of the first bytes."""
-        text = b"\n" + piece
-        found = EMPTY_LINE.search(text)
-        if not found:
-            self.header = LongHeader()
-            return self.header.of(piece)
-        end = found.start() + 1
-        header = WHOLE_FIELD.sub(b"", text[:end])
-        return piece if len(header) == end else header[1:] + text[end:]
-
-    def add(self, text: bytes, digest: Hash, may_be_quoted: bool) -> None:
-        """Takes the next bytes of the bare form."""
-        if self.core is None and self.is_own(text, may_be_quoted):
-            self.last = text[-1:] or self.last
+    def take_core(self, mail: bytes) -> None:
+        """Takes the next lines, which the digest of the message has not had yet."""
+        bare = mail if self.size else bare_of(mail)
+        core = core_of(bare)
+        if self.bare is self.whole and bare is not mail:
+            self.bare = self.bare.copy()
+            self.core = self.bare if self.core is self.whole else self.core
+        if self.core is self.bare and (core is not bare or bare.endswith(b"\n\n") or self.is_ended and bare == b"\n"):
+            self.core = self.bare.copy()
+        if self.core is not self.bare:
+            text = core.rstrip(b"\n")
+            if text:
+                self.core.update(b"\n" * self.held + text)
+                self.held, self.is_ended = 0, False
+            self.held += len(core) - len(text)
         else:
-            self.differ(digest).update(text)
-        if self.bare is not None:
-            self.bare.update(text)
-
-    def is_own(self, text: bytes, may_be_quoted: bool) -> bool:
-        """Whether the core has these bytes as the bare form has them. If that is not known yet, it does not."""
-        if b"\r" in text or text.endswith(b"\n\n") or self.last == text == b"\n":
-            return False
-        if may_be_quoted and QUOTED in text:
-            return False
-        return text.endswith(b"\n") or not QUOTES_BEGUN.match(text, text.rfind(b"\n") + 1)
-
-    def differ(self, digest: Hash) -> Differing:
-        """The core, which has a digest of its own from now on."""
-        if self.core is None:
-            self.core = Differing((digest if self.bare is None else self.bare).copy(), self.last)
-        return self.core
-
-    def end(self, digest: Hash) -> tuple[bytes, bytes]:
-        """Ends the message, which has this digest. Returns the first bytes of the digests of its core and of its bare
-        form."""
-        if self.header:
-            self.add(self.header.end(), digest, True)
-        bare = (digest if self.bare is None else self.bare).digest()[:SHORT]
-        if self.core is None and self.last == b"\n":
-            return bare, bare
-        return self.differ(digest).digest()[:SHORT], bare
-
-
-class Core:
-    """The digests of a message that comes in pieces, as the bytes of a file do."""
-
-    def __init__(self) -> None:
-        self.whole, self.others = hashlib.sha256(), InPass()
-
-    def update(self, piece: bytes) -> None:
-        """Takes the next bytes."""
-        self.others.take(piece, self.whole, True)
-        self.whole.update(piece)
+            self.is_ended = bare.endswith(b"\n") if bare else self.is_ended
+        if self.bare is not self.whole:
+            self.bare.update(bare)
 
     def end(self) -> tuple[bytes, bytes]:
         """Ends the message. Returns the first bytes of the digests of its core and of its bare form."""
-        return self.others.end(self.whole)
+        if not self.is_ended:
+            self.core = self.core.copy()
+            self.core.update(b"\n")
+        return self.core.digest()[:SHORT], self.bare.digest()[:SHORT]
+
+
+def digests_of(mail: bytes, bare: bytes, core: bytes) -> tuple[bytes, bytes, bytes]:
+    """The digest of a whole message, and the first bytes of those of its core and of its bare form, by their texts. The
+    line ends at the end of the core are not looked at."""
+    whole = hashlib.sha256(mail).digest()
+    of_bare = whole if len(bare) == len(mail) else hashlib.sha256(bare).digest()
+    is_bare = len(core) == len(bare) and core.endswith(b"\n") and not core.endswith(b"\n\n")
+    of_core = of_bare if is_bare else hashlib.sha256(core.rstrip(b"\n") + b"\n").digest()
+    return whole, of_core[:SHORT], of_bare[:SHORT]
+
+
+def forms_of(read: Read, is_ended: bool = False) -> tuple[bytes, bytes]:
+    """The first bytes of the digests of the core and of the bare form of a message that is read. Its last line may
+    count as ended, as a mailbox would have it."""
+    digests = Digests()
+    for piece in pieces_of(read, word=NEVER):
+        digests.take(piece.data + b"\n" * (is_ended and piece.ends and not piece.data.endswith(b"\n")))
+    return digests.end()
+
+
+def beginning_of(read: Read) -> Iterator[bytes]:
+    """The core of a message that is read, or of the beginning of one, as far as what follows could not change it. The
+    line ends at its end stay as they are."""
+    is_in_header = True
+    for piece in pieces_of(read, word=NEVER):
+        text = piece.data
+        if is_in_header:
+            end, body = header_of(text, 0)
+            # a line of a header may go on as another field
+            last = len(text) if body > end or text.endswith(b"\n") else text.rfind(b"\n") + 1
+            text, is_in_header = bare_of(text[:last]), False
+        begun = BEGUN.search(text) if piece.ends else None
+        yield core_of(text[: begun.start() + begun[0].startswith(b"\n")] if begun else text)

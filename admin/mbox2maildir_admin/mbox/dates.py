@@ -114,10 +114,6 @@ def ends_plain(text: bytes) -> Optional[re.Match[str]]:
 
 def date_in(text: bytes) -> Optional[Sequence[str]]:
     """The parts of the first date in a text, and its zone, if it has one."""
-    # without a colon before it, no other date with a time comes first
-    plain = ends_plain(text) if b":" not in text[:-PLAIN_LENGTH] else None
-    if plain:
-        return (*plain.group(*PARTS), "")
     found = HAS_DATE.search(text.decode("latin-1"))
     if not found:
         return iso_date_in(text)
@@ -152,6 +148,24 @@ def seconds_of(text: bytes) -> Optional[int]:
     except (ValueError, OverflowError):
         return None
     return None if moment == UNKNOWN or seconds == 0 else seconds
+
+
+def seconds_of_plain(day: bytes, hour: bytes, minute: bytes, second: bytes, year: bytes) -> Optional[int]:
+    """The same of a date in the parts that most From_ lines have; None if it may be none, or the clock is changed on
+    that day."""
+    midnight = midnight_by(time.tzname, day, year)
+    return midnight and midnight + 3600 * int(hour) + 60 * int(minute) + int(second)
+
+
+@functools.lru_cache(maxsize=1 << 13)
+def midnight_by(zone: tuple[str, str], day: bytes, year: bytes) -> Optional[int]:
+    """When such a day begins in the zone of these names, as `midnight_of` says."""
+    found = ends_plain(b" %s 00:00:00 %s" % (day, year))
+    try:
+        moment = (int(found["year"]), MONTHS[found["month"].lower()], int(found["day"])) if found else UNKNOWN[:3]
+        return midnight_of(zone, *moment) if moment[0] > UNKNOWN[0] else None
+    except (ValueError, OverflowError):
+        return None
 
 
 def seconds_east(moment: Moment, east: Optional[int]) -> Optional[int]:

@@ -1,95 +1,192 @@
 """The messages of a text, in their order."""
 import array
-from collections.abc import Iterable
-from typing import Optional
+import functools
+import re
+from collections.abc import Callable, Iterable, Iterator
+from typing import NamedTuple, Optional
 
+from .. import ADMIN, PROGRAM
 from ..faults import Fault, Reason
+from ..nexts import Does, run_next
 from ..program import Listing
+from ..terminal import operand
 from ..units import Offset, Place
 from .bases import Table
-from .core import SHORT
+from .core import SHORT, Digests, core_of, digests_of
 from .dates import seconds_of
-from .lines import Lines
-from .mailbox import Mailbox
-from .messages import Message, may_hold_mail, messages_in
-from .parts import Part, parts_of
+from .fields import bare_pieces
+from .files import LONG, Reader
+from .lines import Lines, number_lines
+from .mailbox import Mailbox, lines_at
+from .pieces import Piece, pieces_of
+from .plain import Marked, Plain, marked
 
 # stands for no date, since no text has a date so long ago
 NO_DATE = -1 << 62
+FIRST_QUOTE = re.compile(rb"\n>(?=>*From )")
+DIFFERS = "line %%d: message %%d differs from what `%s list` gave" % PROGRAM
+
+
+class Message(NamedTuple):
+    """A message of a text, by the rules of mbox2maildir."""
+
+    offset: Offset
+    size: int
+    # the digest of the message, and the first bytes of those of its core and of its bare form
+    digest: bytes
+    core: bytes
+    bare: bytes
+    # in seconds since 1970
+    date: int
+    holds_mail: bool
+    # how many of its lines lose a `>`, and how many bytes of the text it is, with its From_ line and the blank line
+    # after it
+    unquoted: int
+    read: int
+
+
+def may_hold_mail(from_line: bytes) -> bool:
+    """Whether a From_ line may hold mail, as after a CR, or after NUL bytes that a crash left."""
+    return b"\r" in from_line[:-1] or b"\0" in from_line or len(from_line) > LONG
+
+
+def of_plain(piece: Piece, plain: Plain, with_cores: bool) -> Message:
+    """The message that a piece is, of which this is known."""
+    mail, count = piece.data[plain.body : plain.last], 0
+    if piece.has_quote:
+        mail, count = FIRST_QUOTE.subn(b"\n", mail)
+    bare = plain.bare[1:] + mail[plain.end - plain.body :] if with_cores else mail
+    of_mail = digests_of(mail, bare, core_of(bare) if piece.has_quote else bare)
+    return Message(piece.offset, len(mail), *of_mail, plain.date, False, count, len(piece.data))
+
+
+class Begun:
+    """A message of which not all pieces were read."""
+
+    def __init__(self, piece: Piece, with_cores: bool) -> None:
+        self.offset, self.from_line, self.digests = piece.offset, piece.from_line, Digests(with_cores)
+        self.unquoted, self.read = 0, piece.body
+
+    def take(self, piece: Piece) -> None:
+        """Takes a piece. Of a quoted line the first `>` is left out, and of the message the blank line at its end."""
+        mail, count = piece.data[piece.body :] if piece.begins else piece.data, 0
+        is_blank = piece.ends and (mail == b"\n" or mail.endswith(b"\n\n"))
+        mail = mail[:-1] if is_blank else mail
+        if piece.has_quote:
+            mail, count = FIRST_QUOTE.subn(b"\n", b"\n" + mail)
+            mail = mail[1:]
+        self.digests.take(mail)
+        self.unquoted, self.read = self.unquoted + count, self.read + len(mail) + count + is_blank
+
+    def message(self) -> Message:
+        """The whole message."""
+        size, of_mail, date = self.digests.size, (self.digests.whole.digest(), *self.digests.end()), self.date
+        return Message(self.offset, size, *of_mail, date, may_hold_mail(self.from_line), self.unquoted, self.read)
+
+    @property
+    def date(self) -> int:
+        """The date of its From_ line."""
+        date = seconds_of(self.from_line)
+        return NO_DATE if date is None else date
+
+
+def messages_in(path: bytes, pieces: Iterable[Marked], with_cores: bool = False) -> Iterator[Message]:
+    """The messages that consist of these pieces of a file at a path."""
+    begun = None
+    for piece, plain in pieces:
+        if plain:
+            yield of_plain(piece, plain, with_cores)
+            continue
+        if piece.begins:
+            begun = Begun(piece, with_cores)
+        elif not begun:
+            then = run_next(ADMIN, "kind", operand(path), does=Does.FIND_OUT)
+            raise Fault("no From line at the start", Reason.NOT_KNOWN, then)
+        begun.take(piece)
+        if piece.ends:
+            yield begun.message()
+
+
+def messages_of(mailbox: Mailbox, start: Offset = Offset(0), is_bare: bool = False) -> Iterator[Message]:
+    """The messages of a text that begins at an offset, or those of its bare text."""
+    pieces = pieces_of(Reader(mailbox.number, start, mailbox.size).read, start)
+    return messages_in(mailbox.path, ((piece, None) for piece in (bare_pieces(pieces) if is_bare else pieces)))
 
 
 class Inventory:
-    """What is known of each message of a text, by its place: base, core, bare form, size, line, date and offset, and
-    how many of its lines lose a `>`."""
+    """What is known of each message of a text, by its place: base, core, bare form, size, date and offset, and how many
+    of its lines lose a `>`."""
 
     def __init__(self) -> None:
         self.table, self.doubts = Table(), Lines()
-        self.sizes, self.lines, self.offsets = array.array("Q"), array.array("Q"), array.array("Q")
-        self.unquoted = array.array("Q")
+        self.sizes, self.offsets, self.unquoted = array.array("Q"), array.array("Q"), array.array("Q")
         # the first bytes of the digests of their cores, and of their bare forms
         self.cores, self.bares = bytearray(), bytearray()
         # in seconds since 1970
         self.dates = array.array("q")
+        # gives the lines in which they begin
+        self.count_lines: Callable[[], Iterable[int]] = tuple
 
     @classmethod
     def read(
-        cls,
-        mailbox: Mailbox,
-        start: Offset,
-        listing: Optional[Listing] = None,
-        with_cores: bool = True,
+        cls, mailbox: Mailbox, start: Offset, listing: Optional[Listing] = None, with_cores: bool = True
     ) -> "Inventory":
         """Reads a text from an offset on. `listing` is what `mbox2maildir list` says of it, for comparison. Cores and
         bare forms, which a ledger needs, take a second digest of each message that has a noted field."""
-        mailbox.file.seek(start)
-        parts = parts_of(mailbox.file, start, mailbox.line_at(start), lambda *_: True)
-        return cls.of(mailbox, start, parts, listing, with_cores)
+        return cls.of(mailbox, start, marked(mailbox.pieces(start)), listing, with_cores)
 
     @classmethod
     def of(
         cls,
         mailbox: Mailbox,
         start: Offset,
-        parts: Iterable[Part],
+        pieces: Iterable[Marked],
         listing: Optional[Listing] = None,
         with_cores: bool = True,
     ) -> "Inventory":
-        """Reads the messages of a text that has these parts, and compares them with the listing."""
+        """Reads the messages of a text that has these pieces, and compares them with the listing."""
         self, held = cls(), int(start)
         try:
-            for message in messages_in(mailbox.path, parts, with_cores=with_cores):
-                base = self.table.add(message.digest.digest())
-                if listing:
-                    listing.compare(message.number, message.line, base, message.size)
-                self.add(message)
-                held += message.read_size
+            for number, message in enumerate(messages_in(mailbox.path, pieces, with_cores), 1):
+                base = self.table.add(message.digest)
+                if listing and not listing.has(number, base, message.size):
+                    raise Fault(DIFFERS % (mailbox.line_at(message.offset), number), Reason.MISREAD)
+                self.add(message, with_cores)
+                held += message.read
             if listing:
                 listing.end()
         finally:
             # a difference may come from a change of the text
             mailbox.check()
-        self.offsets.append(mailbox.size)
+        number_lines(mailbox, [self.doubts])
+        # what the mailbox has read last is not kept for that
+        offsets, number, size = self.offsets, mailbox.number, mailbox.size
+        self.count_lines = lambda: lines_at(Reader(number, end=size), offsets[:-1])
+        offsets.append(mailbox.size)
         if held != mailbox.size:
             raise Fault("%d of its %d bytes belong to messages" % (held, mailbox.size), Reason.MISREAD)
         return self
 
-    def add(self, message: Message) -> None:
+    def add(self, message: Message, with_cores: bool) -> None:
         """Keeps what is known of the next message."""
         self.sizes.append(message.size)
-        self.lines.append(message.line)
         self.offsets.append(message.offset)
-        self.unquoted.append(message.left_out)
-        if message.core:
-            core, bare = message.core.end(message.digest)
-            self.cores += core
-            self.bares += bare
-        date = seconds_of(message.from_line)
-        self.dates.append(NO_DATE if date is None else date)
-        if may_hold_mail(message.from_line):
-            self.doubts.add(message.line)
+        self.unquoted.append(message.unquoted)
+        if with_cores:
+            self.cores += message.core
+            self.bares += message.bare
+        self.dates.append(message.date)
+        if message.holds_mail:
+            self.doubts.add(message.offset)
 
     def __len__(self) -> int:
         return len(self.sizes)
+
+    @functools.cached_property
+    def lines(self) -> "array.array[int]":
+        """The line in which each message begins. Only what is said of a message needs it, and to count lines takes
+        long."""
+        return array.array("Q", self.count_lines())
 
     def offset(self, place: Place) -> Offset:
         """The offset of the message at a place; at the place after the last message, the end of the text."""

@@ -1,11 +1,11 @@
 """Lines of a text about which something is said, and how they are shown."""
+import itertools
 from collections.abc import Collection, Sequence
 from typing import NamedTuple, Optional
 
 from ..nexts import Quote
 from ..terminal import NAMED, shown
 from ..units import Line
-from .files import BLOCK
 from .mailbox import Mailbox
 
 # how many letters of a line are shown, and the most bytes that these may have
@@ -22,20 +22,8 @@ def cut(text: bytes) -> str:
 
 def texts_of(mailbox: Mailbox, lines: Collection[int]) -> dict[int, bytes]:
     """The first bytes of some lines of a text, by their numbers. A line that the text does not have is not there."""
-    found: dict[int, bytes] = {}
-    reader, number, last = mailbox.again(), 1, max(lines, default=0)
-    while number <= last:
-        block = reader.read(BLOCK)
-        if not block:
-            break
-        end = number + block.count(b"\n")
-        if any(number <= line <= end for line in lines):
-            for line, piece in enumerate(block.split(b"\n"), number):
-                # what follows the last line end is a line only if a byte of it comes
-                if line in lines and (piece or line < end):
-                    found[line] = (found.get(line, b"") + piece)[: MOST_BYTES + 1]
-        number = end
-    return found
+    found = ((line, mailbox.at(offset, MOST_BYTES + 1)) for line, offset in mailbox.lines_with(lines))
+    return {line: text.split(b"\n")[0] for line, text in found if text}
 
 
 class Said(NamedTuple):
@@ -84,26 +72,39 @@ def lines_around(mailbox: Mailbox, reasons: Reasons) -> list[Quote]:
 
 
 class Lines:
-    """Lines of one sort: how many there are, the numbers of many of them, and what is said of the first ones."""
+    """Lines of one sort: how many there are, the offsets of many of them, and what is said of the first ones. Once they
+    are numbered, also their numbers, and that with the first ones."""
 
     MANY = 200
 
     def __init__(self) -> None:
         self.count = 0
+        self.offsets: list[int] = []
+        # its offset, the line as it is printed, and the offset of another line that it is about
+        self.begun: list[tuple[int, str, Optional[int]]] = []
         self.numbers: list[Line] = []
-        # its number, the line as it is printed, and the number of another line that it is about
         self.first: list[tuple[Line, str, Line]] = []
 
-    def add(self, line: Line, text: bytes = b"", other: Line = Line(0)) -> None:
-        """Adds a line, with its text, and the number of another line that it is about."""
+    def add(self, offset: int, text: bytes = b"", other: Optional[int] = None) -> None:
+        """Adds the line that has an offset, with its text, and the offset of another line that it is about."""
         self.count += 1
         if self.count <= self.MANY:
-            self.numbers.append(line)
+            self.offsets.append(offset)
         if self.count <= NAMED:
-            self.first.append((line, cut(text), other))
+            self.begun.append((offset, cut(text), other))
 
     def take(self, others: "Lines") -> None:
         """Adds the lines of another sort."""
         self.count += others.count
-        self.numbers = sorted(self.numbers + others.numbers)[: self.MANY]
-        self.first = sorted(self.first + others.first)[:NAMED]
+        self.offsets = sorted(self.offsets + others.offsets)[: self.MANY]
+        self.begun = sorted(self.begun + others.begun)[:NAMED]
+
+
+def number_lines(mailbox: Mailbox, several: Collection[Lines]) -> None:
+    """Gives the lines of several sorts their numbers. Reads the text up to the last one."""
+    others = [other for lines in several for *_, other in lines.begun if other is not None]
+    offsets = sorted({*others, *itertools.chain(*(lines.offsets for lines in several))})
+    at: dict[Optional[int], Line] = {None: Line(0), **dict(zip(offsets, mailbox.lines_at(offsets)))}
+    for lines in several:
+        lines.numbers = [at[offset] for offset in lines.offsets]
+        lines.first = [(at[offset], text, at[other]) for offset, text, other in lines.begun]

@@ -8,6 +8,7 @@ from ..nexts import Remark
 from ..units import Line, Offset, Say, Size, silent
 from .digest import Digest
 from .files import BLOCK, LONG, Reader, open_file, open_plain
+from .pieces import Piece, pieces_of
 
 # the facts that show that a file has changed
 SIGNS = "st_size", "st_mtime_ns", "st_ctime_ns"
@@ -22,6 +23,21 @@ def is_still(path: bytes, state: os.stat_result) -> bool:
     except (FileNotFoundError, Fault):
         return False
     return all(getattr(now, sign) == getattr(state, sign) for sign in ("st_dev", "st_ino", *SIGNS))
+
+
+def lines_at(reader: Reader, offsets: Iterable[int]) -> Iterator[Line]:
+    """The numbers of the lines of a text that have these offsets, which must rise. The text is read from its start."""
+    block, here, number = b"", 0, 1
+    for offset in offsets:
+        while offset > reader.offset:
+            number += block.count(b"\n", here)
+            here, block = 0, reader.read(BLOCK)
+            if not block:
+                raise Fault(CHANGED, Reason.CHANGED)
+        place = offset - (reader.offset - len(block))
+        number += block.count(b"\n", here, place)
+        here = place
+        yield Line(number)
 
 
 class Watched(Reader):
@@ -87,41 +103,45 @@ class Mailbox:
         """The From_ line that begins at an offset, as far as anything reads it, without its end."""
         return self.at(offset, LONG + 1).split(b"\n")[0]
 
-    def next_line(self, offset: int) -> Offset:
-        """The offset at which the line ends that has this offset, after its line end; or the end of the text."""
-        count, found = 1, -1
-        while found < 0 and offset < self.size:
-            block = self.at(offset, count)
-            found = block.find(b"\n")
-            offset, count = offset + (found + 1 or len(block)), BLOCK
-        return Offset(offset)
+    def pieces(self, start: Offset) -> Iterator[Piece]:
+        """The pieces of the text from an offset on. Digest and progress take note of them."""
+        self.file.seek(start)
+        return pieces_of(self.file.read, start)
 
-    def line_at(self, offset: Offset) -> Line:
-        """The number of the line that begins at an offset."""
+    def line_at(self, offset: int) -> Line:
+        """The number of the line that has an offset."""
         return next(self.lines_at([offset]))
 
     def lines_at(self, offsets: Iterable[int]) -> Iterator[Line]:
-        """The numbers of the lines that begin at these offsets, which must rise."""
-        reader, block, here, number = self.again(), b"", 0, 1
-        for offset in offsets:
-            while offset > reader.offset:
-                number += block.count(b"\n", here)
-                here, block = 0, reader.read(BLOCK)
-                if not block:
-                    raise Fault(CHANGED, Reason.CHANGED)
-            place = offset - (reader.offset - len(block))
-            number += block.count(b"\n", here, place)
-            here = place
-            yield Line(number)
+        """The numbers of the lines that have these offsets, which must rise."""
+        return lines_at(self.again(), offsets)
+
+    def lines_with(self, numbers: Iterable[int]) -> Iterator[tuple[Line, Offset]]:
+        """The lines of these numbers that the text has, each with the offset at which it begins, in their order."""
+        wanted = sorted({one for one in numbers if one > 0}, reverse=True)
+        if wanted[-1:] == [1]:
+            yield Line(wanted.pop()), Offset(0)
+        reader, line, here = self.again(), 1, 0
+        while wanted:
+            block, at = reader.read(BLOCK), 0
+            if not block:
+                return
+            last = line + block.count(b"\n")
+            while wanted and wanted[-1] <= last:
+                for _ in range(wanted[-1] - line):
+                    at = block.index(b"\n", at) + 1
+                line = wanted.pop()
+                yield Line(line), Offset(here + at)
+            line, here = last, reader.offset
 
     @property
     def end(self) -> Offset:
         """The offset at which the text ends."""
         return Offset(self.size)
 
-    def again(self) -> Reader:
-        """Reads the text again from its start. Neither digest nor progress takes note of that."""
-        return Reader(self.number, end=self.size)
+    def again(self, start: Offset = Offset(0)) -> Reader:
+        """Reads the text again from an offset on. Neither digest nor progress takes note of that."""
+        return Reader(self.number, start, self.size)
 
     def key(self) -> tuple[Size, str]:
         """The size of the text and its SHA-256. Reads what was not read yet."""

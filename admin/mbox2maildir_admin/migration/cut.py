@@ -13,10 +13,9 @@ from ..mbox.bases import before_info, own_base_in
 from ..mbox.core import beginning_of
 from ..mbox.digest import Digest
 from ..mbox.files import BLOCK, Reader, open_file
-from ..mbox.mailbox import Mailbox
 from ..nexts import run_next
 from ..terminal import operand
-from ..units import Offset, Place
+from ..units import Offset
 from .steps import Bringing
 
 CUT = "a message was read before it was complete, and the complete one is there now"
@@ -60,20 +59,13 @@ def want_none_cut(names: set[bytes], one: Bringing, match: Match) -> None:
     mine = (place for place, is_mine in enumerate(match.mine) if is_mine)
     for place in [*match.new, *mine] if paths else []:
         digest = Digest({size for size, _ in paths})
-        for piece in beginning_of(body_of(text, inventory.offset(Place(place)), inventory.offset(Place(place + 1)))):
+        start = text.at(inventory.offsets[place], BLOCK).find(b"\n") + 1
+        reader = Reader(text.number, Offset(inventory.offsets[place] + start), inventory.offsets[place + 1])
+        for piece in beginning_of(reader.read) if start else ():
             digest.update(piece)
         for beginning in digest.beginnings.items():
             if beginning in paths:
                 raise Left(CUT, Reason.CUT, run_next("rm", operand(paths[beginning])))
-
-
-def body_of(text: Mailbox, start: Offset, end: Offset) -> Iterator[bytes]:
-    """The bytes that follow a From_ line at an offset, up to an end, in blocks."""
-    reader, is_after = Reader(text.number, start, end), False
-    for block in iter(lambda: reader.read(BLOCK), b""):
-        line_end = block.find(b"\n")
-        yield block if is_after else block[line_end + 1 :] if line_end >= 0 else b""
-        is_after = is_after or line_end >= 0
 
 
 def beginning_in(path: bytes) -> tuple[int, str]:
@@ -92,4 +84,4 @@ def beginning_in(path: bytes) -> tuple[int, str]:
 def pieces_in(path: bytes) -> Iterator[bytes]:
     """The core of the beginning of a message in a file."""
     with open_file(path, os.O_NOFOLLOW) as file:
-        yield from beginning_of(iter(lambda: file.read(BLOCK), b""))
+        yield from beginning_of(file.read)

@@ -12,17 +12,7 @@ from collections.abc import Callable, Iterator
 from typing import Optional
 
 from ..faults import Left, PlaceFault, Reason
-from ..flags.dovecot_headers import (
-    LETTERS,
-    Reading,
-    fields_of,
-    first_head,
-    header_at,
-    info_of,
-    internal_head,
-    is_listed,
-    marks_of,
-)
+from ..flags.dovecot_headers import LETTERS, Reading, fields_of, first_head, info_of, internal_head, is_listed, marks_of
 from ..flags.dovecot_list import list_of, name_by, raised, rename, replace
 from ..flags.renaming import add_flags
 from ..ledger.history import Entry, Key, Note, names_of
@@ -30,6 +20,7 @@ from ..ledger.record import Record
 from ..looks import is_there
 from ..maildir.folders import INBOX, folder_named, folder_of_place
 from ..maildir.making import sync_folder
+from ..mbox.fields import Header
 from ..mbox.files import WHOLE, open_file, read_up_to
 from ..mbox.mailbox import Mailbox
 from ..nexts import Remark, run_next
@@ -125,7 +116,7 @@ class Dovecot(Extra):
             return says + kept, None
         reading = Reading(head)
         for offset in full.offsets[:-1]:
-            reading.add(header_at(full.mailbox, Offset(offset)))
+            reading.add(Header.at(full.mailbox, Offset(offset)).text)
         return says + list(reading.remarks()), reading
 
     def write(self, one: Bringing, reading: Reading) -> None:

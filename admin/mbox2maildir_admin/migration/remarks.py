@@ -13,7 +13,7 @@ from ..mbox.bases import BASE
 from ..mbox.inventory import Inventory
 from ..nexts import Remark
 from ..readings.reading import Reading
-from ..readings.remarks import left_out
+from ..readings.plans import left_out
 from ..terminal import named
 from ..units import counted
 from .steps import Bringing

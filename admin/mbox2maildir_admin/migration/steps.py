@@ -7,12 +7,13 @@ from typing import Any, NamedTuple, Optional
 from .. import ADMIN
 from ..faults import Left
 from ..flags.clients import GMAIL, Kept, kept_in, letters_of_evolution
-from ..flags.dovecot_headers import fields_of, flags_of, header_at, marks_of
+from ..flags.dovecot_headers import fields_of, flags_of, marks_of
 from ..flags.renaming import add_flags
 from ..kinds.making import Where, is_below
 from ..labels.choosing import Choosing
 from ..maildir.folders import INBOX, folder_path, words_of
 from ..maildir.making import SyncNames, make_maildir, sync_folder
+from ..mbox.fields import Header
 from ..mbox.files import LONG
 from ..mbox.inventory import Inventory
 from ..mbox.mailbox import Mailbox
@@ -79,7 +80,7 @@ class Contents:
     def header(self, place: Place) -> bytes:
         """The header of a message, with all its fields."""
         full = self.full
-        return header_at(full.mailbox, Offset(full.offsets[place]))
+        return Header.at(full.mailbox, Offset(full.offsets[place])).text
 
     def is_deleted(self, place: Place) -> bool:
         """Whether a message is marked as deleted."""

@@ -24,11 +24,9 @@ from ..maildir.space import Need, want_room
 from ..maildir.traces import times_of
 from ..nexts import NOTHING, Answer, Does, Next, Remark
 from ..program import Program
-from ..readings.asking import answers_to
-from ..readings.at_once import AtOnce, read_messages
-from ..readings.plans import Plan, Question
+from ..readings.plans import Plan, Question, answers_to
 from ..readings.reading import UNDECIDED
-from ..readings.texts import Choice, choice_of, disk_of
+from ..readings.texts import AtOnce, Choice, choice_of, disk_of, read_messages
 from ..units import counted
 from .answers import AS_ANSWERED, answer_to, note_answer, note_empty, noted_last
 from .converting import SYNC_FAILED, Conversion

@@ -10,7 +10,7 @@ from ..faults import Fault, fault_of
 from ..looks import is_there
 from ..maildir.folders import COPY
 from ..mbox.files import BLOCK, Reader
-from ..mbox.parts import from_lines_of
+from ..mbox.pieces import from_lines_of
 from ..nexts import Todo, task
 from ..terminal import named
 
@@ -66,7 +66,7 @@ class Copy:
         """How many bytes and how many messages the file has now."""
         with fault_of(self.path):
             self.file.flush()
-            return os.fstat(self.file.fileno()).st_size, from_lines_of(Reader(self.file.fileno()))
+            return os.fstat(self.file.fileno()).st_size, from_lines_of(Reader(self.file.fileno()).read)
 
     def place(self, state: os.stat_result) -> None:
         """Gives the copy its name, and the owner and the mode of the mailbox; if that is not possible, only its maker

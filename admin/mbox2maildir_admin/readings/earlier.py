@@ -4,12 +4,13 @@ from collections.abc import Callable, Iterator
 from typing import Optional
 
 from ..faults import Fault
+from ..kinds.starts import text_start
 from ..mbox.inventory import Inventory
 from ..mbox.mailbox import Mailbox
 from ..units import Offset
 from .plans import Plan, wants_copy
 from .quoting import measured
-from .reading import UNDECIDED, Reading
+from .reading import PLAIN, UNDECIDED, Reading
 from .texts import Choice, Text
 from .verdict import look_at
 
@@ -22,13 +23,16 @@ def plan_then(text: Mailbox, reading: Reading) -> Optional[Plan]:
     if the text changes."""
     if not reading.word:
         return None
+    start = text_start(text) or Offset(0)
+    if reading.of_text._replace(of="") == PLAIN:
+        # no copy is made, for which the messages would be counted
+        return Plan("", 0, start, reading)
     try:
-        verdict = look_at(text)
-        counts = measured(reading, text, verdict.start)
+        counts = measured(reading, text, start)
     except Fault:
         text.check()
         return None
-    return Plan("", counts.messages, verdict.start, reading, wants_copy(reading, counts))
+    return Plan("", counts.messages, start, reading, wants_copy(reading, counts))
 
 
 @contextlib.contextmanager

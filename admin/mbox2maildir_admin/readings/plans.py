@@ -2,7 +2,7 @@
 import functools
 from collections.abc import Callable, Sequence
 from dataclasses import dataclass, replace
-from typing import Optional
+from typing import NamedTuple, Optional
 
 from ..faults import Fault, Left, Reason
 from ..kinds.look import Look, Read
@@ -11,18 +11,17 @@ from ..kinds.others import Holds
 from ..mbox.files import BLOCK
 from ..mbox.lines import Lines, Reasons, Said, cut, lines_around
 from ..mbox.mailbox import Mailbox
-from ..nexts import Quote, Remark
+from ..nexts import Answer, Command, Does, Next, Quote, Remark
 from ..terminal import NAMED
-from ..units import Line, Offset
-from .asking import Choosable, with_meanings
+from ..units import Line, Offset, counted
 from .quoting import Counts, measured
 from .reading import BY_LENGTHS, CR, CRLF, MBOXCL2, MBOXRD, PLAIN, UNDECIDED, UNQUOTED, Reading, renumbered
-from .remarks import deleted_kept, left_out, remarks_on, remarks_on_text
 from .verdict import DROP_DELETED, Verdict, is_against_lengths, is_answer, look_at, reading_of
 
 # why a file is left that holds this
 REASONS = {Holds.MAIL: Reason.UNCLEAR, Holds.OTHER: Reason.OTHER_KIND, Holds.UNKNOWN: Reason.NOT_KNOWN}
 ANOTHER_QUESTION = "what is asked about it has changed since this was answered"
+DELETED_KEPT = "no deleted mail was left out, because %d of %d messages have no X-Mozilla-Status"
 NEW_LINE = "it came since the others were decided, and may begin a message"
 NO_LENGTHS = Reasons([Said(Line(0), "its lines end in CR alone, so that no length in it is right")], 1)
 
@@ -52,6 +51,36 @@ class Plan:
     def bared(self, is_bare: bool) -> "Plan":
         """The same plan; whether it leaves out the header fields that mail programs wrote for themselves."""
         return replace(self, reading=self.reading._replace(bare=is_bare))
+
+
+class Choosable(NamedTuple):
+    """What may be decided, how many messages that gives, and what it says of the mail."""
+
+    decision: Reading
+    messages: int
+    does: Does = Does.RUN
+
+    def meant(self, answers: Sequence["Choosable"]) -> "Choosable":
+        """The same, with what it says of the mail: of two answers about lines, the one with more messages says that
+        mail begins there. Several formats are no answers about lines."""
+        is_drop = self.decision.drop
+        counts = [one.messages for one in answers if one.decision.drop == is_drop]
+        if len(answers) == 1:
+            return self
+        if len(counts) == 1:
+            does = Does.DROP if is_drop else Does.KEEP
+        elif len(counts) > 2 or len(set(counts)) == 1:
+            does = Does.READ_AS
+        else:
+            is_most = self.messages == max(counts)
+            kept, dropped = (Does.BEGINS, Does.BEGINS_DROP) if is_most else (Does.BELONGS, Does.BELONGS_DROP)
+            does = dropped if is_drop else kept
+        return Choosable(self.decision, self.messages, does)
+
+
+def answers_to(answers: Sequence[Choosable], command: Callable[[Reading], Command]) -> Next:
+    """The answers to a question, each with what it says of the mail, and with the command that decides it."""
+    return tuple(Answer(command(one.decision), one.does, one.messages) for one in answers)
 
 
 class NoMail(Left):
@@ -183,11 +212,11 @@ def planned(mailbox: Mailbox, verdict: Verdict, decision: Reading) -> Plan:
 
 def plan_as_it_is(verdict: Verdict, reading: Reading) -> Plan:
     """The plan of a mailbox about which nothing is a guess."""
-    messages, remarks = verdict.messages or 0, tuple(remarks_on(verdict))
+    remarks = (*verdict.remarks_on_text(), *verdict.remarks_on_quotes())
     if reading == PLAIN:
         by = Reading(MBOXCL2) if verdict.kind == MBOXCL2 else PLAIN
-        return Plan(verdict.kind, messages, verdict.start, by, remarks=remarks)
-    return Plan(verdict.kind + ", quoted", messages, verdict.start, reading, True, remarks)
+        return Plan(verdict.kind, verdict.messages or 0, verdict.start, by, remarks=remarks)
+    return Plan(verdict.kind + ", quoted", verdict.messages or 0, verdict.start, reading, True, remarks)
 
 
 def decided(mailbox: Mailbox, verdict: Verdict, decision: Reading) -> Optional[Reading]:
@@ -235,9 +264,10 @@ def plan_by(mailbox: Mailbox, verdict: Verdict, reading: Reading, decision: Read
     counts = measured(reading, mailbox, verdict.start)
     if reading.ends == CRLF and not counts.crlf:
         reading = reading._replace(ends="")
-    says = remarks_on_text(verdict)
-    if decision.drop and counts.marked != counts.messages:
-        says.append(deleted_kept(counts))
+    says, without = verdict.remarks_on_text(), counts.messages - counts.marked
+    if decision.drop and without:
+        # not each message has a mark, so that none is taken for deleted
+        says.append(Remark("deleted-kept", DELETED_KEPT % (without, counts.messages)))
     elif decision.drop and counts.deleted:
         says.append(left_out(counts.deleted))
         reading = reading._replace(drop=True, dropped=counts.deleted)
@@ -245,6 +275,11 @@ def plan_by(mailbox: Mailbox, verdict: Verdict, reading: Reading, decision: Read
     # where no message has a mark, nothing is said of deleted mail
     answer = Reading(decision.word, drop=decision.drop) if decision.word or counts.marked else None
     return Plan(kind, messages, verdict.start, reading, is_copied, tuple(says), answer)
+
+
+def left_out(count: int) -> Remark:
+    """What is said of this many messages that were left out."""
+    return Remark("deleted-left-out", "without %s marked as deleted" % counted(count, "message"))
 
 
 def wants_copy(reading: Reading, counts: Counts) -> bool:
@@ -273,7 +308,7 @@ def question(
             continue
     quotes = lines_around(mailbox, reasons)
     says = ": ".join(filter(None, [before, reasons.sentence()]))
-    found = Question(says, verdict, quotes, with_meanings(answers))
+    found = Question(says, verdict, quotes, [one.meant(answers) for one in answers])
     found.tied = functools.partial(verdict.tied, mailbox)
     return found
 

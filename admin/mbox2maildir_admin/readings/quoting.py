@@ -4,23 +4,57 @@
 unless the word of the reading removes one.
 """
 import array
+import functools
+import itertools
+import re
 from collections.abc import Callable, Iterator
-from typing import NamedTuple, Optional, Union
+from typing import NamedTuple
 
 from ..faults import Fault, Reason
-from ..kinds.deleted import Deleted, deleted_in
+from ..flags.clients import is_deleted
+from ..kinds.starts import nulls_of
 from ..mbox.dates import is_dated
-from ..mbox.files import LineEnds
-from ..mbox.headers import Header
-from ..mbox.hidden import Stripper
+from ..mbox.fields import Header, bare_pieces
+from ..mbox.files import BLOCK, LineEnds
 from ..mbox.mailbox import Mailbox, Watched
-from ..mbox.parts import MARK, Part, parts_of
+from ..mbox.pieces import FROM, Piece, header_of, numbered, pieces_of
 from ..units import Line, Offset, Size
-from .breaks import Break, breaks_of
 from .copies import Copy
 from .reading import BY_LENGTHS, CR, CRLF, MBOXCL2, MBOXO, UNQUOTED, Reading
 
 NOT_FIRST = "line %d: the text begins here, but no message begins with this line"
+NO_FROM_LINE = "line %d: it neither begins with `From ` nor contains a From_ line"
+# the lines of `>` and `From `, and those that mboxo does not write; what a line begins with that is in its place
+QUOTES, ABOVE_MBOXO, IS_MARK = re.compile(rb"\n(?=>+From )"), re.compile(rb"\n(?=>>+From )"), re.compile(rb">*From ")
+# how many bytes of a line are looked at, after its NUL bytes
+MOST = 1 << 16
+
+
+class Break(NamedTuple):
+    """Where a text is parted within a line, since a message begins there: where the line before ends, where the From_
+    line begins, its number, and what the line before lacks."""
+
+    end: Offset
+    start: Offset
+    line: Line = Line(0)
+    lacks: bytes = b""
+
+
+def breaks_of(mailbox: Mailbox, lines: frozenset[Line]) -> Iterator[Break]:
+    """Where a text is parted, given the numbers of lines that begin messages by decision, of which some do not begin
+    with `From `: a crash left NUL bytes before it, or a text without a last line end."""
+    for line, offset in mailbox.lines_with(lines):
+        nulls = nulls_of(mailbox, offset)
+        text = mailbox.at(nulls, MOST).split(b"\n")[0]
+        if nulls == offset and IS_MARK.match(text):
+            continue
+        before, mark, date = text.rpartition(FROM)
+        is_after_nulls = before.endswith(b"\0") or not before and nulls > offset
+        if not mark or not (is_after_nulls or is_dated(mark + date)):
+            raise Fault(NO_FROM_LINE % line, Reason.WRONG_LINES)
+        rest = before.rstrip(b"\0")
+        end = nulls + len(rest) if rest else offset
+        yield Break(Offset(end), Offset(nulls + len(before)), line, b"\n" if rest else b"")
 
 
 class Counts(NamedTuple):
@@ -35,225 +69,154 @@ class Counts(NamedTuple):
     crlf: int
 
 
-class Beginnings:
-    """The lines of a text in which its messages begin, how many lines were quoted before each, and how many in all."""
-
-    def __init__(self) -> None:
-        self.lines, self.quoted_before = array.array("Q"), array.array("Q")
-
-    def add(self, line: Line, quoted: int) -> None:
-        """Adds a message that begins in a line, with how many lines were quoted before it."""
-        self.lines.append(line)
-        self.quoted_before.append(quoted)
-
-
 class Quoter:
-    """Gives a text as it is read to a function that takes bytes, and counts what it gave."""
+    """Gives a text as it is read, and counts what it gave. For a copy that is kept, the fields are left out by which
+    messages ended, as their lengths are wrong once lines are quoted."""
 
-    def __init__(self, how: Reading, mailbox: Mailbox, start: Offset, take: Callable[[bytes], object]) -> None:
-        self.how, self.mailbox, self.start, self.take = how, mailbox, start, take
+    def __init__(self, how: Reading, mailbox: Mailbox, start: Offset, keeps_lengths: bool = True) -> None:
+        self.how, self.mailbox, self.start, self.keeps_lengths = how, mailbox, start, keeps_lengths
         # lines that begin messages, lines that are quoted, and messages by Thunderbird's mark
-        self.messages = self.quoted = 0
-        self.marks: dict[Deleted, int] = dict.fromkeys(Deleted, 0)
-        # of the messages that are given
-        self.beginnings = Beginnings()
+        self.messages = self.quoted = self.marked = self.deleted = 0
+        # of the messages that are given: the lines in which they begin, and how many lines were quoted before each
+        self.lines, self.quoted_before = array.array("Q"), array.array("Q")
         # bytes
         self.read = self.given = self.left_out = self.added = 0
-        self.lines = set(how.text | how.begin)
-        # the offsets between which nothing begins a message, by the length of the last one
-        self.body = (0, 0)
-        self.is_dropped, self.cr = False, b""
-        # whether a program has added a CR to each line of the message, and to how many messages
-        self.is_crlf, self.crlf = False, 0
+        self.unmet = set(how.text | how.begin)
+        # the offset up to which nothing begins a message, by the length of the last one
+        self.end = Offset(0)
+        # whether the message is left out, whether a program has added a CR to each of its lines, and to how many
+        self.is_dropped, self.is_crlf, self.crlf = False, False, 0
 
-    def run(self) -> "Quoter":
-        """Gives the whole text."""
-        for part in self.parts():
-            if part.what == MARK:
-                self.mark(part)
-            else:
-                self.read += len(part.piece)
-                self.put(self.kept_of(part))
-        self.give(self.cr)
-        self.beginnings.quoted_before.append(self.quoted)
-        if self.lines:
-            raise Fault("line %d: it does not begin with `From `" % min(self.lines), Reason.WRONG_LINES)
-        self.mailbox.check()
-        return self
-
-    def parts(self) -> Iterator[Part]:
-        """The parts of the text. It is parted before each From_ line that begins within a line."""
+    def run(self) -> Iterator[bytes]:
+        """The whole text. It is parted before each From_ line that begins within a line."""
         mailbox, start, line = self.mailbox, self.start, self.mailbox.line_at(self.start)
-        ends = [] if self.how.ends == CR else breaks_of(mailbox, self.how.begin)
-        for one in [*ends, Break(mailbox.end, mailbox.end, Line(0), True)]:
+        breaks = [] if self.how.ends == CR else list(breaks_of(mailbox, self.how.begin))
+        for one in [*breaks, Break(mailbox.end, mailbox.end)]:
             file = Watched(mailbox.number, Size(one.end), mailbox.digest, mailbox.say)
             file.seek(start)
-            reader: Union[Watched, LineEnds] = LineEnds(file) if self.how.ends == CR else file
-            yield from parts_of(reader, start, line)
-            self.part_at(one)
-            start, line = one.start, one.line
+            read = LineEnds(file).read if self.how.ends == CR else file.read
+            blocks = itertools.chain(iter(functools.partial(read, BLOCK), b""), filter(None, [one.lacks]))
+            pieces = pieces_of(lambda _, blocks=blocks: next(blocks, b""), start)  # type: ignore[misc]
+            for number, piece in numbered(pieces, line):
+                data = self.piece(number, piece)
+                self.read, self.given = self.read + len(piece.data), self.given + len(data)
+                yield data
+            skipped, added, start, line = one.start - one.end, len(one.lacks), one.start, one.line
+            self.read, self.left_out, self.added = (
+                self.read + skipped - added,
+                self.left_out + skipped,
+                self.added + added,
+            )
+        self.quoted_before.append(self.quoted)
+        if self.unmet:
+            raise Fault("line %d: it does not begin with `From `" % min(self.unmet), Reason.WRONG_LINES)
+        self.mailbox.check()
 
-    def part_at(self, one: Break) -> None:
-        """Ends a line before a From_ line, and leaves out the NUL bytes between them."""
-        skipped = one.start - one.end
-        self.read += skipped
-        self.left_out += skipped
-        if not one.is_ended:
-            self.added += 1
-            self.put(b"\n")
-
-    def mark(self, mark: Part) -> None:
-        """Takes a line of `>` and `From `. It begins a message, or is quoted, or loses a `>`."""
-        begins = not mark.quotes and self.begins(mark)
-        if not mark.quotes:
-            self.lines.discard(mark.line)
-        if begins:
-            self.begin(mark)
-        elif not self.messages:
-            raise Fault(NOT_FIRST % mark.line, Reason.WRONG_LINES)
-        elif not self.is_dropped and (not mark.quotes or self.stays(mark)):
-            self.quoted += 1
-            self.put(b">")
-
-    def begins(self, mark: Part) -> bool:
-        """Whether a line `From ` begins a message."""
-        if mark.line in self.how.text | self.how.begin:
-            return mark.line in self.how.begin
-        if self.how.word == UNQUOTED:
-            return is_dated(mark.piece)
-        return self.how.word not in BY_LENGTHS or not self.is_inside(mark)
-
-    def stays(self, mark: Part) -> bool:
-        """Whether a line of `>` and `From ` keeps all of its `>`."""
-        if self.how.word in (MBOXO, MBOXCL2) and mark.quotes > 1 or self.how.word == UNQUOTED:
-            return True
-        return self.how.word == MBOXCL2 and self.is_inside(mark)
-
-    def is_inside(self, mark: Part) -> bool:
-        """Whether a line is within a message, by its length."""
-        return self.body[0] <= mark.offset < self.body[1]
-
-    def begin(self, mark: Part) -> None:
-        """Begins a message."""
-        self.messages += 1
-        self.is_dropped, self.body = False, (0, 0)
-        self.is_crlf = self.how.ends == CRLF and mark.piece.endswith(b"\r")
-        self.crlf += self.is_crlf
-        if self.how.word in BY_LENGTHS or not self.how.ends == CR:
-            self.take_header(Header.read(self.mailbox, mark))
-        if not self.is_dropped:
-            self.beginnings.add(mark.line, self.quoted)
-
-    def take_header(self, header: Header) -> None:
-        """Takes a message's length, which says where its body ends, and Thunderbird's mark."""
-        end = header.message_end(self.mailbox) if self.how.word in BY_LENGTHS else None
-        if end:
-            self.body = (header.offset, end)
-        mark = deleted_in(header.text)
-        if mark:
-            self.marks[mark] += 1
-        self.is_dropped = self.how.drop and mark is Deleted.YES
-
-    def kept_of(self, part: Part) -> bytes:
-        """What is given of a piece of the text: all of it."""
-        return part.piece
-
-    def put(self, piece: bytes) -> None:
-        """Gives a piece with the line ends that are wanted, unless its message is left out."""
+    def piece(self, line: Line, piece: Piece) -> bytes:
+        """What is given of a piece, whose first line has this number. Its line `From ` begins a message or is quoted,
+        and its other lines stay as they are read."""
+        data, is_quoted = piece.data, False
+        if piece.begins:
+            self.unmet.discard(line)
+            if self.begins(line, piece):
+                data = self.begin(line, piece)
+            elif not self.messages:
+                raise Fault(NOT_FIRST % line, Reason.WRONG_LINES)
+            else:
+                is_quoted = True
         if self.is_dropped:
-            self.left_out += len(piece)
-            return
+            self.left_out += len(data)
+            return b""
         if self.is_crlf:
-            piece = self.cr + piece
-            self.cr = b"\r" if piece.endswith(b"\r") else b""
-            piece = piece[: len(piece) - len(self.cr)]
-            self.left_out += piece.count(b"\r\n")
-            piece = piece.replace(b"\r\n", b"\n")
-        self.give(piece)
+            # no piece ends between CR and LF
+            self.left_out += data.count(b"\r\n")
+            data = data.replace(b"\r\n", b"\n")
+        if piece.has_quote:
+            data = self.requoted(data, piece.offset < self.end)
+        self.quoted += is_quoted
+        return b">" + data if is_quoted else data
 
-    def give(self, piece: bytes) -> None:
-        """Gives a piece as it is."""
-        self.given += len(piece)
-        self.take(piece)
+    def requoted(self, data: bytes, inside: bool) -> bytes:
+        """Lines in which each line of `>` and `From ` that keeps all of its `>` has one more."""
+        every = self.how.word == UNQUOTED or self.how.word == MBOXCL2 and inside
+        if not every and self.how.word not in (MBOXO, MBOXCL2):
+            return data
+        data, count = (QUOTES if every else ABOVE_MBOXO).subn(b"\n>", b"\n" + data)
+        self.quoted += count
+        return data[1:]
+
+    def begins(self, line: Line, piece: Piece) -> bool:
+        """Whether a line `From ` begins a message."""
+        if line in self.how.begin or line in self.how.text:
+            return line in self.how.begin
+        if self.how.word == UNQUOTED:
+            return is_dated(piece.from_line)
+        return piece.offset >= self.end
+
+    def begin(self, line: Line, piece: Piece) -> bytes:
+        """Begins a message, and returns what is given of its piece."""
+        data, header = piece.data, Header.of(piece) if self.how.word in BY_LENGTHS else None
+        self.messages += 1
+        self.is_crlf = self.how.ends == CRLF and piece.from_line.endswith(b"\r")
+        self.crlf += self.is_crlf
+        end = header.message_end(self.mailbox) if header else None
+        self.end = end or Offset(0)
+        deleted = is_deleted(data[piece.body : header_of(data, piece.body)[0]]) if self.how.ends != CR else None
+        self.marked, self.deleted = self.marked + (deleted is not None), self.deleted + bool(deleted)
+        self.is_dropped = self.how.drop and bool(deleted)
+        if not self.is_dropped:
+            self.lines.append(line)
+            self.quoted_before.append(self.quoted)
+        if header and end and not self.keeps_lengths:
+            left, right = (header.offset - piece.offset + place for place in header.span(b"content-length"))
+            self.left_out += right - left
+            data = data[:left] + data[right:]
+        return data
 
     def counts(self) -> Counts:
         """What was given so far."""
-        deleted, marked = self.marks[Deleted.YES], sum(self.marks.values())
-        gone = deleted if self.how.drop else 0
-        return Counts(self.messages - gone, self.quoted, self.left_out, marked, deleted, self.crlf)
+        gone = self.deleted if self.how.drop else 0
+        return Counts(self.messages - gone, self.quoted, self.left_out, self.marked, self.deleted, self.crlf)
 
-    def check(self, size: int, messages: int, wanted: Optional[int] = None) -> None:
+    def check(self, size: int, messages: int, *wanted: int) -> None:
         """Checks that what was written is what was read: the copy has this size, and as many messages as wanted. Raises
         Fault if not."""
-        more = self.quoted + self.added
+        more, text, counted = self.quoted + self.added, self.mailbox.size - self.start, self.counts().messages
         if size != self.given or size != self.read + more - self.left_out:
-            raise Fault(
-                "the copy has %d bytes, but %d were read, %d added and %d left out"
-                % (size, self.read, more, self.left_out),
-                Reason.MISREAD,
-            )
-        text = self.mailbox.size - self.start
-        if not self.how.ends == CR and self.read != text:
+            says = "the copy has %d bytes, but %d were read, %d added and %d left out"
+            raise Fault(says % (size, self.read, more, self.left_out), Reason.MISREAD)
+        if self.how.ends != CR and self.read != text:
             raise Fault("%d of its %d bytes were read" % (self.read, text), Reason.MISREAD)
-        counted = self.counts().messages
-        if messages != counted or wanted not in (None, counted):
-            raise Fault(
-                "the copy has %d messages, but %d were counted%s"
-                % (messages, counted, "" if wanted is None else ", and %d expected" % wanted),
-                Reason.MISREAD,
-            )
+        if any(one != counted for one in (messages, *wanted)):
+            says = "the copy has %d messages, but %d were counted" % (messages, counted)
+            raise Fault(says + "".join(", and %d expected" % one for one in wanted), Reason.MISREAD)
 
 
-class WithoutLengths(Quoter):
-    """Gives the text without right lengths, which are wrong once lines are quoted."""
-
-    # the offsets of the field with the last right length
-    field = (0, 0)
-
-    def take_header(self, header: Header) -> None:
-        """Takes also where the field with the length is."""
-        super().take_header(header)
-        if self.body[1]:
-            start, end = header.span(b"content-length")
-            self.field = (header.offset + start, header.offset + end)
-
-    def kept_of(self, part: Part) -> bytes:
-        """A piece of the text without the length."""
-        left, right = (min(max(0, offset - part.offset), len(part.piece)) for offset in self.field)
-        self.left_out += max(0, right - left)
-        return part.piece[:left] + part.piece[right:] if left < right else part.piece
+def written(quoter: Quoter, take: Callable[[bytes], object], is_bare: bool = False) -> int:
+    """Gives a text as it is read, bare or not, to a function that takes bytes. Returns how many it was given."""
+    read, given = quoter.run(), 0
+    if is_bare:
+        several = filter(None, read)
+        read = (piece.data for piece in bare_pieces(pieces_of(lambda _: next(several, b""))))
+    for data in read:
+        take(data)
+        given += len(data)
+    return given
 
 
 def write_copy(how: Reading, mailbox: Mailbox, start: Offset, wanted: int, copy: Copy, is_bare: bool = False) -> Quoter:
     """Writes a copy without right lengths that has as many messages as wanted, bare or not, and gives it its name.
     Returns its Quoter."""
-    quoter, given = quoted_into(copy.write, how, mailbox, start, is_bare)
+    quoter = Quoter(how, mailbox, start, keeps_lengths=False)
+    given = written(quoter, copy.write, is_bare)
     size, messages = copy.written()
     quoter.check(quoter.given - given + size, messages, wanted)
     copy.place(mailbox.state)
     return quoter
 
 
-def quoted_into(
-    take: Callable[[bytes], object], how: Reading, mailbox: Mailbox, start: Offset, is_bare: bool
-) -> tuple[Quoter, int]:
-    """Gives a text as it is read, bare or not, but without right lengths, to a function that takes bytes. Returns its
-    Quoter, and how many bytes were given."""
-    if not is_bare:
-        quoter: Quoter = WithoutLengths(how, mailbox, start, take).run()
-        return quoter, quoter.given
-    stripper = Stripper(lambda piece, _: take(piece))
-    quoter = WithoutLengths(how, mailbox, start, stripper.update).run()
-    stripper.end()
-    return quoter, stripper.given
-
-
 def measured(how: Reading, mailbox: Mailbox, start: Offset) -> Counts:
     """What a text has by a reading. Nothing is written."""
-    quoter = Quoter(how, mailbox, start, drop).run()
-    quoter.check(quoter.given, quoter.counts().messages)
+    quoter = Quoter(how, mailbox, start)
+    quoter.check(written(quoter, len), quoter.counts().messages)
     return quoter.counts()
-
-
-def drop(_: bytes) -> None:
-    """Takes a piece of a copy that is only measured."""

@@ -4,15 +4,13 @@ without an error."""
 import bz2
 import lzma
 import zlib
-from collections.abc import Callable
+from collections.abc import Callable, Iterator
 from typing import Any, NamedTuple
 
 from ..faults import Left, Reason
 from ..kinds.others import Form
 from ..mbox.files import BLOCK, Reader
 
-# takes a piece of what was unpacked
-Take = Callable[[bytes], object]
 # how much memory a stream may need, in bytes; xz's own levels need 65 MiB at most
 MOST_MEMORY = 1 << 28
 # zlib's number for the format of gzip, with checks, and for its largest window
@@ -60,49 +58,39 @@ FORMATS: dict[Form, Format] = {
 }
 
 
-class Streams:
-    """A file of streams, read once from its start."""
-
-    def __init__(self, file: Reader, form: Form, take: Take) -> None:
-        self.file, self.format, self.take = file, FORMATS[form], take
-        # the stream that is read, where it begins, and what was read of the file but not given to a stream yet
-        self.number, self.start, self.rest = 0, 0, b""
-
-    def run(self) -> None:
-        """Gives everything that the streams hold to the function, piece by piece."""
-        while not self.number or self.follows():
-            self.number += 1
-            self.start = self.file.offset - len(self.rest)
-            self.read_one()
-
-    def read_one(self) -> None:
-        """Reads a stream."""
-        stream = self.format.begin()
+def streams_in(file: Reader, form: Format) -> Iterator[bytes]:
+    """Everything that the streams of a file hold, piece by piece."""
+    number, rest = 0, b""
+    while not number or rest:
+        number, start, stream = number + 1, file.offset - len(rest), form.begin()
         try:
             while not stream.eof:
-                data, self.rest = self.rest or (self.file.read(BLOCK) if stream.needs_input else b""), b""
+                data, rest = rest or (file.read(BLOCK) if stream.needs_input else b""), b""
                 if not data and stream.needs_input:
-                    raise self.left("it is incomplete")
-                self.take(stream.decompress(data, BLOCK))
-        except self.format.errors as error:
-            raise self.left(str(error)) from error
-        self.rest = stream.unused_data
+                    raise left(number, start, "it is incomplete")
+                yield stream.decompress(data, BLOCK)
+        except form.errors as error:
+            raise left(number, start, str(error)) from error
+        rest = after_stream(file, form, stream.unused_data, number)
 
-    def follows(self) -> bool:
-        """Whether another stream follows the one that was read. Raises Left if anything else does."""
-        end = self.file.offset - len(self.rest)
-        block = self.rest or self.file.read(BLOCK)
-        while block and not block.strip(b"\0"):
-            block = self.file.read(BLOCK)
-        self.rest = block.lstrip(b"\0")
-        filled = self.file.offset - len(self.rest) - end
-        is_right = filled % self.format.padding == 0 if self.format.padding else not filled
-        if not is_right or self.rest and filled and not self.format.goes_on:
-            why = "what follows stream %d, from byte %d on, is not a stream" % (self.number, end + 1)
-            raise Left(why, Reason.PACKED)
-        return bool(self.rest)
 
-    def left(self, why: str) -> Left:
-        """The fault that it is left for this reason."""
-        where = "could not read stream %d, which begins at byte %d" % (self.number, self.start + 1)
-        return Left("%s: %s" % (where, why), Reason.PACKED)
+def after_stream(file: Reader, form: Format, rest: bytes, number: int) -> bytes:
+    """The beginning of the stream that follows the one that was read; nothing at the end. `rest` was read already.
+    Raises Left if anything else follows."""
+    end = file.offset - len(rest)
+    rest = rest or file.read(BLOCK)
+    while rest and not rest.strip(b"\0"):
+        rest = file.read(BLOCK)
+    rest = rest.lstrip(b"\0")
+    filled = file.offset - len(rest) - end
+    is_right = filled % form.padding == 0 if form.padding else not filled
+    if not is_right or rest and filled and not form.goes_on:
+        why = "what follows stream %d, from byte %d on, is not a stream" % (number, end + 1)
+        raise Left(why, Reason.PACKED)
+    return rest
+
+
+def left(number: int, start: int, why: str) -> Left:
+    """The fault of a stream that begins at an offset."""
+    where = "could not read stream %d, which begins at byte %d" % (number, start + 1)
+    return Left("%s: %s" % (where, why), Reason.PACKED)

@@ -18,16 +18,18 @@ from ..kinds.starts import text_start
 from ..looks import is_folder
 from ..maildir.files import paths_of
 from ..maildir.space import trial_folder
-from ..mbox.inventory import Inventory
+from ..mbox.fields import bared
+from ..mbox.inventory import Inventory, messages_of
 from ..mbox.lines import Said
 from ..mbox.mailbox import Mailbox
-from ..mbox.messages import messages_of
-from ..program import Listing
+from ..mbox.pieces import numbered, pieces_of
+from ..mbox.plain import Marked
+from ..program import Listing, Program
 from ..units import Line, Offset, Say, silent
-from .plans import NoMail, NotKnown, OtherKind, Plan, Question, plan_of
+from .plans import NoMail, NotKnown, OtherKind, Plan, Question, is_as_it_is, plan_of
+from .quoting import Quoter
 from .reading import UNDECIDED, Reading
-from .unnamed import bare_copy, quoted_copy
-
+from .unnamed import text_of
 
 # how a mailbox, which is or holds a text, was read when it was recorded, if it was
 PlanOf = Callable[[Mailbox, Mailbox], Optional[Plan]]
@@ -55,12 +57,26 @@ class Text(NamedTuple):
 
     def bare(self, folder: bytes) -> "Text":
         """The bare copy of a text, on the disk of a folder."""
-        copy, stripper = bare_copy(self.mailbox, self.start, folder)
-        lines = self.lines or array.array("Q", self.mailbox.lines_at(stripper.offsets))
-        stripper.offsets.append(self.mailbox.size)
-        stripper.bare_offsets.append(copy.size)
-        full = Full(self.mailbox, self.start, stripper.offsets)
-        return Text(copy, Offset(0), lines, self.quoted_before, full, stripper.bare_offsets)
+        offsets, lines, bare_offsets = (array.array("Q") for _ in range(3))
+
+        def given() -> Iterator[bytes]:
+            mailbox, size = self.mailbox, 0
+            pieces = pieces_of(mailbox.again(self.start).read, self.start)
+            for line, piece in numbered(pieces, mailbox.line_at(self.start)):
+                if piece.begins:
+                    for column, value in ((offsets, piece.offset), (lines, line), (bare_offsets, size)):
+                        column.append(value)
+                data = bared(piece)
+                size += len(data)
+                yield data
+                mailbox.say("copying", piece.offset, mailbox.size)
+            mailbox.check()
+
+        copy = text_of(self.mailbox, given(), folder)
+        offsets.append(self.mailbox.size)
+        bare_offsets.append(copy.size)
+        full = Full(self.mailbox, self.start, offsets)
+        return Text(copy, Offset(0), self.lines or lines, self.quoted_before, full, bare_offsets)
 
     def whole(self) -> tuple[Mailbox, Offset]:
         """The text with all its header fields, and where its messages begin."""
@@ -111,13 +127,54 @@ class Choice(NamedTuple):
         with contextlib.ExitStack() as stack:
             text = Text(self.mailbox, self.plan.start)
             if self.plan.is_copied:
-                copy, quoter = quoted_copy(self.mailbox, self.plan, folder)
-                begun = quoter.beginnings
-                text = Text(stack.enter_context(copy), Offset(0), begun.lines, begun.quoted_before)
+                quoter = Quoter(self.plan.reading, self.mailbox, self.plan.start)
+                copy = stack.enter_context(text_of(self.mailbox, quoter.run(), folder))
+                quoter.check(copy.size, quoter.counts().messages, self.plan.messages)
+                text = Text(copy, Offset(0), quoter.lines, quoter.quoted_before)
             if self.plan.reading.bare:
                 text = text.bare(folder)
                 stack.enter_context(text.mailbox)
             yield text
+
+
+class AtOnce:
+    """Reads the messages of a text in the pass in which it is looked at, since most mailboxes are converted as they
+    are. They are known if nothing was wrong with them: whoever reads them again learns what was."""
+
+    def __init__(self, program: Program) -> None:
+        self.program = program
+        self.known: Optional[Messages] = None
+
+    def read(self, look: Look) -> Look:
+        """Looks at all of a text, and reads its messages if its beginning shows that no copy of it is made."""
+        first = Look(look.mailbox, look.start).read(is_as_it_is)
+        if not is_as_it_is(first):
+            return first
+        pieces = look.passed()
+        try:
+            self.known = self.read_pieces(look.mailbox, look.start, pieces)
+        except (Fault, OSError):
+            for _ in pieces:
+                pass
+            # a fault of the look itself ended the look
+            if not look.is_whole:
+                raise
+        return look
+
+    def read_pieces(self, mailbox: Mailbox, start: Offset, pieces: Iterator[Marked]) -> Messages:
+        """Reads the messages that have these pieces. The program must list the same messages."""
+        with self.program.listing(mailbox.number, start) as listing:
+            return Messages(mailbox, start, Inventory.of(mailbox, start, pieces, listing))
+
+
+def read_messages(program: Program, text: Text, known: Optional[Messages]) -> Messages:
+    """The messages of a text, as they are known or else as they are read now. The program must list the same
+    messages."""
+    if known and known.mailbox is text.mailbox and known.start == text.start:
+        known.mailbox.check()
+        return known
+    with program.listing(text.mailbox.number, text.start) as listing:
+        return Messages(text.mailbox, text.start, text.messages(listing))
 
 
 def form_of(mailbox: Mailbox) -> Optional[Form]:
@@ -236,7 +293,7 @@ def after_internal(text: Text, maildir: bytes) -> Offset:
     with its numbers, unless the Maildir has it."""
     head, end = internal_head(text.mailbox, text.start)
     if head:
-        base = next(messages_of(text.mailbox, text.start)).digest.hexdigest().encode() + b".1"
+        base = next(messages_of(text.mailbox, text.start)).digest.hex().encode() + b".1"
         if not any(name.startswith(base) for name, _ in paths_of(maildir)):
             return end
     return text.start

@@ -5,6 +5,7 @@ import codecs
 import os
 import shutil
 import subprocess
+from collections.abc import Iterator
 
 from ..faults import Left, Reason
 from ..kinds.making import Makes
@@ -16,8 +17,8 @@ from ..mbox.mailbox import Mailbox
 from ..signals import INTERRUPTS, running, status_of
 from ..units import Line, Offset, Size
 from .plans import OtherKind
-from .streams import FORMATS, Streams, Take
-from .unnamed import text_in, unnamed
+from .streams import FORMATS, streams_in
+from .unnamed import text_of
 
 # the programs that unpack the forms that the library does not know; their status is not 0 if a part of a file is wrong
 PROGRAMS: dict[Form, str] = {Form.ZSTD: "zstd", Form.LZ4: "lz4"}
@@ -35,34 +36,34 @@ ENCODINGS: dict[Form, str] = {Form.UTF_16: "utf-16", Form.UTF_32: "utf-32"}
 LARGE, TIMES = 1 << 28, 100
 
 
-def unpack(mailbox: Mailbox, file: Reader, form: Form, take: Take) -> None:
-    """Gives what a mailbox holds to a function, piece by piece. It is read from this file, unless a program reads it.
-    Raises Left if it is not complete, or not right."""
+def unpack(mailbox: Mailbox, file: Reader, form: Form) -> Iterator[bytes]:
+    """What a mailbox holds, piece by piece. It is read from this file, unless a program reads it. Raises Left if it is
+    not complete, or not right."""
     if form in FORMATS:
-        Streams(file, form, take).run()
+        yield from streams_in(file, FORMATS[form])
     elif form in ENCODINGS:
-        decode(file, ENCODINGS[form], take)
+        yield from decoded(file, ENCODINGS[form])
     else:
-        run_program(PROGRAMS[form], mailbox, take)
+        yield from given_by(PROGRAMS[form], mailbox)
     mailbox.check()
 
 
-def decode(file: Reader, encoding: str, take: Take) -> None:
-    """Gives a text to a function in UTF-8."""
-    decoder = codecs.getincrementaldecoder(encoding)()
+def decoded(file: Reader, encoding: str) -> Iterator[bytes]:
+    """A text in UTF-8."""
+    decoder, block = codecs.getincrementaldecoder(encoding)(), b" "
     begins = 0
     try:
-        for block in iter(lambda: file.read(BLOCK), b""):
-            begins = file.offset - len(block) - len(decoder.getstate()[0])
-            take(decoder.decode(block).encode())
-        begins = file.offset - len(decoder.getstate()[0])
-        take(decoder.decode(b"", True).encode())
+        while block:
+            waiting = len(decoder.getstate()[0])
+            block = file.read(BLOCK)
+            begins = file.offset - len(block) - waiting
+            yield decoder.decode(block, not block).encode()
     except UnicodeDecodeError as error:
         raise Left("could not decode byte %d: %s" % (begins + error.start + 1, error.reason), Reason.PACKED) from error
 
 
-def run_program(name: str, mailbox: Mailbox, take: Take) -> None:
-    """Gives what a program unpacks to a function. Raises Left if the program is not here, or finds anything wrong."""
+def given_by(name: str, mailbox: Mailbox) -> Iterator[bytes]:
+    """What a program unpacks. Raises Left if the program is not here, or finds anything wrong."""
     path = shutil.which(name)
     if not path:
         raise Left("could not find %s: install it, and run this again" % name, Reason.PACKED)
@@ -72,52 +73,39 @@ def run_program(name: str, mailbox: Mailbox, take: Take) -> None:
     ) as child, INTERRUPTS.let_through():
         assert child.stdout is not None, "it is a pipe"
         pipe = child.stdout.fileno()
-        for piece in iter(lambda: os.read(pipe, BLOCK), b""):
-            take(piece)
+        yield from iter(lambda: os.read(pipe, BLOCK), b"")
         status = status_of(child)
     if status:
         raise Left("it is damaged or incomplete: `%s -dc` ended with status %d" % (name, status), Reason.PACKED)
 
 
-class Count:
-    """How many bytes a mailbox was found to hold. A disk must have space for them."""
-
-    def __init__(self, mailbox: Mailbox, form: Form, folder: bytes) -> None:
-        self.size, self.mailbox, self.form = 0, mailbox, form
-        self.folder, self.room, self.most = folder, room_of(folder), max(LARGE, TIMES * mailbox.size)
-
-    def take(self, piece: bytes) -> None:
-        """Counts a piece."""
-        self.mailbox.say("unpacking")
-        self.size += len(piece)
-        if self.size > self.most:
-            says = "unpacked it has more than %s, and more than %d times its size" % (amount(LARGE), TIMES)
-            recipe = (Makes("%s <{} >{copy}" % BY_HAND[self.form]),)
-            raise OtherKind(self.mailbox.path, Said(Line(0), says), recipe, Reason.PACKED, self.form.value)
-        if self.size > self.room:
-            says = "unpacked it has more than the %s that are free" % amount(self.room)
-            raise Left(not_enough(self.folder, says), Reason.NO_ROOM)
-
-
-def unpacked_size(mailbox: Mailbox, form: Form, folder: bytes) -> Size:
+def size_of(mailbox: Mailbox, form: Form, folder: bytes) -> Size:
     """How many bytes a mailbox holds. Raises Left if the disk of a folder has no space for them."""
-    count = Count(mailbox, form, folder)
+    room, most, size = room_of(folder), max(LARGE, TIMES * mailbox.size), 0
     mailbox.file.seek(Offset(0))
-    unpack(mailbox, mailbox.file, form, count.take)
-    return Size(count.size)
+    for piece in unpack(mailbox, mailbox.file, form):
+        mailbox.say("unpacking")
+        size += len(piece)
+        if size > most:
+            says = "unpacked it has more than %s, and more than %d times its size" % (amount(LARGE), TIMES)
+            recipe = (Makes("%s <{} >{copy}" % BY_HAND[form]),)
+            raise OtherKind(mailbox.path, Said(Line(0), says), recipe, Reason.PACKED, form.value)
+        if size > room:
+            says = "unpacked it has more than the %s that are free" % amount(room)
+            raise Left(not_enough(folder, says), Reason.NO_ROOM)
+    return Size(size)
 
 
 def unpacked(mailbox: Mailbox, form: Form, folder: bytes) -> Mailbox:
     """What a mailbox holds, as a text on the disk of a folder."""
-    size = unpacked_size(mailbox, form, folder)
-    with unnamed(folder) as file:
+    size = size_of(mailbox, form, folder)
 
-        def write(piece: bytes) -> None:
+    def given() -> Iterator[bytes]:
+        for piece in unpack(mailbox, mailbox.again(), form):
             mailbox.say("unpacking")
-            file.write(piece)
+            yield piece
 
-        unpack(mailbox, mailbox.again(), form, write)
-        text = text_in(file, mailbox)
+    text = text_of(mailbox, given(), folder)
     if text.size != size:
         raise Left("%s of its %s bytes were unpacked" % (text.size, size), Reason.PACKED)
     return text

@@ -5,24 +5,25 @@ from typing import Optional
 
 from ..kinds.damage import finding_of
 from ..kinds.doubts import Doubts
-from ..kinds.look import Look, Read
+from ..kinds.look import Look, Read, signs_of
 from ..kinds.making import Recipe
 from ..kinds.others import Holds, other_of
 from ..kinds.sorts import MAY_BE_MAIL, WITHIN
 from ..kinds.starts import HEAD, text_start
-from ..mbox.dates import is_dated
 from ..mbox.files import LineEnds
-from ..mbox.headers import Header
 from ..mbox.lines import Reasons, Said
 from ..mbox.mailbox import Mailbox
-from ..mbox.parts import Part, from_lines_of
-from ..units import Line, Offset
+from ..mbox.pieces import from_lines_of
+from ..meanings import remark_of
+from ..nexts import Remark
+from ..units import Line, Offset, counted
 from .reading import BY_LENGTHS, CRLF, MBOXCL2, MBOXO, MBOXRD, PLAIN, UNQUOTED, Reading
 
 # lines of these sorts may be text, or may begin messages; the lines around the first ones show which
 DOUBTS = ("odd", "doubtful")
 NOT_QUOTED = "not quoted"
 DROP_DELETED = Reading(drop=True)
+NO_END = remark_of("no-line-end")
 
 
 @dataclass(frozen=True)
@@ -44,12 +45,8 @@ class Verdict:
     holds: Holds = Holds.MAIL
     # what is to be done with a file that is not mbox text
     recipe: Recipe = ()
-    # whether only NUL bytes come before the text
-    after_nulls: bool = False
     # what was seen in its text
     look: Optional[Look] = None
-    # how many lines lose a `>` by this reading and keep it by another
-    doubtful_quotes: tuple[int, int, int] = (0, 0, 0)
 
     def tied(self, mailbox: Mailbox, decision: Reading) -> Reading:
         """A decision that holds only as long as the lines that are doubtful now stay so, and no other one is."""
@@ -85,14 +82,47 @@ class Verdict:
         """Whether nothing is doubtful besides which lines begin messages: no mail is cut or marked as deleted, and no
         From_ line may contain mail."""
         look = self.look
-        if look is None or look.count("cut", "holds mail") or look.are_deleted():
-            return False
-        return bool(self.doubtful())
+        return (
+            look is not None and bool(self.doubtful()) and not (look.count("cut", "holds mail") or look.are_deleted())
+        )
 
     @property
     def is_as_it_is(self) -> bool:
         """Whether it is converted as it is."""
         return self.reading == PLAIN and not self.start
+
+    def remarks_on_text(self) -> list[Remark]:
+        """What is to be said of the text, however it is read."""
+        says = "its text begins at byte %d, after NUL bytes" % (self.start + 1)
+        after_nulls, has_no_end = (self.look.after_nulls, self.look.count("no end")) if self.look else (False, 0)
+        return [Remark("after-nulls", says)] * after_nulls + [NO_END] * bool(has_no_end)
+
+    def remarks_on_quotes(self) -> list[Remark]:
+        """What is to be said of a mailbox that is read without a decision: how many lines lose a `>` of the mail's own
+        if this is mboxo, if messages end by their lengths, and if git wrote patches without quoting, as it does by
+        default."""
+        count = self.look.count if self.look else lambda *_: 0
+        if self.look and ends_by_lengths(self.look):
+            return self.remarks_on_lengths(self.look)
+        return [
+            Remark("loses-quote", "`%s ` loses a `>` in %s (--as %s keeps it)" % (line, counted(number, "line"), its))
+            for number, line, its in (
+                (count("quoted twice"), ">>From", MBOXO),
+                (count("quoted, by length"), ">From", MBOXCL2),
+                (count("quoted") * (count("git") > 0), ">From", UNQUOTED),
+            )
+            if number
+        ]
+
+    def remarks_on_lengths(self, look: Look) -> list[Remark]:
+        """What is to be said if messages end by their lengths: how many lines these decide about, if not each message
+        has one; and how many keep a `>`. When mutt and Dovecot copy mail out of a spool, they keep the `>` that its
+        delivery added, and give the length of that."""
+        inside = look.count("inside") if self.is_by_rule else 0
+        kept = look.count("quoted, by length", "quoted twice") if self.reading and self.reading.word == MBOXCL2 else 0
+        by = "`From ` is text in %s, by lengths (--as mboxrd begins mail there)" % counted(inside, "line")
+        says = "`>From ` keeps its `>` in %s (--as mboxcl takes it away)" % counted(kept, "line")
+        return [Remark("by-lengths", by)] * bool(inside) + [Remark("keeps-quote", says)] * bool(kept)
 
 
 def look_at(mailbox: Mailbox, read: Read = Look.read) -> Verdict:
@@ -104,7 +134,7 @@ def look_at(mailbox: Mailbox, read: Read = Look.read) -> Verdict:
         return verdict
     if b"\r" in mailbox.at(start, HEAD).split(b"\n")[0][:-1]:
         mailbox.file.seek(start)
-        count = from_lines_of(LineEnds(mailbox.file))
+        count = from_lines_of(LineEnds(mailbox.file).read)
         mailbox.check()
         why = Reasons([Said(Line(0), "its lines end in CR alone")], 1)
         return Verdict("line ends of CR alone", count, count, start=start, reasons=why, answers=(PLAIN,))
@@ -117,11 +147,7 @@ def verdict_on_other(mailbox: Mailbox) -> Verdict:
     if other:
         return Verdict(other.kind, recipe=other.recipe, holds=other.holds)
     look = Look(mailbox)
-
-    def begins_message(mark: Part) -> bool:
-        return look.sort_of(mark, Header.read(mailbox, mark), is_dated(mark.piece)) != "text"
-
-    finding = finding_of(mailbox, begins_message)
+    finding = finding_of(mailbox, lambda piece: look.sort_of(piece, *signs_of(piece)) != "text")
     return Verdict(finding.kind, recipe=finding.recipe, remarks=finding.remarks, holds=finding.holds)
 
 
@@ -137,9 +163,7 @@ def verdict_on(look: Look) -> Verdict:
         None if answers and not look.shows_lengths() else reading_of(look),
         look.keeping(),
         answers,
-        after_nulls=look.after_nulls,
         look=look,
-        doubtful_quotes=doubtful_quotes(look),
     )
 
 
@@ -153,14 +177,6 @@ def reading_of(look: Look) -> Reading:
 def ends_by_lengths(look: Look) -> bool:
     """Whether messages end by their lengths: all of them are right, or a rule takes them for that."""
     return look.have_lengths() or look.shows_lengths()
-
-
-def doubtful_quotes(look: Look) -> tuple[int, int, int]:
-    """How many lines lose a `>` of the mail's own if this is mboxo, if messages end by their lengths, and if git wrote
-    patches without quoting, as it does by default."""
-    if ends_by_lengths(look):
-        return 0, 0, 0
-    return look.count("quoted twice"), look.count("quoted, by length"), look.count("quoted") * (look.count("git") > 0)
 
 
 def kind_of(look: Look) -> str:

@@ -23,10 +23,9 @@ from ..migration.remarks import GONE, NO_LONGER
 from ..migration.steps import Bringing, Contents, Extra, How, Opened
 from ..migration.transfer import Transfer
 from ..nexts import NOTHING, Next, Remark
-from ..readings.at_once import read_messages
 from ..readings.plans import Plan
 from ..readings.reading import Reading
-from ..readings.texts import Choice, Text
+from ..readings.texts import Choice, Text, read_messages
 from ..terminal import named
 from ..units import counted
 

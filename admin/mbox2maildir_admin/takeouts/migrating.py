@@ -33,11 +33,9 @@ from ..migration.steps import How, Opened, Options
 from ..nexts import Answer
 from ..program import Program, find_program
 from ..progress import Beat
-from ..readings.asking import answers_to
-from ..readings.at_once import AtOnce, read_messages
-from ..readings.plans import NoMail, OtherKind, Question
+from ..readings.plans import NoMail, OtherKind, Question, answers_to
 from ..readings.reading import UNDECIDED
-from ..readings.texts import Choice, choice_of, disk_of
+from ..readings.texts import AtOnce, Choice, choice_of, disk_of, read_messages
 from ..terminal import named
 from .folder import FolderTransfer, Source
 

@@ -20,7 +20,7 @@ class RecordedTest(HomeTest):
             self.note("begun", TEXT)
             self.assertIsNone(Recorded(self.root).recorded(mailbox, mailbox))
             self.note("done", TEXT)
-            self.assertEqual(Recorded(self.root).recorded(mailbox, mailbox), Plan("", 1))
+            self.assertEqual(Recorded(self.root).recorded(mailbox, mailbox), Plan("", 0))
             self.note("done", TEXT, words="mboxo")
             wanted = Plan("", 1, reading=Reading("mboxo"), is_copied=True)
             self.assertEqual(Recorded(self.root).recorded(mailbox, mailbox), wanted)

@@ -38,11 +38,10 @@ class VerifyTest(unittest.TestCase):
         self.assertEqual(self.verify(files), (True, {"there": 2}, []))
 
     def test_nothing_is_hashed_for_a_ledger(self) -> None:
-        with source_of(TEXT) as mailbox, mock.patch(
-            "mbox2maildir_admin.mbox.messages.InPass", side_effect=AssertionError
-        ):
-            with mock.patch.object(Program, "listing", return_value=contextlib.nullcontext()):
-                self.assertEqual(len(module.inventory_of(Text(mailbox, Offset(0)), b"")), 2)
+        listing = mock.patch.object(Program, "listing", return_value=contextlib.nullcontext())
+        with source_of(TEXT) as mailbox, listing:
+            found = module.inventory_of(Text(mailbox, Offset(0)), b"")
+        self.assertEqual((len(found), found.cores, found.bares), (2, b"", b""))
 
     def test_what_is_not(self) -> None:
         right, counts, lines = self.verify(

@@ -5,7 +5,7 @@ from collections.abc import Sequence
 from typing import Optional
 from unittest import mock
 
-from mbox2maildir_admin.flags.clients import CLIENTS, FLAG_LETTERS, Kept, kept_in
+from mbox2maildir_admin.flags.clients import CLIENTS, FLAG_LETTERS, Kept, is_deleted, kept_in
 from mbox2maildir_admin.mbox.inventory import Inventory
 from mbox2maildir_admin.units import Offset
 
@@ -76,6 +76,24 @@ class ClientsTest(unittest.TestCase):
         """What is kept in a mailbox whose messages have these headers."""
         with source_of(b"".join(A + header.encode() + b"\nhello\n\n" for header in headers)) as mailbox:
             return kept_in(mailbox, Inventory.read(mailbox, Offset(0)))
+
+    def test_thunderbirds_mark_of_deleted_mail(self) -> None:
+        """0008 is nsMsgMessageFlags.Expunged; the first field counts."""
+        for text, wanted in (
+            (b"X-Mozilla-Status: 0008\n", True),
+            (b"Subject: x\nx-mozilla-status:0019\r\n", True),
+            (b"X-Mozilla-Status: fFfF\n", True),
+            (b"X-Mozilla-Status: 0001\n", False),
+            (b"X-Mozilla-Status: 8000\n", False),
+            (b"X-Mozilla-Status: 0001\nX-Mozilla-Status: 0008\n", False),
+            (b"X-Mozilla-Status: 8\nX-Mozilla-Status: 0008\n", None),
+            (b"X-Mozilla-Status: 00088\n", None),
+            (b"X-Mozilla-Status: 000g\n", None),
+            (b"X-Mozilla-Status2: 00080000\n", None),
+            (b"Subject: X-Mozilla-Status: 0008\n", None),
+            (b"", None),
+        ):
+            self.assertIs(is_deleted(text), wanted, text)
 
     def test_headers(self) -> None:
         for program, rows in TABLES.items():

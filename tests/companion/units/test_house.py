@@ -46,6 +46,7 @@ LONGER = {
     "migration.several": 319,
     "migration.steps": 320,
     "migration.transfer": 386,
+    "readings.plans": 325,
     "users.children": 301,
 }
 MORE = {"back": 17, "commands": 19, "migration": 25}

@@ -91,9 +91,8 @@ class VerdictTest(unittest.TestCase):
             (b"x" + A, None),
         ):
             self.assertEqual(self.verdict(b"\0" * 600 + after).start or None, start, after)
-        self.assertEqual(
-            (self.verdict(b"\0" * 600 + A).after_nulls, self.verdict(b"\n" + A).after_nulls), (True, False)
-        )
+        for before, wanted in ((b"\0" * 600, ["after-nulls"]), (b"\n", [])):
+            self.assertEqual([one.word for one in self.verdict(before + A).remarks_on_text()], wanted)
 
     def test_first_lines(self) -> None:
         """The first line and what follows it decide together whether a text begins there."""

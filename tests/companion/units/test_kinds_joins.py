@@ -3,10 +3,9 @@ import random
 import unittest
 from unittest import mock
 
-from mbox2maildir_admin.kinds.joins import Join, Joins
-from mbox2maildir_admin.mbox import parts
+from mbox2maildir_admin.kinds.joins import Join, joins_in
+from mbox2maildir_admin.mbox import pieces
 from mbox2maildir_admin.mbox.files import BLOCK, LONG
-from mbox2maildir_admin.mbox.parts import TEXT, parts_of
 from mbox2maildir_admin.units import Offset
 
 from tests.support.mail import A, B
@@ -57,13 +56,9 @@ class JoinsTest(unittest.TestCase):
         """The lines that are found in a text after a From_ line and a header. They must be at the right places."""
         before = A + b"\n"
         with source_of(before + text) as mailbox:
-            joins, found = Joins(mailbox), []
-            for part in parts_of(mailbox.file):
-                if part.what == TEXT:
-                    found += list(joins.found_in(part, Offset(body)))
+            found = [join for piece in mailbox.pieces(Offset(0)) for join in joins_in(mailbox, piece, body)]
             for join in found:
                 self.assertEqual(mailbox.at(join.offset, len(join.from_line)), join.from_line)
-                self.assertEqual(join.line, mailbox.at(0, join.offset).count(b"\n") + 1)
                 self.assertTrue(join.from_line.startswith(b"From boris"), join)
         return [join.offset - len(before) for join in found]
 
@@ -115,10 +110,8 @@ class JoinsTest(unittest.TestCase):
 
     def joins_of(self, text: bytes, block: int) -> list[Join]:
         """What is found in a text that is read in blocks."""
-        with source_of(text) as mailbox, mock.patch.object(parts, "BLOCK", block):
-            joins = Joins(mailbox)
-            pieces = [part for part in parts.parts_of(mailbox.file) if part.what == TEXT]
-            return [join for part in pieces for join in joins.found_in(part, Offset(0))]
+        with source_of(text) as mailbox, mock.patch.object(pieces, "BLOCK", block):
+            return [join for piece in mailbox.pieces(Offset(0)) for join in joins_in(mailbox, piece, 0)]
 
     def test_long_lines(self) -> None:
         for long in (LONG, 3 * BLOCK):

@@ -141,7 +141,7 @@ class PlacingTest(LedgerTest):
         placing = self.placing(ONE, TWO, THREE)
         part = placing.part([1, 2])
         self.assertEqual([part.table.name(place) for place in range(2)], [named_of(TWO, 2), named_of(THREE)])
-        for row in ("sizes", "lines", "offsets", "unquoted", "dates"):
+        for row in ("sizes", "offsets", "unquoted", "dates"):
             self.assertEqual(list(getattr(part, row)), list(getattr(placing.inventory, row))[1:3], row)
         # also if all of them are
         whole = placing.part(placing.places())

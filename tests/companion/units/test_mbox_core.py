@@ -2,15 +2,16 @@
 import ast
 import hashlib
 import inspect
+import io
 import random
 import re
 import unittest
 from unittest import mock
 
 from mbox2maildir_admin.flags import clients
-from mbox2maildir_admin.mbox import parts
-from mbox2maildir_admin.mbox.core import Core, Unquoter
-from mbox2maildir_admin.mbox.hidden import NOTED
+from mbox2maildir_admin.mbox import pieces
+from mbox2maildir_admin.mbox.core import forms_of
+from mbox2maildir_admin.mbox.fields import NOTED
 from mbox2maildir_admin.mbox.inventory import Inventory
 from mbox2maildir_admin.units import Offset, Place
 
@@ -107,54 +108,52 @@ def mails_of(text: bytes) -> list[bytes]:
     return [mail[:-1] if mail == b"\n" or mail.endswith(b"\n\n") else mail for mail in mails]
 
 
-def forms_of(mail: bytes, *ends: int) -> tuple[bytes, bytes]:
-    """The digests of the core and the bare form of mail that comes in pieces which end at these places."""
-    core = Core()
-    for begin, end in zip((0, *ends), (*ends, len(mail))):
-        core.update(mail[begin:end])
-    return core.end()
+def forms_in(mail: bytes, block: int = 1 << 20) -> tuple[bytes, bytes]:
+    """The digests of the core and the bare form of mail that is read in blocks."""
+    with mock.patch.object(pieces, "BLOCK", block):
+        return forms_of(io.BytesIO(mail).read)
 
 
-def core_of(mail: bytes) -> bytes:
+def core_in(mail: bytes) -> bytes:
     """The digest of the core of mail."""
-    return forms_of(mail)[0]
+    return forms_in(mail)[0]
 
 
 def random_text(draw: random.Random) -> bytes:
     """A text of a few messages, which may end anywhere."""
     bodies = (b"".join(draw.choices(WORDS, k=draw.randrange(10))) for _ in range(draw.randint(1, 4)))
-    text = b"".join(b"From a\n" + body + draw.choice((b"\n\n", b"\n")) for body in bodies)
+    begun = b"From a\n", b"From a@b.c Mon Mar  3 09:12:44 2025\n", b"From a Mon Mar  3 09:12:44 2025\nA: b\n"
+    text = b"".join(draw.choice(begun) + body + draw.choice((b"\n\n", b"\n")) for body in bodies)
     return text.rstrip(b"\n") + draw.choice((b"", b"\n")) if draw.random() < 0.3 else text
 
 
 class CoreTest(unittest.TestCase):
     def test_what_mail_programs_note_is_left_out(self) -> None:
-        self.assertEqual({core_of(mail) for mail in SAME}, {short(MAIL)})
+        self.assertEqual({core_in(mail) for mail in SAME}, {short(MAIL)})
 
     def test_how_lines_are_quoted_is_left_out(self) -> None:
         mails = [b"Subject: a\n\nhi\n" + b">" * count + b"From x\n>Fro\n" for count in range(3)]
-        self.assertEqual({core_of(mail) for mail in mails}, {short(mails[0])})
+        self.assertEqual({core_in(mail) for mail in mails}, {short(mails[0])})
 
     def test_all_else_counts(self) -> None:
-        self.assertEqual(len({core_of(mail) for mail in (MAIL, *OTHER)}), 1 + len(OTHER))
+        self.assertEqual(len({core_in(mail) for mail in (MAIL, *OTHER)}), 1 + len(OTHER))
 
     def test_the_bare_form_lacks_only_the_fields(self) -> None:
         mail = b"X-UID: 1\n 2\r\nA: b\r\nStatus: RO\r\n\r\n>>From x\r\nLines: 1\n\n\n"
-        self.assertEqual(forms_of(mail)[1], short(b"A: b\r\n\r\n>>From x\r\nLines: 1\n\n\n"))
-        self.assertEqual([forms_of(mail)[1] for mail in OTHER], [short(mail) for mail in OTHER])
+        self.assertEqual(forms_in(mail)[1], short(b"A: b\r\n\r\n>>From x\r\nLines: 1\n\n\n"))
+        self.assertEqual([forms_in(mail)[1] for mail in OTHER], [short(mail) for mail in OTHER])
 
     def test_a_colon_that_is_far_away(self) -> None:
         """A field ends its name with a colon that is near enough."""
         for blanks, stays in ((8184, b""), (8185, b"Status" + b" " * 8185 + b":\n x\n")):
             mail = b"Status" + b" " * blanks + b":\n x\nA: b\n\nbody\n"
-            for ends in ((), (3000, 8190), (3000, 8191, 8192), (8193,)):
-                self.assertEqual(forms_of(mail, *ends)[1], short(stays + b"A: b\n\nbody\n"), (blanks, ends))
+            self.assertEqual(forms_in(mail)[1], short(stays + b"A: b\n\nbody\n"), blanks)
 
     def test_in_any_pieces(self) -> None:
         for mail in (*SAME, *OTHER, b"", b"\n", b"\n\n", b"\r\n", b"a: b", b"\nStatus: RO\n", b"X-UID: 1"):
-            for end in range(len(mail) + 1):
-                found = forms_of(mail, end, min(end + 3, len(mail)))
-                self.assertEqual(found, (short(core_form(mail)), short(bare_form(mail))), (mail, end))
+            for block in range(1, len(mail) + 2):
+                found = forms_in(mail, block)
+                self.assertEqual(found, (short(core_form(mail)), short(bare_form(mail))), (mail, block))
 
     def test_what_flags_are_read_from_is_noted(self) -> None:
         """Otherwise a message whose flags a program changes would be another one."""
@@ -162,7 +161,7 @@ class CoreTest(unittest.TestCase):
         read = [ast.literal_eval(call.args[0]) for call in calls if ast.unparse(call.func) == "field"]
         self.assertIn(b"X-Mozilla-Status", read)
         self.assertEqual([name for name in read if name.lower() not in NOTED], [])
-        self.assertEqual({core_of(name + b": 1\n" + MAIL) for name in read}, {short(MAIL)})
+        self.assertEqual({core_in(name + b": 1\n" + MAIL) for name in read}, {short(MAIL)})
 
     def test_which_fields_are_noted(self) -> None:
         self.assertEqual(sorted(NOTED), sorted(FIELDS))
@@ -171,7 +170,7 @@ class CoreTest(unittest.TestCase):
 class InPassTest(unittest.TestCase):
     def compare(self, text: bytes, block: int) -> None:
         """Compares the digests of a text's messages with the rule."""
-        with source_of(text) as mailbox, mock.patch.object(parts, "BLOCK", block):
+        with source_of(text) as mailbox, mock.patch.object(pieces, "BLOCK", block):
             found = Inventory.read(mailbox, Offset(0))
         mails = mails_of(text)
         self.assertEqual([found.table.digest(at)[:16] for at in range(len(found))], list(map(short, mails)), text)
@@ -193,20 +192,3 @@ class InPassTest(unittest.TestCase):
             for before in (b"A: b\n", b"A: b\nStatus: RO\n\nbody\n", b"A: b\n\nbody\r\n\n", long):
                 for after in (b"From x\nmore\n", b"From " + row + b"\nX-UID: 1\n\nmore\n", b"\n", b"", b"Fro", b" x\n"):
                     self.compare(b"From a\n" + before + row + after, draw.choice((7, 1000, 1024, 8192, 1 << 20)))
-
-    def test_a_message_that_is_its_own_core_is_hashed_once(self) -> None:
-        text = b"From a\nA: b\n\nbody\n\n>From x\n\nmore\n\nFrom b\nA: b\n\n\nbody\n"
-        with source_of(text) as mailbox, mock.patch("mbox2maildir_admin.mbox.core.Differing") as differing:
-            found = Inventory.read(mailbox, Offset(0))
-        differing.assert_not_called()
-        self.assertEqual((found.cores, found.bares), (b"".join(map(short, mails_of(text))),) * 2)
-
-
-class UnquoterTest(unittest.TestCase):
-    def test_in_any_pieces(self) -> None:
-        text = b">From a\n>>From b\n>Fro\nx >From\n>\n>From"
-        wanted = b"From a\nFrom b\n>Fro\nx >From\n>\n>From"
-        for size in range(1, len(text) + 1):
-            unquoter = Unquoter()
-            pieces = [unquoter.of(text[start : start + size]) for start in range(0, len(text), size)]
-            self.assertEqual(b"".join(pieces) + unquoter.rest, wanted, size)

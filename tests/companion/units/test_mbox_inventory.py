@@ -1,16 +1,29 @@
 """The inventory of a text: what is known of each of its messages."""
+import hashlib
 import os
 import unittest
 from unittest import mock
 
 from mbox2maildir_admin.faults import Fault
-from mbox2maildir_admin.mbox.inventory import NO_DATE, Inventory
-from mbox2maildir_admin.mbox.messages import Message
+from mbox2maildir_admin.mbox import pieces
+from mbox2maildir_admin.mbox.inventory import NO_DATE, Inventory, Message, may_hold_mail, messages_of
 from mbox2maildir_admin.units import Offset, Place
 
 from tests.support.units import base_of, source_of
 
 DATED, UNDATED = b"From a Thu Jan  1 00:00:10 1970 +0000\n", b"From a\n"
+# texts of one message, and its body
+BODIES = [
+    (b"From a\n\n", b""),
+    (b"From a\none\n", b"one\n"),
+    (b"From a\none\n\n", b"one\n"),
+    (b"From a\none\n\n\n", b"one\n\n"),
+    (b"From a\none", b"one"),
+    (b"From a", b""),
+    (b"From a\n>From b\n>>From c\n> From d\n", b"From b\n>From c\n> From d\n"),
+    (b"From a\n\n\n>From b\n\n", b"\n\nFrom b\n"),
+    (b"From a\none\r\n\r\n", b"one\r\n\r\n"),
+]
 # three messages; the first and the last are equal
 TEXT = DATED + b"one\n\n" + UNDATED + b"two\n>From x\n\n" + DATED + b"one\n\n"
 
@@ -19,7 +32,9 @@ class InventoryTest(unittest.TestCase):
     def read(self, text: bytes = TEXT, start: int = 0) -> Inventory:
         """The inventory of a text."""
         with source_of(text) as mailbox:
-            return Inventory.read(mailbox, Offset(start))
+            found = Inventory.read(mailbox, Offset(start))
+            self.assertEqual(len(found.lines), len(found))
+            return found
 
     def test_messages(self) -> None:
         found = self.read()
@@ -49,12 +64,12 @@ class InventoryTest(unittest.TestCase):
         self.assertEqual((found.doubts.count, found.doubts.numbers), (1, [1]))
 
     def test_each_is_compared_with_the_list_of_the_program(self) -> None:
-        compared: list[object] = []
         listing = mock.Mock()
-        listing.compare = lambda number, line, base, size: compared.append((number, line, base[32:], size))
+        listing.has.return_value = True
         with source_of(TEXT) as mailbox:
             Inventory.read(mailbox, Offset(0), listing)
-        self.assertEqual(compared, [(1, 1, b".1", 4), (2, 4, b".1", 11), (3, 8, b".2", 4)])
+        compared = [(number, base[32:], size) for (number, base, size), _ in listing.has.call_args_list]
+        self.assertEqual(compared, [(1, b".1", 4), (2, b".1", 11), (3, b".2", 4)])
         listing.end.assert_called_once_with()
 
     def test_a_text_that_changes_meanwhile(self) -> None:
@@ -63,7 +78,31 @@ class InventoryTest(unittest.TestCase):
             self.assertRaisesRegex(Fault, "it changed while it was read", Inventory.read, mailbox, Offset(0))
 
     def test_no_byte_is_lost(self) -> None:
-        with mock.patch.object(Message, "read_size", 1), self.assertRaisesRegex(
+        with mock.patch.object(Message, "read", 1), self.assertRaisesRegex(
             Fault, "3 of its 106 bytes belong to messages"
         ):
             self.read()
+
+    def test_bodies(self) -> None:
+        """Without one `>` of a quoted line, and without the blank line at the end."""
+        for text, body in BODIES:
+            for block in (1, 3, 1 << 20):
+                with source_of(text) as mailbox, mock.patch.object(pieces, "BLOCK", block):
+                    (message,) = messages_of(mailbox)
+                found = message.size, message.digest, message.read
+                self.assertEqual(found, (len(body), hashlib.sha256(body).digest(), len(text)), (text, block))
+
+    def test_where_mail_may_stand_in_a_from_line(self) -> None:
+        for line, may_hold in (
+            (b"From a", False),
+            (b"From a\r", False),
+            (b"From a\rb", True),
+            (b"From a\0From b", True),
+            (b"From " + b"x" * 994, True),
+        ):
+            self.assertEqual(may_hold_mail(line), may_hold, line)
+            self.assertEqual(self.read(line + b"\n\nmail\n").doubts.count, may_hold, line)
+
+    def test_no_from_line(self) -> None:
+        with self.assertRaisesRegex(Fault, "no From line at the start"):
+            self.read(b"hello\n")

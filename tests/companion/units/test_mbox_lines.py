@@ -2,31 +2,42 @@
 import unittest
 
 from mbox2maildir_admin.mbox.files import BLOCK
-from mbox2maildir_admin.mbox.lines import Lines, Reasons, Said, cut, lines_around, texts_of
+from mbox2maildir_admin.mbox.lines import Lines, Reasons, Said, cut, lines_around, number_lines, texts_of
 from mbox2maildir_admin.units import Line
 
 from tests.support.units import source_of
 
 
 class LinesTest(unittest.TestCase):
+    def numbered(self, *several: Lines) -> None:
+        """Gives lines their numbers in a text of lines of two bytes."""
+        with source_of(b"x\n" * 400) as mailbox:
+            number_lines(mailbox, several)
+
     def test_many(self) -> None:
         lines = Lines()
-        for number in range(1, 302):
-            lines.add(Line(number))
+        for number in range(301):
+            lines.add(2 * number)
+        self.numbered(lines)
         self.assertEqual((lines.count, lines.numbers, len(lines.first)), (301, list(range(1, 201)), 5))
 
     def test_what_is_kept_of_the_first(self) -> None:
-        lines = Lines()
-        lines.add(Line(3), b"From a\x07", Line(1))
-        lines.add(Line(9), b"x" * 73)
+        """A line is known by any offset in it, and another line that it is about may be the first one."""
+        lines, others = Lines(), Lines()
+        lines.add(4, b"From a\x07", 0)
+        lines.add(17, b"x" * 73)
+        others.add(9)
+        self.numbered(others, lines)
         self.assertEqual(lines.first, [(3, "From a\\x07", 1), (9, "x" * 72 + "...", 0)])
+        self.assertEqual((lines.numbers, others.numbers), ([3, 9], [5]))
 
     def test_those_of_another_sort(self) -> None:
         lines, others = Lines(), Lines()
-        lines.add(Line(1), b"From a")
+        lines.add(0, b"From a")
         for number in range(3, 303):
-            others.add(Line(number))
+            others.add(2 * (number - 1))
         lines.take(others)
+        self.numbered(lines)
         self.assertEqual((lines.count, lines.numbers, len(lines.first)), (301, [1, *range(3, 202)], 5))
         self.assertEqual(lines.first[:2], [(1, "From a", 0), (3, "", 0)])
 

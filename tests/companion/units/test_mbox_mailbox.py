@@ -44,6 +44,13 @@ class MailboxTest(unittest.TestCase):
                         self.assertEqual(read.call_count, not (begins <= first and last <= ends))
             self.assertEqual(mailbox.file.offset, 12)
 
+    def test_where_lines_begin(self) -> None:
+        for block in (1, 2, 3, 7, 1 << 20):
+            with source_of(b"a\n\nbcd\n\nlast") as mailbox, mock.patch.object(module, "BLOCK", block):
+                wanted = [(1, 0), (2, 2), (3, 3), (4, 7), (5, 8)]
+                self.assertEqual(list(mailbox.lines_with(range(9))), wanted, block)
+                self.assertEqual(list(mailbox.lines_with([4])), [(4, 7)], block)
+
     def test_lines_of_what_is_cut_meanwhile(self) -> None:
         with source_of(TEXT) as mailbox:
             os.truncate(mailbox.path, 8)

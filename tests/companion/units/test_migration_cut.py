@@ -1,4 +1,5 @@
 """Messages that were read before they were complete: which mailbox is left for one, and what ends that."""
+import io
 import os
 from pathlib import Path
 from typing import Any
@@ -6,14 +7,12 @@ from typing import Any
 from mbox2maildir_admin.faults import Reason
 from mbox2maildir_admin.ledger.ledger import Ledger
 from mbox2maildir_admin.ledger.lines import LOST
-from mbox2maildir_admin.mbox.core import Core
+from mbox2maildir_admin.mbox.core import forms_of
 from mbox2maildir_admin.mbox.files import BLOCK
-from mbox2maildir_admin.mbox.mailbox import Mailbox
-from mbox2maildir_admin.migration.cut import beginning_in, body_of, names_of_no_line, names_that_may_be_cut
+from mbox2maildir_admin.migration.cut import beginning_in, names_of_no_line, names_that_may_be_cut
 from mbox2maildir_admin.migration.outcomes import Fate, Row
 from mbox2maildir_admin.program import Converted
 from mbox2maildir_admin.readings.reading import Reading
-from mbox2maildir_admin.units import Offset
 
 from tests.support.brought import BOX, OTHER, LedgerTest, line_of, named_of
 from tests.support.brought import body_of as its_body
@@ -148,15 +147,6 @@ class NamesTest(LedgerTest):
 
 
 class BytesTest(LedgerTest):
-    def test_the_body_of_a_message(self) -> None:
-        """Without its From_ line, wherever blocks end."""
-        path = self.write("box", ONE + TWO)
-        with Mailbox.open(path) as mailbox:
-            for start, end in ((0, len(ONE)), (len(ONE), len(ONE + TWO)), (0, 10)):
-                text = (ONE + TWO)[start:end]
-                wanted = text[text.index(b"\n") + 1 :] if b"\n" in text else b""
-                self.assertEqual(b"".join(body_of(mailbox, Offset(start), Offset(end))), wanted)
-
     def test_the_beginning_in_a_file(self) -> None:
         """Whether or not its last line ends, and without what may be the beginning of the next From_ line."""
         body = its_body(CUT)
@@ -171,7 +161,6 @@ class BytesTest(LedgerTest):
         for end in (b"", b"\n", b"\n\n", b"\n\nFr"):
             self.assertEqual(beginning_in(self.write("a", last + end)), (len(last), digest_of(last)), end)
         # a whole one is the core of the message without its line end
-        whole, core = its_body(ONE), Core()
-        core.update(whole)
+        whole = its_body(ONE)
         self.assertEqual(beginning_in(self.write("a", whole)), (len(whole) - 1, digest_of(whole[:-1])))
-        self.assertEqual(core.end()[0].hex(), digest_of(whole)[:32])
+        self.assertEqual(forms_of(io.BytesIO(whole).read)[0].hex(), digest_of(whole)[:32])

@@ -7,7 +7,7 @@ from unittest import mock
 
 from mbox2maildir_admin.faults import Fault, PlaceFault
 from mbox2maildir_admin.program import Failed, Listing, Program, find_program
-from mbox2maildir_admin.units import Line, Offset
+from mbox2maildir_admin.units import Offset
 
 from tests.support.nexts import told
 from tests.support.units import folder
@@ -78,27 +78,27 @@ class ListingTest(ScriptTest):
     BASE = b"\xab" * 32 + b".1"
     ROW = "1 %s.1 - - 6 -" % ("ab" * 32)
 
-    def compare(self, text: str, size: int = 6) -> None:
-        """Compares the list that a script prints with one message of a size."""
+    def has(self, text: str, size: int = 6) -> bool:
+        """Whether the list that a script prints has one message of a size."""
         with Listing.open(self.number, START, self.script(text)) as listing:
-            listing.compare(1, Line(1), self.BASE, size)
+            found = listing.has(1, self.BASE, size)
             listing.end()
+        return found
 
     def test_the_same(self) -> None:
-        self.compare('test "$*" = list && head -c 6 | grep -q "From a" && echo ' + self.ROW)
+        self.assertTrue(self.has('test "$*" = list && head -c 6 | grep -q "From a" && echo ' + self.ROW))
 
     def test_another_message(self) -> None:
-        wrong = "line 1: message 1 differs from what `mbox2maildir list` gave"
-        self.assertRaisesRegex(Fault, wrong, self.compare, "echo " + self.ROW, 7)
+        self.assertFalse(self.has("echo " + self.ROW, 7))
         for other in (self.ROW.replace("ab.1", "ab.2"), self.ROW.replace("1 ", "2 ", 1)):
-            self.assertRaisesRegex(Fault, wrong, self.compare, "echo " + other)
+            self.assertFalse(self.has("echo " + other))
 
     def test_another_number_of_messages(self) -> None:
         self.assertRaisesRegex(
-            Fault, r"`mbox2maildir list` gave fewer messages than were read here\Z", self.compare, "exit 0"
+            Fault, r"`mbox2maildir list` gave fewer messages than were read here\Z", self.has, "exit 0"
         )
         more = r"`mbox2maildir list` gave more messages than were read here\Z"
-        self.assertRaisesRegex(Fault, more, self.compare, "echo %s; echo 2" % self.ROW)
+        self.assertRaisesRegex(Fault, more, self.has, "echo %s; echo 2" % self.ROW)
 
     def test_a_list_that_failed(self) -> None:
         for script, why in (
@@ -108,7 +108,7 @@ class ListingTest(ScriptTest):
             ("echo %s; echo late >&2; exit 1" % self.ROW, "late"),
         ):
             with self.subTest(script):
-                self.assertRaisesRegex(Fault, r"\A`mbox2maildir list` failed: %s\Z" % why, self.compare, script)
+                self.assertRaisesRegex(Fault, r"\A`mbox2maildir list` failed: %s\Z" % why, self.has, script)
 
 
 class FindTest(ScriptTest):

@@ -14,8 +14,7 @@ from mbox2maildir_admin.mbox.digest import Digest
 from mbox2maildir_admin.mbox.inventory import Inventory
 from mbox2maildir_admin.mbox.mailbox import Mailbox, Watched
 from mbox2maildir_admin.program import Listing, Program
-from mbox2maildir_admin.readings.at_once import AtOnce, read_messages
-from mbox2maildir_admin.readings.texts import Text
+from mbox2maildir_admin.readings.texts import AtOnce, Text, read_messages
 from mbox2maildir_admin.units import Offset
 
 from tests.support.mail import A, B
@@ -36,19 +35,18 @@ class Lists(Program):
 
     @contextlib.contextmanager
     def listing(self, number: int, start: Offset) -> Iterator[Optional[Listing]]:
-        yield mock.Mock(compare=self.compare)
+        yield mock.Mock(has=self.has)
 
-    def compare(self, number: int, *_: Any) -> None:
-        """Compares a message."""
+    def has(self, number: int, *_: Any) -> bool:
+        """Whether it has a message."""
         self.compared.append(number)
         self.meanwhile()
-        if number == self.fails_at:
-            raise Fault("message %d differs from the one in the list" % number)
+        return number != self.fails_at
 
 
 def values_of(inventory: Inventory) -> dict[str, Any]:
     """All that an inventory has."""
-    more = {"table": vars(inventory.table), "doubts": vars(inventory.doubts)}
+    more = {"table": vars(inventory.table), "doubts": vars(inventory.doubts), "count_lines": list(inventory.lines)}
     return {**vars(inventory), **more}
 
 

@@ -26,10 +26,10 @@ class EarlierTest(unittest.TestCase):
     def test_by_its_words(self) -> None:
         for text, words, wanted in (
             (PLAIN, "mboxo", Plan("", 2, reading=Reading("mboxo"))),
-            (b"\n" + PLAIN, "mboxrd", Plan("", 2, Offset(1))),
+            (b"\n" + PLAIN, "mboxrd", Plan("", 0, Offset(1))),
             (CRLF, "mboxrd crlf", Plan("", 2, reading=Reading("mboxrd", ends="crlf"), is_copied=True)),
             (BARE, "mboxo", Plan("", 2, reading=Reading("mboxo"))),
-            (PLAIN, "mboxrd dovecot", Plan("", 2).bared(True)),
+            (PLAIN, "mboxrd dovecot", Plan("", 0).bared(True)),
             (PLAIN, "mboxrd text=99", None),
             (PLAIN, "mboxo of-another-version", None),
             (PLAIN, "crlf", None),

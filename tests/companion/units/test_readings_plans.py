@@ -9,11 +9,21 @@ from mbox2maildir_admin.faults import Left
 from mbox2maildir_admin.kinds.named import is_no_mail
 from mbox2maildir_admin.mbox.digest import Digest
 from mbox2maildir_admin.mbox.files import LONG
-from mbox2maildir_admin.nexts import Does, Remark
-from mbox2maildir_admin.readings.plans import NoMail, NotKnown, OtherKind, Plan, Question, plan_of
+from mbox2maildir_admin.nexts import Command, Does, Quote, Remark, lines_below
+from mbox2maildir_admin.readings.plans import (
+    Choosable,
+    NoMail,
+    NotKnown,
+    OtherKind,
+    Plan,
+    Question,
+    answers_to,
+    left_out,
+    plan_of,
+)
 from mbox2maildir_admin.readings.reading import UNDECIDED, Reading
-from mbox2maildir_admin.readings.remarks import NO_END, left_out
 from mbox2maildir_admin.readings.texts import choice_of
+from mbox2maildir_admin.readings.verdict import NO_END, Verdict
 from mbox2maildir_admin.units import Line, Offset
 
 from tests.support.mail import A, B
@@ -354,3 +364,49 @@ class NameTest(unittest.TestCase):
                 [is_no_mail(here + name) for name in (b"/a.lock", b"/b.lock", b"/.imap/sent")], [False, False, False]
             )
             self.assertRaises(FileNotFoundError, is_no_mail, here + b"/none")
+
+
+MBOXRD, UNQUOTED = Choosable(Reading("mboxrd"), 3), Choosable(Reading("unquoted"), 1)
+LENGTHS = Choosable(Reading("mboxcl2"), 2)
+DROPS = [one._replace(decision=one.decision._replace(drop=True)) for one in (UNQUOTED, MBOXRD)]
+DROP = Choosable(Reading(drop=True), 1)
+
+
+def meant(answers: list[Choosable]) -> list[Choosable]:
+    """Answers with what each says of the mail."""
+    return [one.meant(answers) for one in answers]
+
+
+class AskingTest(unittest.TestCase):
+    def below(self, answers: list[Choosable]) -> list[str]:
+        """What stands below the row of a mailbox about which this is asked."""
+        question = Question("why", Verdict("kind"), [Quote(7, "From me")], meant(answers))
+        found = answers_to(question.answers, lambda decision: Command.of("go", *decision.options()))
+        return list(lines_below(question.quotes, found))
+
+    def test_one_answer(self) -> None:
+        wanted = ["    7 | From me", "    run this next: 3 messages:", "        go --as mboxrd"]
+        self.assertEqual(self.below([MBOXRD]), wanted)
+
+    def test_several_answers(self) -> None:
+        wanted = [
+            "    7 | From me",
+            "    this belongs to the mail above: 1 message:",
+            "        go --as unquoted",
+            "    a mail begins here: 3 messages:",
+            "        go --as mboxrd",
+        ]
+        self.assertEqual(self.below([UNQUOTED, MBOXRD]), wanted)
+
+    def test_what_each_says_of_the_mail(self) -> None:
+        rows: list[tuple[list[Choosable], list[Does]]] = [
+            ([UNQUOTED, MBOXRD], [Does.BELONGS, Does.BEGINS]),
+            ([MBOXRD, UNQUOTED], [Does.BEGINS, Does.BELONGS]),
+            ([MBOXRD, MBOXRD], [Does.READ_AS] * 2),
+            ([MBOXRD, LENGTHS, UNQUOTED], [Does.READ_AS] * 3),
+            ([DROP, MBOXRD], [Does.DROP, Does.KEEP]),
+            ([*DROPS, UNQUOTED, MBOXRD], [Does.BELONGS_DROP, Does.BEGINS_DROP, Does.BELONGS, Does.BEGINS]),
+            ([], []),
+        ]
+        for answers, wanted in rows:
+            self.assertEqual([one.does for one in meant(answers)], wanted)

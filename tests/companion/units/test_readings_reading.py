@@ -72,10 +72,8 @@ ROWS: list[tuple[bytes, list[list[bytes]]]] = [
 
 def messages_by(text: bytes, how: Reading) -> list[bytes]:
     """The messages of a text that is read in this way, as a converter of mboxrd gets them from the copy."""
-    pieces: list[bytes] = []
     with source_of(text) as mailbox:
-        Quoter(how, mailbox, Offset(0), pieces.append).run()
-    return list(bodies_of(b"".join(pieces)))
+        return list(bodies_of(b"".join(Quoter(how, mailbox, Offset(0)).run())))
 
 
 def lines(*numbers: int) -> frozenset[Line]:

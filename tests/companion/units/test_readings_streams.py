@@ -12,7 +12,7 @@ from mbox2maildir_admin.faults import Left, Reason
 from mbox2maildir_admin.kinds.others import Form
 from mbox2maildir_admin.mbox.files import Reader
 from mbox2maildir_admin.readings import streams
-from mbox2maildir_admin.readings.streams import Streams
+from mbox2maildir_admin.readings.streams import FORMATS, streams_in
 
 from tests.support.mail import ONE, TWO
 
@@ -28,12 +28,10 @@ LARGE, MIXED = ONE * 9000, ONE + os.urandom(1 << 16) + ONE
 
 def unpacked(data: bytes, form: Form) -> bytes:
     """What streams hold."""
-    pieces: list[bytes] = []
     with tempfile.TemporaryFile() as file:
         file.write(data)
         file.flush()
-        Streams(Reader(file.fileno()), form, pieces.append).run()
-    return b"".join(pieces)
+        return b"".join(streams_in(Reader(file.fileno()), FORMATS[form]))
 
 
 class StreamsTest(unittest.TestCase):
@@ -108,8 +106,7 @@ class StreamsTest(unittest.TestCase):
             with tempfile.TemporaryFile() as file:
                 file.write(pack(bytes(4 << 20)))
                 file.flush()
-                pieces: list[bytes] = []
-                Streams(Reader(file.fileno()), form, pieces.append).run()
+                pieces = list(streams_in(Reader(file.fileno()), FORMATS[form]))
             self.assertEqual(sum(map(len, pieces)), 4 << 20)
             self.assertLessEqual(max(map(len, pieces)), 1 << 20)
 

@@ -4,12 +4,13 @@ import unittest
 from unittest import mock
 
 from mbox2maildir_admin.faults import Fault, Left
+from mbox2maildir_admin.mbox import pieces
 from mbox2maildir_admin.mbox.inventory import Inventory
 from mbox2maildir_admin.mbox.mailbox import Mailbox
-from mbox2maildir_admin.readings import unnamed
 from mbox2maildir_admin.readings.plans import Plan
 from mbox2maildir_admin.readings.reading import Reading
-from mbox2maildir_admin.readings.unnamed import bare_copy, copy_of_some, quoted_copy
+from mbox2maildir_admin.readings.texts import Choice, Text
+from mbox2maildir_admin.readings.unnamed import copy_of_some
 from mbox2maildir_admin.units import Offset, Place
 
 from tests.support.mail import A, B
@@ -20,38 +21,36 @@ MBOXO = Reading("mboxo")
 
 
 class UnnamedTest(unittest.TestCase):
-    def test_a_quoted_copy_outlives_its_file_and_has_no_name(self) -> None:
-        with folder() as here, source_of(TEXT) as mailbox:
+    def test_a_quoted_copy_has_no_name(self) -> None:
+        plan = Plan("mboxo", 2, reading=MBOXO, is_copied=True)
+        with folder() as here, source_of(TEXT) as mailbox, Choice(mailbox, plan).text(here) as text:
             line = 1 + TEXT[: TEXT.index(B)].count(b"\n")
-            copy, quoter = quoted_copy(mailbox, Plan("mboxo", 2, reading=MBOXO), here)
-            with copy:
-                self.assertEqual(
-                    (list(quoter.beginnings.lines), list(quoter.beginnings.quoted_before)), ([1, line], [0, 1, 1])
-                )
-                self.assertEqual(copy.at(0, 999), TEXT.replace(b">>From", b">>>From"))
-                self.assertEqual((os.listdir(here), os.fstat(copy.number).st_nlink), ([], 0))
+            self.assertEqual((list(text.lines or ()), list(text.quoted_before)), ([1, line], [0, 1, 1]))
+            self.assertEqual(text.mailbox.at(0, 999), TEXT.replace(b">>From", b">>>From"))
+            self.assertEqual((os.listdir(here), os.fstat(text.mailbox.number).st_nlink), ([], 0))
 
     def test_a_bare_copy(self) -> None:
         text = b"\0" + A + b"Status: RO\n\r\nhello\n\n" + B + b"X-UID: 7\n 8\n\nX-UID: 9\n"
         wanted = A + b"\nhello\n\n" + B + b"\nX-UID: 9\n"
-        with folder() as here, source_of(text) as mailbox, mock.patch.object(unnamed, "BLOCK", 7):
-            copy, stripper = bare_copy(mailbox, Offset(1), here)
-            with copy:
-                self.assertEqual((copy.at(0, 999), os.listdir(here)), (wanted, []))
-            second = text.index(B)
-            self.assertEqual(list(stripper.offsets), [1, second])
-            self.assertEqual(list(stripper.bare_offsets), [0, wanted.index(B)])
+        with folder() as here, source_of(text) as mailbox, mock.patch.object(pieces, "BLOCK", 7):
+            copy = Text(mailbox, Offset(1)).bare(here)
+            with copy.mailbox:
+                self.assertEqual((copy.mailbox.at(0, 999), os.listdir(here)), (wanted, []))
+            assert copy.full
+            self.assertEqual(list(copy.full.offsets), [1, text.index(B), len(text)])
+            self.assertEqual(list(copy.offsets), [0, wanted.index(B), len(wanted)])
 
     def test_a_bare_copy_of_what_is_cut_meanwhile(self) -> None:
         with folder() as here, source_of(TEXT) as mailbox:
             os.truncate(mailbox.path, 20)
-            self.assertRaisesRegex(Fault, "it changed while it was read", bare_copy, mailbox, Offset(0), here)
+            self.assertRaisesRegex(Fault, "it changed while it was read", Text(mailbox, Offset(0)).bare, here)
 
     def test_it_has_the_messages_that_were_looked_at(self) -> None:
+        plan = Plan("", 3, reading=MBOXO, is_copied=True)
         with folder() as here, source_of(TEXT) as mailbox:
-            self.assertRaisesRegex(
-                Fault, "but 2 were counted, and 3 expected", quoted_copy, mailbox, Plan("", 3, reading=MBOXO), here
-            )
+            with self.assertRaisesRegex(Fault, "but 2 were counted, and 3 expected"):
+                with Choice(mailbox, plan).text(here):
+                    pass
 
     def test_a_text_that_is_cut_meanwhile(self) -> None:
         with folder() as here, source_of(TEXT) as mailbox:

@@ -101,7 +101,7 @@ class UnpackedTest(FolderTest):
         """It is counted first, and nothing is written if it does not fit."""
         disk = SimpleNamespace(f_frsize=1 << 10, f_bavail=4 << 10, f_files=0, f_favail=0)
         with mock.patch("mbox2maildir_admin.maildir.space.disk_of", return_value=disk), mock.patch(
-            "mbox2maildir_admin.readings.unpacking.unnamed"
+            "mbox2maildir_admin.readings.unnamed.unnamed"
         ) as written, Mailbox.open(self.write("box", gzip.compress(bytes(5 << 20)))) as mailbox:
             self.assertRaisesRegex(
                 Left,
@@ -123,7 +123,7 @@ class UnpackedTest(FolderTest):
                 if not is_left:
                     self.assertEqual(self.unpacked(PACK[form](text), form), text)
                     continue
-                with mock.patch("mbox2maildir_admin.readings.unpacking.unnamed") as written:
+                with mock.patch("mbox2maildir_admin.readings.unnamed.unnamed") as written:
                     says = "unpacked it has more than 0.5 MB, and more than 100 times its size"
                     self.assertEqual(self.left(PACK[form](text), form), says)
                 self.assertFalse(written.called)

@@ -4,7 +4,7 @@ from collections.abc import Sequence
 
 from mbox2maildir_admin.kinds.look import Look
 from mbox2maildir_admin.readings.reading import WORDS, Reading
-from mbox2maildir_admin.readings.verdict import Verdict, is_against_lengths, is_answer, look_at
+from mbox2maildir_admin.readings.verdict import NO_END, Verdict, is_against_lengths, is_answer, look_at
 from mbox2maildir_admin.units import Line
 
 from tests.support.mail import A, B
@@ -128,3 +128,14 @@ class VerdictTest(unittest.TestCase):
             with source_of(text) as mailbox:
                 look = Look(mailbox).read()
             self.assertIs(is_against_lengths(look, decision), wanted, (text, decision))
+
+    def test_each_remark_has_its_word(self) -> None:
+        for text, words in (
+            (A + b"\n", []),
+            (A + b"\n>>From x\n\n", ["loses-quote"]),
+            (A + b"Content-Length: 8\n\n>From x\n\n", ["keeps-quote"]),
+            (b"\0" * 9 + A + b"\nhi", ["after-nulls", NO_END.word]),
+        ):
+            verdict = self.verdict(text)
+            found = *verdict.remarks_on_text(), *verdict.remarks_on_quotes()
+            self.assertEqual([one.word for one in found], words, text)

@@ -1,80 +1,21 @@
-"""The reader of texts: its parts, its messages, and the descriptor that it reads by."""
+"""The text that stands for a mailbox, and the descriptor that it is read by."""
 import gzip
-import hashlib
 import os
 import unittest
 from functools import partial
-from typing import Optional
-from unittest import mock
 
 from mbox2maildir_admin.faults import Fault
 from mbox2maildir_admin.maildir.space import trial_folder
-from mbox2maildir_admin.mbox import parts
 from mbox2maildir_admin.mbox.files import LineEnds, Reader
+from mbox2maildir_admin.mbox.inventory import messages_of
 from mbox2maildir_admin.mbox.mailbox import Mailbox
-from mbox2maildir_admin.mbox.messages import messages_of
-from mbox2maildir_admin.mbox.parts import FROM_LINE, MARK, TEXT, Part, from_lines_of, parts_of
 from mbox2maildir_admin.readings.plans import Plan
 from mbox2maildir_admin.readings.reading import Reading
 from mbox2maildir_admin.readings.texts import Choice, Text, after_internal, disk_of, is_mbox, open_text
-from mbox2maildir_admin.units import Line, Offset
+from mbox2maildir_admin.units import Offset
 
 from tests.support.mail import INTERNAL, A, B, bodies_of, digest_of
 from tests.support.units import FolderTest, make, source_of
-
-
-class PartsTest(unittest.TestCase):
-    TEXT = A + b"\n>From x\n>>From y\nFrom\n" + B + b"\nend"
-
-    def parts(self, block: int) -> list[Part]:
-        """The parts of the text, which is read in blocks of this size."""
-        with source_of(self.TEXT) as source, mock.patch.object(parts, "BLOCK", block):
-            return list(parts_of(source.file))
-
-    def test_parts_are_the_whole_text(self) -> None:
-        for block in (1, 2, 3, 7, 64, 1 << 20):
-            with self.subTest(block=block):
-                found = self.parts(block)
-                self.assertEqual(b"".join(part.piece for part in found if part.what != MARK), self.TEXT)
-                self.assertEqual(
-                    [(part.line, part.quotes) for part in found if part.what == MARK], [(1, 0), (5, 1), (6, 2), (8, 0)]
-                )
-
-    def test_offsets(self) -> None:
-        for part in self.parts(5):
-            self.assertTrue(self.TEXT.startswith(part.piece, part.offset), part)
-        self.assertEqual({part.what for part in self.parts(5)}, {TEXT, FROM_LINE, MARK})
-
-    def test_a_line_that_ends_with_the_text_is_no_mark(self) -> None:
-        with source_of(A + b"\nFrom") as source:
-            self.assertEqual(from_lines_of(source.file), 1)
-
-
-class MessagesTest(unittest.TestCase):
-    def test_bodies(self) -> None:
-        with source_of(A + b"\n>From x\n\n" + B + b"\nyes\n") as source:
-            found = list(messages_of(source))
-        bodies = [
-            b"From: alva@example.org\nSubject: one\n\nFrom x\n",
-            b"From: boris@example.com\nSubject: two\n\nyes\n",
-        ]
-        self.assertEqual(
-            [message.digest.digest() for message in found], [hashlib.sha256(body).digest() for body in bodies]
-        )
-        self.assertEqual([message.size for message in found], [len(body) for body in bodies])
-        self.assertEqual([message.line for message in found], [1, 7])
-        self.assertEqual(sum(message.read_size for message in found), source.size)
-
-    def test_from_an_offset(self) -> None:
-        with source_of(b"\n\n" + A + b"\n" + B) as source:
-            self.assertEqual(
-                [(message.number, message.line, message.offset) for message in messages_of(source, Offset(2), Line(3))],
-                [(1, 3, 2), (2, 7, 3 + len(A))],
-            )
-
-    def test_no_from_line(self) -> None:
-        with source_of(b"hello\n") as source, self.assertRaises(Fault):
-            list(messages_of(source))
 
 
 class SourceTest(unittest.TestCase):

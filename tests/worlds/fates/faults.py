@@ -80,7 +80,7 @@ class Right(NamedTuple):
 # a file of the small tree that holds no mail, or what would stand beside it
 NO_MAIL = r"cards\.sqlite|dovecot\.index\.log|\.imap|\.hidden|y\.lock"
 RIGHT = (
-    Right("readings.at_once.read_parts", "", "what cannot be read at once is read anew, one after the other"),
+    Right("readings.texts.read_pieces", "", "what cannot be read at once is read anew, one after the other"),
     Right("readings.unnamed.unnamed", "b'M'", "where no file without a name can be made, a name is removed at once"),
     Right("commands.migrate.joined", "b'M tree'", "the words are looked at one by one"),
     Right("migration.several.refuse", "b'tree/tmp'", "whoever reads the tree sees whether it is a Maildir"),

@@ -1,0 +1,150 @@
+"""Header fields: those that mail programs write for themselves, a field's value, and the length of a message.
+
+Dovecot's mbox driver keeps what it knows of a message in the message's header, and shows the mail without these fields.
+A field begins at the beginning of a line, with its name, any blanks and tabs, and a colon that is near enough. The
+lines after it that begin with a blank or a tab belong to it. The bare text is a text without these fields, and the
+bare form of a message is the message without all that programs note. A header ends at the first empty line, which
+Dovecot writes without its CR, or at the next line `From `.
+"""
+import functools
+import re
+from collections.abc import Iterable, Iterator
+from typing import Optional
+
+from ..units import Offset
+from .mailbox import Mailbox
+from .pieces import FROM, LONGEST_HEADER, Piece, header_of
+
+# in lower case; letters may have either case
+HIDDEN = (b"content-length", b"status", b"x-imap", b"x-imapbase", b"x-keywords", b"x-status", b"x-uid")
+# what else mail programs note of a message: mutt the number of its lines, others flags, tags and labels
+NOTED = (
+    *HIDDEN,
+    *(b"lines", b"x-evolution", b"x-gm-thrid", b"x-gmail-labels"),
+    *(b"x-mozilla-keys", b"x-mozilla-status", b"x-mozilla-status2"),
+)
+# a colon must be within this many bytes of the line's beginning to end a name
+LONGEST = 8191
+# the value of a field after its colon, with the lines that continue it
+VALUE = rb":([^\n]*(?:\n[ \t][^\n]*)*)"
+ITS_VALUE = re.compile(VALUE)
+AFTER_MESSAGE = re.compile(rb"(?:\r?\n)?(?P<mark>From )?")
+LENGTH = re.compile(rb"\d{1,18}\Z")
+
+
+def pattern_of(names: tuple[bytes, ...]) -> re.Pattern[bytes]:
+    """Finds a field of one of these names, with the end of the line before it. The pattern has the letters of both
+    cases, since a search that ignores the case is slower, and looks at the first letter before it tries names."""
+    firsts = b"".join(sorted({name[:1] + name[:1].upper() for name in names}))
+    either = [re.sub(rb"[a-z]", lambda letter: b"[%s%s]" % (letter[0], letter[0].upper()), name) for name in names]
+    begun = b"|".join(b"%s[ \t]{0,%d}" % (one, LONGEST - len(name) - 1) for one, name in zip(either, names))
+    return re.compile(b"\n(?=[%s])(?:%s)%s" % (firsts, begun, VALUE))
+
+
+HIDDEN_FIELD, NOTED_FIELD = pattern_of(HIDDEN), pattern_of(NOTED)
+
+
+def without(fields: re.Pattern[bytes], data: bytes, begin: int, end: int) -> bytes:
+    """A text without the fields of a header, which is between two places in it."""
+    header = b"\n" + data[begin:end]
+    if not header.endswith(b"\n"):
+        # a last line without its end, which the line before keeps
+        last = header.rfind(b"\n")
+        while last and header.startswith((b" ", b"\t"), last + 1):
+            last = header.rfind(b"\n", 0, last)
+        if fields.match(header, last):
+            return without(fields, data[: begin + last] + data[end:], begin, begin + last)
+    rest = fields.sub(b"", header)
+    return data if len(rest) == len(header) else data[:begin] + rest[1:] + data[end:]
+
+
+def bared(piece: Piece, fields: re.Pattern[bytes] = HIDDEN_FIELD) -> bytes:
+    """The bare text of a piece, or that without other fields."""
+    if not piece.begins:
+        return piece.data
+    end, body = header_of(piece.data, piece.body)
+    text = without(fields, piece.data, piece.body, end)
+    if body - end < 2:
+        return text
+    # the empty line loses its CR
+    place = len(text) - len(piece.data) + end
+    return text[:place] + text[place + 1 :]
+
+
+def bare_pieces(pieces: Iterable[Piece]) -> Iterator[Piece]:
+    """The pieces of the bare text of a text, with their offsets in it."""
+    given = 0
+    for piece in pieces:
+        data = bared(piece)
+        yield piece._replace(data=data, offset=Offset(given))
+        given += len(data)
+
+
+class Header:
+    """The header of a message: its text, and where that and the body begin in the mailbox."""
+
+    def __init__(self, text: bytes, offset: Offset, end: Offset) -> None:
+        self.text, self.offset, self.end = text, offset, end
+
+    @classmethod
+    def of(cls, piece: Piece) -> "Header":
+        """The header of a message that a piece begins."""
+        begin, (end, body) = piece.body, header_of(piece.data, piece.body)
+        return cls(piece.data[begin:end], Offset(piece.offset + begin), Offset(piece.offset + body))
+
+    @classmethod
+    def at(cls, mailbox: Mailbox, offset: Offset) -> "Header":
+        """The header of the message whose From_ line is at an offset."""
+        for count in (1 << 13, 1 << 16, LONGEST_HEADER):
+            data = mailbox.at(offset, count)
+            mark = data.find(b"\n" + FROM) + 1
+            header = cls.of(Piece(offset, data[: mark or count], True, True))
+            if mark or len(data) < count or header.end < offset + count:
+                break
+        return header
+
+    @functools.cached_property
+    def lines(self) -> bytes:
+        """Its lines in lower case: each name of a field is between a line end and a colon."""
+        return b"\n" + self.text.lower()
+
+    def place(self, name: bytes) -> int:
+        """The offset in the text at which a field begins; -1 if there is none. If there are several, the last counts.
+        The name is in lower case."""
+        return self.lines.rfind(b"\n%s:" % name)
+
+    def __contains__(self, name: bytes) -> bool:
+        return self.place(name) >= 0
+
+    def __getitem__(self, name: bytes) -> bytes:
+        start, end = self.span(name)
+        return self.text[start + len(name) + 1 : end].strip()
+
+    def span(self, name: bytes) -> tuple[int, int]:
+        """The offsets in the text at which a field begins, and at which it ends with its line end; 0 and 0 if there is
+        none."""
+        place = self.place(name)
+        found = ITS_VALUE.match(self.text, place + len(name)) if place >= 0 else None
+        return (place, min(found.end() + 1, len(self.text))) if found else (0, 0)
+
+    def offset_of(self, name: bytes) -> Offset:
+        """The offset in the mailbox at which a field begins."""
+        return Offset(self.offset + self.place(name))
+
+    def message_end(self, mailbox: Mailbox) -> Optional[Offset]:
+        """The offset at which the message ends by its length. None if it has no length, 0 if its length leads to no
+        From_ line."""
+        if b"content-length" not in self:
+            return None
+        length = self[b"content-length"]
+        end = self.end + int(length) if LENGTH.match(length) else mailbox.size + 1
+        if end >= mailbox.size:
+            return Offset(end if end == mailbox.size else 0)
+        # at most one line end may follow, and then a From_ line or the end of the text; the line before has ended, or
+        # ends here. If a program quoted a line of mail, the sender's length is short by a `>`, and then a blank line
+        # follows too
+        after = AFTER_MESSAGE.match(mailbox.at(end, 1 << 12))
+        assert after is not None, "it matches nothing too"
+        at_end = end + after.end() == mailbox.size
+        ended = mailbox.at(end - 1, 1) == b"\n" or after.end() > len(after["mark"] or b"")
+        return Offset(end if at_end or after["mark"] and ended else 0)
