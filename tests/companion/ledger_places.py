@@ -115,6 +115,7 @@ def rule_1_deleted_at_once(home: Home) -> None:
     row = home.done("OLD")["OLD"]
     home.has(*FIVE)
     want_said(row, 1)
+    equal("its words", row.remarks, ["came-back"])
 
 
 def rule_1_said_by_later_runs(home: Home) -> None:

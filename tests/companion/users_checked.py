@@ -145,6 +145,8 @@ def as_objects(home: Path, names: list[str]) -> None:
     )
     named = ("user", "folder", "messages", "bytes", "verdict", "reason")
     equal("a row", (*(sheds[name] for name in named), [one["remark"] for one in sheds["remarks"]]), wanted)
+    (inbox,) = (row for row in rows[:-1] if (row["user"], row["path"]) == ("m61three", ""))
+    equal("of another owner", [one["remark"] for one in inbox["remarks"]], ["other-owner"])
 
 
 def told(row: dict[str, Any]) -> str:

@@ -5,9 +5,9 @@ from typing import Union
 
 from tests.tables.labels import message
 from tests.support.cases import run_cases
-from tests.support.checks import equal
+from tests.support.checks import TOP, equal, text_of
 from tests.support.homes import at_home, by_json, mailbox, run_printed
-from tests.support.mail import A, C, ONE, THREE, TWO, with_length
+from tests.support.mail import A, C, INTERNAL, ONE, THREE, TWO, with_length
 from tests.support.running import Run
 from tests.support.schema import SCHEMA
 
@@ -18,6 +18,7 @@ PSEUDO = (
     b"X-IMAP: 1700000000 0000000003\nStatus: RO\n\nThis text is part of the internal format of your mail folder, and "
     b"is not\na real message.\n\n"
 )
+MAY_BEGIN = C + b"\nFrom the garden\nyes\n\n"
 QUOTED, UNDATED = A + b"\n>>From me\n\n", b"From a\nSubject: two\n%s\nhi\n\n"
 # the words of the rows of `migrate` alone, by what the only mailbox is
 OF_TEXTS = {
@@ -64,6 +65,7 @@ STORIES: list[tuple[list[Step], set[str]]] = [
     ),
     ([("a", thunderbird(ONE, 1) + thunderbird(TWO, 9)), "migrate --drop-deleted M a"], {"deleted-left-out", "flags"}),
     ([("a", thunderbird(ONE, 1) + thunderbird(TWO, 9) + THREE), "migrate --drop-deleted M a"], {"deleted-kept"}),
+    ([("a", INTERNAL + fields(ONE, b"X-UID: 1")), "migrate --dovecot M a"], {"without-internal"}),
     # of several names, and of files without mail
     ([("old/a", ONE), "!ln old/a old/b", "migrate M old"], {"also-named"}),
     ([("old/a", ONE), "!ln -s old more", "migrate M old more"], {"same-file"}),
@@ -79,7 +81,13 @@ STORIES: list[tuple[list[Step], set[str]]] = [
     ([("a", ONE), ("b", TWO), "migrate M a", "migrate M b"], {"joins"}),
     ([("old/a", ONE), ("b", TWO), "migrate --folder a M b", "migrate M old"], {"joined"}),
     ([("a", ONE), "migrate --folder X M a", "migrate --folder Y M a"], {"elsewhere"}),
+    (
+        [("a", QUOTED), ("b", QUOTED), "migrate --as mboxrd M a", "migrate --as unquoted M b"],
+        {"other-form", "joins"},
+    ),
     # of what others did in the folder
+    ([("a", ONE), "!mbox2maildir convert M a", "migrate M a"], {"there-already"}),
+    ([("a", ONE + TWO), "migrate M a", "!rm $(ls M/new/* | head -n 1)", "migrate --again M a"], {"placed"}),
     ([("a", ONE), "!mkdir -p M/new M/cur M/tmp; echo >M/new/1.host", "migrate M a"], {"other-programs"}),
     (
         [("a", ONE), "migrate M a", "!for a in M/new/*; do mv $a M/cur/${a##*/}:2,T; done", ("b", ONE), "migrate M b"],
@@ -104,13 +112,19 @@ STORIES: list[tuple[list[Step], set[str]]] = [
     ),
     (
         [
-            *(("a", C + b"\nFrom the garden\nyes\n\n"), "migrate --as mboxrd M a"),
-            *(("a", C + b"\nFrom the garden\nyes\n\n" + ONE), "migrate M a"),
+            *(("a", MAY_BEGIN), "migrate --as mboxrd M a", ("a", MAY_BEGIN + ONE), "migrate M a"),
         ],
         {"as-answered", "grew"},
     ),
+    ([("a", ONE), "!touch -d '1 hour ago' a.lock", "migrate M a"], {"old-lock"}),
+    ([("a", MAY_BEGIN), "migrate --as mboxrd M a", "migrate --as unquoted M a"], {"contradicted"}),
     ([("a", ONE), "migrate --prepare --unread M a", "migrate M a"], {"prepared-before"}),
+    (
+        [*((f"old/{one}", ONE) for one in range(10)), "migrate --prepare --unread M old", "!rm old/7", "migrate M old"],
+        {"prepared-before", "mailbox-gone", "removed"},
+    ),
     # of labels
+    ([("t", message("one", "Sent,Opened").encode()), "migrate M t"], {"labelled", "flags"}),
     (
         [("t", (message("one", "a.b") + message("two", "a-b")).encode()), "migrate --labels M t"],
         {"same-folder", "unread"},
@@ -131,6 +145,11 @@ STORIES: list[tuple[list[Step], set[str]]] = [
         [("a", ONE + TWO), "migrate M a", "!mv $(ls M/new/* | head -n 1) M/cur/1.host:2,", "migrate --undo M a"],
         {"removed", "kept-renamed"},
     ),
+    (
+        [("a", ONE + TWO), "migrate M a", "!echo more >>$(ls M/new/* | head -n 1)", "migrate --undo M a"],
+        {"removed", "kept-edited"},
+    ),
+    ([("a", ONE), "!mbox2maildir convert M a", "migrate M a", "migrate --undo M a"], {"removed", "kept-foreign"}),
     ([("a", ONE + TWO), ("b", TWO), "migrate --folder X M a b", "migrate --undo M a"], {"removed", "kept-shared"}),
     ([("a", ONE + TWO), "migrate M a", ("a", ONE), "migrate M a", "migrate --undo M a"], {"removed", "kept-lost"}),
     (
@@ -141,9 +160,25 @@ STORIES: list[tuple[list[Step], set[str]]] = [
         {"removed", "kept-former"},
     ),
     # of verify, and of the way back
+    ([("a", ONE), "migrate M a", "!rm M/new/*", "verify M a"], {"nowhere"}),
+    ([("a", ONE), "migrate M a", "!cp M/new/* M/new/1.host", "verify M a"], {"double"}),
+    ([("a", ONE), "migrate M a", "!echo more >>$(ls M/new/*)", "verify M a"], {"other-bytes"}),
     ([("a", ONE), "migrate M a", "!mv M/new/* M/cur/1.host:2,", "verify M a"], {"renamed"}),
     ([("a", fields(ONE, b"Status: RO")), "migrate --dovecot M a", "verify M a"], {"without-fields"}),
     ([("a", A.replace(b"\n", b"\r")), "!mbox2maildir convert M a", "verify M a"], {"doubtful-line"}),
+    ([("old/a", ONE), "migrate M old", "!rm M/.a/new/*", "back M old"], {"deleted"}),
+    ([("old/a", ONE), "migrate M old", "!echo more >>$(ls M/.a/new/*)", "back M old"], {"changed"}),
+    (
+        [("old/a", ONE), "migrate M old", "!printf ' Subject: x\\n\\nx\\n' >M/.a/new/1.h", "back M old"],
+        {"beside"},
+    ),
+    (
+        [
+            *(("old/a", NUMBERED), "migrate --dovecot M old", "!echo 0 work >M/.a/dovecot-keywords"),
+            *("!printf 'Subject: x\\n\\nx\\n' >M/.a/cur/1.h:2,a", "back --dovecot M old"),
+        ],
+        {"keywords-added"},
+    ),
     (
         [("old/a", ONE), "migrate M old", "!mkdir -p M/.Z/new M/.Z/cur; mv M/.a/new/* M/.Z/new", "back M old"],
         {"moved"},
@@ -171,21 +206,14 @@ STORIES: list[tuple[list[Step], set[str]]] = [
         {"subscriptions"},
     ),
 ]
-# words that other tests have; and those of mail that waits for a kill, a disk or a program to come about
+# words that a test has in another file, and which of its cases
 ELSEWHERE = {
-    "nowhere",
-    "other-bytes",
-    "double",
-    "other-owner",
-    "beside",
-    "deleted",
-    "changed",
-    "placed",
-    "copy",
-    "old-lock",
+    "as-brought": "companion/answers:by_what_it_brought",
+    "by-lengths": "tables/lengths:decided",
+    "came-back": "companion/ledger_places:rule_1_deleted_at_once",
+    "other-owner": "companion/users_checked:each_reason",
+    "power-cut": "world/unsynced:volatile",
 }
-ELSEWHERE |= {"as-brought", "came-back", "contradicted", "kept-edited", "kept-foreign", "mailbox-gone", "power-cut"}
-ELSEWHERE |= {"by-lengths", "keywords-added", "labelled", "other-form", "there-already", "without-internal"}
 
 
 def words_of(steps: list[Step], home: Path) -> set[str]:
@@ -209,8 +237,12 @@ def is_told(steps: list[Step], wanted: set[str], home: Path) -> None:
 
 
 def all_of_them(home: Path) -> None:
-    """There is a case for each word of the schema."""
+    """There is a case for each word of the schema. Those in other files have it."""
     del home
+    for word, place in ELSEWHERE.items():
+        file, case = place.split(":")
+        text = text_of(TOP / f"tests/{file}.py")
+        equal(f"{place}: {word}", (f'"{word}"' in text, f"def {case}(" in text), (True, True))
     told = {*OF_TEXTS, *ELSEWHERE}.union(*(words for _, words in STORIES))
     equal("words", told, {*SCHEMA["$defs"]["remark"]["enum"]})
 

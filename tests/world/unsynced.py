@@ -13,7 +13,7 @@ from pathlib import Path
 
 from tests.support.cases import LeftOut
 from tests.support.checks import PATIENCE, TOP, equal, program
-from tests.support.homes import check_all, expect, mailbox, run, want_root
+from tests.support.homes import by_json, check_all, expect, mailbox, run, want_root
 from tests.support.mail import ONE
 from tests.support.powercut.devices import run as run_tool
 from tests.support.powercut.devices import unmount
@@ -76,6 +76,8 @@ def is_left(home: Path, why: str, instead: str) -> None:
         row = f"{ROW}left (no-sync): {CUT}{why}\n    {instead}\n1 mailbox: 1 left\n"
         expect(["migrate", "--all", option, "disk/M", "box"], home, 1, row)
     equal("whether a Maildir was made", (home / "disk/M").exists(), False)
+    its = by_json("migrate --dry-run --any-disk disk/M box", home).row
+    equal("its words", its.remarks, ["power-cut"])
     expect("migrate --all --any-disk disk/M box", home, 0, f"{ROW}done, {CUT}{why}\n1 mailbox: 1 done\n")
 
 
