@@ -131,7 +131,7 @@ LOOK = {
     "double": "A message of it is there more than once.",
     "doubtful-line": "Lines in it may begin messages that were not counted.",
     "elsewhere": "It went into another folder before. Its command removes it there.",
-    "first-appears": "A message in which an IMAP server kept its own notes is now shown as mail. Delete it.",
+    "first-appears": "A message in which an IMAP server kept its own notes becomes mail: delete that message.",
     "flags-differ": "Messages have flags in it that their files lack, because another mailbox brought these.",
     "folder-gone": "The folder was removed. If nobody meant that, migrate the mailbox with --again.",
     "gone": "Mail that it brought was deleted in the Maildir.",

@@ -88,8 +88,11 @@ class Todo(Phrase):
         "something in it looks like mail: only if it holds none, pass over it by --no-mail",
     )
     DOVEADM = "doveadm", "copy the account by `doveadm backup`, or over IMAP, because this is one file of several"
-    FOLLOW = "migrate-target", "migrate what it points to"
-    FOLLOW_INTO = "migrate-target-into", "migrate what it points to, with --folder NAME"
+    FOLLOW = "migrate-target", "migrate what it points to, unless that is migrated anyway"
+    FOLLOW_INTO = (
+        "migrate-target-into",
+        "migrate what it points to, with --folder NAME, unless that is migrated anyway",
+    )
     REMOVE = "remove", "remove it"
     MOVE_TO = "move-to", "move it to {}"
     MOVE_FILES = "move-files", "move the files in its new and cur into those of {}"
@@ -252,10 +255,12 @@ def typed(step: Step) -> Step:
 
 def lines_below(quotes: Sequence[Quote], then: Next, is_once: bool = False) -> Iterator[str]:
     """What stands below a row or a fault: lines of mail behind their numbers, of which those are marked that others
-    stand around; and what is to be done, each command by itself. A sentence that several commands have, one after the
-    other, is there for each of them, or once."""
+    stand around, and gaps between them; and what is to be done, each command by itself. A sentence that several
+    commands have, one after the other, is there for each of them, or once."""
     marks = ("> ", "  ") if any(quote.is_around for quote in quotes) else ("", "")
-    for quote in quotes:
+    for above, quote in zip((None, *quotes), quotes):
+        if marks[0] and above and quote.line > above.line + 1:
+            yield BELOW + ".."
         yield ("%s%s%d | %s" % (BELOW, marks[quote.is_around], quote.line, quote.text)).rstrip()
     before = ""
     for step in map(typed, then):

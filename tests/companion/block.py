@@ -32,6 +32,9 @@ def one_mailbox(home: Path) -> None:
     status, out, _ = run("migrate --dry-run M asked", home)
     equal("a question: status, and groups", (status, groups_in(out)), (1, []))
     matches("a question", out.splitlines()[0], "asked -> INBOX: not quoted, messages 1: left (unclear): line 5: ...")
+    mailbox(home / "asked", asked(1) + ONE + asked(2))
+    shown = [line.split(" |")[0].strip(" >") for line in run("migrate M asked", home)[1].splitlines()]
+    equal("two questions", shown[1:15], [*map(str, range(2, 9)), "..", *map(str, range(15, 21))])
 
 
 def groups(home: Path) -> None:
@@ -50,7 +53,7 @@ def groups(home: Path) -> None:
         f"old/{name}: messages 1: done" for name in ("Gr&APwA3w-e -> Gr\u00fc\u00dfe", "cut -> cut", "sound -> sound")
     ]
     equal("rows", out.split("\n\n")[0].splitlines(), rows)
-    question, not_known, alone, no_file, look = groups_in(out)
+    question, not_known, no_file, look = groups_in(out)
     equal("a question", question.title, TITLE("3 mailboxes"))
     equal("its mailboxes", question.rows, {f"old/ask{number}": ASKED.format(number) for number in range(3)})
     equal(
@@ -58,17 +61,21 @@ def groups(home: Path) -> None:
         [reply.says for reply in question.answers()],
         [f"{BELONGS}: 3 messages:", f"{BEGINS}: 6 messages:"],
     )
-    equal("looks like mail", (alone.word, alone.rows), ("not-known", {"old/draft": "line 1: hello"}))
-    assert "--no-mail" not in "".join(alone.commands), alone
-    equal("not known", not_known.rows, {"old/blob": "line 1: \\x00\\x01\\x02", "old/notes": "line 1: milk"})
-    wanted = "mbox2maildir-admin migrate --no-mail old/blob --no-mail old/notes --now M old"
-    equal("its command", not_known.commands, [wanted])
+    equal("not known", not_known.title, "not-known: 3 mailboxes: It is not known what it is.")
+    equal(
+        "the one that looks like mail comes last",
+        [*not_known.rows.items()],
+        [("old/blob", "line 1: \\x00\\x01\\x02"), ("old/notes", "line 1: milk"), ("old/draft", "line 1: hello")],
+    )
+    (command,) = (one for one in not_known.commands if "--no-mail" in one)
+    equal("its command", command, "mbox2maildir-admin migrate --no-mail old/blob --no-mail old/notes --now M old")
     equal("no file", (no_file.word, no_file.rows), ("no-file", {"old/pipe": "it is not a regular file"}))
     wanted = "look at: 1 mailbox: Its last line has no line end: check that the file is complete."
     equal("a look", (look.title, look.rows), (wanted, {"old/cut": ""}))
     last = out.splitlines()[-1]
     equal("the sum", last, "10 mailboxes: 3 done, 7 left")
-    status, out, _ = run_printed(not_known.commands[0], home)
+    assert "rehearsal" not in out, out
+    status, out, _ = run_printed(command, home)
     equal(
         "what was passed over is left no more",
         [one.word for one in groups_in(out)],
@@ -125,6 +132,8 @@ def many_of_one_kind(home: Path) -> None:
     equal("titles", [first.title, second.title], [TITLE("20 mailboxes"), TITLE("1 mailbox")])
     assert pipes.title.startswith("no-file: 23 mailboxes: "), pipes.title
     assert "\n  old/pipe19  it is not a regular file\n  and 3 more (--all names them)\n" in out, out
+    wanted = "a rehearsal: nothing was written; the commands above write once --dry-run is left out"
+    equal("what a rehearsal says of its commands", out.splitlines()[-2], wanted)
     whole = run("migrate --all --dry-run --now M old", home)[1]
     equal("with --all", whole.count("left (no-file)"), 23)
 

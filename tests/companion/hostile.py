@@ -143,10 +143,16 @@ PRINTED = [
         ],
     ),
     # in a folder of the user root could be led elsewhere; in the spool only root can move a file
-    (left("mail/x", ["task", "migrate-target", []]), [LINE, f"    as {NAME}, migrate what it points to"]),
+    (
+        left("mail/x", ["task", "migrate-target", []]),
+        [LINE, f"    as {NAME}, migrate what it points to, unless that is migrated anyway"],
+    ),
     (left("mail/x", ["task", "move-copy", []]), [LINE, f"    as {NAME}, if one is a copy, move it out of here"]),
     (left("", ["task", "move-copy", []]), [INBOX, "    if one is a copy, move it out of here"]),
-    (left("", ["task", "migrate-target", []]), [INBOX, f"    as {NAME}, migrate what it points to"]),
+    (
+        left("", ["task", "migrate-target", []]),
+        [INBOX, f"    as {NAME}, migrate what it points to, unless that is migrated anyway"],
+    ),
     (left("mail/x", ["task", "pass-over", []]), [LINE, "    if it holds no mail, pass over it by --no-mail"]),
     (left("", MAKE), [INBOX, RUN, f"{COMMAND}sh -c make && ASIDE"]),
     (left("mail/x", MAKE), [LINE, RUN, f"{COMMAND}sh -c make"]),

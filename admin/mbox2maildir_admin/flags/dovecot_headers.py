@@ -136,7 +136,7 @@ class Reading:
     def remarks(self) -> Iterator[Remark]:
         """What is to be said of numbers and keywords that changed."""
         if self.hides_first:
-            yield Remark("first-appears", "its first message, which Dovecot hid, now appears")
+            yield Remark("first-appears", "its first message, which Dovecot hid, appears")
         if not self.head:
             yield Remark("no-uids", "Dovecot had given it no UIDs")
         elif self.is_used_up():

@@ -96,9 +96,10 @@ def decided(answer: Answer) -> Decided:
 
 
 class Group(NamedTuple):
-    """Rows with the same question, by user and path."""
+    """Rows with the same question, by user and path; and the groups that stand below its title too."""
 
     entries: Sequence[Entry]
+    others: Sequence["Group"] = ()
 
     @property
     def row(self) -> Row:
@@ -106,12 +107,17 @@ class Group(NamedTuple):
         return self.entries[0].row
 
     def lines(self, typed: Optional[Typed], is_asked: bool = False, has_quotes: bool = True) -> Iterator[str]:
-        """The lines of the group: of a single mailbox with the lines of mail that it is about, of several only where a
-        human asks for that. Where a human is asked, each answer has its letter."""
+        """The lines of the group, below its title."""
+        yield self.title()
+        for one in (self, *self.others):
+            yield from one.own_lines(typed, is_asked, has_quotes)
+
+    def own_lines(self, typed: Optional[Typed], is_asked: bool, has_quotes: bool) -> Iterator[str]:
+        """The lines of its own mailboxes: of a single one with the lines of mail that it is about, of several only
+        where a human asks for that. Where a human is asked, each answer has its letter."""
         at_once = list(self.at_once(typed)) if typed and len(self.entries) > 1 else []
         steps = at_once or list(self.steps(is_asked)) or list(self.by_hand())
         is_cut = not self.entries[0].answers() and (at_once or not any(line.startswith(COMMAND) for line in steps))
-        yield self.title()
         named_here = self.entries[: SHOWN if is_cut else None]
         width = min(40, max(len(one.name()) for one in named_here))
         for one in named_here:
@@ -125,7 +131,7 @@ class Group(NamedTuple):
 
     def title(self) -> str:
         """Why the rows are there, and how many they are."""
-        row, count = self.row, len(self.entries)
+        row, count = self.row, sum(len(one.entries) for one in (self, *self.others))
         several = "%d mailbox%s" % (count, "" if count == 1 else "es")
         if not row.left_for:
             says = " ".join(REMARKS[one.word][1] for one in row.remarks)
@@ -137,6 +143,12 @@ class Group(NamedTuple):
         if any(one.does in ON_LINES for one in self.entries[0].answers()):
             return "%s: %s (%s): does a mail begin at the line that is shown?" % (row.word, several, row.kind)
         return "%s: %s: %s" % (row.word, several, row.left_for.says)
+
+    def is_below(self, before: "Group") -> bool:
+        """Whether it stands below the title of the group before it: it has the same reason, and neither is asked
+        about."""
+        is_same = self.row.left_for is not None and self.row.left_for is before.row.left_for
+        return is_same and not self.entries[0].answers() and not before.entries[0].answers()
 
     def at_once(self, typed: Typed) -> Iterator[str]:
         """What is to be done about all rows by one command, or by one for each answer; nothing if there is none."""
@@ -201,12 +213,19 @@ def groups_of(entries: Iterable[Entry]) -> list[Group]:
     for one in sorted(entries, key=lambda one: (one.user or "", one.row.path)):
         groups.setdefault(repr(one.question()), []).append(one)
     found = sorted(groups.values(), key=lambda several: place_of(places, several[0].row))
-    return [
-        Group(several[at : at + most])
+    parts = [
+        several[at : at + most]
         for several in found
         for most in [most_of(several)]
         for at in range(0, len(several), most)
     ]
+    below: list[Group] = []
+    for group in map(Group, parts):
+        if below and group.is_below(below[-1]):
+            below[-1:] = [below[-1]._replace(others=(*below[-1].others, group))]
+        else:
+            below.append(group)
+    return below
 
 
 def place_of(reasons: Sequence[Reason], row: Row) -> int:

@@ -11,7 +11,7 @@ from .. import ADMIN
 from ..faults import Reason, Status
 from ..maildir.folders import folder_shown
 from ..meanings import Weight, weight_of
-from ..nexts import lines_below
+from ..nexts import COMMAND, lines_below
 from ..progress import AtWork, Estimate, Progress, Task, duration, length
 from ..terminal import LINE, complain, flush, named, put
 from ..units import WAITING, counted
@@ -25,6 +25,7 @@ SUMMED = (
 )
 # the fates of mailboxes of which something is to be done
 WRONG = Fate.LEFT, Fate.NOT_WHOLE
+REHEARSAL = "a rehearsal: nothing was written; the commands above write once --dry-run is left out"
 # the steps of a mailbox, by the first word of what is said of its progress
 STEPS = MappingProxyType({"reading": 1, "copying": 1, "looking": 2, "converting": 3, "dating": 4, "verifying": 5})
 
@@ -234,12 +235,11 @@ class Reporter(Observer):
 
     def print_sums(self, line: str) -> None:
         """Prints what is left, and below it the line with the sums."""
-        for group in groups_of(self.kept.entries):
-            put("")
-            for below in group.lines(self.shows.typed):
-                put(below)
-        if self.kept.entries:
-            put("")
+        lines = [one for group in groups_of(self.kept.entries) for one in ("", *group.lines(self.shows.typed))]
+        for below in [*lines, *[""] * bool(lines)]:
+            put(below)
+        if any(one.startswith(COMMAND) and " --dry-run " in one for one in lines):
+            put(REHEARSAL)
         if self.kept.noted:
             words = ", ".join("%s %d" % pair for pair in sorted(self.kept.noted.items()))
             put("noted, and nothing to do: %s (`%s explain WORD`)" % (words, ADMIN))

@@ -142,7 +142,8 @@ class FilesTest(unittest.TestCase):
             self.assertFalse(say_left_out(tree.rows, Complaints()))
         self.assertEqual([one.folder for one in plan], [b".box"])
         self.assertRegex(caught.err[0], "/old/link: left out: it is a symbolic link to box\\Z")
-        self.assertEqual(caught.err[1:], ["    migrate what it points to, with --folder NAME"])
+        says = "    migrate what it points to, with --folder NAME, unless that is migrated anyway"
+        self.assertEqual(caught.err[1:], [says])
 
     def test_no_tree(self) -> None:
         make(self.here, {"M/cur/": b"", "M/new/": b"", "M/tmp/": b"", "none/": b""})

@@ -237,7 +237,7 @@ class BareTest(DovecotCase):
 
     def test_a_message_that_dovecot_hid_appears(self) -> None:
         self.fill(DATED + b"X-IMAP: 222 9\nSubject: one\n\n" + TWO)
-        self.became(Fate.DONE, "its first message, which Dovecot hid, now appears")
+        self.became(Fate.DONE, "its first message, which Dovecot hid, appears")
         self.assertEqual([uid for uid, _ in self.uids()[1]], ["10", "11"])
 
     def test_an_emptied_mailbox(self) -> None:

@@ -18,6 +18,7 @@ from tests.support.units import FolderTest
 
 MAIL = A + b"\n"
 SCANDIR = os.scandir
+TARGET = "what it points to, unless that is migrated anyway"
 
 
 def key_of(path: bytes) -> Identity:
@@ -109,7 +110,7 @@ class TreeTest(FolderTest):
             (
                 [b".a.box"],
                 {
-                    "b": ("it is a symbolic link to a; next: migrate what it points to", Fate.LEFT),
+                    "b": ("it is a symbolic link to a; next: migrate " + TARGET, Fate.LEFT),
                     "c": ("it is a symbolic link that leads nowhere; next: remove it", Fate.LEFT),
                 },
             ),
@@ -135,7 +136,7 @@ class TreeTest(FolderTest):
         refused = PermissionError(errno.EACCES, os.strerror(errno.EACCES))
         with mock.patch("mbox2maildir_admin.ledger.history.real_path", side_effect=refused):
             found = self.found()
-        says = "it is a symbolic link to /etc/passwd; next: migrate what it points to, with --folder NAME"
+        says = "it is a symbolic link to /etc/passwd; next: migrate " + TARGET.replace(",", ", with --folder NAME,")
         self.assertEqual(found, ([], {"c": (says, Fate.LEFT)}))
 
     def test_special_files_and_closed_folders(self) -> None:

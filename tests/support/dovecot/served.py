@@ -179,7 +179,7 @@ class Case:
             return
         if self.has_hidden:
             assert "Subject: 0" in str(after[0]["INBOX"][2].pop()) and after[1].pop(), after
-        if self.has_hidden != ("its first message, which Dovecot hid, now appears" in says):
+        if self.has_hidden != ("its first message, which Dovecot hid, appears" in says):
             yield f"migrate: of a message that was hidden it says: {says}"
         yield from differences(before, after, self.is_new)
         if not self.has_hidden:
