@@ -106,9 +106,16 @@ def of_list(rooms: Sequence[str]) -> Iterator[Mistake]:
     for one in listed(LIST, Planted)[0]:
         path, start, end = place_of(one, there)
         text, file = text_of(path), str(path.relative_to(TOP / PACKAGE))
-        change = Change(start, end, one.applied(text[start:end]))
+        change = smallest(text[start:end], one.applied(text[start:end]), start)
         if file.startswith(tuple(rooms) or ""):
             yield Mistake(file, one.place, change, range(0), one.seen, one.harmless)
+
+
+def smallest(was: str, is_now: str, start: int) -> Change:
+    """The change of a text, which begins at this offset, into another one."""
+    first = len(os.path.commonprefix([was, is_now]))
+    last = len(os.path.commonprefix([was[first:][::-1], is_now[first:][::-1]]))
+    return Change(start + first, start + len(was) - last, is_now[first : len(is_now) - last])
 
 
 def places() -> dict[str, list[tuple[Path, int, int]]]:
@@ -145,38 +152,47 @@ class Trial:
         self.copies = Queue()  # type: Queue[Copy]
         for number in range(given.jobs):
             self.copies.put(Copy(folder / str(number)))
+        # of the cases that failed, whether they pass without a mistake
+        self.well = {}  # type: dict[str, bool]
 
     def attempt(self, mistake: Mistake) -> Seen:
         """Tries a mistake in a copy."""
         copy = self.copies.get()
-        path = copy.folder / PACKAGE / mistake.file
-        before = text_of(path)
-        path.write_text(mistake.applied(before), encoding="utf-8")
         try:
             if mistake.named:
-                return Seen(copy.run(mistake.named, PATIENCE).failed, None, 1, 0)
+                return Seen(self.seen_by(mistake.named, copy, mistake), None, 1, 0)
             costs = self.map.those_that_run(mistake.file, mistake.lines)
-            units = [case for case in in_turn(costs) if case.startswith("test_")]
-            cases = [case for case in in_turn(costs) if ":" in case]
-            case, tried = self.first_that_fails(copy, cases)
-            unit, units_tried = (None, 0) if case and not self.whole else self.first_that_fails(copy, units)
+            cases, units = ([one for one in in_turn(costs) if (":" in one) == is_case] for is_case in (True, False))
+            case, tried = self.first_that_sees(mistake, copy, cases)
+            unit, units_tried = (None, 0) if case and not self.whole else self.first_that_sees(mistake, copy, units)
             return Seen(case, unit, tried, units_tried)
         finally:
-            path.write_text(before, encoding="utf-8")
             self.copies.put(copy)
 
-    def first_that_fails(self, copy: Copy, cases: Iterable[str]) -> tuple[Optional[str], int]:
-        """The first case that fails, and how many were tried until then, or until what they may cost is spent."""
+    def first_that_sees(self, mistake: Mistake, copy: Copy, cases: Iterable[str]) -> tuple[Optional[str], int]:
+        """The first case that sees a mistake, and how many were tried until then, or until what they may cost is
+        spent."""
         spent, tried = 0.0, 0
         for case in cases:
             cost = self.map.seconds[case]
-            if tried and spent + cost > self.most:
-                continue
-            tried, spent = tried + 1, spent + cost
-            failed = copy.run(case, PATIENCE + 20 * cost).failed
-            if failed:
-                return failed, tried
+            if not tried or spent + cost <= self.most:
+                tried, spent = tried + 1, spent + cost
+                seen = self.seen_by(case, copy, mistake)
+                if seen:
+                    return seen, tried
         return None, tried
+
+    def seen_by(self, case: str, copy: Copy, mistake: Mistake) -> Optional[str]:
+        """What fails of a case with a mistake, if it passes without one."""
+        path, text = copy.folder / PACKAGE / mistake.file, text_of(TOP / PACKAGE / mistake.file)
+        path.write_text(mistake.applied(text), encoding="utf-8")
+        try:
+            failed = copy.run(case, PATIENCE).failed
+        finally:
+            path.write_text(text, encoding="utf-8")
+        if failed and case not in self.well:
+            self.well[case] = copy.run(case, PATIENCE).failed is None
+        return failed if failed and self.well[case] else None
 
 
 def tell(number: int, mistake: Mistake, seen: Seen, begun: float, rows: Optional[Path]) -> bool:
