@@ -174,6 +174,8 @@ class Oracle:
         for name in {*here, *self.shelves}:
             self.shelves[name].undone(here.get(name, Counter()))
         self.all.undone(ids)
+        # an edited message that it kept, as its row says, has the Message-ID of the one that the mailbox has now
+        self.all.foreign = Counter(ids)
 
     def misread(self) -> None:
         """A wrong answer is given. Files stay that right ones have placed."""

@@ -220,10 +220,13 @@ class Rewritten(History):
 class Killed(Rewritten):
     """Such a mailbox, whose migration is killed again and again, and that is rewritten between the kills."""
 
+    # whether its owner is at work while a run is; what that run has seen by then is a matter of milliseconds
+    MEANWHILE = False
+
     def __init__(self, stage: Stage, seed: int) -> None:
         super().__init__(stage, seed)
-        # how likely its owner does something at a moment while a run is at work
-        self.likely = self.draw.choice([0.0, 0.01, 0.03])
+        # how likely its owner does something at a moment
+        self.likely = self.draw.choice([0.0, 0.01, 0.03]) if self.MEANWHILE else 0.0
 
     def meanwhile(self) -> None:
         """Its owner takes a message, or reads it."""
