@@ -95,11 +95,11 @@ def decided(answer: Answer) -> Decided:
     return Decided(word, "--drop-deleted" in words, tie)
 
 
-class Group(NamedTuple):
+class Group:
     """Rows with the same question, by user and path; and the groups that stand below its title too."""
 
-    entries: Sequence[Entry]
-    others: Sequence["Group"] = ()
+    def __init__(self, entries: Sequence[Entry], others: Sequence["Group"] = ()) -> None:
+        self.entries, self.others = entries, others
 
     @property
     def row(self) -> Row:
@@ -222,7 +222,7 @@ def groups_of(entries: Iterable[Entry]) -> list[Group]:
     below: list[Group] = []
     for group in map(Group, parts):
         if below and group.is_below(below[-1]):
-            below[-1:] = [below[-1]._replace(others=(*below[-1].others, group))]
+            below[-1:] = [Group(below[-1].entries, (*below[-1].others, group))]
         else:
             below.append(group)
     return below

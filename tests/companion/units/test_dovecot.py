@@ -9,9 +9,10 @@ from pathlib import Path
 from unittest import mock
 
 from mbox2maildir_admin.faults import Left, PlaceFault
-from mbox2maildir_admin.flags.dovecot_headers import FLAGS, Reading, header_at, info_of, internal_head
+from mbox2maildir_admin.flags.dovecot_headers import FLAGS, Reading, info_of, internal_head
 from mbox2maildir_admin.flags.dovecot_list import LOCK, list_of, raised, replace
 from mbox2maildir_admin.ledger.record import Record
+from mbox2maildir_admin.mbox.fields import Header
 from mbox2maildir_admin.migration.dovecot import content_of, place_file, subscribe, subscriptions_of
 from mbox2maildir_admin.units import Offset, Place
 
@@ -127,7 +128,7 @@ def reading_of(headers: Sequence[str]) -> Reading:
     with source_of(text) as source:
         reading = Reading()
         for found in re.finditer(b"(?m)^From ", text):
-            reading.add(header_at(source, Offset(found.start())))
+            reading.add(Header.at(source, Offset(found.start())).text)
     return reading
 
 
@@ -154,7 +155,7 @@ class ReadingTest(unittest.TestCase):
     def test_a_message_without_a_header(self) -> None:
         """Nothing of its body counts."""
         with source_of(b"From a@b Mon Mar  3 09:12:44 2025\n\nX-UID: 5\nStatus: R\n\nhi\n\n") as source:
-            self.assertEqual(header_at(source, Offset(0)), b"")
+            self.assertEqual(Header.at(source, Offset(0)).text, b"")
 
     def test_a_colon_that_is_far_away(self) -> None:
         for length, wanted in ((8191, "S"), (8192, "")):
