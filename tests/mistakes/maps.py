@@ -10,7 +10,6 @@ import json
 import os
 import subprocess
 import sys
-import sysconfig
 import tempfile
 from collections.abc import Iterator, Sequence
 from concurrent.futures import ThreadPoolExecutor
@@ -94,7 +93,8 @@ def compiled(folder: Path) -> Path:
     """The module of Python that notes lines, in a folder."""
     path = folder / "lines.so"
     source = str(Path(__file__).with_name("lines.c"))
-    flags = ["-O2", "-shared", "-fPIC", f"-I{sysconfig.get_path('include')}"]
+    headers = "%s/include/python%d.%d" % (sys.base_prefix, *sys.version_info[:2])
+    flags = ["-O2", "-shared", "-fPIC", f"-I{headers}"]
     subprocess.run(["cc", *flags, source, "-o", str(path)], check=True)
     return path
 

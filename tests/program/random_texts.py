@@ -96,32 +96,27 @@ def check_text(text: bytes, maildir: Path) -> None:
 
 def companion() -> Readers:
     """The companion's readers of a text, as modules."""
-    return [
-        importlib.import_module(f"mbox2maildir_admin.mbox.{name}") for name in ("files", "mailbox", "parts", "messages")
-    ]
+    return [importlib.import_module(f"mbox2maildir_admin.mbox.{name}") for name in ("pieces", "mailbox", "inventory")]
 
 
 def check_read(modules: Readers, dice: random.Random, text: bytes, file: Path) -> None:
-    """The companion reads the messages of the independent listing, and each byte and line belongs to one of them."""
+    """The companion reads the messages of the independent listing, one by one and those that are plain at once, and
+    each byte and line belongs to one of them."""
     file.write_bytes(text)
     block, long = dice.choice([1, 2, 3, 5, 8, 64, 1 << 20]), dice.choice([6, 8, 12, 998])
     for module in modules:
         module.BLOCK, module.LONG = block, long
-    _, mailbox_module, _, messages_module = modules
+    _, mailbox_module, inventory_module = modules
     with mailbox_module.Mailbox.open(file) as source:
-        read = [
-            (
-                message.size,
-                message.digest.hexdigest(),
-                text.count(b"\n", 0, message.offset) + 1 - message.line,
-                message.from_size + message.left_out + message.held,
-            )
-            for message in messages_module.messages_of(source)
-        ]
-    bodies = [body for _, body in messages_of(io.BytesIO(text))]
+        found = list(inventory_module.messages_of(source))
+        whole = inventory_module.Inventory.read(source, 0)
+        lines = list(whole.lines)
+    digests = [(len(body), hashlib.sha256(body).digest()) for _, body in messages_of(io.BytesIO(text))]
     what = f"what the companion reads of {text!r} in blocks of {block}"
-    equal(what, [one[:3] for one in read], [(len(body), hashlib.sha256(body).hexdigest(), 0) for body in bodies])
-    equal(f"{what}: bytes", sum(size + others for size, _, _, others in read), len(text))
+    equal(what, [(one.size, one.digest) for one in found], digests)
+    equal(f"{what}: bytes", sum(one.read for one in found), len(text))
+    equal(f"{what}, at once", list(zip(whole.sizes, (base[:32] for base in whole.table.bases()))), digests)
+    equal(f"{what}: lines", lines, [text.count(b"\n", 0, one.offset) + 1 for one in found])
 
 
 def change_files(dice: random.Random, maildir: Path) -> tuple[int, int, int, int]:

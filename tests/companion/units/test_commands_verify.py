@@ -39,7 +39,7 @@ class VerifyTest(unittest.TestCase):
 
     def test_nothing_is_hashed_for_a_ledger(self) -> None:
         listing = mock.patch.object(Program, "listing", return_value=contextlib.nullcontext())
-        with source_of(TEXT) as mailbox, listing:
+        with listing, source_of(TEXT) as mailbox:
             found = module.inventory_of(Text(mailbox, Offset(0)), b"")
         self.assertEqual((len(found), found.cores, found.bares), (2, b"", b""))
 

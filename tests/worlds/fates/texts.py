@@ -59,13 +59,13 @@ DAYS = [
     b"Sat Feb 29 23:59:59 2020",
     b"Wed Dec 31 12:00:00 2003",
 ]
-PLAIN = [b"hello", b"", b"a line of text", b"> quoted", b"from here on", b"\xe4\xff\x00\x01", b"a\rb", b"." * 998]
+PLAIN = (b"hello", b"", b"a line of text", b"> quoted", b"from here on", b"\xe4\xff\x00\x01", b"a\rb", b"." * 998)
 # lines that a writer must quote, and lines that only look like such lines
 QUOTABLE = [b"From the start", b">From the other", b">>From afar", b"From a@b Mon Mar  3 09:12:44 2025"]
 FLAGS = [b"", b"", b"Status: RO\n", b"Status: O\nX-Status: AF\n", b"X-Status: D\n"]
 
 
-def message(draw: Random, lines: list[bytes]) -> Message:
+def message(draw: Random, lines: Sequence[bytes]) -> Message:
     """A message that no other message equals, with some of these lines."""
     number = draw.getrandbits(64)
     header = b"From: u%d@example.org\nSubject: note %d\n" % (number % 97, number) + draw.choice(FLAGS)
@@ -73,7 +73,7 @@ def message(draw: Random, lines: list[bytes]) -> Message:
     return Message(b"From u%d@example.org " % (number % 97) + draw.choice(DAYS), header, body + b"the end\n")
 
 
-def messages(draw: Random, lines: list[bytes], most: int = 3) -> list[Message]:
+def messages(draw: Random, lines: Sequence[bytes], most: int = 3) -> list[Message]:
     """One message or more."""
     return [message(draw, lines) for _ in range(draw.randint(1, most))]
 
@@ -122,13 +122,13 @@ def always(content: Content) -> Maker:
 
 def mboxrd(draw: Random) -> Content:
     """mboxrd."""
-    several = messages(draw, PLAIN + QUOTABLE)
+    several = messages(draw, [*PLAIN, *QUOTABLE])
     return done(in_mboxrd(several), several)
 
 
 def mboxo(draw: Random) -> Content:
     """mboxo, of mail without a `>From ` of its own: it is read as it was written."""
-    several = messages(draw, PLAIN + QUOTABLE[:1])
+    several = messages(draw, [*PLAIN, *QUOTABLE[:1]])
     texts = (one.from_line + b"\n" + re.sub(rb"(?m)^From ", b">From ", one.whole) + b"\n" for one in several)
     return done(b"".join(texts), several)
 
@@ -304,7 +304,7 @@ def packed(pack: Callable[[bytes], bytes], says: str) -> Maker:
 
 def of_mail(form: Callable[[bytes], bytes], says: str, lines: Sequence[bytes] = PLAIN) -> Maker:
     """A message in a form of its own."""
-    return lambda draw: left(form(message(draw, [*lines]).whole), says)
+    return lambda draw: left(form(message(draw, lines).whole), says)
 
 
 def zipped(text: bytes) -> bytes:
