@@ -268,21 +268,31 @@ def has_ended(number: int) -> bool:
 
 
 def what_it_started(home: Path) -> None:
-    """What a process has started ends with it, and so does a process that heeds no signal, if root is to end."""
+    """What a process has started ends with it, and so does a process that heeds no signal, if root is to end. Nothing
+    is said of one that ends by itself then."""
     with one_user(home):
         note = home / "homes" / NAME / "note"
         starts = f"child = os.fork()\nif child:\n    open('{note}', 'w').write(str(child))\nelse:\n    time.sleep(999)"
         rows_of(taken_over(home, starts), home)
         assert has_ended(int(note.read_text(encoding="utf-8"))), "it goes on"
         note.unlink()
-        waits = f"signal.signal(signal.SIGTERM, signal.SIG_IGN)\nopen('{note}', 'w').close()\ntime.sleep(999)"
-        with subprocess.Popen(taken_over(home, waits), cwd=str(home), stdout=subprocess.PIPE) as running:
-            while not note.exists():
-                time.sleep(0.05)
-            running.terminate()
-            out = running.communicate(timeout=PATIENCE)[0].decode()
-        equal("status", running.returncode, 130)
-        assert f"  {NAME}  its process was interrupted" in out.splitlines(), out
+        out = interrupted(home, note, "signal.SIG_IGN")
+        assert f"  {NAME}  its process was interrupted" in out, out
+        note.unlink()
+        out = interrupted(home, note, "lambda *_: os._exit(130)")
+        assert not [line for line in out if "process" in line], out
+
+
+def interrupted(home: Path, note: Path, heeds: str) -> list[str]:
+    """Root is to end while a process waits that does this at its signal. Returns what root prints."""
+    waits = f"signal.signal(signal.SIGTERM, {heeds})\ntaken(signal.SIG_SETMASK, [])\nopen('{note}', 'w').close()\ntime.sleep(999)"
+    with subprocess.Popen(taken_over(home, waits), cwd=str(home), stdout=subprocess.PIPE, text=True) as running:
+        while not note.exists():
+            time.sleep(0.05)
+        running.terminate()
+        out = running.communicate(timeout=PATIENCE)[0]
+    equal("status", running.returncode, 130)
+    return out.splitlines()
 
 
 # tells what it has
