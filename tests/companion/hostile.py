@@ -285,7 +285,8 @@ def what_it_started(home: Path) -> None:
 
 def interrupted(home: Path, note: Path, heeds: str) -> list[str]:
     """Root is to end while a process waits that does this at its signal. Returns what root prints."""
-    waits = f"signal.signal(signal.SIGTERM, {heeds})\ntaken(signal.SIG_SETMASK, [])\nopen('{note}', 'w').close()\ntime.sleep(999)"
+    waits = f"signal.signal(signal.SIGTERM, {heeds})\ntaken(signal.SIG_SETMASK, [])\n"
+    waits += f"open('{note}', 'w').close()\ntime.sleep(999)"
     with subprocess.Popen(taken_over(home, waits), cwd=str(home), stdout=subprocess.PIPE, text=True) as running:
         while not note.exists():
             time.sleep(0.05)

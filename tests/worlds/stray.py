@@ -57,7 +57,8 @@ USERS = ("mia", "runuser -u", "x; evil", "left", "\u202emia", "$(evil)")
 SAYS = re.compile("|".join(f"    {re.escape(one.says)}(: \\d+ messages?)?:" for one in Does))
 TASKS = re.compile("    (?:as .*, )?(?:%s)" % "|".join(re.escape(one.says).replace(r"\{\}", "(.*)") for one in Todo))
 OTHERS = re.compile(
-    r"    (?:> |  )?\d+ \|.*|    line \d+: .*|    and \d+ more lines like the last one|    message \d+ .*|    a .*"
+    r"    (?:> |  )?\d+ \|.*|    \.\.|    line \d+: .*|    and \d+ more lines like the last one|"
+    r"    message \d+ .*|    a .*"
 )
 # what a command may begin with
 FIRST = re.compile(r"(?:mbox2maildir(?:-admin)? |rm |mv |ls |file |printf |d=\$\(mktemp |\(cd |gzip -dc |runuser -u )")
@@ -128,10 +129,11 @@ def put(path: Path, text: bytes) -> None:
 
 
 def wrong_form(rows: Sequence[Printed]) -> Iterator[str]:
-    """Each line below a row has one of the forms, and a command follows a sentence."""
+    """Each line below a row, or below a name of the last block, has one of the forms, and a command follows a
+    sentence."""
     for row in rows:
         before = ""
-        if not row.line.isprintable() or row.line.startswith(" "):
+        if not row.line.isprintable() or not re.match(r"(?:  )?(?! )", row.line):
             yield f"a row: {row.line!r}"
         for line in row.below:
             is_command = line.startswith(COMMAND)

@@ -28,7 +28,7 @@ FLAGS = [r"\Seen", r"\Answered", r"\Flagged", r"\Deleted", r"\Draft"]
 # a `>` that a line has in an mbox and not in a Maildir
 QUOTE = re.compile(rb"(?m)^>(?=>*From )")
 # a folder that is left for a human to decide about
-LEFT = re.compile(r"(?m)^.* -> (\S+): .*left \([a-z-]+\): .*\n(?:    (?:> |  )\d+ \|.*\n)+    .* messages?:$")
+LEFT = re.compile(r"(?m)^.* -> (\S+): .*left \([a-z-]+\): .*\n(?:    (?:\.\.|(?:> |  )\d+ \|.*)\n)+    .* messages?:$")
 SAID_QUOTES = re.compile(r"in (\d+) lines? \(Dovecot showed it")
 STATUS, HEADER_END = re.compile(rb"(?im)^status[ \t]*:"), re.compile(rb"\n\r?\n")
 INTERNAL = re.compile(rb"(?s)From MAILER.DAEMON .*?initial values\.\n\n")
