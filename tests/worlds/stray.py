@@ -10,6 +10,8 @@ import subprocess
 from collections.abc import Iterator, Sequence
 from pathlib import Path
 
+from mbox2maildir_admin.faults import Reason
+from mbox2maildir_admin.meanings import to_do
 from mbox2maildir_admin.nexts import Does, Todo
 
 from tests.support.accounts import are_own, users
@@ -56,6 +58,7 @@ USERS = ("mia", "runuser -u", "x; evil", "left", "\u202emia", "$(evil)")
 # what stands before a command, and what is a task, with anything in place of a name; a task may be that of a user
 SAYS = re.compile("|".join(f"    {re.escape(one.says)}(: \\d+ messages?)?:" for one in Does))
 TASKS = re.compile("    (?:as .*, )?(?:%s)" % "|".join(re.escape(one.says).replace(r"\{\}", "(.*)") for one in Todo))
+BY_HAND = {f"    {to_do(one)}" for one in Reason}
 OTHERS = re.compile(
     r"    (?:> |  )?\d+ \|.*|    \.\.|    line \d+: .*|    and \d+ more lines like the last one|"
     r"    message \d+ .*|    a .*"
@@ -140,7 +143,7 @@ def wrong_form(rows: Sequence[Printed]) -> Iterator[str]:
             is_right = (
                 SAYS.fullmatch(before) and FIRST.match(line[len(COMMAND) :])
                 if is_command
-                else SAYS.fullmatch(line) or TASKS.fullmatch(line) or OTHERS.fullmatch(line)
+                else SAYS.fullmatch(line) or TASKS.fullmatch(line) or OTHERS.fullmatch(line) or line in BY_HAND
             )
             if not is_right or not line.isprintable():
                 yield f"below {row.line!r}: {before!r} {line!r}"
