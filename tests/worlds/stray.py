@@ -147,7 +147,8 @@ def wrong_form(rows: Sequence[Printed]) -> Iterator[str]:
             )
             if not is_right or not line.isprintable():
                 yield f"below {row.line!r}: {before!r} {line!r}"
-            before = line
+            # a sentence of a group has the command of each mailbox
+            before = before if is_command else line
 
 
 def commands_of(out: str, user: str) -> Iterator[str]:
