@@ -197,7 +197,7 @@ def without_mailboxes(home: Path) -> None:
         for name in ("m61new", "m61wait"):
             (home / "homes" / name).mkdir()
             shutil.chown(home / "homes" / name, name, name)
-        expect([*WORDS, "m61new"], home, 1, "0 of 1 done; 1 user: ...\n")
+        expect([*WORDS, "m61new"], home, 1, "no mailboxes; 1 user: ...\n")
         deliver(home, "m61new")
         theirs(mailbox(home / "spool/m61wait", ONE), "m61wait")
         status, out, err = run([*WORDS, "m61new", "m61wait"], home)

@@ -6,12 +6,9 @@ from collections.abc import Callable, Mapping
 from typing import Optional
 
 from ..faults import Status
-from ..migration.rows import STEPS, Reporter, Shows
+from ..migration.rows import INTERRUPTED, STEPS, Reporter, Shows
 from ..terminal import OutputFault, complain, drop
 from ..users.asked import Tally
-
-# what the last line says if not all mailboxes were looked at
-INTERRUPTED = "interrupted: run the same command again"
 
 # does what a command says, and tells what became of each mailbox
 Telling = Callable[[Reporter, Tally], None]

@@ -25,6 +25,8 @@ SUMMED = (
 )
 # the fates of mailboxes of which something is to be done
 WRONG = Fate.LEFT, Fate.NOT_WHOLE
+# what the last line says if not all mailboxes were looked at
+INTERRUPTED = "interrupted: run the same command again"
 REHEARSAL = "a rehearsal: nothing was written; the commands above write once --dry-run is left out"
 # the steps of a mailbox, by the first word of what is said of its progress
 STEPS = MappingProxyType({"reading": 1, "copying": 1, "looking": 2, "converting": 3, "dating": 4, "verifying": 5})
@@ -189,8 +191,7 @@ class Reporter(Observer):
         sums = sums_of(self.counts, self.faults)
         users = {one.user for one in self.kept.entries if one.user is not None and one.row.fate in WRONG}
         sums[0] += ", of %s" % counted(len(users), "user") if users else ""
-        if self.total and not sum(self.counts.values()):
-            # it was interrupted before the first one was done
+        if INTERRUPTED in more and self.total and not sum(self.counts.values()):
             sums = ["0 of %d done" % self.total]
         self.print_sums("; ".join([*sums, *self.work(), *self.standing(), *more]))
         has_mailbox = sum(self.counts.values()) > self.counts[Fate.NO_MAIL]

@@ -36,6 +36,12 @@ class Content(NamedTuple):
     # whether nobody can say what it is, so that --no-mail may apply to it
     is_unknown: bool = False
 
+    def under(self, raw: bytes) -> "Content":
+        """What it is under a name. What nobody knows is an index under the name of one, if no line of it begins like
+        one of mail."""
+        is_index = self.is_unknown and raw.endswith(b".msf") and not self.data.startswith(b"From ")
+        return no_mail(self.data) if is_index else self
+
 
 Maker = Callable[[Random], Content]
 

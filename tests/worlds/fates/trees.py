@@ -257,7 +257,7 @@ def one_word(grower: Grower, here: Branch, folder: str) -> bytes:
     elif what == "closed":
         here.closed_file(one, grower.any_content())
     else:
-        content = grower.any_content() if what == "other" else grower.mail_of()
+        content = (grower.any_content() if what == "other" else grower.mail_of()).under(one.raw)
         path = here.put(one, content.data)
         if what == "link":
             # a symbolic link that is named is followed

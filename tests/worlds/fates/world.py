@@ -179,6 +179,7 @@ class Branch:
 
     def thing(self, one: Name, content: Content) -> Thing:
         """What must become of a content under this name."""
+        content = content.under(one.raw)
         thing = Thing(self.shown_of(one), content.fate, content.says, None, content.messages)
         thing.user = self.top.user
         if content.fate == Fate.LEFT and not self.is_sound(one):
