@@ -31,11 +31,11 @@ class Ran(NamedTuple):
 
 
 def module_of(name: str) -> str:
-    """The module of a test."""
+    """The module of a test, empty if it is not there."""
     for folder in FOLDERS:
         if (TOP / "tests" / folder / f"{name}.py").exists():
             return ".".join(["tests", *folder.split("/"), name])
-    raise SystemExit(f"no test: {name}")
+    return ""
 
 
 class Copy:

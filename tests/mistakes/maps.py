@@ -53,9 +53,11 @@ class Map:
 
     def those_that_run(self, file: str, lines: range) -> dict[str, float]:
         """The cases that run one of these lines of a module, and what a line of the module costs with each: its
-        seconds for each line of the module that it runs."""
+        seconds for each line of the module that it runs. Tests that went since are left out."""
         first, found = self.first[file], {}
         for case, seconds in self.seconds.items():
+            if not module_of(case.partition(":")[0]):
+                continue
             noted = Path(self.folder, case).read_bytes()
             if any(noted[first + line] for line in lines):
                 found[case] = seconds / sum(noted[first : first + lines_in(TOP / PACKAGE / file)])
