@@ -4,9 +4,10 @@ import os
 from collections.abc import Sequence
 from datetime import datetime, timezone
 from pathlib import Path
+from typing import Optional
 
 from tests.support.checks import equal
-from tests.support.homes import check_all, expect, mail_in, mailbox
+from tests.support.homes import by_json, check_all, expect, mail_in, mailbox
 from tests.support.ledgers import take_back_ends
 
 MOZILLA, EVOLUTION = "X-Mozilla-Status: %s\nX-Mozilla-Status2: 00000000\n", "X-Evolution: 0000000%d-%s\n"
@@ -41,6 +42,56 @@ PROGRAMS: dict[str, tuple[str, list[tuple[str, str]]]] = {
         ],
     ),
 }
+THREAD = "X-GM-THRID: 1\n"
+THUNDERBIRD, LABELS = "X-Mozilla-Status: %s\n", f"{THREAD}X-Gmail-Labels: %s\n"
+# the fields of a message, and the letters that they give it; None if the program has kept nothing, so that what another
+# one has kept counts. The numbers are those of Thunderbird's nsMsgMessageFlags and of Evolution's camel-message-info.h
+FORMS: list[tuple[str, Optional[str]]] = [
+    *zip(map(THUNDERBIRD.__mod__, ("0000", "0001", "0002", "0004", "1000", "1007")), ("", "S", "R", "F", "P", "FPRS")),
+    ("x-mozilla-status:A001\r\n", "S"),
+    # flags that a Maildir does not have: a thread that is watched, an attachment
+    (THUNDERBIRD % "0100", ""),
+    # the first counts
+    (THUNDERBIRD % "0001" + "X-Other: x\n" + THUNDERBIRD % "0004", "S"),
+    (THUNDERBIRD % "1" + THUNDERBIRD % "0004", None),
+    (THUNDERBIRD % "00001", None),
+    (THUNDERBIRD % "000g", None),
+    ("X-Mozilla-Status2: 00000001\n", None),
+    ("X-Other: x\n " + THUNDERBIRD % "0001", None),
+    *((f"X-Evolution: 00000001-{bits}\n", letter) for bits, letter in zip(("0001", "0002", "0004"), "RTD")),
+    *((f"X-Evolution: 0000a1b2-{bits}\n", letter) for bits, letter in zip(("0008", "0010", "0400"), "FSP")),
+    # an attachment, and junk
+    ("X-Evolution: 00000001-00b9; flags=receipt-handled\n", "FRS"),
+    ("X-Evolution: 1-10\n", None),
+    ("X-Evolution-Source: 00000001-0010\n", None),
+    (LABELS % "Inbox,Opened", "S"),
+    (LABELS % "Opened,Starred,Unread", "F"),
+    (LABELS % "Starred, Opened,Category Updates", "FS"),
+    (LABELS % '"Bills, Opened",Inbox', ""),
+    (LABELS % "Inbox,\n Opened", "S"),
+    (LABELS % "=?UTF-8?Q?Inbox,Opened,Caf=C3=A9?=", "S"),
+    (LABELS % "=?UTF-8?Q?Inbox,Opened,?=\n =?UTF-8?Q?Caf=C3=A9,Starred?=", "FS"),
+    (LABELS % "=?UTF-8?Q?Posteingang,Ge=C3=B6ffnet?=", "S"),
+    (LABELS % "=?UTF-8?Q?Ge=C3=B6ffnet?=", ""),
+    (LABELS % "Inbox, =?UTF-8?B?T3BlbmVk?=, Travel", "S"),
+    (LABELS % "=?UTF-8?Q?Inbox,Ope?= =?UTF-8?Q?ned,Caf=C3=A9?=", "S"),
+    (LABELS % "=?no-such-set?Q?Opened?=", ""),
+    (LABELS % "=?UTF-8?B?T3BlbmV?=", ""),
+    (LABELS % "", ""),
+    (LABELS % "Inbox" + "X-Gmail-Labels: Opened\n", ""),
+    (THREAD, ""),
+]
+# what Thunderbird keeps of a message: whether it is marked as deleted, by nsMsgMessageFlags.Expunged
+DELETED = [
+    *((THUNDERBIRD % bits, True) for bits in ("0008", "0019", "fFfF")),
+    *((THUNDERBIRD % bits, False) for bits in ("0001", "8000", "00088", "000g")),
+    ("X-Other: x\nx-mozilla-status:0019\r\n", True),
+    (THUNDERBIRD % "0001" + THUNDERBIRD % "0008", False),
+    (THUNDERBIRD % "8" + THUNDERBIRD % "0008", False),
+    ("X-Mozilla-Status2: 00080000\n", False),
+    ("X-Other: " + THUNDERBIRD % "0008", False),
+    ("\n" + THUNDERBIRD % "0008", False),
+]
 
 
 def message(number: int, header: str = "", date: str = "Mon Mar  3 09:12:44 2025") -> bytes:
@@ -74,6 +125,29 @@ def kept_flags(home: Path) -> None:
         expect("migrate --all M box", home, 0, "1 mailbox: 1 done before\n")
         expect("verify M box", home, 0, None)
         (home / "M").rename(home / program)
+
+
+def forms(home: Path) -> None:
+    """The letters that fields give, of which the first program counts that has kept some."""
+    for place, (fields, letters) in enumerate(FORMS):
+        # of the program that is asked next
+        other = LABELS % "Starred,Opened" if "Evolution" in fields else "X-Evolution: 00000001-0019\n"
+        text = message(place, fields + (other if letters is None or "GM" not in fields else ""))
+        mailbox(home / f"old/{place}", text)
+    equal("the status", by_json("migrate --now M old", home).status, 0)
+    for place, (fields, letters) in enumerate(FORMS):
+        wanted = {None: "FS" if "Evolution" in fields else "FRS"}.get(letters, letters)
+        equal(fields, places(home / f"M/.{place}"), [f"cur:2,{wanted}" if wanted else "new"])
+
+
+def marked_as_deleted(home: Path) -> None:
+    """A human is asked about mail that Thunderbird has marked as deleted."""
+    for place, (fields, _) in enumerate(DELETED):
+        mailbox(home / f"old/{place}", message(place, fields) + message(99, THUNDERBIRD % "0001"))
+    ran = by_json("migrate --dry-run --now M old", home)
+    for place, (fields, is_deleted) in enumerate(DELETED):
+        row = ran.of(f"old/{place}")
+        equal(f"{fields}: {row}", "this message is marked as deleted" in row["says"], is_deleted)
 
 
 def of_strangers(home: Path) -> None:
@@ -136,4 +210,4 @@ def dates_of_headers(home: Path) -> None:
 
 
 if __name__ == "__main__":
-    check_all(kept_flags, of_strangers, read_meanwhile, broken_off, dates_of_headers)
+    check_all(kept_flags, forms, marked_as_deleted, of_strangers, read_meanwhile, broken_off, dates_of_headers)

@@ -2,19 +2,52 @@
 import os
 import re
 from collections.abc import Sequence
-from datetime import datetime, timezone
+from datetime import datetime, timedelta, timezone
 from pathlib import Path
 from typing import Optional
 
-from tests.support.checks import equal
-from tests.support.homes import check_all, expect, files_of, run
+from tests.support.checks import equal, match_in
+from tests.support.homes import check_all, expect, files_of, mail_in, mailbox, run
 from tests.support.mail import A, B
 from tests.support.printed import in_quotes
 
 MANY = 40_000
 
+# how far east of Greenwich the zones are that have names, in hours: those of North America as in RFC 5322,
+# the others as in the tz database
+EAST = {
+    0: "Z UT UTC GMT WET",
+    1: "WEST BST CET MET MEZ",
+    2: "CEST MEST MESZ EET",
+    3: "EEST MSK",
+    4: "MSD",
+    8: "SGT HKT AWST",
+    9: "JST KST",
+    9.5: "ACST",
+    10: "AEST",
+    10.5: "ACDT",
+    11: "AEDT",
+    12: "NZST",
+    13: "NZDT",
+    -2.5: "NDT",
+    -3: "ADT",
+    -3.5: "NST",
+    -4: "AST EDT",
+    -5: "EST CDT",
+    -6: "CST MDT",
+    -7: "MST PDT",
+    -8: "PST AKDT",
+    -9: "AKST",
+    -10: "HST",
+}
+NOON = datetime(2006, 2, 1, 12)
 # From_ lines after `From `, and the moment that each means in New York; None if no date is to be understood
 FORMS = [
+    *(
+        (f"a@b Wed Feb  1 12:00:00 2006 {zone}", f"{NOON - timedelta(hours=east)}+00:00")
+        for east, zones in EAST.items()
+        for zone in zones.split()
+    ),
     ("a@b Mon Mar  3 09:12:44 2025", "2025-03-03T09:12:44-05:00"),
     ("a@b Thu Jul  3 09:12:44 2025\r", "2025-07-03T09:12:44-04:00"),
     ("a@b thu jul 03 9:12 2025", "2025-07-03T09:12:00-04:00"),
@@ -25,14 +58,9 @@ FORMS = [
     ("1@xxx Mon Mar 03 09:12:44 -0700 2025", "2025-03-03T09:12:44-07:00"),
     ("upi at papat.org  Wed Feb  1 09:12:44 2006", "2006-02-01T09:12:44-05:00"),
     ("a@b Wed Feb  1 09:12 PST 2006", "2006-02-01T09:12:00-08:00"),
-    ("a@b Wed Feb  1 09:12:44 2006 GMT", "2006-02-01T09:12:44+00:00"),
     ("a@b Wed Feb  1 09:12:44 MET 2006", "2006-02-01T09:12:44+01:00"),
     ("a@b Sat Jul  1 09:12:44 MET DST 1995", "1995-07-01T09:12:44+02:00"),
     ("a@b Sat Jul  1 09:12:44 2006 CEST", "2006-07-01T09:12:44+02:00"),
-    ("a@b Wed Feb  1 09:12:44 2006 CET", "2006-02-01T09:12:44+01:00"),
-    ("a@b Sat Jul  1 09:12:44 2006 BST", "2006-07-01T09:12:44+01:00"),
-    ("a@b Wed Feb  1 09:12:44 2006 NST", "2006-02-01T09:12:44-03:30"),
-    ("a@b Wed Feb  1 09:12:44 2006 JST", "2006-02-01T09:12:44+09:00"),
     ("a@b Wed Feb  1 09:12:44 GMT+0100 2006", "2006-02-01T09:12:44+01:00"),
     ("a!b Wed Feb  1 09:12:44 1995 remote from c", "1995-02-01T09:12:44-05:00"),
     ("a@b Mon, 3 Mar 2025 09:12:44 +0100", "2025-03-03T09:12:44+01:00"),
@@ -43,6 +71,26 @@ FORMS = [
     ("a@b Sun Jan  1 00:00:00 2040 UTC", "2040-01-01T00:00:00+00:00"),
     ("a@b 2025-03-03T09:12:44Z", "2025-03-03T09:12:44+00:00"),
     ("a@b 2025-07-03 09:12:44.5+05:30", "2025-07-03T09:12:44+05:30"),
+    ("a@b 2025-07-03T09:12", "2025-07-03T09:12:00-04:00"),
+    ("a@b Mon Mar  3 09:12:44 2025 resent Tue Mar  4 10:00:00 2025", "2025-03-03T09:12:44-05:00"),
+    # years of two digits are of this century up to 49, by RFC 5322
+    ("a@b 3 Mar 49 09:12:44 +0000", "2049-03-03T09:12:44+00:00"),
+    ("a@b 3 Mar 50 09:12:44 +0000", "1950-03-03T09:12:44+00:00"),
+    ("a@b 3 Mar 00 09:12:44 +0000", "2000-03-03T09:12:44+00:00"),
+    # days on which the clock is changed, and those beside them
+    ("a@b Sun Mar  9 01:59:59 2025", "2025-03-09T01:59:59-05:00"),
+    ("a@b Sun Mar  9 03:00:00 2025", "2025-03-09T03:00:00-04:00"),
+    ("a@b Mon Mar 10 00:00:00 2025", "2025-03-10T00:00:00-04:00"),
+    ("a@b Sun Nov  2 00:59:59 2025", "2025-11-02T00:59:59-04:00"),
+    ("a@b Sun Nov  2 02:00:00 2025", "2025-11-02T02:00:00-05:00"),
+    # a second that is one too many
+    ("a@b Sat Mar  8 23:59:60 2025", "2025-03-09T00:00:00-05:00"),
+    ("a@b Wed Feb  1 09:12:44 XYZ 2006", None),
+    ("a@b Thu Jan  1 00:00:00 1970 +0100", None),
+    ("a@b 2025-13-03T09:12:44Z", None),
+    ("a@b 2025-02-31T09:12:44Z", None),
+    ("a@b 2025-03-03T09:12:44Z and more", None),
+    ("a@b 1970-01-01T00:00:00Z", None),
     ("a@b Wed Feb  1 09:12:44 2006 XYZ", None),
     ("a@b Wed Feb  1 09:12:44 2006 +9900", None),
     ("a@b Mon Feb 31 09:12:44 2025", None),
@@ -55,6 +103,31 @@ FORMS = [
     ("", None),
 ]
 NEW_YORK = "EST5EDT,M3.2.0,M11.1.0"
+# headers Date, which count where a From_ line has no date: without a zone, or with one that is not known, some are in UTC
+HEADERS = [
+    ("Mon, 3 Mar 2025 09:12:44", "2025-03-03T09:12:44-05:00"),
+    ("Monday, 03-Mar-97 09:12:44 GMT", "1997-03-03T09:12:44+00:00"),
+    ("3 March 2025 09:12:44 +0100", "2025-03-03T09:12:44+01:00"),
+    ("Mon, 3 Mar 2025 09.12.44 +0000", "2025-03-03T09:12:44+00:00"),
+    ("March 3, 2025 09:12:44", "2025-03-03T09:12:44+00:00"),
+    ("Mon, 3 Mar 2025 09:12:44 XYZ", "2025-03-03T09:12:44+00:00"),
+    ("Thu, 31 Dec 2099 23.59.59 +0000", "2099-12-31T23:59:59+00:00"),
+    ("yesterday", None),
+    ("Thu, 1 Jan 1970 00:00:00 +0000", None),
+    ("Wed, 31 Dec 1969 09.12.44 +0000", None),
+    ("Fri, 1 Jan 2100 00.00.00 +0000", None),
+    ("Mon, 31 Feb 2025 09.12.44 +0000", None),
+    ("Mon, 3 Mar 2025 25.12.44 +0000", None),
+    ("Mon, 3 Mar 99999999999999999999 09:12:44 +0000", None),
+    # the library for headers fails
+    ("Mon, 3 Mar 2025 1.2.3.4.5.6 +0000", None),
+]
+
+
+def complaints(lines: Sequence[str]) -> str:
+    """What is said of so many messages: ten are named."""
+    more = [f"mbox2maildir-admin: a b.mbox: and {len(lines) - 10} more"] if len(lines) > 10 else []
+    return "".join(f"{line}\n" for line in [*lines[:10], *more])
 
 
 def dates(home: Path) -> None:
@@ -84,7 +157,7 @@ def dates(home: Path) -> None:
         home,
         1,
         f"a b.mbox: messages {len(forms)}, dated {len(understood)}\n",
-        "".join(f"{line}\n" for line in said),
+        complaints(said),
         TZ=NEW_YORK,
     )
     for (form, moment), base in zip(forms, bases):
@@ -100,10 +173,7 @@ def dates(home: Path) -> None:
         home,
         1,
         f"a b.mbox: messages {len(forms)}, dated {len(understood) - 1}\n",
-        "".join(
-            f"{line}\n" for line in ["mbox2maildir-admin: a b.mbox: message 2 (line 7): not found in -M", *said][:10]
-        )
-        + "mbox2maildir-admin: a b.mbox: and 1 more\n",
+        complaints(["mbox2maildir-admin: a b.mbox: message 2 (line 7): not found in -M", *said]),
         TZ=NEW_YORK,
     )
     dates_of_headers(home, forms)
@@ -149,6 +219,17 @@ def dates_of_headers(home: Path, forms: Sequence[tuple[str, Optional[str]]]) -> 
     for (form, moment), base in zip(forms, bases):
         wanted = datetime.fromisoformat(moment or "2025-03-04T10:00:00+00:00").timestamp()
         equal(f"the date of {form}, or of its header", moments[base], wanted)
+
+
+def forms_of_headers(home: Path) -> None:
+    """The date of a header in each form."""
+    text = "".join(f"From a\nSubject: {place}\nDate: {form}\n\nhi\n\n" for place, (form, _) in enumerate(HEADERS))
+    mailbox(home / "box", text.encode())
+    equal("the status", run("migrate --now M box", home, TZ=NEW_YORK).status, 0)
+    for path in mail_in(home / "M"):
+        form, moment = HEADERS[int(match_in(r"Subject: (\d+)", path.read_text())[1])]
+        wanted = datetime.fromisoformat(moment).timestamp() if moment else path.stat().st_ctime
+        equal(f"the date of {form}", abs(path.stat().st_mtime - wanted) < (0.1 if moment else 60), True)
 
 
 def dates_that_stay(home: Path) -> None:
@@ -210,4 +291,4 @@ def many_dates(home: Path) -> None:
 
 
 if __name__ == "__main__":
-    check_all(dates, dates_that_stay, many_dates)
+    check_all(dates, forms_of_headers, dates_that_stay, many_dates)

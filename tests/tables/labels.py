@@ -48,6 +48,36 @@ FOLDERS = {
     ".a-b": ["eight", "nine"],
     ".bills, old": ["seven"],
 }
+# fields of a Takeout, as nobody else writes them, and the folders that they give
+FORMS = (
+    (" , ", [".Archive"]),
+    ("A,A,B", [".A", ".B"]),
+    ('"bills, old","say ""x"""', [".bills, old", '.say "x"']),
+    ("Gr\u00fc\u00dfe,A", [".A", ".Gr&APwA3w-e"]),
+    ("=?UTF-8?Q?Gr=C3=BC=C3=9Fe,=22a,_b=22?=", [".Gr&APwA3w-e", ".a, b"]),
+    ("=?utf-8?B?R3LDvMOfZSxJbmJveA==?=", ["", ".Gr&APwA3w-e"]),
+    # a letter in two words
+    ("=?UTF-8?Q?Gr=C3?=\n =?UTF-8?Q?=BC=C3=9Fe,I?=\r\n\t=?UTF-8?Q?nbox?=", ["", ".Gr&APwA3w-e"]),
+    ("Inbox,\r\n B\r\nX-Gmail-Labels: C", ["", ".B"]),
+    ("Inbox,inbox", [""]),
+    ("Junk,Spam,Work.a,Work-a", [".Junk", ".Work-a"]),
+)
+# Gmail's folders in INBOX, Sent, Drafts, Junk, Trash, as it has them over IMAP in some languages
+LANGUAGES = (
+    "Posteingang,Gesendet,Entw\u00fcrfe,Spam,Papierkorb",
+    "Bo\u00eete de r\u00e9ception,Messages envoy\u00e9s,Brouillons,Spam,Corbeille",
+    "Recibidos,Enviados,Borradores,Spam,Papelera",
+    "Posta in arrivo,Posta inviata,Bozze,Spam,Cestino",
+    "Postvak IN,Verzonden,Concepten,Spam,Prullenbak",
+    "Caixa de entrada,Enviados,Rascunhos,Spam,Lixeira",
+)
+GMAILS = ["", ".Sent", ".Drafts", ".Junk", ".Trash"]
+# what was said about labels, what messages have, and the flags that they get
+SAID = (
+    ("", ["Inbox,Opened,Unread", "Inbox,Opened", "Inbox,Starred"], ["", "S", "F"]),
+    ("a=read b=unread c=starred Opened=none", ["a,b", "b,c", "c,a", "Opened"], ["", "F", "FS", ""]),
+    ("Opened=folder x=none", ["Opened", "x"], ["", ""]),
+)
 
 
 def message(subject: str, labels: str, more: str = "", body: str = "hello\n") -> str:
@@ -110,6 +140,40 @@ def each_label_is_a_folder(home: Path) -> None:
     equal("verify of what is gone", run("verify --all M t.mbox", home)[0], 1)
 
 
+def forms_of_fields(home: Path) -> None:
+    """The folders of labels, whatever the form of their field."""
+    rows = [(str(number), labels) for number, (labels, _) in enumerate(FORMS)]
+    # so that no label is one of more than half of the messages
+    takeout(home, [*rows, *[("other", "Important")] * len(FORMS)])
+    text = (home / "t.mbox").read_bytes()
+    mailbox(home / "t.mbox", re.sub(rb"(?m)^(X-GM-THRID.*\n)(X-Gmail-Labels: Inbox,inbox\n)", rb"\2\1", text))
+    expect("migrate --labels M t.mbox", home, 0, None)
+    there = folders_in(home / "M")
+    for number, (labels, folders) in enumerate(FORMS):
+        equal(labels, [folder for folder in sorted(there) if str(number) in there[folder]], folders)
+
+
+def names_of_languages(home: Path) -> None:
+    """Gmail's own names count as soon as INBOX has that of their language, and no English one."""
+    for number, names in enumerate(LANGUAGES):
+        takeout(home, [*zip(GMAILS, names.split(","))])
+        expect(f"migrate --labels M{number} t.mbox", home, 0, None)
+        equal(names, folders_in(home / f"M{number}"), {folder: [folder] for folder in GMAILS})
+    takeout(home, [("one", "Papierkorb"), ("two", "Inbox"), ("three", "Posteingang")])
+    expect("migrate --labels N t.mbox", home, 0, None)
+    equal("of two languages", [*folders_in(home / "N")], ["", ".Papierkorb", ".Posteingang"])
+
+
+def flags_by_what_was_said(home: Path) -> None:
+    """Flags by Gmail's own labels, and by those of which it was said what they give."""
+    for number, (words, labels, flags) in enumerate(SAID):
+        takeout(home, [(str(place), one) for place, one in enumerate(labels)])
+        given = [word for pair in words.split() for word in ("--label", pair)]
+        expect(["migrate", "--labels", *given, f"M{number}", "t.mbox"], home, 0, None)
+        wanted = {str(place): letters for place, letters in enumerate(flags) if letters}
+        equal(words, flags_in(home / f"M{number}"), wanted)
+
+
 def one_folder_for_each(home: Path) -> None:
     """The first label of the user's own; without one Inbox, Sent, Drafts, Spam, Trash; else Archive."""
     takeout(home, [*RESERVED, ("ten", "Trash,Spam,Inbox,Sent"), ("eleven", "Important,Trash,Spam")])
@@ -164,6 +228,51 @@ def a_label_is_asked_about(home: Path) -> None:
     expect([*read[1:], "O", "t.mbox"], home, 0, None)
     equal("what was read", flags_in(home / "O"), dict.fromkeys(["four", "one", "two"], "S"))
     expect([*none[1:], "O", "t.mbox"], home, 1, f"t.mbox: left (another-reading): ...\n{UNDO.replace(' M ', ' O ')}")
+
+
+def several_labels_are_asked_about(home: Path) -> None:
+    """Of several such labels each may be the mark of what was read. Half of the messages are not more than half. Many
+    folders are asked about too."""
+    takeout(home, [("one", "x,y"), ("two", "y,x"), ("three", "y")])
+    asks = ["migrate", "--labels", "M", "t.mbox"]
+    row = by_json(asks, home).row
+    says = "more than half of the messages have the labels x and y, so it may be a mark of Gmail's and no folder: {}"
+    equal("what is said", row["says"], says.format("2 and 3 of 3"))
+    answers = [re.findall(r"--label \S=(\w+)", command) for command in row.commands]
+    equal("the answers", answers, [["none"] * 2, ["folder"] * 2, ["read", "none"], ["none", "read"]])
+    row = by_json([*asks[:2], "--label", "x=none", *asks[2:]], home).row
+    equal("of the other one", "the label y, " in row["says"], True)
+    takeout(home, [(str(number), f"l{number},{'xy'[number % 2]}") for number in range(2)])
+    expect(asks, home, 0, None)
+    takeout(home, [(str(number), f"l{number}") for number in range(2001)], "many")
+    row = by_json("migrate --labels N many", home).row
+    options = [re.findall("--labels .* N", command) for command in row.commands]
+    wanted = ("its labels give 2001 folders", [["--labels all N"], ["--labels one N"]])
+    equal("of many folders", (row["says"], options), wanted)
+
+
+def mail_that_was_only_prepared(home: Path) -> None:
+    """Its folder would have it beside those of the labels, so it is undone first, by the command that is printed."""
+    takeout(home)
+    expect("migrate --prepare M t.mbox", home, 0, None)
+    row = by_json("migrate --labels M t.mbox", home).row
+    equal("the row", (row["reason"], len(folders_in(home / "M")[""])), ("prepared", 9))
+    equal("its undo", run_printed(row.command, home).status, 0)
+    expect("migrate --labels M t.mbox", home, 0, None)
+    equal("the folders", folders_in(home / "M"), FOLDERS)
+
+
+def many_lose_a_label(home: Path) -> None:
+    """They are in the Takeout all the same, so it is no other mailbox. One that has none of them is."""
+    old, new = ([(f"{word}{number}", "Inbox,Opened") for number in range(8)] for word in ("old", "new"))
+    takeout(home, old)
+    expect(LABELS, home, 0, None)
+    takeout(home, [*((subject, "Trash,Opened") for subject, _ in old), *new])
+    said = [one["says"] for one in by_json("migrate --labels M t.mbox", home).of("t.mbox")["remarks"][:2]]
+    wanted = ["it grew by 8 messages", "the label was taken from 8 messages; the mail stays here"]
+    equal("what is said", said, wanted)
+    takeout(home, [(f"other{number}", "Inbox") for number in range(8)])
+    equal("another one", by_json("migrate --labels M t.mbox", home).row["reason"], "rewritten")
 
 
 def a_label_says_what_was_read(home: Path) -> None:
@@ -346,8 +455,14 @@ def the_command_for_an_archive_leads_to_its_mailbox(home: Path) -> None:
 if __name__ == "__main__":
     check_all(
         each_label_is_a_folder,
+        forms_of_fields,
+        names_of_languages,
+        flags_by_what_was_said,
         one_folder_for_each,
         a_label_is_asked_about,
+        several_labels_are_asked_about,
+        mail_that_was_only_prepared,
+        many_lose_a_label,
         a_label_says_what_was_read,
         a_label_gives_no_folder,
         only_a_takeout_has_labels,

@@ -1,4 +1,4 @@
-"""Dates of files. The dates of lines are in test_dates."""
+"""Dates of files. The dates of lines are in tests/tables/dates.py."""
 import os
 import unittest
 from typing import Any, Optional
