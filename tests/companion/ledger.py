@@ -9,19 +9,19 @@ from functools import partial
 
 from tests.support.archives import (
     PROGRAMS,
-    RECORD,
     RO,
     TEN,
     Fields,
     Home,
-    Rule,
     letter,
     letters,
     mail_of,
+    rules_in,
     run_rules,
-    texts_of,
     want_offered,
     want_said,
+    want_unsaid,
+    says,
 )
 from tests.support.cases import Failed
 from tests.support.ledgers import as_if_killed
@@ -33,50 +33,39 @@ NONE, DOVECOT = [], ["--dovecot"]  # type: list[str], list[str]
 def rule_1_killed_under_a_name_that_it_had(home: Home) -> None:
     """A reader deletes a message, of which the mailbox has one more then. A run is killed once it has placed that under
     the name of the first: it is there once, and the first is not brought again."""
-    home.write("OLD", letters(0))
-    home.done("OLD")
+    home.bring(OLD=letters(0))
     home.take(0)
-    home.write("OLD", letters(0, 0))
+    home.bring(OLD=letters(0, 0))
+    home.has(0)
+    home.forget_end()
     home.done("OLD")
     home.has(0)
-    for path in home.ledger(), home.maildir / RECORD:
-        path.write_bytes(b"".join(path.read_bytes().splitlines(True)[:-1]))
-    row = home.done("OLD")["OLD"]
-    home.has(0, why=row)
 
 
 def rule_1_killed_again(home: Home) -> None:
     """A run with --again is killed that has nothing to place. The mailbox gets one more of a message that it has twice,
     whose last two have the names of the files that are there: it is there three times, also if another program has
     renamed a file."""
-    for is_renamed in (False, True):
-        home.begin()
-        home.write("OLD", letters(0, 0))
-        home.done("OLD")
+    for is_renamed in home.each((False, True)):
+        home.bring(OLD=letters(0, 0))
         path = home.those(0)[0]
         path.rename(path.parent.parent / "cur" / ("17000.1.host:2,S" if is_renamed else path.name))
         home.done("OLD", words=["--again"])
-        for path in home.ledger(), home.maildir / RECORD:
-            path.write_bytes(b"".join(path.read_bytes().splitlines(True)[:-1]))
-        home.write("OLD", letter(0) + letter(0, RO) + letter(0))
-        row = home.done("OLD")["OLD"]
-        home.has(0, 0, 0, why=(is_renamed, row))
+        home.forget_end()
+        home.bring(OLD=letter(0) + letter(0, RO) + letter(0))
+        home.has(0, 0, 0)
 
 
 def rule_1_killed_and_taken_by_another(home: Home) -> None:
     """A run was killed once all was placed. Another mailbox takes a file of it, and its row says so, whatever became of
     the message in the first one."""
-    for later in (range(5), range(3)):
-        home.begin()
-        home.write("OLD", letters(*range(5)))
-        home.done("OLD")
+    for later in home.each((range(5), range(3))):
+        home.bring(OLD=letters(*range(5)))
         as_if_killed(home.maildir)
         if len(later) < 5:
-            home.write("OLD", letters(*later))
-            home.done("OLD")
-        home.write("OTHER", letters(4, 7))
-        row = home.done("OTHER")["OTHER"]
-        home.has(*range(5), 7, why=row)
+            home.bring(OLD=letters(*later))
+        row = home.bring(OTHER=letters(4, 7))["OTHER"]
+        home.has(*range(5), 7)
         want_said(row, 1, "already", "OLD")
 
 
@@ -84,17 +73,14 @@ def fields_change(home: Home, fields: Fields, words: Sequence[str]) -> None:
     """A mail program changes its fields in each message. Nothing is placed, what is new then is placed once, and the
     mailbox can be undone."""
     home.begin()
-    home.write("OLD", letters(*range(8), fields=fields.before))
-    home.done("OLD", words=words)
+    home.bring(OLD=letters(*range(8), fields=fields.before), words=words)
     home.take(3)
     names = home.names()
-    home.write("OLD", letters(*range(8), fields=fields.after))
-    ran = home.done("OLD", words=words)
+    ran = home.bring(OLD=letters(*range(8), fields=fields.after), words=words)
     if {name.split(":")[0] for name in home.names()} != {name.split(":")[0] for name in names}:
         raise Failed(f"{fields}: other files: {ran.text}")
-    home.write("OLD", letters(*range(9), fields=fields.after))
-    ran = home.done("OLD", words=words)
-    home.has(*range(3), *range(4, 9), why=(fields, ran.text))
+    home.bring(OLD=letters(*range(9), fields=fields.after), words=words)
+    home.has(*range(3), *range(4, 9), why=fields)
     home.undo("OLD")
     home.has()
 
@@ -107,16 +93,13 @@ def rule_2_the_fields_of(home: Home, fields: Fields) -> None:
 
 def rule_2_the_fields_of_another_mailbox(home: Home) -> None:
     """Mailboxes that have the same messages with other fields share them."""
-    for fields in PROGRAMS.values():
-        home.begin()
-        home.write("OLD", letters(*range(6), fields=fields.before))
-        home.write("NEWER", letters(*range(2, 8), fields=fields.after))
-        ran = home.done("OLD", "NEWER")
-        home.has(*range(8), why=(fields, ran.text))
+    for fields in home.each(PROGRAMS.values()):
+        home.bring(OLD=letters(*range(6), fields=fields.before), NEWER=letters(*range(2, 8), fields=fields.after))
+        home.has(*range(8))
         home.undo("OLD")
-        home.has(*range(2, 8), why=fields)
+        home.has(*range(2, 8))
         home.undo("NEWER")
-        home.has(why=fields)
+        home.has()
 
 
 SERVED = letter(0, b"X-IMAPbase: 1700000000 0000000010\nX-UID: 1\n")
@@ -143,21 +126,16 @@ OTHER_BYTES = {
 
 def rule_2_only_the_cores_are_equal(home: Home) -> None:
     """Between mailboxes a message with other bytes is placed, and counted."""
-    for what, (first, then) in OTHER_BYTES.items():
-        home.begin()
-        home.write("OLD", first + letter(1))
-        home.done("OLD")
-        home.write("OTHER", then + letter(2, RO) + letter(1, RO))
-        row = home.done("OTHER")["OTHER"]
-        home.has(0, 0, 1, 2, why=(what, row))
+    for what, (first, then) in home.each(OTHER_BYTES.items()):
+        home.bring(OLD=first + letter(1))
+        row = home.bring(OTHER=then + letter(2, RO) + letter(1, RO))["OTHER"]
+        home.has(0, 0, 1, 2)
         want_said(row, 1)
 
 
 def rule_2_another_mailbox_in_crlf(home: Home) -> None:
     """A mailbox whose lines end in CR LF has the same messages: its files have none of these."""
-    home.write("OLD", letters(0, 1))
-    home.write("OTHER", in_crlf(letters(0, 1, 2)))
-    home.done("OLD", "OTHER")
+    home.bring(OLD=letters(0, 1), OTHER=in_crlf(letters(0, 1, 2)))
     home.has(0, 1, 2)
 
 
@@ -175,11 +153,9 @@ PARTLY_CRLF = {
 def rule_2_some_messages_in_crlf(home: Home) -> None:
     """Nothing is asked. Each message loses the CR that the program has added which wrote its From_ line, and no
     other."""
-    for what, (text, count, cr) in PARTLY_CRLF.items():
-        home.begin("--dovecot", "--folder", "Archive")
-        home.write("OLD", text)
-        ran = home.done("OLD")
-        home.has(*range(count), why=(what, ran.text))
+    for what, (text, count, cr) in home.each(PARTLY_CRLF.items(), words=["--dovecot", "--folder", "Archive"]):
+        home.bring(OLD=text)
+        home.has(*range(count))
         if b"".join(path.read_bytes() for path in home.files()).count(b"\r") != len(cr):
             raise Failed(f"{what}: {home.names()}")
 
@@ -187,21 +163,16 @@ def rule_2_some_messages_in_crlf(home: Home) -> None:
 def rule_2_the_same_mailbox_with_other_line_ends(home: Home) -> None:
     """A mailbox that was converted to CR LF, and back, has brought its mail already."""
     text, more = letters(0, 1, 2) + letter(3, body=FROM % b">"), letter(4)
-    for first, then in ((text, in_crlf(text + more)), (in_crlf(text), text + more)):
-        home.begin()
-        home.write("OLD", first)
-        home.done("OLD")
+    for first, then in home.each(((text, in_crlf(text + more)), (in_crlf(text), text + more))):
+        home.bring(OLD=first)
         home.take(1)
-        home.write("OLD", then)
-        home.done("OLD")
+        home.bring(OLD=then)
         home.has(0, 2, 3, 4)
 
 
 def rule_2_verified(home: Home) -> None:
     """What is there already with other fields of mail programs is whole for `verify`, as often as it is there."""
-    home.write("OLD", letters(0, 1, 1, fields=RO))
-    home.write("OTHER", letters(1, 2))
-    home.done("OLD", "OTHER")
+    home.bring(OLD=letters(0, 1, 1, fields=RO), OTHER=letters(1, 2))
     home.has(0, 1, 1, 2)
     home.write("MORE", letters(1, 1, 1, 2))
     for name, deleted, wanted in (("OTHER", (), (2, 1, 0)), ("MORE", (), (3, 2, 1)), ("OTHER", (1, 1), (1, 0, 1))):
@@ -213,12 +184,9 @@ def rule_2_verified(home: Home) -> None:
 
 def rule_2_deleted(home: Home) -> None:
     """A file that is marked as deleted serves no message that is not."""
-    for mark in (b"Status: ROD\n", b"Status: RO\nX-Status: D\n", b"X-Evolution: 00000001-0012\n"):
-        home.begin()
-        home.write("OLD", letters(0, 1, 2, fields=mark))
-        home.done("OLD")
-        home.write("OTHER", letters(1, 2, 3, fields=RO))
-        home.done("OTHER")
+    for mark in home.each((b"Status: ROD\n", b"Status: RO\nX-Status: D\n", b"X-Evolution: 00000001-0012\n")):
+        home.bring(OLD=letters(0, 1, 2, fields=mark))
+        home.bring(OTHER=letters(1, 2, 3, fields=RO))
         for number in (1, 2, 3):
             if all("T" in path.name.partition(":2,")[2] for path in home.those(number)):
                 raise Failed(f"{mark!r}: {number} is there as deleted alone")
@@ -226,21 +194,17 @@ def rule_2_deleted(home: Home) -> None:
 
 def rule_2_deleted_by_a_reader(home: Home) -> None:
     """The same of a file that a reader has marked."""
-    home.write("OLD", letters(0, 1))
-    home.done("OLD")
+    home.bring(OLD=letters(0, 1))
     for path in home.those(1):
         path.rename(path.parent.parent / "cur" / (path.name.split(":")[0] + ":2,ST"))
-    home.write("OTHER", letters(1, 2, fields=RO))
-    home.done("OTHER")
+    home.bring(OTHER=letters(1, 2, fields=RO))
     if all("T" in path.name.partition(":2,")[2] for path in home.those(1)):
         raise Failed(f"1 is there as deleted alone: {home.names().keys()}")
 
 
 def rule_2_flags(home: Home) -> None:
     """Of flags the union is given, or the row counts those whose flags differ."""
-    home.write("OLD", letters(0, 1, 2, fields=b"Status: O\n"))
-    home.write("READ", letters(1, 2, 3, fields=b"Status: RO\n"))
-    row = home.done("OLD", "READ")["READ"]
+    row = home.bring(OLD=letters(0, 1, 2, fields=b"Status: O\n"), READ=letters(1, 2, 3, fields=b"Status: RO\n"))["READ"]
     home.has(0, 1, 2, 3)
     unread = [number for number in (1, 2) if "S" not in home.those(number)[0].name.partition(":2,")[2]]
     if unread:
@@ -292,64 +256,50 @@ def rule_3_never_again(home: Home, where: Callable[[Home, bytes], str]) -> None:
             if what == "has CR LF" and where is not stays:
                 continue
             home.begin()
-            home.write("OLD", letters(*TEN))
-            home.done("OLD")
+            home.bring(OLD=letters(*TEN))
             home.take(2)
             name = where(home, made(new))
             for _ in range(2):
-                ran = home.done(name)
-                home.has(0, 1, *TEN[3:], *new, why=(what, ran.text))
+                home.done(name)
+                home.has(0, 1, *TEN[3:], *new, why=what)
 
 
 def rule_3_then_it_grows_again(home: Home) -> None:
     """A mailbox is changed and looked at, and grows after that."""
-    for what, made in MADE.items():
-        home.begin()
-        home.write("OLD", letters(*TEN))
-        home.done("OLD")
+    for what, made in home.each(MADE.items()):
+        home.bring(OLD=letters(*TEN))
         home.take(2)
-        home.write("OLD", made([]))
-        home.done("OLD")
-        home.write("OLD", made([11, 12]))
-        ran = home.done("OLD")
-        home.has(0, 1, *TEN[3:], 11, 12, why=(what, ran.text))
+        home.bring(OLD=made([]))
+        home.bring(OLD=made([11, 12]))
+        home.has(0, 1, *TEN[3:], 11, 12)
 
 
 def rule_3_with_and_without_dovecot(home: Home) -> None:
     """A mailbox that was done without --dovecot grows, and is done with it, or the other way round."""
-    for first, then in ((NONE, DOVECOT), (DOVECOT, NONE)):
-        home.begin()
-        home.write("OLD", letters(*TEN, fields=RO))
-        home.done("OLD", words=first)
+    for first, then in home.each(((NONE, DOVECOT), (DOVECOT, NONE))):
+        home.bring(OLD=letters(*TEN, fields=RO), words=first)
         home.take(2)
-        home.write("OLD", letters(*TEN, 10, fields=RO))
-        ran = home.done("OLD", words=then)
-        home.has(0, 1, *TEN[3:], 10, why=ran.text)
+        home.bring(OLD=letters(*TEN, 10, fields=RO), words=then)
+        home.has(0, 1, *TEN[3:], 10)
 
 
 def rule_3_stands_in_it_again(home: Home) -> None:
     """Mail was deleted in the Maildir and in the mailbox, and `migrate` has seen that. Then the mailbox comes from a
     backup: what was deleted comes back, and that is said."""
-    home.write("OLD", letters(*TEN))
-    home.done("OLD")
+    home.bring(OLD=letters(*TEN))
     home.take(2, 5)
-    home.write("OLD", letters(0, 1, 3, 4, 6, 7, 8, 9))
-    home.done("OLD")
+    home.bring(OLD=letters(0, 1, 3, 4, 6, 7, 8, 9))
     home.has(0, 1, 3, 4, 6, 7, 8, 9)
-    home.write("OLD", letters(*TEN))
-    row = home.done("OLD")["OLD"]
-    home.has(*TEN, why=row)
+    row = home.bring(OLD=letters(*TEN))["OLD"]
+    home.has(*TEN)
     want_said(row, 2)
 
 
 def rule_3_stands_in_it_again_and_is_there(home: Home) -> None:
     """The same of mail that was not deleted in the Maildir: nothing is placed."""
-    home.write("OLD", letters(*TEN))
-    home.done("OLD")
-    home.write("OLD", letters(0, 1, 2))
-    home.done("OLD")
-    home.write("OLD", letters(*TEN))
-    home.done("OLD")
+    home.bring(OLD=letters(*TEN))
+    home.bring(OLD=letters(0, 1, 2))
+    home.bring(OLD=letters(*TEN))
     home.has(*TEN)
     home.undo("OLD")
     home.has()
@@ -357,11 +307,9 @@ def rule_3_stands_in_it_again_and_is_there(home: Home) -> None:
 
 def rule_3_restored_before_a_run(home: Home) -> None:
     """The same, and no run has seen that the mailbox lost mail: what was deleted stays so."""
-    home.write("OLD", letters(*TEN))
-    home.done("OLD")
+    home.bring(OLD=letters(*TEN))
     home.take(2, 5)
-    home.write("OLD", letters(*TEN))
-    row = home.done("OLD")["OLD"]
+    row = home.bring(OLD=letters(*TEN))["OLD"]
     home.has(0, 1, 3, 4, 6, 7, 8, 9)
     want_said(row, 2, "gone")
 
@@ -374,13 +322,10 @@ def with_edited(count: int, edited: int) -> bytes:
 
 def rule_3_edited(home: Home) -> None:
     """A message whose text was edited counts as new, and the row says so. The one of before stays."""
-    for count, edited in ((2, 1), (10, 3), (5, 3), (60, 6)):
-        home.begin()
-        home.write("OLD", letters(*range(count)))
-        home.done("OLD")
-        home.write("OLD", with_edited(count, edited))
-        row = home.done("OLD")["OLD"]
-        home.has(*range(count), *range(edited), why=row)
+    for count, edited in home.each(((2, 1), (10, 3), (5, 3), (60, 6))):
+        home.bring(OLD=letters(*range(count)))
+        row = home.bring(OLD=with_edited(count, edited))["OLD"]
+        home.has(*range(count), *range(edited))
         want_said(row, edited)
         home.undo("OLD")
         # the mailbox has no longer what was there before
@@ -390,12 +335,9 @@ def rule_3_edited(home: Home) -> None:
 def rule_3_edited_as_a_whole(home: Home) -> None:
     """If more than a tenth and more than three were edited, the mailbox is left, with --again, which places what is
     nowhere."""
-    for count, edited in ((10, 4), (4, 4), (60, 7), (30, 30)):
-        home.begin()
-        home.write("OLD", letters(*range(count)))
-        home.done("OLD")
-        home.write("OLD", with_edited(count, edited))
-        want_offered(home.left("OLD"), "--again")
+    for count, edited in home.each(((10, 4), (4, 4), (60, 7), (30, 30))):
+        home.bring(OLD=letters(*range(count)))
+        want_offered(home.left("OLD", with_edited(count, edited)), "--again")
         home.done("OLD", words=["--again"])
         home.has(*range(count), *range(edited))
         home.done("OLD")
@@ -404,23 +346,18 @@ def rule_3_edited_as_a_whole(home: Home) -> None:
 
 def rule_3_lost_and_grown(home: Home) -> None:
     """A mailbox that lost more than is new was not edited."""
-    home.write("OLD", letters(*range(20)))
-    home.done("OLD")
-    home.write("OLD", letters(*range(6, 20), *range(20, 25)))
-    home.done("OLD")
+    home.bring(OLD=letters(*range(20)))
+    home.bring(OLD=letters(*range(6, 20), *range(20, 25)))
     home.has(*range(25))
 
 
 def rule_4_what_another_brought(home: Home) -> None:
     """What a mailbox brought and a reader deleted is not placed for another one. --again places it."""
-    for fields in (b"", RO):
-        home.begin()
-        home.write("OLD", letters(*TEN))
-        home.done("OLD")
+    for fields in home.each((b"", RO)):
+        home.bring(OLD=letters(*TEN))
         home.take(3, 4, 7)
-        home.write("OTHER", letters(*range(3, 13), fields=fields))
-        row = home.done("OTHER")["OTHER"]
-        home.has(0, 1, 2, 5, 6, *range(8, 13), why=row)
+        row = home.bring(OTHER=letters(*range(3, 13), fields=fields))["OTHER"]
+        home.has(0, 1, 2, 5, 6, *range(8, 13))
         want_said(row, 3, "OLD", "gone")
         home.done("OTHER")
         home.has(0, 1, 2, 5, 6, *range(8, 13))
@@ -432,12 +369,10 @@ def rule_4_what_another_brought(home: Home) -> None:
 
 def rule_4_the_last_brought_it(home: Home) -> None:
     """The same where all of a mailbox was deleted."""
-    home.write("OLD", letters(*TEN))
-    home.done("OLD")
+    home.bring(OLD=letters(*TEN))
     home.take(*TEN)
-    home.write("OTHER", letters(*TEN))
-    row = home.done("OTHER")["OTHER"]
-    home.has(why=row)
+    row = home.bring(OTHER=letters(*TEN))["OTHER"]
+    home.has()
     want_said(row, 10)
     home.done("OTHER", words=["--again"])
     home.has(*TEN)
@@ -445,17 +380,14 @@ def rule_4_the_last_brought_it(home: Home) -> None:
 
 def rule_5_equal_messages(home: Home) -> None:
     """Each of equal messages counts, and of those that mailboxes share the most that one has."""
-    home.write("OLD", letters(0, 1, 1))
-    home.done("OLD")
+    home.bring(OLD=letters(0, 1, 1))
     home.has(0, 1, 1)
-    home.write("OTHER", letters(1, 1, 1, fields=RO))
-    home.done("OTHER")
+    home.bring(OTHER=letters(1, 1, 1, fields=RO))
     home.has(0, 1, 1, 1)
     home.take(1)
     home.done("OLD", "OTHER")
     home.has(0, 1, 1)
-    home.write("OLD", letters(0, 1, 1, 1, 1))
-    home.done("OLD")
+    home.bring(OLD=letters(0, 1, 1, 1, 1))
     home.has(0, 1, 1, 1)
     home.done("OLD", words=["--again"])
     home.has(0, 1, 1, 1, 1)
@@ -463,47 +395,37 @@ def rule_5_equal_messages(home: Home) -> None:
 
 def rule_5_one_more(home: Home) -> None:
     """One of three equal messages was deleted, whichever, and the mailbox has one more then: that one is placed."""
-    for place in range(3):
-        for is_read in (False, True):
-            home.begin()
-            home.write("OLD", letters(5, 5, 5))
-            home.done("OLD")
-            home.those(5)[place].unlink()
-            if is_read:
-                path = home.those(5)[0]
-                path.rename(path.parent.parent / "cur" / (path.name + ":2,S"))
-            home.write("OLD", letters(5, 5, 5, 5, 6))
-            ran = home.done("OLD")
-            home.has(5, 5, 5, 6, why=(place, ran.text))
-            home.done("OLD")
-            home.has(5, 5, 5, 6, why=place)
+    for place, is_read in home.each(range(3), (False, True)):
+        home.bring(OLD=letters(5, 5, 5))
+        home.those(5)[place].unlink()
+        if is_read:
+            path = home.those(5)[0]
+            path.rename(path.parent.parent / "cur" / (path.name + ":2,S"))
+        home.bring(OLD=letters(5, 5, 5, 5, 6))
+        home.has(5, 5, 5, 6)
+        home.done("OLD")
+        home.has(5, 5, 5, 6)
 
 
 def rule_5_renamed(home: Home) -> None:
     """Another program gave files of equal messages names of its own. They are still those that the mailbox brought, and
     none came back."""
-    for count in range(1, 4):
-        home.begin()
-        home.write("OLD", letters(5, 5, 5))
-        home.done("OLD")
+    for count in home.each(range(1, 4)):
+        home.bring(OLD=letters(5, 5, 5))
         for number, path in enumerate(home.those(5)[:count]):
             path.rename(path.parent.parent / f"cur/17000.{number}.host:2,S")
-        home.write("OLD", letters(5, 5, 5, 5))
-        row = home.done("OLD")["OLD"]
-        home.has(5, 5, 5, 5, why=(count, row))
-        if "came back" in texts_of(row):
-            raise Failed(f"nobody deleted any: {row}")
+        row = home.bring(OLD=letters(5, 5, 5, 5))["OLD"]
+        home.has(5, 5, 5, 5)
+        want_unsaid(row, "came back")
 
 
 def rule_5_renamed_and_grown(home: Home) -> None:
     """Each time that a mailbox of equal messages has grown, another program renames a file, whose name is taken anew
     then. Lines are counted, not names: each new message is placed."""
-    for place in range(4):
-        home.begin()
+    for place in home.each(range(4)):
         for count in range(2, 9):
-            home.write("OLD", letters(*[5] * count))
-            ran = home.done("OLD")
-            home.has(*[5] * count, why=(place, ran.text))
+            home.bring(OLD=letters(*[5] * count))
+            home.has(*[5] * count)
             own = [path for path in home.those(5) if not path.name.startswith("17")]
             if own:
                 path = own[place % len(own)]
@@ -514,28 +436,23 @@ def rule_5_shared_and_renamed(home: Home) -> None:
     """Another program gave the file of a message a name of its own that two mailboxes share, and the old name is taken
     anew. As the two grow, each equal message is there as often as one of them has it, in any form."""
     uid = b"X-UID: 3\n"
-    for first, then in (([uid, b"", RO], [RO, RO, b""]), ([uid, uid, b""], [RO, RO, b""]), ([RO, RO], [uid, uid])):
-        home.begin()
-        home.write("OLD", letter(3, uid))
-        home.write("TWIN", letter(3, RO))
-        home.done("OLD", "TWIN")
-        path = home.those(3)[0]
-        path.rename(path.parent.parent / "cur/17000.1.host:2,S")
+    for first, then in home.each(
+        (([uid, b"", RO], [RO, RO, b""]), ([uid, uid, b""], [RO, RO, b""]), ([RO, RO], [uid, uid]))
+    ):
+        home.bring(OLD=letter(3, uid), TWIN=letter(3, RO))
+        home.rename(3)
         for name, forms in (("OLD", [*first, uid]), ("TWIN", [*then, RO])):
-            home.write(name, b"".join(letter(3, form) for form in forms))
-            ran = home.done(name)
-            home.has(*[3] * len(forms), why=(first, then, ran.text))
+            home.done(home.write(name, b"".join(letter(3, form) for form in forms)))
+            home.has(*[3] * len(forms))
 
 
 def rule_5_a_copy(home: Home) -> None:
     """A reader made a copy of a message. It was nobody's: it serves one more of a mailbox, and no undo removes it."""
-    home.write("OLD", letters(0, 1))
-    home.done("OLD")
+    home.bring(OLD=letters(0, 1))
     home.place_file("17000.1.host:2,S", mail_of(letters(1))[0])
     home.done("OLD")
     home.has(0, 1, 1)
-    home.write("OTHER", letters(1, 1, 2))
-    home.done("OTHER")
+    home.bring(OTHER=letters(1, 1, 2))
     home.has(0, 1, 1, 2)
     home.undo("OTHER", "OLD")
     home.has(1)
@@ -544,25 +461,18 @@ def rule_5_a_copy(home: Home) -> None:
 def rule_5_a_name_that_no_line_can_have(home: Home) -> None:
     """A file of such a name is that of one message: its mailbox, or another one, has the message twice. If a mailbox
     lost one of two, and its file is deleted, another mailbox does not bring that."""
-    for then in ("OLD", "OTHER"):
-        home.begin()
-        home.write("FIRST", letters(20))
-        home.done("FIRST")
+    for then in home.each(("OLD", "OTHER")):
+        home.bring(FIRST=letters(20))
         home.place_file("a name", mail_of(letters(0))[0])
-        home.write("OLD", letters(0))
-        home.done("OLD")
-        home.write(then, letters(0, 0))
-        row = home.done(then)[then]
-        home.has(0, 0, 20, why=(then, row))
+        home.bring(OLD=letters(0))
+        home.done(home.write(then, letters(0, 0)))
+        home.has(0, 0, 20)
     files = [home.place_file(f"{number} name", mail_of(letters(1))[0]) for number in range(2)]
-    home.write("OLD", letters(0, 1, 1))
-    home.done("OLD")
-    home.write("OLD", letters(0, 1))
-    home.done("OLD")
+    home.bring(OLD=letters(0, 1, 1))
+    home.bring(OLD=letters(0, 1))
     files[0].unlink()
-    home.write("THIRD", letters(1, 1))
-    row = home.done("THIRD")["THIRD"]
-    home.has(0, 0, 1, 20, why=row)
+    home.bring(THIRD=letters(1, 1))
+    home.has(0, 0, 1, 20)
 
 
 FORMS = [b"", RO, b"X-UID: 3\n", b"Status: O\nX-UID: 4\n"]
@@ -570,11 +480,9 @@ FORMS = [b"", RO, b"X-UID: 3\n", b"Status: O\nX-UID: 4\n"]
 
 def rule_5_in_several_forms(home: Home) -> None:
     """A mailbox has a message in several forms, and others have it in some of these."""
-    home.write("OLD", b"".join(letter(1, one) for one in FORMS[:3]))
-    home.done("OLD")
+    home.bring(OLD=b"".join(letter(1, one) for one in FORMS[:3]))
     home.has(1, 1, 1)
-    home.write("OTHER", b"".join(letter(1, one) for one in [FORMS[3], *FORMS[1:3], FORMS[3], FORMS[3]]))
-    home.done("OTHER")
+    home.bring(OTHER=b"".join(letter(1, one) for one in [FORMS[3], *FORMS[1:3], FORMS[3], FORMS[3]]))
     home.has(1, 1, 1, 1, 1)
     home.undo("OLD")
     home.has(1, 1, 1, 1, 1)
@@ -586,92 +494,44 @@ def rule_5_in_two_bare_forms(home: Home) -> None:
     """A file stands for a message in its form first, whoever placed it: with --again, and after a killed run. So each
     form is there as often as one mailbox has it."""
     one, other = (b"hello\n%sFrom the shed.\n" % quotes for quotes in (b">", b">>"))
-    home.write("OLD", letter(0, body=one))
-    home.done("OLD")
-    home.write("OTHER", letter(0, body=other) + letter(0, body=one))
-    home.done("OTHER", words=["--again"])
-    home.write("OLD", (letter(0, body=one) + letter(0, body=other)) * 2)
-    row = home.done("OLD")["OLD"]
-    home.has(0, 0, 0, 0, why=row)
+    home.bring(OLD=letter(0, body=one))
+    home.bring(OTHER=letter(0, body=other) + letter(0, body=one), words=["--again"])
+    home.bring(OLD=(letter(0, body=one) + letter(0, body=other)) * 2)
+    home.has(0, 0, 0, 0)
     home.begin()
-    home.write("OLD", letter(0, body=one) * 2)
-    home.done("OLD")
+    home.bring(OLD=letter(0, body=one) * 2)
     as_if_killed(home.maildir)
-    home.write("OTHER", letter(0, body=other))
-    home.done("OTHER")
-    home.write("OLD", letter(0, RO, other) + letter(0, RO, one) * 2)
-    row = home.done("OLD")["OLD"]
-    home.has(0, 0, 0, why=row)
+    home.bring(OTHER=letter(0, body=other))
+    home.bring(OLD=letter(0, RO, other) + letter(0, RO, one) * 2)
+    home.has(0, 0, 0)
     home.begin()
-    home.write("OTHER", letter(0, body=one))
-    home.write("OLD", letter(0, body=one))
-    home.done("OTHER", "OLD")
+    home.bring(OTHER=letter(0, body=one), OLD=letter(0, body=one))
     as_if_killed(home.maildir)
     home.write("OLD", letter(0, body=other) + letter(0, body=one))
     home.done("OTHER", "OLD")
-    home.write("OTHER", letter(0, body=one) + letter(0, body=other))
-    row = home.done("OTHER")["OTHER"]
-    home.has(0, 0, why=row)
+    home.bring(OTHER=letter(0, body=one) + letter(0, body=other))
+    home.has(0, 0)
 
 
 def rule_5_renamed_in_two_bare_forms(home: Home) -> None:
     """Other programs rename the files of such messages before --again, and one of them after it. One more message of
     its form is placed."""
     one, other = (letter(0, body=b"hello\n%sFrom the shed.\n" % quotes) for quotes in (b">", b">>"))
-    for text in (one + other, other + one):
-        home.begin()
-        home.write("OLD", text)
-        home.done("OLD")
+    for text in home.each((one + other, other + one)):
+        home.bring(OLD=text)
         for number, path in enumerate(home.those(0)):
             path.rename(path.parent.parent / f"cur/1700{number}.host:2,S")
         home.done("OLD", words=["--again"])
         path = next(path for path in home.those(0) if b">From" not in path.read_bytes())
         path.rename(path.with_name("18000.host:2,S"))
-        home.write("OLD", text + one)
-        row = home.done("OLD")["OLD"]
-        home.has(0, 0, 0, why=row)
-
-
-RULES = [
-    rule_1_killed_under_a_name_that_it_had,
-    rule_1_killed_again,
-    rule_1_killed_and_taken_by_another,
-    rule_2_the_fields_of_another_mailbox,
-    rule_2_only_the_cores_are_equal,
-    rule_2_another_mailbox_in_crlf,
-    rule_2_some_messages_in_crlf,
-    rule_2_the_same_mailbox_with_other_line_ends,
-    rule_2_verified,
-    rule_2_deleted,
-    rule_2_deleted_by_a_reader,
-    rule_2_flags,
-    rule_3_then_it_grows_again,
-    rule_3_with_and_without_dovecot,
-    rule_3_stands_in_it_again,
-    rule_3_stands_in_it_again_and_is_there,
-    rule_3_restored_before_a_run,
-    rule_3_edited,
-    rule_3_edited_as_a_whole,
-    rule_3_lost_and_grown,
-    rule_4_what_another_brought,
-    rule_4_the_last_brought_it,
-    rule_5_equal_messages,
-    rule_5_one_more,
-    rule_5_renamed,
-    rule_5_renamed_and_grown,
-    rule_5_shared_and_renamed,
-    rule_5_a_copy,
-    rule_5_a_name_that_no_line_can_have,
-    rule_5_in_several_forms,
-    rule_5_in_two_bare_forms,
-    rule_5_renamed_in_two_bare_forms,
-]  # type: list[Rule]
+        home.bring(OLD=text + one)
+        home.has(0, 0, 0)
 
 
 def main() -> None:
     rules = {f"rule_2_{name}": partial(rule_2_the_fields_of, fields=fields) for name, fields in PROGRAMS.items()}
     rules.update((f"rule_3_{where.__name__}", partial(rule_3_never_again, where=where)) for where in WHERE)
-    run_rules({**rules, **{rule.__name__: rule for rule in RULES}})
+    run_rules({**rules, **rules_in(globals())})
 
 
 if __name__ == "__main__":

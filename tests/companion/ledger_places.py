@@ -5,7 +5,6 @@ records of versions before 0.5.0. Nothing is doubled or lost unsaid. The environ
 worlds are tried.
 """
 import gzip
-import itertools
 import os
 import shutil
 from collections import Counter
@@ -17,10 +16,10 @@ from tests.support.archives import (
     RO,
     Home,
     Outcome,
-    Rule,
     letter,
     letters,
     mail_of,
+    rules_in,
     run_rules,
     says,
     texts_of,
@@ -36,14 +35,14 @@ from tests.support.running import Kill, Row
 
 SEEDS = int(os.environ.get("LEDGER_SEEDS", "8"))
 FIVE = range(5)
+JOBS = ["--jobs", "1"]
 
 
 def rule_1_killed_and_deleted(home: Home) -> None:
     """A run is killed at any moment, and a reader deletes a message that it has placed. If the message comes back, that
     is counted, and if it does not, it counts as gone. All else is there once."""
     draw = Random(1)
-    for _ in range(SEEDS):
-        home.begin()
+    for _ in home.each(range(SEEDS)):
         home.write("OLD", letters(*FIVE))
         kill = Kill(event=draw.randint(20, 260))
         home.run("OLD", kill=kill)
@@ -53,7 +52,7 @@ def rule_1_killed_and_deleted(home: Home) -> None:
         home.take(there[0])
         row = home.done("OLD")["OLD"]
         is_back = bool(home.those(there[0]))
-        home.has(*(number for number in FIVE if is_back or number != there[0]), why=(kill, row))
+        home.has(*(number for number in FIVE if is_back or number != there[0]))
         want_said(row, 1)
 
 
@@ -61,15 +60,13 @@ def rule_1_killed_and_gone_from_it(home: Home) -> None:
     """A run is killed at any moment, and its mailbox loses a message then. If the run has placed it, its file stays,
     and the row says so."""
     draw = Random(2)
-    for _ in range(SEEDS):
-        home.begin()
+    for _ in home.each(range(SEEDS)):
         home.write("OLD", letters(*FIVE))
         kill = Kill(event=draw.randint(20, 260))
         home.run("OLD", kill=kill)
         there = home.numbers()
-        home.write("OLD", letters(0, 2, 3, 4, 5))
-        row = home.done("OLD")["OLD"]
-        home.has(0, *[1] * there[1], 2, 3, 4, 5, why=(kill, row))
+        row = home.bring(OLD=letters(0, 2, 3, 4, 5))["OLD"]
+        home.has(0, *[1] * there[1], 2, 3, 4, 5)
         equal(
             f"{kill}: whether it is said: {row}",
             says(row, "1 message gone from it that it had brought"),
@@ -80,8 +77,7 @@ def rule_1_killed_and_gone_from_it(home: Home) -> None:
 
 def rule_1_killed_and_emptied(home: Home) -> None:
     """The same of a mailbox that loses all."""
-    home.write("OLD", letters(*FIVE))
-    home.done("OLD")
+    home.bring(OLD=letters(*FIVE))
     as_if_killed(home.maildir)
     home.write("OLD", b"")
     want_said(home.done("OLD")["OLD"], "5 messages gone from it that it had brought")
@@ -91,13 +87,12 @@ def rule_1_killed_and_emptied(home: Home) -> None:
 def rule_1_deleted_and_brought_by_another(home: Home) -> None:
     """A run placed all, and was killed while it verified. A reader deletes a message, which another mailbox brings
     before the first goes on. It comes back, and that is said."""
-    home.write("OLD", letters(*FIVE))
-    home.done("OLD")
+    home.bring(OLD=letters(*FIVE))
     as_if_killed(home.maildir)
     home.take(2)
     home.write("OTHER", letters(2, 7))
     ran = home.done("OTHER", "OLD")
-    home.has(*FIVE, 7, why=ran.text)
+    home.has(*FIVE, 7)
     want_said(ran["OTHER"], "up", "to", 1, "came", "back")
 
 
@@ -105,8 +100,7 @@ def rule_1_deleted_at_once(home: Home) -> None:
     """A run placed all, and was killed while it verified. A reader deletes the last message within a tick of the
     kernel's clock after it was placed. It comes back, and that is said."""
     home.begin()
-    home.write("OLD", letters(*FIVE))
-    home.done("OLD")
+    home.bring(OLD=letters(*FIVE))
     as_if_killed(home.maildir)
     new = home.folder() / "new"
     changed = new.stat().st_mtime_ns
@@ -121,8 +115,7 @@ def rule_1_deleted_at_once(home: Home) -> None:
 def rule_1_said_by_later_runs(home: Home) -> None:
     """A run that brought mail back was killed before it said so. Then the mailbox grows. Each later run says it."""
     home.begin()
-    home.write("OLD", letters(*FIVE))
-    home.done("OLD")
+    home.bring(OLD=letters(*FIVE))
     as_if_killed(home.maildir)
     home.take(0, 1)
     home.done("OLD")
@@ -136,8 +129,7 @@ def rule_1_said_by_later_runs(home: Home) -> None:
 def rule_1_killed_and_moved(home: Home) -> None:
     """A run over a tree is killed in `mail/x`, which is `mail/y` then. No message is in two folders unsaid."""
     draw = Random(2)
-    for _ in range(SEEDS):
-        home.begin("--jobs", "1")
+    for _ in home.each(range(SEEDS), words=JOBS):
         home.write("mail/x", letters(*range(6)))
         kill = Kill(event=draw.randint(60, 300))
         home.run("mail", kill=kill)
@@ -155,19 +147,17 @@ def rule_1_killed_and_moved(home: Home) -> None:
 def rule_1_a_file_counts_once(home: Home) -> None:
     """A run was killed, and the next one ended. Then the mailbox has one more of an equal message, in the form that the
     first had before a mail program wrote into it: its file is that of the first, so one more is placed."""
-    for event in range(40, 280, 12):
-        home.begin()
+    for event in home.each(range(40, 280, 12)):
         home.write("OLD", letters(1, 2, fields=RO))
         home.run("OLD", kill=Kill(event=event))
         home.done("OLD")
-        home.write("OLD", letters(1, 2) + letter(1, RO))
-        row = home.done("OLD")["OLD"]
-        home.has(1, 1, 2, why=(event, row))
+        home.bring(OLD=letters(1, 2) + letter(1, RO))
+        home.has(1, 1, 2)
 
 
 def rule_3_filed_into_another_folder(home: Home) -> None:
     """A reader deletes a message of one folder, and files one of another folder there. Both rows say what is gone."""
-    home.begin("--jobs", "1")
+    home.begin(*JOBS)
     home.write("mail/x", letters(0, 1, 2))
     home.write("mail/y", letters(3, 4, 5))
     home.done("mail")
@@ -183,7 +173,7 @@ def rule_3_filed_into_another_folder(home: Home) -> None:
 
 def a_tree(home: Home) -> None:
     """A tree of two mailboxes is done. One message of the first was deleted."""
-    home.begin("--jobs", "1")
+    home.begin(*JOBS)
     home.write("mail/x", letters(*FIVE))
     home.write("mail/y", letters(10, 11))
     home.done("mail")
@@ -212,7 +202,7 @@ def rule_8_moved_and_more(home: Home) -> None:
     """Mailboxes of a tree were moved, and their folders were renamed, or they were compressed or rewritten too. The
     mail of each goes into the folder of its new name, and the row says which folder has it as well. The undo there is
     offered for what is surely the same mailbox."""
-    home.begin("--jobs", "1")
+    home.begin(*JOBS)
     for name, numbers in (("mail/a", [0, 1]), ("mail/b", [2, 3, 4]), ("mail/c", [5, 6])):
         home.write(name, letters(*numbers))
     home.done("mail")
@@ -236,8 +226,7 @@ def rule_8_moved_and_more(home: Home) -> None:
 def rule_8_moved_and_killed(home: Home) -> None:
     """A mailbox of a tree was moved, and the run that brings it to the folder of its new name is killed. The next one
     says that the old folder has its mail too."""
-    for event in range(60, 260, 20):
-        home.begin("--jobs", "1")
+    for event in home.each(range(60, 260, 20), words=JOBS):
         home.write("mail/x", letters(0, 1, 2))
         home.done("mail")
         (home.path / "mail/x").rename(home.path / "mail/y")
@@ -252,8 +241,7 @@ def rule_8_moved_before_anything_was_placed(home: Home) -> None:
     """A run over a tree is killed before it has placed mail of `mail/x`, which is `mail/y` then. The folder x stays if
     it was made, since nothing shows who made it, and holds nothing."""
     made = 0
-    for event in range(34, 70, 3):
-        home.begin("--jobs", "1")
+    for event in home.each(range(34, 70, 3), words=JOBS):
         home.write("mail/x", letters(*FIVE))
         home.run("mail", kill=Kill(event=event))
         if not home.numbers("x"):
@@ -267,8 +255,7 @@ def rule_8_moved_before_anything_was_placed(home: Home) -> None:
 
 def rule_8_a_named_folder_was_renamed(home: Home) -> None:
     """The same of a folder that was named by --folder."""
-    home.write("OLD", letters(*FIVE))
-    home.done("OLD")
+    home.bring(OLD=letters(*FIVE))
     home.take(2)
     home.folder().rename(home.folder("Put-aside"))
     home.done("OLD")
@@ -292,13 +279,10 @@ def rule_8_two_folders_change_their_names(home: Home) -> None:
 def rule_8_a_mailbox_was_away(home: Home) -> None:
     """A mailbox is away, as on a disk that is not mounted, while another one brings all that it had. It is there again,
     and has grown: what is new in it is placed."""
-    home.write("OLD", letters(*FIVE))
-    home.done("OLD")
+    home.bring(OLD=letters(*FIVE))
     (home.path / "OLD").unlink()
-    home.write("ALL", letters(*FIVE, 5, 6))
-    home.done("ALL")
-    home.write("OLD", letters(*FIVE, 7))
-    home.done("OLD")
+    home.bring(ALL=letters(*FIVE, 5, 6))
+    home.bring(OLD=letters(*FIVE, 7))
     home.has(*range(8))
     home.undo("ALL")
     home.has(*FIVE, 7)
@@ -307,14 +291,13 @@ def rule_8_a_mailbox_was_away(home: Home) -> None:
 def rule_8_another_mailbox_has_its_path(home: Home) -> None:
     """A mailbox of a tree is moved, and another one has its path. No message is in two folders unsaid, whichever of the
     two comes first."""
-    for name in ("mail/a", "mail/z"):
-        home.begin("--jobs", "1")
+    for name in home.each(("mail/a", "mail/z"), words=JOBS):
         home.write("mail/x", letters(*range(6)))
         home.done("mail")
         os.rename(home.path / "mail/x", home.path / name)
         home.write("mail/x", letters(9))
         ran = home.done("mail")
-        home.has(*FIVE, 5, name=name[-1], why=ran.text)
+        home.has(*FIVE, 5, name=name[-1])
         want_said(ran[name], 6, "x")
         if ran[name]["next"]:
             raise Failed(f"nothing can undo what is in x: {ran.text}")
@@ -322,20 +305,17 @@ def rule_8_another_mailbox_has_its_path(home: Home) -> None:
 
 def rule_8_a_first_line_that_was_cut(home: Home) -> None:
     """A disk was full when the first line of a ledger was written. Its folder is renamed: the mailbox goes on there."""
-    home.write("OLD", letters(*FIVE))
-    home.done("OLD")
+    home.bring(OLD=letters(*FIVE))
     text = home.ledger().read_bytes()
     home.ledger().write_bytes(text[:20] + b"\t\n" + text)
     home.folder().rename(home.folder("Put-aside"))
-    home.write("OLD", letters(*FIVE, 6))
-    home.done("OLD")
+    home.bring(OLD=letters(*FIVE, 6))
     home.has(*FIVE, 6, name="Put-aside")
 
 
 def rule_8_a_link_leads_elsewhere(home: Home) -> None:
     """A symbolic link leads to a mailbox that was done by its own path, and then to another one."""
-    home.write("OLD", letters(*FIVE))
-    home.done("OLD")
+    home.bring(OLD=letters(*FIVE))
     home.write("OLD", letters(*FIVE, 5))
     home.write("NEXT", letters(6))
     link = home.path / "CURRENT"
@@ -352,12 +332,11 @@ def rule_8_a_folder_has_two_names(home: Home) -> None:
     home.begin("--jobs", "2")
     home.write("mail/x", letters(*range(200)))
     home.write("mail/y", letters(*range(100, 300)))
-    home.write("other", letters(300))
-    home.done("other", words=["--folder", "y"])
+    home.done(home.write("other", letters(300)), words=["--folder", "y"])
     (home.maildir / ".x").symlink_to(".y")
     for _ in range(2):
         ran = home.done("mail")
-        home.has(*range(301), name="y", why=ran.text)
+        home.has(*range(301), name="y")
         if "ledger" in ran.text:
             raise Failed(f"the ledger is not whole: {ran.text}")
 
@@ -384,13 +363,11 @@ def rule_8_a_folder_was_deleted(home: Home) -> None:
 
 def rule_8_the_mail_of_a_folder_was_deleted(home: Home) -> None:
     """People deleted all mail of a folder. What is new is placed, and the rest counts as gone."""
-    home.write("OLD", letters(*FIVE))
-    home.done("OLD")
+    home.bring(OLD=letters(*FIVE))
     home.take(*FIVE)
     want_said(home.done("OLD")["OLD"], 5, "gone")
     home.has()
-    home.write("OLD", letters(*FIVE, 6, fields=RO))
-    home.done("OLD")
+    home.bring(OLD=letters(*FIVE, 6, fields=RO))
     home.has(6)
 
 
@@ -398,25 +375,21 @@ def rule_4_a_renamed_file(home: Home) -> None:
     """Another program gave the file of a message another name, and the mailbox that brought it may have lost it since.
     A mailbox that has the message twice gets one more, and nothing of it is gone: its undo takes that one away again.
     If the file was deleted, the row says so, and the undo leaves a mailbox that still has the message the new file."""
-    for is_lost, is_deleted in itertools.product((False, True), (False, True)):
-        home.begin()
-        home.write("OLD", letters(5, 6))
-        home.done("OLD")
+    for is_lost, is_deleted in home.each((False, True), (False, True)):
+        home.bring(OLD=letters(5, 6))
         path = home.those(5)[0]
         if is_deleted:
             path.unlink()
         else:
             path.rename(path.parent.parent / "cur/17000.1.host:2,S")
         if is_lost:
-            home.write("OLD", letters(6))
-            home.done("OLD")
-        home.write("TWICE", letters(5, 5))
-        row = home.done("TWICE")["TWICE"]
-        home.has(*[5] * (2 - is_deleted), 6, why=(is_lost, is_deleted, row))
+            home.bring(OLD=letters(6))
+        row = home.bring(TWICE=letters(5, 5))["TWICE"]
+        home.has(*[5] * (2 - is_deleted), 6)
         if ("gone" in texts_of(row)) != is_deleted or "by no mailbox" in texts_of(row):
             raise Failed(f"deleted: {is_deleted}: {row}")
         home.undo("TWICE")
-        home.has(*[5] * (not (is_lost and is_deleted)), 6, why=(is_lost, is_deleted))
+        home.has(*[5] * (not (is_lost and is_deleted)), 6)
 
 
 def without_ledger(home: Home) -> None:
@@ -432,41 +405,32 @@ def of_no_byte(home: Home) -> None:
 def rule_9_a_ledger_was_lost(home: Home) -> None:
     """A ledger is not there any more. An unchanged mailbox gets nothing. One that has changed is left, with --again and
     the number of messages that this brings."""
-    for lose in (without_ledger, of_no_byte):
-        for fields in (b"", RO):
-            home.begin()
-            home.write("OLD", letters(*FIVE, fields=fields))
-            home.done("OLD")
-            home.take(2)
-            lose(home)
-            home.run("OLD")
-            home.has(0, 1, 3, 4)
-            home.write("OLD", letters(*FIVE, 5, fields=fields))
-            row = home.left("OLD")
-            want_offered(row, "--again")
-            want_said(row, 2)
-            home.done("OLD", words=["--again"])
-            home.has(*FIVE, 5)
-            home.take(3)
-            home.write("OLD", letters(*FIVE, 5, 6, fields=fields))
-            home.done("OLD")
-            home.has(0, 1, 2, 4, 5, 6)
+    for lose, fields in home.each((without_ledger, of_no_byte), (b"", RO)):
+        home.bring(OLD=letters(*FIVE, fields=fields))
+        home.take(2)
+        lose(home)
+        home.run("OLD")
+        home.has(0, 1, 3, 4)
+        row = home.left("OLD", letters(*FIVE, 5, fields=fields))
+        want_offered(row, "--again")
+        want_said(row, 2)
+        home.done("OLD", words=["--again"])
+        home.has(*FIVE, 5)
+        home.take(3)
+        home.bring(OLD=letters(*FIVE, 5, 6, fields=fields))
+        home.has(0, 1, 2, 4, 5, 6)
 
 
 def rule_9_a_ledger_was_lost_and_nothing_is_nowhere(home: Home) -> None:
     """A mailbox has changed, and all that it has is there: there is nothing to place, or to ask. What its files are is
     not known any more, so an undo keeps them."""
-    for lose in (without_ledger, of_no_byte):
-        home.begin()
-        home.write("OLD", letters(*FIVE))
-        home.done("OLD")
+    for lose in home.each((without_ledger, of_no_byte)):
+        home.bring(OLD=letters(*FIVE))
         lose(home)
-        home.write("OLD", letters(*FIVE, fields=RO))
-        row = home.done("OLD")["OLD"]
+        row = home.bring(OLD=letters(*FIVE, fields=RO))["OLD"]
         want_said(row, "5 messages there already, by no mailbox")
         home.has(*FIVE)
-        home.write("OLD", letters(*FIVE, 5, fields=RO))
-        home.done("OLD")
+        home.bring(OLD=letters(*FIVE, 5, fields=RO))
         home.has(*FIVE, 5)
         home.undo("OLD")
         home.has(*FIVE)
@@ -474,17 +438,14 @@ def rule_9_a_ledger_was_lost_and_nothing_is_nowhere(home: Home) -> None:
 
 def rule_9_an_older_ledger(home: Home) -> None:
     """A ledger comes from a backup that is older than its folder. A mailbox whose files it does not explain is left."""
-    home.write("OLD", letters(*FIVE))
-    home.done("OLD")
+    home.bring(OLD=letters(*FIVE))
     older = home.ledger().read_bytes()
-    home.write("OLD", letters(*range(8)))
-    home.done("OLD")
+    home.bring(OLD=letters(*range(8)))
     home.take(1, 6)
     home.ledger().write_bytes(older)
     home.run("OLD")
     home.has(0, 2, 3, 4, 5, 7)
-    home.write("OLD", letters(*range(9)))
-    row = home.left("OLD")
+    row = home.left("OLD", letters(*range(9)))
     want_offered(row, "--again")
     home.done("OLD", words=["--again"])
     home.has(*range(9))
@@ -492,35 +453,26 @@ def rule_9_an_older_ledger(home: Home) -> None:
 
 def rule_9_an_older_ledger_and_another_mailbox(home: Home) -> None:
     """The same where another mailbox of the folder brought them."""
-    home.write("OTHER", letters(20, 21))
-    home.done("OTHER")
+    home.bring(OTHER=letters(20, 21))
     older = home.ledger().read_bytes()
-    home.write("OLD", letters(*FIVE))
-    home.done("OLD")
+    home.bring(OLD=letters(*FIVE))
     home.take(2)
     home.ledger().write_bytes(older)
-    home.write("OLD", letters(*FIVE, 6))
-    want_offered(home.left("OLD"), "--again")
-    home.write("OTHER", letters(20, 21, 22))
-    home.done("OTHER")
+    want_offered(home.left("OLD", letters(*FIVE, 6)), "--again")
+    home.bring(OTHER=letters(20, 21, 22))
     home.has(0, 1, 3, 4, 20, 21, 22)
 
 
 def rule_9_an_older_ledger_with_the_mailbox(home: Home) -> None:
     """The ledger comes from a backup and has the mailbox as it was before it grew. Another mailbox makes it longer than
     it was. What was deleted of what the ledger lacks does not come back unsaid."""
-    home.write("OLD", letters(*FIVE))
-    home.write("OTHER", letters(100))
-    home.done("OLD", "OTHER")
+    home.bring(OLD=letters(*FIVE), OTHER=letters(100))
     older = home.ledger().read_bytes()
-    home.write("OLD", letters(*range(10)))
-    home.done("OLD")
+    home.bring(OLD=letters(*range(10)))
     home.ledger().write_bytes(older)
-    home.write("OTHER", letters(*range(100, 140)))
-    home.done("OTHER")
+    home.bring(OTHER=letters(*range(100, 140)))
     home.take(*range(5, 10))
-    home.write("OLD", letters(*range(11)))
-    want_offered(home.left("OLD"), "--again")
+    want_offered(home.left("OLD", letters(*range(11))), "--again")
 
 
 def rule_9_a_ledger_was_lost_of_a_folder_with_uids_of_another(home: Home) -> None:
@@ -544,11 +496,9 @@ def rule_9_a_ledger_was_lost_of_a_folder_with_uids_of_another(home: Home) -> Non
 def rule_9_another_mailbox_after_a_ledger_was_lost(home: Home) -> None:
     """A ledger was lost, or comes from a backup, and lacks a mailbox of which mail was deleted. What comes back by
     another mailbox is counted, in each run. A ledger that is whole brings nothing back."""
-    home.write("FIRST", letters(50))
-    home.done("FIRST")
+    home.bring(FIRST=letters(50))
     older = home.ledger().read_bytes()
-    home.write("OLD", letters(*FIVE))
-    home.done("OLD")
+    home.bring(OLD=letters(*FIVE))
     kept = home.keep("all")
     for ledger in (b"", older, None):
         restore(home, kept, home.maildir)
@@ -559,77 +509,64 @@ def rule_9_another_mailbox_after_a_ledger_was_lost(home: Home) -> None:
         for _ in range(2):
             row = home.done("OTHER")["OTHER"]
             if ledger is None:
-                home.has(0, 3, 4, 30, 50, why=row)
+                home.has(0, 3, 4, 30, 50)
             else:
-                home.has(*FIVE, 30, 50, why=row)
+                home.has(*FIVE, 30, 50)
                 want_said(row, "up", "to", 3, "came", "back")
 
 
 def rule_9_a_ledger_from_before_an_undo(home: Home) -> None:
     """A ledger comes from a backup that was made before an undo, and another mailbox may make it longer than it was
     then. What was undone is brought again, and nothing of it is gone for another mailbox."""
-    for grows in (False, True):
-        for names in (["OLD"], ["NEW", "OLD"], ["NEW"]):
-            home.begin()
-            home.write("OLD", letters(*FIVE))
-            home.write("OTHER", letters(20))
-            home.done("OLD", "OTHER")
-            older = home.ledger().read_bytes()
-            home.write("OLD", letters(0, 1, 2))
-            home.undo("OLD")
-            home.has(3, 4, 20)
-            home.ledger().write_bytes(older)
-            if grows:
-                home.write("OTHER", letters(*range(20, 40)))
-                home.done("OTHER")
-            more = range(21, 40) if grows else ()
-            home.write("NEW", letters(1, 3))
-            home.write("OLD", letters(*FIVE))
-            ran = home.done(*names)
-            home.has(*(FIVE if "OLD" in names else (1, 3, 4)), 20, *more, why=(grows, names, ran.text))
-            home.undo(*names)
-            home.has(3, 4, 20, *more, why=(grows, names))
+    for grows, names in home.each((False, True), (["OLD"], ["NEW", "OLD"], ["NEW"])):
+        home.bring(OLD=letters(*FIVE), OTHER=letters(20))
+        older = home.ledger().read_bytes()
+        home.write("OLD", letters(0, 1, 2))
+        home.undo("OLD")
+        home.has(3, 4, 20)
+        home.ledger().write_bytes(older)
+        if grows:
+            home.bring(OTHER=letters(*range(20, 40)))
+        more = range(21, 40) if grows else ()
+        home.write("NEW", letters(1, 3))
+        home.write("OLD", letters(*FIVE))
+        home.done(*names)
+        home.has(*(FIVE if "OLD" in names else (1, 3, 4)), 20, *more)
+        home.undo(*names)
+        home.has(3, 4, 20, *more)
 
 
 def rule_9_an_undo_by_an_older_ledger(home: Home) -> None:
     """A ledger comes from a backup, and lacks a mailbox of the record, or what one has brought since. An undo could
     take what others have: the mailbox is left, until --again has written the lines anew."""
-    home.write("OLD", letters(0, 1))
-    home.done("OLD")
+    home.bring(OLD=letters(0, 1))
     older = home.ledger().read_bytes()
-    home.write("OTHER", letters(1, 2))
-    home.done("OTHER")
+    home.bring(OTHER=letters(1, 2))
     home.ledger().write_bytes(older)
     want_said(home.left("OLD", words=["--undo"]), "OTHER", "--again")
     home.done("OTHER", words=["--again"])
     home.undo("OLD")
     home.has(1, 2)
     older = home.ledger().read_bytes()
-    home.write("OTHER", letters(1, 2, 3))
-    home.done("OTHER")
+    home.bring(OTHER=letters(1, 2, 3))
     home.ledger().write_bytes(older)
     want_said(home.left("OTHER", words=["--undo"]), "OTHER", "--again")
 
 
 def rule_9_times_before_1970(home: Home) -> None:
     """Names in a folder changed before 1970, by a wrong clock. The ledger is not damaged."""
-    home.write("OLD", letters(*FIVE))
-    home.done("OLD")
+    home.bring(OLD=letters(*FIVE))
     for count in (6, 7):
         for sub in ("tmp", "new", "cur"):
             os.utime(home.folder() / sub, ns=(0, -(10**9)))
-        home.write("OLD", letters(*range(count)))
-        home.done("OLD")
+        home.bring(OLD=letters(*range(count)))
         home.has(*range(count))
 
 
 def rule_9_cut_anywhere(home: Home) -> None:
     """A ledger ends anywhere. All is done, or the mailbox is left and --again does it; nothing is there twice."""
-    home.write("OTHER", letters(3, 4, 20, fields=RO))
-    home.write("OLD", letters(*FIVE))
-    home.done("OTHER", "OLD")
-    home.write("OLD", letters(*FIVE, 5))
-    home.done("OLD")
+    home.bring(OTHER=letters(3, 4, 20, fields=RO), OLD=letters(*FIVE))
+    home.bring(OLD=letters(*FIVE, 5))
     kept, text = home.keep("whole"), home.ledger().read_bytes()
     home.write("OLD", letters(*FIVE, 5, 6))
     for end in [*range(0, len(text), max(1, len(text) // 40)), *range(len(text) - 12, len(text))]:
@@ -640,55 +577,45 @@ def rule_9_cut_anywhere(home: Home) -> None:
         home.ledger().write_bytes(text[:end])
         ran = home.run("OLD")
         if ran.status:
-            home.has(*FIVE, 5, 20, why=(end, ran.text))
+            home.has(*FIVE, 5, 20, why=end)
             home.done("OLD", words=["--again"])
-        home.has(*FIVE, 5, 6, 20, why=(end, ran.text))
+        home.has(*FIVE, 5, 6, 20, why=end)
         home.done("OLD")
-        home.has(*FIVE, 5, 6, 20, why=(end, ran.text))
+        home.has(*FIVE, 5, 6, 20, why=end)
 
 
 def rule_9_what_a_power_cut_leaves(home: Home) -> None:
     """After the last line stands the beginning of one, or bytes of NUL. The ledger is gone on with."""
-    home.write("OLD", letters(*FIVE))
-    home.done("OLD")
+    home.bring(OLD=letters(*FIVE))
     lines = home.ledger().read_bytes().splitlines(True)
     tails = [line[: len(line) // 2] for line in lines] + [line[:-1] for line in lines] + [b"\0" * 4, b"\0" * 700]
-    for number, tail in enumerate(tails):
-        home.begin()
-        home.write("OLD", letters(*FIVE))
-        home.done("OLD")
+    for number, tail in home.each(enumerate(tails)):
+        home.bring(OLD=letters(*FIVE))
         home.take(2)
         with open(home.ledger(), "ab") as file:
             file.write(tail)
         for new in (6, 7):
-            home.write("OLD", letters(*FIVE, *range(6, new + 1)))
-            ran = home.done("OLD")
-            home.has(0, 1, 3, 4, *range(6, new + 1), why=(number, tail, ran.text))
+            home.bring(OLD=letters(*FIVE, *range(6, new + 1)))
+            home.has(0, 1, 3, 4, *range(6, new + 1))
 
 
 def rule_9_other_damage(home: Home) -> None:
     """A line in the midst of a ledger is none. A mailbox that has changed is left with that line."""
-    home.write("OLD", letters(*FIVE))
-    home.done("OLD")
+    home.bring(OLD=letters(*FIVE))
     lines = home.ledger().read_bytes().splitlines(True)
-    for place in range(1, len(lines) - 1):
-        home.begin()
-        home.write("OLD", letters(*FIVE))
-        home.done("OLD")
+    for place in home.each(range(1, len(lines) - 1)):
+        home.bring(OLD=letters(*FIVE))
         lines = home.ledger().read_bytes().splitlines(True)
         home.ledger().write_bytes(b"".join([*lines[:place], b"this is no line\n", *lines[place + 1 :]]))
-        home.write("OLD", letters(*FIVE, 6))
-        row = home.left("OLD")
+        row = home.left("OLD", letters(*FIVE, 6))
         want_said(row, place + 1)
 
 
 def rule_9_a_newer_ledger(home: Home) -> None:
     """The mail of a Maildir comes from a backup, and the ledger does not. What is gone is said."""
-    home.write("OLD", letters(*FIVE))
-    home.done("OLD")
+    home.bring(OLD=letters(*FIVE))
     kept = home.keep("mail")
-    home.write("OLD", letters(*range(8)))
-    home.done("OLD")
+    home.bring(OLD=letters(*range(8)))
     ledger = home.ledger().read_bytes()
     record = (home.maildir / RECORD).read_bytes()
     restore(home, kept, home.maildir)
@@ -696,8 +623,7 @@ def rule_9_a_newer_ledger(home: Home) -> None:
     (home.maildir / RECORD).write_bytes(record)
     want_said(home.done("OLD")["OLD"], 3, "gone")
     home.has(*FIVE)
-    home.write("OLD", letters(*range(9)))
-    home.done("OLD")
+    home.bring(OLD=letters(*range(9)))
     home.has(*FIVE, 8)
     home.done("OLD", words=["--again"])
     home.has(*range(9))
@@ -712,12 +638,10 @@ def restore(home: Home, kept: Path, what: Path) -> None:
 
 def rule_9_a_maildir_from_a_backup(home: Home) -> None:
     """The whole Maildir comes from a backup: what came later is placed anew."""
-    home.write("OLD", letters(*FIVE))
-    home.done("OLD")
+    home.bring(OLD=letters(*FIVE))
     home.take(2)
     kept = home.keep("all")
-    home.write("OLD", letters(*range(8)))
-    home.done("OLD")
+    home.bring(OLD=letters(*range(8)))
     restore(home, kept, home.maildir)
     home.done("OLD")
     home.has(0, 1, 3, 4, 5, 6, 7)
@@ -726,11 +650,9 @@ def rule_9_a_maildir_from_a_backup(home: Home) -> None:
 def rule_9_a_folder_from_a_backup(home: Home) -> None:
     """A folder comes from a backup with its ledger, and the record does not: nothing is there twice, and what is
     missing is said or placed."""
-    home.write("OLD", letters(*FIVE))
-    home.done("OLD")
+    home.bring(OLD=letters(*FIVE))
     kept = home.keep("folder")
-    home.write("OLD", letters(*range(8)))
-    home.done("OLD")
+    home.bring(OLD=letters(*range(8)))
     restore(home, kept / ".Archive", home.folder())
     ran = home.run("OLD")
     missing = Counter(range(8)) - home.numbers()
@@ -747,27 +669,23 @@ def rule_9_a_folder_from_a_backup(home: Home) -> None:
 
 def rule_9_a_record_from_a_backup(home: Home) -> None:
     """The record comes from a backup, and the folders do not: nothing is placed twice, or again."""
-    home.write("OTHER", letters(20))
-    home.done("OTHER")
+    home.bring(OTHER=letters(20))
     record = (home.maildir / RECORD).read_bytes()
-    home.write("OLD", letters(*FIVE))
-    home.done("OLD")
+    home.bring(OLD=letters(*FIVE))
     home.take(2)
     (home.maildir / RECORD).write_bytes(record)
     home.done("OLD", "OTHER")
     home.has(0, 1, 3, 4, 20)
-    home.write("OLD", letters(*FIVE, 6, fields=RO))
-    home.done("OLD")
+    home.bring(OLD=letters(*FIVE, 6, fields=RO))
     home.has(0, 1, 3, 4, 6, 20)
 
 
 def rule_9_a_record_was_lost_and_a_folder_renamed(home: Home) -> None:
     """Nothing shows into which folder a mailbox went but the ledger of that folder. If it would go into another one, by
     its name or by --folder, it is left, with the name of the folder that has its mail, and it goes on there."""
-    for words, name in (["--folder", "Archive"], "Put-aside"), (["--jobs", "1"], "Archive"):
+    for words, name in (["--folder", "Archive"], "Put-aside"), (JOBS, "Archive"):
         home.begin(*words)
-        home.write("OLD", letters(*FIVE))
-        home.done("OLD", words=["--folder", "Archive"])
+        home.bring(OLD=letters(*FIVE), words=["--folder", "Archive"])
         home.folder().rename(home.folder(name))
         (home.maildir / RECORD).unlink()
         row = home.left("OLD")
@@ -776,7 +694,7 @@ def rule_9_a_record_was_lost_and_a_folder_renamed(home: Home) -> None:
         home.write("OLD", letters(*FIVE, 6))
         home.words = row["next"][0]["argv"][2:-2]
         home.done("OLD")
-        home.has(*FIVE, 6, why=row)
+        home.has(*FIVE, 6)
     # a copy of a folder has its ledger too
     hand_over(Path(shutil.copytree(str(home.folder(name)), str(home.folder("Copy")))))
     (home.maildir / RECORD).unlink()
@@ -786,37 +704,32 @@ def rule_9_a_record_was_lost_and_a_folder_renamed(home: Home) -> None:
     home.folder("x").rename(home.folder("put-aside"))
     (home.maildir / RECORD).unlink()
     ran = home.run("mail")
-    home.has(0, 1, 3, 4, 10, 11, why=ran.text)
+    home.has(0, 1, 3, 4, 10, 11)
     equal("what is left of the tree", [ran[name]["verdict"] for name in ("mail/x", "mail/y")], ["left", "done before"])
 
 
 def rule_9_an_older_record_and_a_mailbox_that_is_gone(home: Home) -> None:
     """The record comes from a backup. A mailbox that it lacks gets the bytes of another one, which is deleted, and then
     its own mail again: nothing is there twice."""
-    home.write("OLD", letters(1, 2))
-    home.done("OLD")
+    home.bring(OLD=letters(1, 2))
     record = (home.maildir / RECORD).read_bytes()
-    home.write("OTHER", letters(1, 2, 3, 4))
-    home.done("OTHER")
+    home.bring(OTHER=letters(1, 2, 3, 4))
     (home.maildir / RECORD).write_bytes(record)
     (home.path / "OLD").unlink()
     for numbers in ([1, 2], [1, 2, 3, 4]):
-        home.write("OTHER", letters(*numbers))
-        ran = home.done("OTHER")
-        home.has(1, 2, 3, 4, why=ran.text)
+        home.bring(OTHER=letters(*numbers))
+        home.has(1, 2, 3, 4)
     home.undo("OTHER")
     home.has(1, 2)
 
 
 def rule_9_mail_of_other_programs(home: Home) -> None:
     """Files that no ledger explains, and that have other names, are nobody's: they serve, and no undo takes them."""
-    home.write("FIRST", letters(20))
-    home.done("FIRST")
+    home.bring(FIRST=letters(20))
     for number, mail in enumerate(mail_of(letters(0, 1) + letter(2, RO))):
         home.place_file(f"17000.{number}.host:2,S", mail)
-    home.write("OLD", letters(*FIVE))
-    row = home.done("OLD")["OLD"]
-    home.has(*FIVE, 20, why=row)
+    row = home.bring(OLD=letters(*FIVE))["OLD"]
+    home.has(*FIVE, 20)
     want_said(row, 3)
     home.undo("OLD")
     home.has(0, 1, 2, 20)
@@ -825,8 +738,7 @@ def rule_9_mail_of_other_programs(home: Home) -> None:
 def rule_9_files_of_this_program(home: Home) -> None:
     """Files with the names of messages that no ledger explains: the mailbox is left, and --again brings the rest. What
     was there is nobody's."""
-    home.write("OLD", letters(*FIVE))
-    home.done("OLD")
+    home.bring(OLD=letters(*FIVE))
     home.take(3, 4)
     for path in (home.ledger(), home.maildir / RECORD):
         path.unlink()
@@ -842,10 +754,8 @@ def rule_9_files_of_this_program(home: Home) -> None:
 def rule_9_files_in_another_form(home: Home) -> None:
     """Record and ledger were lost, and a mail program has written into the mailbox since. What is there is not placed
     once more."""
-    for more in (range(0), range(6, 7)):
-        home.begin()
-        home.write("OLD", letters(*FIVE))
-        home.done("OLD")
+    for more in home.each((range(0), range(6, 7))):
+        home.bring(OLD=letters(*FIVE))
         for path in (home.ledger(), home.maildir / RECORD):
             path.unlink()
         home.write("OLD", letters(*FIVE, *more, fields=RO))
@@ -866,18 +776,15 @@ def answers_of(row: Row) -> list[list[str]]:
 def rule_10_an_answer_stays(home: Home) -> None:
     """An answer is noted with the messages that it is about: it holds though mail programs write into the mailbox, it
     is sorted, moved and grows. A doubtful line of another message is asked about."""
-    for place in range(2):
-        home.begin()
-        home.write("OLD", DOUBTFUL)
-        answers = answers_of(home.left("OLD"))
+    for place in home.each(range(2)):
+        answers = answers_of(home.left("OLD", DOUBTFUL))
         ran = home.done(
             "OLD", words=[word for word in answers[place][2:-2] if word not in ("--now", "--folder", "Archive")]
         )
         count = len(home.files())
         text = DOUBTFUL.replace(b"@example.com>\n", b"@example.com>\nStatus: RO\n")
         for new in (text, text + letter(5), letter(6) + text + letter(5)):
-            home.write("OLD", new)
-            ran = home.done("OLD")
+            ran = home.bring(OLD=new)
         if len(home.files()) != count + 2:
             raise Failed(f"{len(home.files())} files after {count}: {ran.text}")
         os.rename(home.path / "OLD", home.path / "PUT-ASIDE")
@@ -893,10 +800,8 @@ OLD_RECORD = "{word}\t.Archive\t{size}\t{digest}\t{messages}\t2026-11-27T10:00:0
 def rule_12_a_record_of_an_earlier_version(home: Home) -> None:
     """A Maildir with the record of an earlier version is left, with the way on. Once the record is moved away, --again
     brings the rest, and what is there is nobody's."""
-    for more in ("", "\tmboxrd"):
-        home.begin()
-        home.write("OLD", letters(*FIVE))
-        home.done("OLD")
+    for more in home.each(("", "\tmboxrd")):
+        home.bring(OLD=letters(*FIVE))
         home.take(3)
         home.ledger().unlink()
         record = home.maildir / RECORD
@@ -906,7 +811,7 @@ def rule_12_a_record_of_an_earlier_version(home: Home) -> None:
         record.write_text("".join(lines), encoding="utf-8")
         home.write("NEW", letters(7))
         ran = home.run("OLD", "NEW")
-        home.has(0, 1, 2, 4, why=ran.text)
+        home.has(0, 1, 2, 4)
         if ran.status != 1:
             raise Failed(ran.text)
         record.rename(home.maildir / "old-record")
@@ -917,55 +822,5 @@ def rule_12_a_record_of_an_earlier_version(home: Home) -> None:
         home.has(0, 1, 2, 4, 7)
 
 
-RULES = [
-    rule_1_killed_and_deleted,
-    rule_1_killed_and_gone_from_it,
-    rule_1_killed_and_emptied,
-    rule_1_deleted_and_brought_by_another,
-    rule_1_deleted_at_once,
-    rule_1_said_by_later_runs,
-    rule_1_a_file_counts_once,
-    rule_1_killed_and_moved,
-    rule_3_filed_into_another_folder,
-    rule_4_a_renamed_file,
-    rule_8_a_folder_was_renamed,
-    rule_8_moved_and_more,
-    rule_8_moved_and_killed,
-    rule_8_moved_before_anything_was_placed,
-    rule_8_a_named_folder_was_renamed,
-    rule_8_two_folders_change_their_names,
-    rule_8_a_mailbox_was_away,
-    rule_8_another_mailbox_has_its_path,
-    rule_8_a_first_line_that_was_cut,
-    rule_8_a_link_leads_elsewhere,
-    rule_8_a_folder_has_two_names,
-    rule_8_a_folder_was_deleted,
-    rule_8_the_mail_of_a_folder_was_deleted,
-    rule_9_a_ledger_was_lost,
-    rule_9_a_ledger_was_lost_and_nothing_is_nowhere,
-    rule_9_an_older_ledger,
-    rule_9_an_older_ledger_and_another_mailbox,
-    rule_9_an_older_ledger_with_the_mailbox,
-    rule_9_a_ledger_was_lost_of_a_folder_with_uids_of_another,
-    rule_9_another_mailbox_after_a_ledger_was_lost,
-    rule_9_a_ledger_from_before_an_undo,
-    rule_9_an_undo_by_an_older_ledger,
-    rule_9_times_before_1970,
-    rule_9_cut_anywhere,
-    rule_9_what_a_power_cut_leaves,
-    rule_9_other_damage,
-    rule_9_a_newer_ledger,
-    rule_9_a_maildir_from_a_backup,
-    rule_9_a_folder_from_a_backup,
-    rule_9_a_record_from_a_backup,
-    rule_9_a_record_was_lost_and_a_folder_renamed,
-    rule_9_an_older_record_and_a_mailbox_that_is_gone,
-    rule_9_mail_of_other_programs,
-    rule_9_files_of_this_program,
-    rule_9_files_in_another_form,
-    rule_10_an_answer_stays,
-    rule_12_a_record_of_an_earlier_version,
-]  # type: list[Rule]
-
 if __name__ == "__main__":
-    run_rules({rule.__name__: rule for rule in RULES})
+    run_rules(rules_in(globals()))

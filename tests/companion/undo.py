@@ -90,7 +90,7 @@ def who_is_at_work(home: Path) -> None:
     expect(UNDO, home, LATER, "", "mbox2maildir-admin: another migrate is at work in M, ...\n")
     os.close(record)
     folder = os.open(home / "M", os.O_RDONLY)
-    fcntl.flock(folder, fcntl.LOCK_EX)
+    fcntl.flock(folder, fcntl.LOCK_SH)
     expect(
         UNDO,
         home,

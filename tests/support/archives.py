@@ -3,6 +3,7 @@
 A message is known by its Message-ID, whatever mail programs have written into its header.
 """
 import fcntl
+import itertools
 import json
 import os
 import re
@@ -10,11 +11,12 @@ import shutil
 import time
 import typing
 from collections import Counter
-from collections.abc import Callable, Iterator, Mapping, Sequence
+from collections.abc import Callable, Iterable, Iterator, Mapping, Sequence
 from contextlib import contextmanager, suppress
 from functools import partial
+from inspect import signature
 from pathlib import Path
-from typing import NamedTuple
+from typing import Any, NamedTuple, Optional
 
 from tests.support.cases import Failed, run_cases
 from tests.support.copies import Copies
@@ -108,6 +110,8 @@ class Home:
         self.place = Copies(path, programs, OWNER, TZ="UTC")
         # what each run is told
         self.words = []  # type: list[str]
+        # what the last run printed, and the values with which a story began
+        self.printed, self.values = "", ()  # type: str, tuple[Any, ...]
 
     def begin(self, *words: str) -> None:
         """Begins with an empty home. Each run is told these words, or to use one folder."""
@@ -115,6 +119,13 @@ class Home:
         shutil.rmtree(str(self.path), ignore_errors=True)
         self.path.mkdir()
         self.place.own(self.path)
+
+    def each(self, *several: Iterable[Any], words: Sequence[str] = ()) -> Iterator[Any]:
+        """Begins with an empty home for each value, or for each combination of several. What fails names it."""
+        for values in itertools.product(*several):
+            self.begin(*words)
+            self.values = values
+            yield values if len(several) > 1 else values[0]
 
     def write(self, name: str, text: bytes) -> str:
         """Writes a mailbox, and returns its name."""
@@ -129,6 +140,7 @@ class Home:
         """Migrates mailboxes, or does with them what the words say."""
         words = ["migrate", "--json", "--now", *self.words, *words, "M", *names]
         ran = Outcome(words, self.place.run(words, kill))
+        self.printed = ran.text
         if ran.is_killed:
             self.wait_for_orphans()
         return ran
@@ -151,8 +163,14 @@ class Home:
             ran = self.done(name, words=["--undo"])
         return ran
 
-    def left(self, name: str, words: Sequence[str] = ()) -> Row:
-        """Migrates a mailbox that is left. No mail changes."""
+    def bring(self, words: Sequence[str] = (), **texts: bytes) -> Outcome:
+        """Writes mailboxes, each under its name, and migrates them by one command, without a question."""
+        return self.done(*(self.write(name, text) for name, text in texts.items()), words=words)
+
+    def left(self, name: str, text: Optional[bytes] = None, words: Sequence[str] = ()) -> Row:
+        """Migrates a mailbox that is left, with this text if one is given. No mail changes."""
+        if text is not None:
+            self.write(name, text)
         before = self.names()
         ran = self.run(name, words=words)
         if ran.status != 1 or ran[name]["verdict"] != "left":
@@ -191,7 +209,8 @@ class Home:
         """A folder, or all, must have these messages, each as often as it is named."""
         there, wants = self.numbers(name), Counter(wanted)
         if there != wants:
-            raise Failed(f"{name}: too many {dict(there - wants)}, missing {dict(wants - there)}: {why}")
+            wrong = f"{name}: too many {dict(there - wants)}, missing {dict(wants - there)}"
+            raise Failed(f"{wrong}: {self.values} {why}: {self.printed}")
 
     def those(self, number: int, name: str = "*") -> list[Path]:
         """The files of a message."""
@@ -208,6 +227,16 @@ class Home:
         path.write_bytes(mail)
         self.place.own(path)
         return path
+
+    def rename(self, number: int, place: int = 0, name: str = "17000.1.host") -> None:
+        """Another program gives a file of a message a name of its own."""
+        path = self.those(number)[place]
+        path.rename(path.parent.parent / "cur" / f"{name}:2,S")
+
+    def forget_end(self) -> None:
+        """Takes back that the last mailbox is done, as if its run had been killed just before that."""
+        for path in self.ledger(), self.maildir / RECORD:
+            path.write_bytes(b"".join(path.read_bytes().splitlines(True)[:-1]))
 
     def keep(self, name: str) -> Path:
         """Keeps the Maildir as it is now, in a copy."""
@@ -237,6 +266,12 @@ def want_said(row: Row, *wanted: object) -> None:
         raise Failed(f"{wanted} should be said: {row}")
 
 
+def want_unsaid(row: Row, word: str) -> None:
+    """A row must not have a word."""
+    if word in texts_of(row):
+        raise Failed(f"{word} should not be said: {row}")
+
+
 def want_offered(row: Row, option: str) -> None:
     """What is to be done next must have an option."""
     if option not in json.dumps(row["next"]):
@@ -254,6 +289,12 @@ def fresh() -> Iterator[Home]:
     with fresh_folder(in_memory()) as top:
         install(top / "bin")
         yield Home(top / "home", top / "bin")
+
+
+def rules_in(module: Mapping[str, Any]) -> dict[str, Rule]:
+    """The rules of a module, whose names begin so: functions of a home alone."""
+    several = {name: one for name, one in module.items() if name.startswith("rule_")}
+    return {name: one for name, one in several.items() if [*signature(one).parameters] == ["home"]}
 
 
 def run_rules(rules: Mapping[str, Rule]) -> None:
