@@ -3,8 +3,8 @@
     - {A}\\nhello\\n\\n
         the first of these lines
 
-A text is written as in Python, and may go on behind a backslash that ends its line. `{A}`, `{B}` and `{MAY}` stand for
-those of `mail`, and `{9*x}` for nine `x`. Behind `-crlf` and `-cr` each `\\n` stands for CR LF, or for CR. A line that
+A text is written as in Python, and may go on behind a backslash that ends its line. `{A}`, `{B}`, `{INTERNAL}` and `{MAY}`
+stand for those of `mail`, `{D}` for the From_ line of `{B}`, and `{9*x}` for nine `x`. Behind `-crlf` and `-cr` each `\\n` stands for CR LF, or for CR. A line that
 begins with `#` is a comment.
 """
 import re
@@ -13,10 +13,10 @@ from pathlib import Path
 from typing import NamedTuple
 
 from tests.support.checks import TOP, text_of
-from tests.support.mail import MAY, A, B
+from tests.support.mail import INTERNAL, MAY, A, B
 
 ENDS = {"-": b"\n", "-crlf": b"\r\n", "-cr": b"\r"}
-PIECES = {"A": A, "B": B, "MAY": MAY}
+PIECES = {"A": A, "B": B, "D": B.split(b"\n", maxsplit=1)[0], "INTERNAL": INTERNAL, "MAY": MAY}
 # a piece by its name, or by how often it stands there
 BRACES = re.compile(rb"\{(?:(\d+)\*([^}]*)|(\w+))\}")
 

@@ -16,6 +16,7 @@ from tests.support.tables import Row, rows_of
 
 # a mailbox of two messages
 PLAIN = A + b"\nhello\n\n" + B + b"\nyes\n\n"
+DROP = "--drop-deleted"
 # a second message with a right length
 C = with_length(B, b"yes\n") + b"\n"
 
@@ -25,16 +26,17 @@ def asks(lines: str, *answers: tuple[str, int]) -> str:
     gives."""
     found = "".join(f"    > {line} | ...\n" for line in lines.split(";"))
     for words, count in answers:
-        is_most = count == max(count for _, count in answers)
+        drops = words.endswith(DROP)
+        is_most = count == max(other for one, other in answers if one.endswith(DROP) == drops)
         says = "a mail begins here" if is_most else "this belongs to the mail above"
+        says += ", and deleted mail is left out" if drops else ""
         if len({count for _, count in answers}) == 1:
             says = "it was written in the format of this command" if answers[1:] else "run this next"
-        if answers[0][0] == "--drop-deleted":
-            says = "deleted mail is left out" if words == "--drop-deleted" else "deleted mail is kept"
+        if answers[0][0] == DROP:
+            says = "deleted mail is left out" if drops else "deleted mail is kept"
         found += f"    {says}: {count} message{'' if count == 1 else 's'}:\n"
-        option = "" if words.startswith("--drop") else " --of ..."
-        words = words.replace("--drop-deleted", "--of ... --drop-deleted")
-        found += f"        mbox2maildir-admin migrate {words}{option} MAILDIR {{}}\n"
+        words = words.replace(DROP, f"--of ... {DROP}") if drops else f"{words} --of ..."
+        found += f"        mbox2maildir-admin migrate {words} MAILDIR {{}}\n"
     return found
 
 
@@ -61,6 +63,7 @@ THEN = {
     "ask line": ASK_LINE,
     "not known": NOT_KNOWN,
     "like mail": LIKE_MAIL,
+    "as one mail": MAKES % f"({FROM_LINE} && sed 's/^>*From />&/' {{}} && echo)",
     "with from line": WITH_FROM_LINE,
     "with date": WITH_DATE,
 }
@@ -78,7 +81,7 @@ def next_of(words: str) -> str:
 
 def labelled(then: str) -> str:
     """What is next, as it is printed: a command that is to be run, or a task for a human."""
-    if then.startswith("    "):
+    if not then or then.startswith("    "):
         return then
     is_task = then.startswith(("leave ", "copy "))
     return f"    {then}\n" if is_task else f"    run this next...:\n        {then}\n"

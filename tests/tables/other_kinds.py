@@ -74,6 +74,8 @@ def beginning(digits: str, length: int = 100) -> bytes:
     return bytes.fromhex(digits).ljust(length, b"\0")
 
 
+OF_GZIP = "compressed by gzip: its content is left"
+BZIPPED = LIKE_MAIL.replace("file {}", "bzip2 -dc <{} | file -")
 # What a file holds, its kind, and the next command: whole files as Python's modules make them, otherwise the first
 # bytes that the named program wrote, or that the format's specification has
 KINDS = [
@@ -81,6 +83,14 @@ KINDS = [
     (bz2.compress(MBOX), "mboxrd or mboxo, compressed by bzip2, messages 1", MIGRATE),
     (bz2.compress(b""), "empty, compressed by bzip2, messages 0", MIGRATE),
     (lzma.compress(MBOX), "mboxrd or mboxo, compressed by xz, messages 1", MIGRATE),
+    (
+        gzip.compress(b"hello\n"),
+        f"not known, {OF_GZIP}: not known",
+        NOT_KNOWN.replace("file {}", "gzip -dc <{} | file -"),
+    ),
+    (bz2.compress(b"Subject: x\n"), f"not known, {OF_GZIP}: not known".replace("gzip", "bzip2"), BZIPPED),
+    (gzip.compress(b"!BDN"), f"Outlook's pst, {OF_GZIP}: Outlook's pst", MAKES % 'gzip -dc <{} >"$d/copy"'),
+    (gzip.compress(b"%PDF-1.4"), "compressed by gzip: no mail: PDF", ""),
     (
         lzma.compress(MBOX, lzma.FORMAT_ALONE),
         "compressed by lzma",

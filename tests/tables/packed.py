@@ -1,0 +1,178 @@
+"""Packed mailboxes: what becomes of whole ones, of those that were cut or damaged at any byte, and of what follows
+one. Nothing that is cut or wrong becomes mail."""
+import bz2
+import gzip
+import lzma
+import os
+import random
+import shutil
+import subprocess
+from collections.abc import Callable, Iterator, Mapping
+from functools import partial
+from pathlib import Path
+
+from tests.support.cases import LeftOut
+from tests.support.checks import equal, matches
+from tests.support.homes import by_json, check_all, mail_in, mailbox, run_printed, want_root
+from tests.support.mail import ONE, TWO
+
+Pack = Callable[[bytes], bytes]
+LETTERS = ONE + "Grüße 🌱\n\n".encode()
+
+
+def by_program(name: str, text: bytes) -> bytes:
+    """Packs by a program."""
+    return subprocess.run([name, "-c"], input=text, stdout=subprocess.PIPE, check=True).stdout
+
+
+def encoded(name: str, text: bytes) -> bytes:
+    """A text in another encoding, with a mark at its beginning."""
+    return ("\ufeff" + text.decode()).encode(name)
+
+
+STREAMS: dict[str, Pack] = {"gzip": gzip.compress, "bzip2": bz2.compress, "xz": lzma.compress}
+PROGRAMS = {name: partial(by_program, name) for name in ("zstd", "lz4") if shutil.which(name)}
+# each encoding, and how many bytes its smallest letters have
+ENCODED = {name: partial(encoded, name) for name in ("utf-16-le", "utf-16-be", "utf-32-le", "utf-32-be")}
+PACK: dict[str, Pack] = {**STREAMS, **PROGRAMS, **ENCODED}
+CUT = "could not read stream {}, which begins at byte {}: it is incomplete"
+# the bytes of a stream that no check covers: when a member of gzip was made, with which effort, and on which system
+UNCHECKED = {"gzip": range(4, 10)}
+# how many NUL bytes may follow: gzip ignores them at the end, and xz has them in fours
+FILLED = {"gzip": (1, 2, 4, 511, 2000), "xz": (4, 512, 2000)}
+DAMAGED = "it is damaged or incomplete: `{} -dc` ended with status {}"
+
+
+def without_byte(data: bytes, place: int) -> bytes:
+    """Data of which one byte is another."""
+    return data[:place] + bytes([data[place] ^ 0x21]) + data[place + 1 :]
+
+
+def want_said(home: Path, files: Mapping[str, bytes], says: Callable[[str], str]) -> None:
+    """Each of these files is left, as it says of its name."""
+    for name, data in files.items():
+        mailbox(home / "old" / name, data)
+    found = {os.path.basename(row["path"]): row for row in by_json("migrate --dry-run --now M old", home).rows}
+    for name in files:
+        matches(name, f"{found[name]['reason']}: {found[name]['says']}", says(name))
+    shutil.rmtree(home / "old")
+
+
+def whole(home: Path) -> None:
+    """What is complete is migrated, also if it holds much, or is followed by another stream."""
+    large = ONE[:-1] + b"hello\n" * 400_000 + b"\n"
+    mixed = ONE[:-1] + bytes(random.Random(1).choices(range(32, 127), k=1 << 21)) + b"\n\n"
+    texts = {name: pack(LETTERS) for name, pack in PACK.items()}
+    for name, pack in {**STREAMS, **PROGRAMS}.items():
+        texts[f"{name} two"] = pack(ONE) + pack(b"") + pack(TWO)
+        texts[f"{name} large"], texts[f"{name} mixed"] = pack(large), pack(mixed)
+    for name, counts in FILLED.items():
+        texts.update({f"{name} {count}": STREAMS[name](ONE) + bytes(count) for count in counts})
+    texts["xz between"] = lzma.compress(ONE) + bytes(8) + lzma.compress(TWO)
+    texts["xz best"] = lzma.compress(ONE, preset=9)
+    wanted = {"two": [ONE, TWO], "between": [ONE, TWO], "mixed": [mixed], "large": [large]}
+    for name, data in texts.items():
+        mailbox(home / "old" / name.replace(" ", "-"), data)
+    rows = by_json("migrate --now M old", home).rows
+    equal("what is not done", [row for row in rows if row["verdict"] != "done"], [])
+    for name in texts:
+        its = [LETTERS] if name in PACK else wanted.get(name.split(" ")[1], [ONE])
+        bodies = sorted(one.read_bytes() for one in mail_in(home / f"M/.{name.replace(' ', '-')}"))
+        equal(f"{name}: the mail", bodies, sorted(one.split(b"\n", 1)[1][:-1] for one in its))
+
+
+def cut(home: Path) -> None:
+    """A stream that is cut anywhere, and one after another that is cut, are left."""
+    for name, pack in STREAMS.items():
+        one, two = pack(ONE), pack(TWO)
+        files = {f"{name} 1 {end}": one[:end] for end in range(10, len(one))}
+        files.update({f"{name} 2 {end}": one + two[:end] for end in range(1, len(two))})
+        begins = {"1": 1, "2": len(one) + 1}
+        want_said(
+            home, files, lambda its, begins=begins: "packed: " + CUT.format(its.split()[1], begins[its.split()[1]])
+        )
+    for name, pack in PROGRAMS.items():
+        one, two = pack(ONE), pack(TWO)
+        files = {f"{name} {end}": one[:end] for end in range(4, len(one))}
+        ends = (b"garbage", b"\0", two[:-1], two[:3], without_byte(two, 0), without_byte(two, len(two) - 1))
+        files.update({f"{name} and {number}": one + end for number, end in enumerate(ends)})
+        want_said(home, files, lambda its, name=name: "packed: " + DAMAGED.format(name, "..."))
+    for name, pack in ENCODED.items():
+        data = pack(LETTERS)
+        ends = [end for end in range(40, len(data)) if end % (4 if "32" in name else 2)]
+        want_said(home, {f"{name} {end}": data[:end] for end in ends}, lambda _: "packed: could not decode byte ...")
+
+
+def each_byte(home: Path) -> None:
+    """A stream of which one byte is another is left, also after another stream."""
+    for name, pack in STREAMS.items():
+        one, two = pack(ONE), pack(TWO)
+        places = [place for place in range(10, len(two)) if place not in UNCHECKED.get(name, ())]
+        files = {f"{place}": without_byte(two, place) for place in places}
+        files.update({f"{place} second": one + without_byte(two, place) for place in (*places, *range(4))})
+        want_said(home, files, lambda _: "packed: ...")
+
+
+def what_follows(home: Path) -> None:
+    """Only another stream may follow, and in files of gzip and xz NUL bytes."""
+    for name, pack in STREAMS.items():
+        one, two = pack(ONE), pack(TWO)
+        ends = [b"x", b"garbage", b"\0x", b"\0\0\0\0garbage", ONE, bytes(5) + two, bytes(1 << 21) + b"garbage"]
+        ends += [bytes(count) for count in (1, 2, 4, 511, 512, 2000) if count not in FILLED.get(name, ())]
+        ends = [end for end in ends if name != "gzip" or end.strip(b"\0")]
+        files = {f"{number}": one + end for number, end in enumerate(ends)}
+        want_said(home, files, lambda _: "packed: ...stream ..., ...byte ...")
+        # without another one it begins right behind the first one
+        begins = f"packed: ...stream ..., ...byte {len(one) + 1}..."
+        want_said(home, {"x": one + b"x", "garbage": one + b"garbage"}, lambda _, begins=begins: begins)
+
+
+def other_reasons(home: Path) -> None:
+    """Letters that are none, wherever they are; what takes too much memory, or has much more bytes than mail would be;
+    and a program that is not here."""
+    says = {}
+    for order in ("le", "be"):
+        pack, lone = PACK[f"utf-16-{order}"], "a\ud83ca".encode(f"utf-16-{order}", "surrogatepass")
+        for number, (data, why) in enumerate(
+            (
+                (pack(b"") + lone, "5: illegal ..."),
+                (pack(b"a" * 700_000) + lone, "1400005: illegal ..."),
+                (pack(b"a") + b"\0", "5: truncated data"),
+            )
+        ):
+            says[f"{order} {number}"] = (data, f"packed: could not decode byte {why}")
+    says["utf-32"] = (b"\xff\xfe\0\0\0\xd8\0\0", "packed: could not decode byte 5: ...")
+    large = lzma.compress(ONE, filters=[{"id": lzma.FILTER_LZMA2, "dict_size": 1 << 29}])
+    says["memory"] = (large, "packed: could not read stream 1, which begins at byte 1: Memory usage limit ...")
+    zeros = gzip.compress(bytes(280_000_000), 1)
+    says["much"] = (zeros, "packed: unpacked it has more than 268.4 MB, and more than 100 times its size")
+    want_said(home, {name: data for name, (data, _) in says.items()}, lambda name: says[name][1])
+    mailbox(home / "box", b"\x28\xb5\x2f\xfd")
+    row = by_json("migrate --dry-run --now M box", home, PATH=f"{home}/bin").row
+    equal("without zstd", row["says"], "could not find zstd: install it, and run this again")
+
+
+def by_hand(home: Path) -> None:
+    """What has much more bytes than mail would be is unpacked by the command that is printed."""
+    text = ONE[:-1] + bytes(280_000_000) + b"\n\n"
+    mailbox(home / "box", gzip.compress(text, 1))
+    equal("the command", run_printed(by_json("kind box", home).row.command, home).status, 0)
+    with (home / "box").open("rb") as file:
+        equal("what it made", (file.read(len(ONE) - 1), os.fstat(file.fileno()).st_size), (ONE[:-1], len(text)))
+
+
+def no_room(home: Path) -> None:
+    """It is counted first, and nothing is written if the disk has no space for it."""
+    want_root()
+    mailbox(home / "box", gzip.compress(ONE[:-1] + bytes(5 << 20) + b"\n\n"))
+    (home / "full").mkdir()
+    mounted = "mount -t tmpfs -o size=4m none full && mbox2maildir-admin migrate --now full/M box; ls -A full/M"
+    ran = run_printed(f"unshare -m sh -c '{mounted}'", home)
+    if "unshare" in ran.err or "mount" in ran.err:
+        raise LeftOut("no disk can be mounted here")
+    matches("what is said", ran.out.split("\n")[0], "box -> INBOX: ...left (no-room): not enough space in ...")
+    matches("how much", ran.out.split("\n")[0], "...: unpacked it has more than the 4... MB that are free...")
+
+
+if __name__ == "__main__":
+    check_all(whole, cut, each_byte, what_follows, other_reasons, by_hand, no_room)
