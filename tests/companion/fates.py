@@ -3,28 +3,40 @@
 once passed over, or left for ever, with status 0. In `faults` each call of the system fails in a run of its own. Worlds
 that are drawn are kinds of tests/companion/worlds.py."""
 import os
-import pwd
 import shutil
 import subprocess
-from collections.abc import Callable, Sequence
+from collections.abc import Callable, Mapping, Sequence
 from functools import partial
 from pathlib import Path
 from random import Random
+from typing import Any
 
 from tests.support.cases import Failed, LeftOut, run_cases
+from tests.support.running import OWNER, Desk
 from tests.worlds.fates import texts
-from tests.worlds.fates.comparing import AGAIN, Comparison, differences, things_done, wrong_maildirs
-from tests.worlds.fates.faults import small_tree, wrong_calls
-from tests.worlds.fates.names import name
-from tests.worlds.fates.running import migrate
-from tests.worlds.fates.stores import index_of, maildir, mh_folder
+from tests.worlds.fates.comparing import AGAIN, Comparison, differences, migrate, things_done, wrong_maildirs
+from tests.worlds.fates.faults import of_kind, small_tree, wrong_calls
+from tests.worlds.fates.names import Name, name
+from tests.worlds.fates.stores import OF_SERVERS, indexes, maildir, mh_folder
 from tests.worlds.fates.texts import Content, Fate
 from tests.worlds.fates.trees import ready
+from tests.worlds.fates.users import Homes
 from tests.worlds.fates.world import INBOX, Branch, Thing, World
-from tests.worlds.stage import TREE, Accounts, Stage, fresh_stage
+from tests.worlds.stage import TREE, Stage, fresh_stage
 
 # how many lines are printed of what is wrong
 LINES = 12
+# contents by their names, or names in a folder
+Names = Mapping[Name, Any]
+
+
+def grow(branch: Branch, names: Names) -> None:
+    """Makes files and folders in a folder."""
+    for one, what in names.items():
+        if isinstance(what, Content):
+            branch.file(one, what)
+        else:
+            grow(branch.folder(one), what)
 
 
 class Scene:
@@ -32,17 +44,26 @@ class Scene:
 
     def __init__(self, stage: Stage) -> None:
         stage.place.clear(is_for_users=True)
-        self.stage, self.home, self.draw = stage, stage.place.home, Random(72)
+        self.stage, self.place, self.home, self.draw = stage, stage.place, stage.place.home, Random(72)
         self.world = World(self.home)
 
     def mail(self) -> Content:
         """A mailbox."""
         return texts.mboxrd(self.draw)
 
-    def tree(self, word: str = "tree") -> Branch:
-        """A folder of mailboxes, which the words of the run name."""
-        ready(self.world, b"M", [word.encode()])
-        return Branch(self.world, bytes(self.home / word), word)
+    def tree(self, *others: bytes) -> Branch:
+        """A folder of mailboxes, which the words of the run name, beside others."""
+        ready(self.world, b"M", [b"tree", *others])
+        return Branch(self.world, bytes(self.home / "tree"), b"tree")
+
+    def grown(self, names: Names) -> list[str]:
+        """What is wrong with a tree of these names."""
+        grow(self.tree(), names)
+        return self.wrong()
+
+    def homes(self) -> Homes:
+        """The homes of users. Without users the case is left out."""
+        return Homes(self.world, self.stage.users())
 
     def finish(self) -> World:
         """Ends the making."""
@@ -51,36 +72,30 @@ class Scene:
 
     def wrong(self) -> list[str]:
         """Runs it, and gives what is wrong."""
-        return differences(self.finish(), is_dry=True)
+        return differences(self.finish(), self.place, is_dry=True)
+
+    def wrong_at(self, desk: Desk) -> list[str]:
+        """What is wrong with one run of it at a desk."""
+        world = self.finish()
+        return list(Comparison(world, migrate(world, desk)).all_wrong())
 
 
 def names_that_mislead(scene: Scene) -> list[str]:
     """mbox text under the names of index files, locks and lists: in a tree."""
-    tree = scene.tree()
-    for one in (
-        name("report.dat", "report-dat"),
-        name("old.lock", "old-lock"),
-        name("x.msf", "x-msf"),
-        name(".mailboxlist", "-mailboxlist"),
-    ):
-        tree.file(one, scene.mail())
-    tree.file(name(".subscriptions", "-subscriptions"), scene.mail())
-    inside = tree.folder(name(".imap", "-imap"))
-    inside.file(name("x"), scene.mail())
-    inside.folder(name("Sent")).file(name("dovecot.index", "dovecot-index"), scene.mail())
-    return scene.wrong()
+    pairs = ("report.dat", "old.lock", "x.msf", ".mailboxlist", ".subscriptions")
+    index = {name("dovecot.index", "dovecot-index"): scene.mail()}
+    below = {name(".imap", "-imap"): {name("x"): scene.mail(), name("Sent"): index}}
+    return scene.grown({**{name(one, one.replace(".", "-")): scene.mail() for one in pairs}, **below})
 
 
 def words_that_mislead(scene: Scene) -> list[str]:
     """The same, each named as a word."""
-    here = Branch(scene.world, bytes(scene.home / "old"), "old")
+    here = Branch(scene.world, bytes(scene.home / "old"), b"old")
     words: list[bytes] = []
     imap = here.folder(name(".imap"))
     for branch, word in ((here, "report.dat"), (here, "old.lock"), (here, "x.msf"), (imap, "x")):
-        content = scene.mail()
-        branch.put(name(word), content.data)
-        scene.world.add(Thing(branch.shown_of(name(word)), Fate.DONE, "", INBOX, content.messages))
-        words.append(branch.shown_of(name(word)).encode())
+        branch.file(name(word), scene.mail()).folder = INBOX
+        words.append(branch.shown_of(name(word)))
     ready(scene.world, b"M", words)
     return scene.wrong()
 
@@ -88,27 +103,17 @@ def words_that_mislead(scene: Scene) -> list[str]:
 def folders_named_cur(scene: Scene) -> list[str]:
     """A folder `cur`, or a symbolic link of that name, makes no Maildir of what is beside and below it."""
     tree = scene.tree()
-    one, two, three = (tree.folder(name(word)) for word in ("p", "q", "r"))
-    one.folder(name("cur")).file(name("jan"), scene.mail())
-    one.file(name("garden"), scene.mail())
-    two.file(name("sheds"), scene.mail())
-    two.link(name("cur"), "../p")
-    for sub in ("new", "tmp"):
-        two.folder(name(sub)).file(name("x"), scene.mail())
-    three.file(name("cur"), scene.mail())
+    beside = {name(sub): {name("x"): scene.mail()} for sub in ("new", "tmp")}
+    grow(tree, {name("p"): {name("cur"): {name("jan"): scene.mail()}, name("garden"): scene.mail()}})
+    grow(tree, {name("q"): {name("sheds"): scene.mail(), **beside}, name("r"): {name("cur"): scene.mail()}})
+    tree.folder(name("q")).link(name("cur"), "../p")
     return scene.wrong()
 
 
 def maildir_among_mailboxes(scene: Scene) -> list[str]:
     """A Maildir with mail is left as one thing, with what servers write in it. Mailboxes beside and in it are done."""
-    tree = scene.tree()
-    mails = [texts.one_mail(scene.draw).data]
-    made = maildir(
-        tree,
-        name("lists"),
-        mails,
-        ["maildirfolder", "maildirsize", "dovecot-uidlist", "dovecot.index.log", "subscriptions"],
-    )
+    tree, mails = scene.tree(), [texts.one_mail(scene.draw).data]
+    made = maildir(tree, name("lists"), mails, [*OF_SERVERS])
     made.file(name("sheds"), scene.mail())
     maildir(made, name(".Sent", "-Sent"), mails)
     tree.file(name("garden"), scene.mail())
@@ -117,48 +122,45 @@ def maildir_among_mailboxes(scene: Scene) -> list[str]:
 
 def other_kinds(scene: Scene) -> list[str]:
     """Mail in formats of other programs, compressed files, and files of unknown kinds are left, and named."""
+    makers = [*texts.OF_ANOTHER_KIND.values(), *texts.UNKNOWN.values()]
+    return scene.grown({name(f"x{number}"): make(scene.draw) for number, make in enumerate(makers)})
+
+
+def no_mail(scene: Scene) -> list[str]:
+    """Files that no program writes mail into are no mailboxes, whatever their names are."""
     tree = scene.tree()
-    for number, kind in enumerate(("pst", "dbx", "msg", "lzma", "rar", "PGP", "dbox")):
-        tree.file(name(f"x{number}"), texts.OF_ANOTHER_KIND[kind](scene.draw))
-    for number, make in enumerate(texts.UNKNOWN.values()):
-        tree.file(name(f"y{number}"), make(scene.draw))
+    indexes(tree, "Sent")
+    tree.file(name(".subscriptions"), texts.SUBSCRIPTIONS)
+    grow(tree, {name(f"x{number}"): make(scene.draw) for number, make in enumerate(texts.NO_MAIL.values())})
+    for word in (".x", "x.lock", "x.msf"):
+        tree.empty(name(word), True)
+    grow(tree, {name("y.lock"): texts.no_mail(b"12345\n"), name("Sent"): scene.mail()})
     return scene.wrong()
 
 
 def kinds_that_hold_text(scene: Scene) -> list[str]:
     """MMDF, Apple's .emlx and a tar have plain mail in them, and are no damaged mbox."""
-    tree = scene.tree()
-    for kind in ("MMDF", "emlx", "tar"):
-        tree.file(name(f"x.{kind}", f"x-{kind}"), texts.OF_ANOTHER_KIND[kind](scene.draw))
-    wrong = scene.wrong()
-    return wrong + [
-        f"called damaged: {line}" for line in migrate(scene.world).lines if "damaged" in line or "echo From" in line
-    ]
+    kinds = [of_kind(word) for word in ("MMDF", "Apple Mail's emlx", "an archive of tar")]
+    return scene.grown({name(f"x{number}"): kind for number, kind in enumerate(kinds)})
 
 
 def mh_folders(scene: Scene) -> list[str]:
     """A folder of MH has one line, however much mail is in it. A mailbox in it is none of its messages."""
-    tree = scene.tree()
-    made = mh_folder(tree, name("sylpheed"), [texts.one_mail(scene.draw).data for _ in range(300)])
-    made.file(name("sheds"), scene.mail())
-    made.file(name("1000"), scene.mail())
+    made = mh_folder(scene.tree(), name("sylpheed"), [texts.one_mail(scene.draw).data for _ in range(300)])
+    grow(made, {name("sheds"): scene.mail(), name("1000"): scene.mail()})
     return scene.wrong()
 
 
 def nulls(scene: Scene) -> list[str]:
     """The text begins after NULs if nothing but NULs is lost."""
-    tree = scene.tree()
-    several = texts.messages(scene.draw, texts.PLAIN)
-    tree.file(name("a"), texts.done(bytes(512) + texts.in_mboxrd(several), several)._replace(says="byte 513"))
-    tree.file(name("b"), texts.after_nulls_undated(scene.draw))
-    tree.file(name("c"), texts.after_nulls_and_more(scene.draw))
-    return scene.wrong()
+    doubtful = [texts.DOUBTFUL[word](scene.draw) for word in ("NULs, undated", "NULs and text")]
+    several = [texts.after_nulls(scene.draw), *doubtful]
+    return scene.grown({name(f"x{number}"): content for number, content in enumerate(several)})
 
 
 def no_from_line(scene: Scene) -> list[str]:
     """A text that begins with the word `From` is no mailbox without a date in that line or a header after it."""
-    scene.tree().file(name("notes.txt", "notes-txt"), texts.notes(scene.draw))
-    return scene.wrong()
+    return scene.grown({name("notes.txt", "notes-txt"): texts.DOUBTFUL["notes"](scene.draw)})
 
 
 def sparse_files(scene: Scene) -> list[str]:
@@ -169,158 +171,104 @@ def sparse_files(scene: Scene) -> list[str]:
     return scene.wrong()
 
 
-def with_users(scene: Scene) -> Accounts:
-    """The users. Without them the case is left out."""
-    scene.world.is_for_users = True
-    return scene.stage.users()
-
-
-def home_of(scene: Scene, user: str, tree: bool) -> Branch:
-    """Makes the home of a user, and returns its tree, or the home."""
-    home = scene.stage.users().home(user)
-    home.mkdir(parents=True)
-    scene.world.maildirs[user] = bytes(home / "Maildir")
-    branch = Branch(scene.world, bytes(home / TREE) if tree else bytes(home), f"{user} {TREE}")
-    branch.user = user
-    return branch
-
-
-def owned(scene: Scene, path: Path, user: str) -> None:
-    """Gives a folder with everything in it to a user."""
-    account = pwd.getpwnam(user)
-    for below, folders, files in os.walk(bytes(path)):
-        for place in (below, *(os.path.join(below, one) for one in (*folders, *files))):
-            scene.world.owners.append((place, account.pw_uid, account.pw_gid))
-
-
-def in_spool(scene: Scene, user: str) -> Thing:
-    """Makes the mailbox of a user."""
-    content, one = scene.mail(), name(user)
-    spool = Branch(scene.world, bytes(scene.home / "spool"), "spool")
-    account = pwd.getpwnam(user)
-    scene.world.owners.append((spool.put(one, content.data), account.pw_uid, account.pw_gid))
-    thing = scene.world.add(Thing(user, Fate.DONE, "", INBOX, content.messages))
-    thing.user = user
-    return thing
-
-
-def users_words(scene: Scene, names: Sequence[str] = (), with_tree: bool = True) -> None:
-    """The words of a run for users."""
-    scene.world.options = ["--users", *(["--tree", TREE] if with_tree else [])]
-    scene.world.words = [b"spool", *(user.encode() for user in names)]
-    (scene.home / "spool").mkdir(exist_ok=True)
-
-
 def users_of_a_list(scene: Scene) -> list[str]:
     """A list names users too. A name that belongs to no user is left, and it is said how many of the spool were not
     asked for."""
-    who = with_users(scene)
-    for user in who.names[:2]:
-        home_of(scene, user, True).file(name("sheds"), scene.mail())
-        owned(scene, who.home(user), user)
-    in_spool(scene, who.names[0])
-    for user in who.names[2:]:
-        in_spool(scene, user)
-        scene.world.choices.pop()
-    scene.world.leave("m90-gone")
-    users_words(scene)
+    homes = scene.homes()
+    for user in homes.who.names[:2]:
+        homes.tree(user, (name("sheds"), scene.mail()))
+    scene.world.add(homes.mailbox(homes.who.names[0], scene.mail()))
+    for user in homes.who.names[2:]:
+        homes.mailbox(user, scene.mail())
+    scene.world.add(Thing(b"", Fate.LEFT, user="m90-gone"))
+    homes.words()
     scene.world.options += ["--names", "-"]
-    scene.world.input = "".join(f"{user}\n" for user in (*who.names[:2], "m90-gone")).encode()
+    scene.world.input = "".join(f"{user}\n" for user in (*homes.who.names[:2], "m90-gone")).encode()
     scene.world.not_asked = 2
     return scene.wrong()
 
 
 def users_are_counted(scene: Scene) -> list[str]:
     """The last line says how many users were looked at, and where their names came from."""
-    who = with_users(scene)
-    home_of(scene, who.names[0], False)
-    owned(scene, who.home(who.names[0]), who.names[0])
-    in_spool(scene, who.names[0])
-    wrong = []
-    for source in ("from the spool", "from the command line"):
-        users_words(scene, who.names[:1] if source == "from the command line" else [], False)
-        scene.finish()
-        last = migrate(scene.world).last
-        if not last.endswith(f"; 1 user: 1 {source}"):
-            wrong.append(f"1 user, {source}, is not said: {last}")
+    homes = scene.homes()
+    user, wrong = homes.who.names[0], []
+    homes.own(bytes(homes.home(user)), user)
+    scene.world.add(homes.mailbox(user, scene.mail()))
+    homes.words(tree="")
+    for source, names in (("from the spool", homes.who.names[:0]), ("from the command line", [user])):
+        scene.world.words = [b"spool", *map(str.encode, names)]
+        last = migrate(scene.finish(), scene.place).sums["says"]
+        wrong += [] if last.endswith(f"; 1 user: 1 {source}") else [f"1 user, {source}, is not said: {last}"]
     return wrong
 
 
 def second_mailbox_of_an_account(scene: Scene) -> list[str]:
     """Of two mailboxes of one account the second is left, and the tree is migrated once."""
-    who = with_users(scene)
-    first, second = who.names[0], who.second
-    thing = home_of(scene, first, True).file(name("sheds"), scene.mail())
-    thing.also = (thing.shown.replace(first, second),)
-    owned(scene, who.home(first), first)
-    in_spool(scene, first)
-    choice, other = scene.world.choices[-1], in_spool(scene, second)
-    scene.world.choices.pop()
-    other.user = first
-    choice.things.append(other)
-    users_words(scene, [first, second])
+    homes = scene.homes()
+    first, second = homes.who.names[0], homes.who.second
+    homes.tree(first, (name("sheds"), scene.mail()))[0].also = second
+    scene.world.add(homes.mailbox(first, scene.mail()))
+    other = homes.mailbox(second, scene.mail())
+    other.owner = first
+    scene.world.choices[-1].things.append(other)
+    homes.words([first, second])
     wrong = scene.wrong()
-    if not any("--folder" in line for line in migrate(scene.world).lines):
-        wrong.append("no row says --folder")
-    return wrong
+    is_said = "--folder" in migrate(scene.world, scene.place).output
+    return wrong if is_said else [*wrong, "no row says --folder"]
 
 
-def homes(scene: Scene) -> list[str]:
+def homes_that_are_closed(scene: Scene) -> list[str]:
     """A home that is missing, closed, another user's or not mounted is left, and so is a tree behind a closed
     folder."""
-    who = with_users(scene)
-    missing, closed, unmounted, behind = who.names
-    shutil.rmtree(str(who.home(missing)), ignore_errors=True)
-    who.home(unmounted).mkdir(parents=True)
+    homes = scene.homes()
+    missing, closed, unmounted, behind = homes.who.names
+    shutil.rmtree(homes.who.home(missing), ignore_errors=True)
+    homes.who.home(unmounted).mkdir(parents=True)
+    (homes.home(behind) / "m90" / "in").mkdir(parents=True)
     for user in (closed, behind):
-        home_of(scene, user, False)
-    (who.home(behind) / "m90" / "in").mkdir(parents=True)
-    for user in (closed, behind):
-        owned(scene, who.home(user), user)
-    scene.world.modes += [(bytes(who.home(closed)), 0), (bytes(who.home(behind) / "m90"), 0)]
+        homes.own(bytes(homes.home(user)), user)
+    scene.world.modes += [(bytes(homes.who.home(closed)), 0), (bytes(homes.who.home(behind) / "m90"), 0)]
     for user in (missing, closed, unmounted):
-        scene.world.leave(user)
-    scene.world.leave(f"{behind} m90/in")
-    users_words(scene, who.names, False)
-    scene.world.options += ["--tree", "m90/in"]
+        scene.world.add(Thing(b"", Fate.LEFT, user=user))
+    scene.world.add(Thing(b"m90/in", Fate.LEFT, user=behind))
+    homes.words(homes.who.names, "m90/in")
     return scene.wrong()
 
 
 def tree_beside_what_is_left(scene: Scene) -> list[str]:
     """The tree of a user is migrated even if the user's mailbox in the spool is left."""
-    who = with_users(scene)
-    user = who.names[0]
-    home_of(scene, user, True).file(name("sheds"), scene.mail())
-    owned(scene, who.home(user), user)
-    users_words(scene, [user])
-    os.symlink("/etc/passwd", str(scene.home / "spool" / user))
-    scene.world.leave(user)
+    homes = scene.homes()
+    user = homes.who.names[0]
+    homes.tree(user, (name("sheds"), scene.mail()))
+    homes.words([user])
+    os.symlink("/etc/passwd", scene.home / "spool" / user)
+    scene.world.add(Thing(b"", Fate.LEFT, user=user))
     return scene.wrong()
 
 
-def of_japan(scene: Scene, tree: Branch) -> None:
+def of_japan(scene: Scene) -> Names:
     """Names that a locale in Latin-1 does not have. They are in rows, in remarks and in next commands."""
-    tree.folder(name("\u65e5\u672c", "&ZeVnLA-")).file(name("sheds"), scene.mail())
-    tree.file(name("\u65e5\u672c.2004", "&ZeVnLA--2004"), scene.mail())
-    tree.file(name("\u65e5", "&ZeU-"), texts.damaged(scene.draw))
+    return {
+        name("\u65e5\u672c", "&ZeVnLA-"): {name("sheds"): scene.mail()},
+        name("\u65e5\u672c.2004", "&ZeVnLA--2004"): scene.mail(),
+        name("\u65e5", "&ZeU-"): texts.DOUBTFUL["damaged"](scene.draw),
+    }
 
 
 def names_in_another_locale(scene: Scene) -> list[str]:
     """A name that the locale does not have has its row, in one's own run."""
-    of_japan(scene, scene.tree())
-    world = scene.finish()
-    return Comparison(world, migrate(world, **latin(scene))).all_wrong()
+    grow(scene.tree(), of_japan(scene))
+    return scene.wrong_at(Desk(scene.home, scene.place.programs, OWNER, **latin(scene)))
 
 
 def users_names_in_another_locale(scene: Scene) -> list[str]:
     """The same for users."""
-    who = with_users(scene)
-    user = who.names[0]
-    of_japan(scene, home_of(scene, user, True))
-    owned(scene, who.home(user), user)
-    users_words(scene, [user])
-    world = scene.finish()
-    return Comparison(world, migrate(world, **latin(scene))).all_wrong()
+    homes = scene.homes()
+    user = homes.who.names[0]
+    grow(Branch(scene.world, bytes(homes.home(user) / TREE), TREE.encode(), user=user), of_japan(scene))
+    homes.own(bytes(homes.home(user)), user)
+    homes.words([user])
+    return scene.wrong_at(Desk(scene.home, scene.place.programs, **latin(scene)))
 
 
 def latin(scene: Scene) -> dict[str, str]:
@@ -329,36 +277,31 @@ def latin(scene: Scene) -> dict[str, str]:
     place.mkdir(exist_ok=True)
     place.chmod(0o755)
     words = ["localedef", "-i", "de_DE", "-f", "ISO-8859-1", str(place / "de_DE.ISO-8859-1")]
-    if (
-        not shutil.which("localedef")
-        or subprocess.run(words, check=False, stdout=subprocess.PIPE, stderr=subprocess.PIPE).returncode
-    ):
+    if not shutil.which("localedef") or subprocess.run(words, check=False, capture_output=True).returncode:
         raise LeftOut("no locale in Latin-1 can be made")
-    return {"LOCPATH": str(place), "LC_ALL": "de_DE.ISO-8859-1"}
+    return {"LOCPATH": str(place), "LC_ALL": "de_DE.ISO-8859-1", "HOME": str(scene.home)}
 
 
 def folder_names_that_are_none(scene: Scene) -> list[str]:
     """What is not the name of a folder is refused before anything is made."""
-    here = Branch(scene.world, bytes(scene.home), "old")
     wrong: list[str] = []
-    here.put(name("box"), scene.mail().data)
+    Branch(scene.world, bytes(scene.home), b"old").put(name("box"), scene.mail().data)
     ready(scene.world, b"M", [b"box"])
     scene.finish()
-    before = sorted(os.listdir(str(scene.home)))
     for folder in ("/", "Sent/", "/Sent", "a//b", os.fsdecode(b"\xe6")):
-        run = migrate(scene.world, ["--folder", folder])
-        if run.status == 0 or run.output or "Traceback" in run.errors or not run.errors:
-            wrong.append(f"--folder {folder!r}: status {run.status}, {run.last}, {run.errors[-90:].strip()}")
-        if sorted(os.listdir(str(scene.home))) != before:
-            wrong.append(f"--folder {folder!r} made {sorted({*os.listdir(str(scene.home))} - {*before})}")
-            shutil.rmtree(str(scene.home / "M"), ignore_errors=True)
+        run = migrate(scene.world, scene.place, ["--folder", folder])
+        if run.status == 0 or run.out or "Traceback" in run.err or not run.err:
+            wrong.append(f"--folder {folder!r}: status {run.status}: {run.output[-200:]}")
+        if os.listdir(scene.home) != ["box"]:
+            wrong.append(f"--folder {folder!r} made {os.listdir(scene.home)}")
+            shutil.rmtree(scene.home / "M", ignore_errors=True)
     return wrong
 
 
 def folders_of_other_programs(scene: Scene) -> list[str]:
     """The names that KMail, readpst and Thunderbird give their folders."""
     wrong = []
-    makers: list[Callable[[Scene, Branch], None]] = [kmail, readpst, thunderbird]
+    makers: Sequence[Callable[[Scene, Branch], None]] = (kmail, readpst, thunderbird)
     for make in makers:
         part = Scene(scene.stage)
         make(part, part.tree())
@@ -368,17 +311,15 @@ def folders_of_other_programs(scene: Scene) -> list[str]:
 
 def kmail(scene: Scene, tree: Branch) -> None:
     """Folders below a folder `x` stand in `.x.directory`."""
-    tree.file(name("inbox", INBOX), scene.mail())
-    below = tree.folder(name(".inbox.directory", INBOX))
-    below.file(name("Haus"), scene.mail())
-    below.folder(name(".Haus.directory", "Haus")).file(name("Garten"), scene.mail())
+    garden = {name("Garten"): scene.mail()}
+    below = {name("Haus"): scene.mail(), name(".Haus.directory", "Haus"): garden}
+    grow(tree, {name("inbox", INBOX): scene.mail(), name(".inbox.directory", INBOX): below})
 
 
 def readpst(scene: Scene, tree: Branch) -> None:
     """Each folder has its mail in a file `mbox`."""
     for folder, part in (("Inbox", INBOX), ("Sent Items", "Sent Items")):
-        thing = tree.folder(name(folder, part)).file(name("mbox"), scene.mail())
-        thing.folder = part
+        tree.folder(name(folder, part)).file(name("mbox"), scene.mail()).folder = part
     inside = tree.folder(name("Inbox", INBOX)).folder(name("Sheds"))
     inside.file(name("mbox"), scene.mail()).folder = "INBOX/Sheds"
 
@@ -389,18 +330,16 @@ def thunderbird(scene: Scene, tree: Branch) -> None:
     local = profile.folder(name("Mail")).folder(name("Local Folders"))
     local.file(name("Inbox"), scene.mail()).folder = INBOX
     local.file(name("Trash"), scene.mail()).folder = "Trash"
-    local.file(name("Trash.msf"), texts.KNOWN_AS_NO_MAIL["Mork"](scene.draw))
-    below = local.folder(name("Archives.sbd"))
-    below.file(name("2004"), scene.mail()).folder = "Archives/2004"
+    local.file(name("Trash.msf"), of_kind("Thunderbird's index"))
+    local.folder(name("Archives.sbd")).file(name("2004"), scene.mail()).folder = "Archives/2004"
     host = profile.folder(name("ImapMail")).folder(name("imap.example.org"))
     host.file(name("lists"), scene.mail()).folder = "lists"
-    host.file(name("msgFilterRules.dat"), texts.KNOWN_AS_NO_MAIL["rules"](scene.draw))
+    host.file(name("msgFilterRules.dat"), of_kind("Thunderbird's rules"))
 
 
 def folders_of_the_record(scene: Scene) -> list[str]:
     """A mailbox stays in the folder that the record has, even if it would have another name now."""
-    tree = scene.tree()
-    thing = tree.folder(name(".inbox.directory", INBOX)).file(name("Haus"), scene.mail())
+    thing = scene.tree().folder(name(".inbox.directory", INBOX)).file(name("Haus"), scene.mail())
     thing.folder = "-inbox-directory/Haus"
     return done_by_hand(scene, {b"tree/.inbox.directory/Haus": "-inbox-directory/Haus"}, [thing])
 
@@ -418,7 +357,7 @@ def done_with_a_folder(scene: Scene) -> list[str]:
 def done_under_a_link(scene: Scene) -> list[str]:
     """What a symbolic link leads to was done with --folder, so the link is done before."""
     tree, content = scene.tree(), scene.mail()
-    Branch(scene.world, bytes(scene.home / "old"), "old").put(name("box"), content.data)
+    Branch(scene.world, bytes(scene.home / "old"), b"old").put(name("box"), content.data)
     thing = tree.link(name("link"), "../old/box")
     tree.file(name("sheds"), scene.mail())
     thing.fate, thing.says, thing.folder, thing.messages = Fate.DONE, "", "Linked", content.messages
@@ -427,76 +366,47 @@ def done_under_a_link(scene: Scene) -> list[str]:
 
 def done_by_hand(scene: Scene, folders: dict[bytes, str], things: list[Thing]) -> list[str]:
     """Does mailboxes with --folder, and then the tree: those are done before, and everything else is done."""
-    world = scene.finish()
-    words = scene.world.words
+    world, words = scene.finish(), scene.world.words
     wrong: list[str] = []
     for path, folder in folders.items():
         world.words = [words[0], path]
-        by_hand = migrate(world, [f"--folder={folder}"])
-        wrong += [f"by hand: {by_hand.output}{by_hand.errors}"] if by_hand.status else []
+        by_hand = migrate(world, scene.place, [f"--folder={folder}"])
+        wrong += [f"by hand: {by_hand.output}"] if by_hand.status else []
     world.words = words
-    first = Comparison(world, migrate(world), already=things)
-    wrong += first.all_wrong() + list(wrong_maildirs(world, things_done(first)))
-    again = Comparison(world, migrate(world), AGAIN)
+    first = Comparison(world, migrate(world, scene.place), already=things)
+    wrong += [*first.all_wrong(), *wrong_maildirs(world, things_done(first))]
+    again = Comparison(world, migrate(world, scene.place), AGAIN)
     return wrong or [f"again: {line}" for line in (*again.all_wrong(), *wrong_maildirs(world, things_done(first)))]
 
 
 def named_and_met(scene: Scene) -> list[str]:
     """What is named as a word, and met in a tree or two, has one fate, by the word. Another name of it is no mail."""
-    tree = scene.tree()
-    content = scene.mail()
+    tree, content = scene.tree(b"tree/sheds", b"tree/lists", b"./tree/sheds"), scene.mail()
     tree.file(name("sheds"), content).folder = INBOX
     lists = tree.folder(name("lists"))
     lists.file(name("garden"), scene.mail())
-    os.link(str(scene.home / "tree/sheds"), str(scene.home / "tree/lists/more"))
-    scene.world.add(lists.thing(name("more"), content))
-    scene.world.words += [b"tree/sheds", b"tree/lists", b"./tree/sheds"]
-    return scene.wrong()
-
-
-def index_files(scene: Scene) -> list[str]:
-    """Files that no program writes mail into are no mailboxes, whatever their names are."""
-    tree = scene.tree()
-    index_of(scene.draw, tree, "Sent")
-    tree.file(name(".subscriptions"), texts.KNOWN_AS_NO_MAIL["subscriptions"](scene.draw))
-    for number, known in enumerate(texts.KNOWN_AS_NO_MAIL.values()):
-        tree.file(name(f"x{number}"), known(scene.draw))
-    tree.empty(name(".x"), True)
-    tree.empty(name("x.lock"), True)
-    tree.empty(name("x.msf"), True)
-    tree.file(name("y.lock"), texts.no_mail(b"12345\n"))
-    tree.file(name("Sent"), scene.mail())
+    lists.hard_link(name("more"), name("../sheds"), content)
     return scene.wrong()
 
 
 def links_without_folders(scene: Scene) -> list[str]:
     """A symbolic link has no folder in its row, in a tree and in place of the tree of a user."""
-    who = with_users(scene)
-    user = who.names[0]
-    home_of(scene, user, False)
-    os.symlink("/etc", str(who.home(user) / TREE))
-    owned(scene, who.home(user), user)
-    scene.world.leave(f"{user} {TREE}", "link")
-    users_words(scene, [user])
+    homes = scene.homes()
+    user = homes.who.names[0]
+    os.symlink("/etc", homes.home(user) / TREE)
+    homes.own(bytes(homes.home(user)), user)
+    scene.world.add(Thing(TREE.encode(), Fate.LEFT, "link", user=user))
+    homes.words([user])
     return scene.wrong()
 
 
 def spared_by_a_pattern(scene: Scene) -> list[str]:
     """--no-mail is only for files of unknown kinds."""
-    tree = scene.tree()
-    for number, make in enumerate(
-        (
-            *texts.UNKNOWN.values(),
-            texts.mboxrd,
-            texts.OF_ANOTHER_KIND["pst"],
-            texts.OF_ANOTHER_KIND["emlx"],
-            texts.damaged,
-            texts.one_mail,
-        )
-    ):
-        content = make(scene.draw)
+    tree, others = scene.tree(), [texts.DOUBTFUL["damaged"](scene.draw), texts.one_mail(scene.draw), scene.mail()]
+    others += [of_kind("Outlook's pst"), of_kind("Apple Mail's emlx")]
+    for number, content in enumerate([*(make(scene.draw) for make in texts.UNKNOWN.values()), *others]):
         tree.file(name(f"x{number}.junk", f"x{number}-junk"), content).is_spared = content.is_unknown
-    tree.file(name("other"), texts.text_of(scene.draw))
+    tree.file(name("other"), texts.UNKNOWN["text"](scene.draw))
     scene.world.options += ["--no-mail", "*.junk"]
     return scene.wrong()
 
@@ -505,7 +415,7 @@ def faults(scene: Scene) -> list[str]:
     """Each call of the small tree fails once, each in a run of its own."""
     top = scene.stage.top / "shares"
     top.mkdir()
-    return wrong_calls(small_tree, top, scene.stage.top / "bin")
+    return wrong_calls(small_tree, top, scene.place.programs)
 
 
 def case(check: Callable[[Scene], list[str]]) -> None:
@@ -522,6 +432,7 @@ CASES = (
     folders_named_cur,
     maildir_among_mailboxes,
     other_kinds,
+    no_mail,
     kinds_that_hold_text,
     spared_by_a_pattern,
     mh_folders,
@@ -531,7 +442,7 @@ CASES = (
     users_of_a_list,
     users_are_counted,
     second_mailbox_of_an_account,
-    homes,
+    homes_that_are_closed,
     tree_beside_what_is_left,
     names_in_another_locale,
     users_names_in_another_locale,
@@ -541,7 +452,6 @@ CASES = (
     done_with_a_folder,
     done_under_a_link,
     named_and_met,
-    index_files,
     links_without_folders,
     faults,
 )

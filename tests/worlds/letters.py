@@ -57,6 +57,11 @@ OF_PROGRAMS = HIDDEN | {"lines", "x-mozilla-status", "x-mozilla-status2", "x-moz
 OF_PROGRAMS |= {"x-evolution", "x-gmail-labels", "x-gm-thrid"}
 # how far into its line the colon of a field may be
 LONGEST = 8191
+# before which lines a delivery of a kind puts a `>`
+FROM, FROM_OR_QUOTED = re.compile(rb"(?m)^From "), re.compile(rb"(?m)^>*From ")
+QUOTED_BY = {"mboxo": FROM, "mboxrd": FROM_OR_QUOTED, "mboxcl": FROM_OR_QUOTED, "crlf": FROM_OR_QUOTED}
+# what a program notes of mail that was seen, or nothing
+SEEN = [b"", b"", b"Status: RO\n", b"Status: O\nX-Status: AF\n", b"X-Status: D\n"]
 # how mailboxes of a history are delivered to
 KINDS = ("mboxrd", "mboxcl2", "mboxrd", "mboxcl2", "crlf")
 ID = re.compile(rb"(?mi)^Message-ID: *<([^>]*)>")
@@ -90,9 +95,10 @@ class Letter(NamedTuple):
     def delivered(self, kind: str, days: int = 0) -> bytes:
         """The text that a delivery of a kind appends to a mailbox, some days later."""
         line = b"From %s %s\n" % (self.sender, asctime(self.when + datetime.timedelta(days)))
-        if kind == "mboxcl2":
-            return line + self.header + b"Content-Length: %d\n\n" % len(self.body) + self.body + b"\n"
-        text = line + self.header + b"\n" + re.sub(rb"(?m)^(>*From )", rb">\1", self.body) + b"\n"
+        quoted = QUOTED_BY.get(kind)
+        body = quoted.sub(rb">\g<0>", self.body) if quoted else self.body
+        length = b"Content-Length: %d\n" % len(body) if kind in ("mboxcl", "mboxcl2") else b""
+        text = line + self.header + length + b"\n" + body + b"\n"
         return text.replace(b"\n", b"\r\n") if kind == "crlf" else text
 
 

@@ -22,7 +22,7 @@ def one_world(stage: Stage, seed: int) -> list[str]:
         world = (of_words if kind == "words" else of_a_tree)(draw, place.home)
     world.finish()
     stage.steps.append(f"migrate {' '.join(map(repr, [*world.options, *world.words]))}")
-    return differences(world, is_dry=seed % 4 == 0)
+    return differences(world, place, is_dry=seed % 4 == 0)
 
 
 def one_fault(stage: Stage, seed: int) -> Iterator[str]:
@@ -30,5 +30,5 @@ def one_fault(stage: Stage, seed: int) -> Iterator[str]:
     draw = Random(seed)
     make = draw.choice([small_tree, with_left, *([a_spool(stage.users())] if are_own() else [])])
     stage.place.clear(is_for_users=True)
-    attempt = Attempt(make, stage.place.home, stage.top / "bin")
+    attempt = Attempt(make, stage.place)
     yield from attempt.wrong(draw.choice(attempt.faults()))

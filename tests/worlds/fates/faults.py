@@ -5,27 +5,25 @@ import errno
 import gc
 import multiprocessing
 import os
-import pwd
 import re
-import shutil
 from collections.abc import Callable, Iterator, Sequence
 from pathlib import Path
 from random import Random
 from typing import NamedTuple
 
 from tests.support.checks import LATER
-from tests.support.copies import Copies
+from tests.support.running import COMPANION, Row, Run
 from tests.worlds.fates import texts
-from tests.worlds.fates.comparing import FIRST, Comparison, files_of, folder_on_disk
+from tests.worlds.fates.comparing import FIRST, Comparison, brief, files_of, folder_on_disk, migrate, path_of
 from tests.worlds.fates.failing import counter, put_in_place
 from tests.worlds.fates.names import name
-from tests.worlds.fates.running import Outcome, migrate
 from tests.worlds.fates.stores import maildir, mh_folder
-from tests.worlds.fates.texts import Fate
+from tests.worlds.fates.texts import TABLE, Fate
 from tests.worlds.fates.trees import ready
+from tests.worlds.fates.users import Homes
 from tests.worlds.fates.world import INBOX, Branch, Thing, World
-from tests.worlds.stage import TREE, Accounts
-from tests.support.running import COMPANION, OWNER
+from tests.worlds.place import Place
+from tests.worlds.stage import Accounts
 
 ERRORS = [errno.EIO, errno.EACCES, errno.ENOMEM, errno.ESTALE]
 # the errors of a world in which each call fails, and how many processes run it
@@ -80,6 +78,7 @@ class Right(NamedTuple):
 # a file of the small tree that holds no mail, or what would stand beside it
 NO_MAIL = r"cards\.sqlite|dovecot\.index\.log|\.imap|\.hidden|y\.lock"
 RIGHT = (
+    Right("version.version", "", "a path is taken as it is where it cannot be looked at"),
     Right("readings.texts.read_pieces", "", "what cannot be read at once is read anew, one after the other"),
     Right("readings.unnamed.unnamed", "b'M'", "where no file without a name can be made, a name is removed at once"),
     Right("commands.migrate.joined", "b'M tree'", "the words are looked at one by one"),
@@ -95,17 +94,22 @@ def rights_of(call: Call) -> list[Right]:
     return [right for right in RIGHT if right.is_for(call)]
 
 
+def of_kind(word: str) -> texts.Content:
+    """A file of a kind that has this word."""
+    return next(content for kind, content in TABLE.items() if word in kind)
+
+
 def small_tree(draw: Random, home: Path) -> World:
     """A tree with a bit of everything, in which nothing is left unless a call fails."""
     world = World(home)
-    tree = Branch(world, bytes(home / "tree"), "tree")
+    tree = Branch(world, bytes(home / "tree"), b"tree")
     tree.file(name("Inbox", INBOX), texts.mboxrd(draw))
-    tree.file(name("garden"), texts.mboxcl2(draw))
+    tree.file(name("garden"), texts.MAIL["mboxcl2"](draw))
     below = tree.folder(name("Sent.sbd", "Sent"))
-    below.file(name("crlf"), texts.with_crlf(draw))
+    below.file(name("crlf"), texts.MAIL["CR LF"](draw))
     below.empty(name("empty"))
-    below.folder(name(".imap", "-imap")).file(name("dovecot.index.log"), texts.index_log(draw))
-    tree.file(name("cards.sqlite"), texts.of_sqlite(draw))
+    below.folder(name(".imap", "-imap")).file(name("dovecot.index.log"), of_kind("Dovecot's index"))
+    tree.file(name("cards.sqlite"), of_kind("SQLite"))
     tree.empty(name(".hidden"), True)
     tree.file(name("y.lock"), texts.no_mail(b"12\n"))
     ready(world, b"M", [b"tree"])
@@ -115,12 +119,12 @@ def small_tree(draw: Random, home: Path) -> World:
 def with_left(draw: Random, home: Path) -> World:
     """The same with something that is left, whatever fails."""
     world = small_tree(draw, home)
-    tree = Branch(world, bytes(home / "tree" / "more"), "tree/more")
+    tree = Branch(world, bytes(home / "tree" / "more"), b"tree/more")
     maildir(tree, name("Md"), [texts.one_mail(draw).data])
     mh_folder(tree, name("mh"), [texts.one_mail(draw).data])
-    tree.file(name("x.pst"), texts.OF_ANOTHER_KIND["pst"](draw))
+    tree.file(name("x.pst"), of_kind("Outlook's pst"))
     tree.link(name("link"), "../Inbox")
-    tree.pipe(name("pipe"))
+    tree.special(name("pipe"))
     return world
 
 
@@ -128,27 +132,17 @@ def a_spool(who: Accounts) -> Make:
     """A spool with the mailboxes of two users, each of whom has a tree too."""
 
     def spool_of(draw: Random, home: Path) -> World:
-        world = World(home)
-        world.is_for_users = True
-        spool = Branch(world, bytes(home / "spool"), "spool")
+        homes = Homes(World(home), who)
         for user in who.names[:2]:
-            account, content = pwd.getpwnam(user), texts.mboxrd(draw)
-            world.maildirs[user] = bytes(who.home(user) / "Maildir")
-            thing = world.add(Thing(user, Fate.DONE, "", INBOX, content.messages))
-            thing.user = user
-            tree = Branch(world, bytes(who.home(user) / TREE), f"{user} {TREE}")
-            tree.user = user
-            tree.file(name("sheds"), texts.mboxrd(draw))
-            for path in (spool.put(name(user), content.data), bytes(who.home(user)), tree.path, tree.path + b"/sheds"):
-                world.owners.append((path, account.pw_uid, account.pw_gid))
-        world.options = ["--users", "--tree", TREE]
-        world.words = [b"spool", *(user.encode() for user in who.names[:2])]
-        return world
+            homes.tree(user, (name("sheds"), texts.mboxrd(draw)))
+            homes.world.add(homes.mailbox(user, texts.mboxrd(draw)))
+        homes.words(who.names[:2])
+        return homes.world
 
     return spool_of
 
 
-class FailingDesk(Copies):
+class FailingDesk(Place):
     """Runs the companion in copies of this process, in which a call fails. The calls are noted in a file."""
 
     log, fault = "", NONE
@@ -163,30 +157,29 @@ class FailingDesk(Copies):
 class Attempt:
     """A world in which one call fails."""
 
-    def __init__(self, make: Make, home: Path, programs: Path) -> None:
-        self.make, self.home, self.programs, self.log = make, home, programs, home.parent / "calls"
+    def __init__(self, make: Make, place: Place) -> None:
+        self.make, self.place, self.home, self.log = make, place, place.home, place.home.parent / "calls"
 
     def begin(self) -> World:
         """Makes the world anew."""
-        shutil.rmtree(str(self.home), ignore_errors=True)
-        self.home.mkdir()
+        self.place.clear(is_for_users=True)
         world = self.make(Random(9), self.home)
         # several at a time make other calls in each run, and in another order
         world.options += ["--jobs", "1"]
         world.finish()
         return world
 
-    def run(self, fault: Fault = NONE) -> tuple[World, Outcome, list[Call]]:
+    def run(self, fault: Fault = NONE) -> tuple[World, Run, list[Call]]:
         """Runs the world anew. Returns also which calls failed, or all calls if none is to fail."""
         world = self.begin()
         self.log.write_bytes(b"")
         self.log.chmod(0o666)
-        desk = FailingDesk(self.home, self.programs, "" if world.is_for_users else OWNER)
+        desk = FailingDesk(self.home, self.place.programs)
         desk.log, desk.fault = str(self.log), fault
-        ran = desk.run_any(["migrate", "--all", *world.options, "--", *map(os.fsdecode, world.words)])
+        ran = migrate(world, desk)
         lines = self.log.read_text(encoding="utf-8", errors="replace").splitlines()
         calls = (line.split("\t") for line in lines)
-        return world, Outcome(*ran), [Call(int(number), *words) for number, *words in calls]
+        return world, ran, [Call(int(number), *words) for number, *words in calls]
 
     def faults(self) -> list[Fault]:
         """All faults that there may be: each call with each error."""
@@ -204,17 +197,17 @@ class Attempt:
         wrong = list(wrong_of_fault(world, run))
         asked = [call for call in failed if call.what in ASKING and self.is_here(call.about)]
         if run.status == 0 and not all(map(rights_of, asked)):
-            wrong.append(f"status 0: {run.last}")
+            wrong.append(f"status 0: {run.out[-300:]}")
         if not wrong:
-            wrong = [f"the run after it: {line}" for line in wrong_after(world, migrate(world))]
+            wrong = [f"the run after it: {line}" for line in wrong_after(world, migrate(world, self.place))]
         return told(fault, failed, wrong)
 
 
 class EachCall(Attempt):
     """A world in which each call fails once."""
 
-    def __init__(self, make: Make, home: Path, programs: Path) -> None:
-        super().__init__(make, home, programs)
+    def __init__(self, make: Make, place: Place) -> None:
+        super().__init__(make, place)
         self.met: set[Right] = set()
         # else each copy would have to move what is collected
         gc.freeze()
@@ -238,7 +231,7 @@ class EachCall(Attempt):
         if run.status == 0:
             rights = [rights_of(call) for call in failed]
             self.met.update(right for several in rights for right in several)
-            wrong += [f"status 0: {run.last}"] * (not all(rights))
+            wrong += [f"status 0: {run.out[-300:]}"] * (not all(rights))
         return told(fault, failed, wrong)
 
 
@@ -251,13 +244,13 @@ def told(fault: Fault, failed: Sequence[Call], wrong: Sequence[str]) -> list[str
 def wrong_in_share(make: Make, home: Path, programs: Path, faults: Sequence[Fault]) -> tuple[list[str], set[Right]]:
     """What is wrong with some runs, and what was right in them though a call failed."""
     home.parent.mkdir()
-    attempt = EachCall(make, home, programs)
+    attempt = EachCall(make, Place(home, programs))
     return [line for fault in faults for line in attempt.wrong(fault)], attempt.met
 
 
 def wrong_calls(make: Make, top: Path, programs: Path) -> list[str]:
     """What is wrong with runs of a world in each of which another call fails."""
-    faults = EachCall(make, top / "home", programs).faults()
+    faults = EachCall(make, Place(top / "home", programs)).faults()
     shares = [(make, top / str(share) / "home", programs, faults[share::JOBS]) for share in range(JOBS)]
     with multiprocessing.get_context("fork").Pool(JOBS) as pool:
         found = pool.starmap(wrong_in_share, shares)
@@ -265,72 +258,72 @@ def wrong_calls(make: Make, top: Path, programs: Path) -> list[str]:
     return [line for wrong, _ in found for line in wrong] + [f"it never comes to this: {right}" for right in never]
 
 
-def wrong_of_fault(world: World, run: Outcome) -> Iterator[str]:
+def wrong_of_fault(world: World, run: Run) -> Iterator[str]:
     """What is wrong with a run in which a call failed."""
-    if "Traceback" in run.errors:
-        yield f"a traceback: {run.errors[-300:]}"
+    if "Traceback" in run.err:
+        yield f"a traceback: {run.err[-300:]}"
         return
     if run.status not in (0, 1, LATER):
-        yield f"status {run.status}: {run.errors.strip()[-200:]}"
+        yield f"status {run.status}: {run.err.strip()[-200:]}"
     comparison = Comparison(world, run)
-    found = {row.thing for rows in comparison.rows.values() for row in rows if row.fate == FIRST}
-    for thing in found:
+    done = [thing for thing, rows in comparison.rows.items() if any(row["verdict"] == FIRST for row in rows)]
+    for thing in done:
         yield from wrong_mail(world, thing)
     if run.status == 0:
         # as if nothing had failed: then everything is done, and nothing is left
         yield from (f"status 0: {line}" for line in comparison.all_wrong() if not line.startswith("standard error"))
-        return
-    left = [row.thing.shown for rows in comparison.rows.values() for row in rows if row.fate == Fate.LEFT.value]
-    closed = left_folders(comparison.wrong)
-    # what is in a folder that was left, or belongs to a user who was
-    covered = tuple(f"{shown}{mark}" for shown in (*left, *closed) for mark in "/ ")
-    if run.errors.strip() or not run.sum:
+    elif run.err.strip() or not run.objects or run.objects[-1]["type"] != "sum":
         # the run ended with a fault, and says so
-        if not run.errors.strip():
+        if not run.err.strip():
             yield f"status {run.status}, and nothing says why: {run.output}"
-        return
-    if not left and not closed:
-        yield f"status 1, and nothing is left: {run.output}"
-    for thing in world.things:
-        if thing.fate != Fate.NO_MAIL and not comparison.rows[thing] and not thing.shown.startswith(covered):
-            yield f"{thing.shown}: it has no fate: {run.last}"
-    done = run.part(FIRST)
-    if done + run.part("left") + run.others < len(world.things) and not any(
-        thing.shown.startswith(covered) for thing in world.things
-    ):
-        yield f"{len(world.things)} names were made: {run.last}"
-    if done != len(found):
-        yield f"{len(found)} rows say done: {run.last}"
+    else:
+        yield from wrong_of_left(comparison, done)
 
 
-def left_folders(strange: list[str]) -> set[str]:
-    """The folders that were left as one, by rows that stand for no file: what is in them has no row."""
-    rows = (re.search(r"made: (.*?): left \([a-z-]+\): ", line) for line in strange)
-    return {row[1].split(" -> ")[0] for row in rows if row}
+def wrong_of_left(comparison: Comparison, done: Sequence[Thing]) -> Iterator[str]:
+    """What is wrong with a run that left something. A folder is left as one, or a user, with what is in it."""
+    run, things, verdicts = comparison.ran, comparison.world.things, comparison.ran.sums["verdicts"]
+    left = [row for row in run.rows if row["verdict"] == "left"]
+    covered = [thing for thing in things if any(is_in(thing, row) for row in left)]
+    if not left:
+        yield f"status {run.status}, and nothing is left: {run.output}"
+    for thing in things:
+        if thing.fate != Fate.NO_MAIL and not comparison.rows[thing] and thing not in covered:
+            yield f"{thing}: it has no fate: {run.sums['says']}"
+    if sum(verdicts.values()) < len(things) and not covered:
+        yield f"{len(things)} names were made: {run.sums['says']}"
+    if verdicts[FIRST] != len(done):
+        yield f"{len(done)} rows say done: {run.sums['says']}"
+
+
+def is_in(thing: Thing, row: Row) -> bool:
+    """Whether a thing is in the folder, or belongs to the user, of a row."""
+    path = path_of(row)
+    return thing.user == (row["user"] or "") and (not path or thing.path.startswith(path + b"/"))
 
 
 def wrong_mail(world: World, thing: Thing) -> Iterator[str]:
     """What is called done is there, message by message."""
     if thing.folder is None:
-        yield f"{thing.shown}: it is done, and can't be"
+        yield f"{thing}: it is done, and can't be"
         return
-    there = files_of(os.path.join(world.maildirs[thing.user], folder_on_disk(thing.folder)))
+    there = files_of(os.path.join(world.maildirs[thing.owner], folder_on_disk(thing.folder)))
     for text in thing.messages:
         if not there[text]:
-            yield f"{thing.shown}: it is done, and this is not there: {text[:80]!r}"
+            yield f"{thing}: it is done, and this is not there: {text[:80]!r}"
 
 
-def wrong_after(world: World, run: Outcome) -> Iterator[str]:
+def wrong_after(world: World, run: Run) -> Iterator[str]:
     """What is wrong with a run after the failed one: everything is done, or noted as a sync that failed."""
     comparison = Comparison(world, run)
+    yield from (f"a row of nothing that was made: {brief(row)}" for row in comparison.strange)
     for thing in world.things:
         if thing.fate == Fate.DONE:
             rows = comparison.rows[thing]
-            if rows and rows[0].fate == Fate.LEFT.value:
-                if "sync failed" not in rows[0].line:
-                    yield rows[0].line
+            if rows and rows[0]["verdict"] == "left":
+                if "sync failed" not in rows[0]["says"]:
+                    yield brief(rows[0])
             else:
                 yield from wrong_mail(world, thing)
-    if run.errors:
-        yield f"standard error: {run.errors.strip()[-200:]}"
-    yield from comparison.wrong
+    if run.err:
+        yield f"standard error: {run.err.strip()[-200:]}"

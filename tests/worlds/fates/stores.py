@@ -1,9 +1,8 @@
 """Folders that are one thing, or nearly: Maildirs, folders of MH, and what Dovecot keeps beside mailboxes."""
 from collections.abc import Sequence
-from random import Random
 
-from tests.worlds.fates import texts
 from tests.worlds.fates.names import Name, name
+from tests.worlds.fates.texts import TABLE, Fate
 from tests.worlds.fates.world import Branch
 
 # what servers write into a Maildir, beside mail
@@ -15,6 +14,8 @@ OF_SERVERS = {
     "courierimapuiddb": b"1 1700000000 3\n",
     "subscriptions": b"V\t2\n\nSent\n",
 }
+# the files of Dovecot, in the order of the table that has what they hold
+OF_DOVECOT = ["dovecot.index", "dovecot.index.log", "dovecot.index.cache", "dovecot.mailbox.log"]
 
 
 def maildir(branch: Branch, one: Name, mails: Sequence[bytes], beside: Sequence[str] = ()) -> Branch:
@@ -25,7 +26,7 @@ def maildir(branch: Branch, one: Name, mails: Sequence[bytes], beside: Sequence[
     letters(made, "cur", mails)
     for file in beside:
         made.put(name(file), OF_SERVERS[file])
-    made.world.leave(made.shown, "a Maildir")
+    made.leave(None, "a Maildir")
     return made
 
 
@@ -48,7 +49,7 @@ def broken_maildir(branch: Branch, one: Name, mails: Sequence[bytes], lacks: str
         made.link(name("cur"), "new")
     sub = "new" if lacks == "cur" else "cur"
     for letter in letters(made, sub, mails):
-        made.world.leave(f"{made.shown}/{sub}/{letter.shown}")
+        made.folder(name(sub)).leave(letter)
     return made
 
 
@@ -58,16 +59,13 @@ def mh_folder(branch: Branch, one: Name, mails: Sequence[bytes]) -> Branch:
     for number, mail in enumerate(mails, 1):
         made.put(name(str(number)), mail)
     made.put(name(".mh_sequences"), b"unseen: 1\n")
-    made.world.leave(made.shown, "MH")
+    made.leave(None, "MH")
     return made
 
 
-def index_of(draw: Random, branch: Branch, mailbox: str) -> None:
-    """Makes what Dovecot writes beside mailboxes, with an index of one."""
-    made = branch.folder(name(".imap", "-imap"))
-    made.file(name("dovecot.mailbox.log"), texts.mailbox_log(draw))
-    made.file(name("dovecot.list.index.log"), texts.index_log(draw))
-    inside = made.folder(name(mailbox))
-    inside.file(name("dovecot.index"), texts.index(draw))
-    inside.file(name("dovecot.index.log"), texts.index_log(draw))
-    inside.file(name("dovecot.index.cache"), texts.index_cache(draw))
+def indexes(branch: Branch, mailbox: str) -> None:
+    """Makes what Dovecot writes beside mailboxes, with the index of one."""
+    inside = branch.folder(name(".imap", "-imap")).folder(name(mailbox))
+    several = [content for kind, content in TABLE.items() if "Dovecot" in kind and content.fate == Fate.NO_MAIL]
+    for file, content in zip(OF_DOVECOT, several):
+        inside.file(name(file), content)

@@ -9,9 +9,8 @@ from typing import Optional
 from tests.worlds.fates import stores, texts
 from tests.worlds.fates.names import MUTE, SOUND, Stems, name
 from tests.worlds.fates.texts import Content, Fate
-from tests.worlds.fates.world import INBOX, Branch, Thing, World
+from tests.worlds.fates.world import FRESH, INBOX, OLD, Branch, Thing, World
 
-EVERYTHING = {**texts.MAIL, **texts.DOUBTFUL, **texts.KNOWN_AS_NO_MAIL, **texts.OF_ANOTHER_KIND, **texts.UNKNOWN}
 DEEPEST = 4
 
 
@@ -58,7 +57,7 @@ class Grower:
 
     def any_content(self) -> Content:
         """A file of any kind."""
-        return self.draw.choice(list(EVERYTHING.values()))(self.draw)
+        return self.draw.choice(list(texts.EVERYTHING.values()))(self.draw)
 
     def fill(self, branch: Branch, count: int, depth: int = 0) -> None:
         """Makes this many things in a folder, and in folders below it."""
@@ -80,7 +79,7 @@ class Grower:
 
     def other(self, branch: Branch) -> None:
         """What is no mail, or mail of another kind, under any name."""
-        kinds = self.draw.choice([texts.DOUBTFUL, texts.KNOWN_AS_NO_MAIL, texts.OF_ANOTHER_KIND, texts.UNKNOWN])
+        kinds = self.draw.choice([texts.DOUBTFUL, texts.NO_MAIL, texts.OF_ANOTHER_KIND, texts.UNKNOWN])
         # for a short line in a lock there is a rule of its own
         forms = [form for form in MUTE if form != "long"] + ["msf", "hidden"]
         branch.file(self.stems.file(forms), self.draw.choice(list(kinds.values()))(self.draw))
@@ -109,8 +108,7 @@ class Grower:
 
     def special(self, branch: Branch) -> None:
         """A FIFO or a socket."""
-        make = self.draw.choice([branch.pipe, branch.socket])
-        make(self.stems.file(["plain", "ending", "dat", "hidden"]))
+        branch.special(self.stems.file(["plain", "ending", "dat", "hidden"]), self.draw.random() < 0.5)
 
     def closed(self, branch: Branch) -> None:
         """A file or a folder that its own user may not read."""
@@ -130,7 +128,7 @@ class Grower:
 
     def locked(self, branch: Branch) -> None:
         """Mail with a lock beside it."""
-        branch.locked(self.stems.file(["plain", "ending", "spaces"]), self.mail_of(), self.draw.choice([3600, 100]))
+        branch.locked(self.stems.file(["plain", "ending", "spaces"]), self.mail_of(), self.draw.choice([OLD, FRESH]))
 
     def collision(self, branch: Branch) -> None:
         """Two mailboxes that would become one folder."""
@@ -168,7 +166,7 @@ class Grower:
     def dovecot(self, branch: Branch) -> None:
         """What Dovecot writes beside mailboxes."""
         if not branch.has(name(".imap")):
-            stores.index_of(self.draw, branch, self.stems.next())
+            stores.indexes(branch, self.stems.next())
 
     def sparse(self, branch: Branch) -> None:
         """A file that is mostly a hole."""
@@ -197,13 +195,13 @@ def subscriptions(grower: Grower, branch: Branch) -> None:
     """Dovecot's list of folders, or mail in its place."""
     one = name(".subscriptions", "-subscriptions")
     if grower.draw.random() < 0.2:
-        branch.file(one, grower.draw.choice([texts.KNOWN_AS_NO_MAIL["subscriptions"](grower.draw), grower.mail_of()]))
+        branch.file(one, grower.draw.choice([texts.SUBSCRIPTIONS, grower.mail_of()]))
 
 
 def of_a_tree(draw: Random, home: Path) -> World:
     """One tree, in which the Maildir may be."""
     world, grower = World(home), Grower(draw, draw.random() < 0.3)
-    branch = Branch(world, bytes(home / "tree"), "tree")
+    branch = Branch(world, bytes(home / "tree"), b"tree")
     inbox(grower, branch)
     subscriptions(grower, branch)
     grower.fill(branch, draw.randint(2, 12))
@@ -227,7 +225,7 @@ def ready(world: World, maildir: bytes, words: list[bytes]) -> None:
 def of_words(draw: Random, home: Path) -> World:
     """Mailboxes that are named one by one, and trees beside them."""
     world, grower = World(home), Grower(draw)
-    here = Branch(world, bytes(home / "old"), "old")
+    here = Branch(world, bytes(home / "old"), b"old")
     folder: Optional[tuple[str, str]] = draw.choice([None, ("Old", "Old"), ("2004-x/\u00e4", "2004-x/&AOQ-")])
     words: list[bytes] = []
     for _ in range(draw.randint(1, 6)):
@@ -236,7 +234,7 @@ def of_words(draw: Random, home: Path) -> World:
         world.options += ["--folder", folder[0]]
     else:
         for number in range(draw.randrange(3)):
-            tree = Branch(world, bytes(home / f"tree{number}"), f"tree{number}")
+            tree = Branch(world, bytes(home / f"tree{number}"), b"tree%d" % number)
             grower.fill(tree, draw.randint(0, 5), DEEPEST - 1)
             tree.settle()
             words.append(b"tree%d" % number + draw.choice([b"", b"/"]))
@@ -251,9 +249,9 @@ def one_word(grower: Grower, here: Branch, folder: str) -> bytes:
     one = grower.stems.file([*forms, "lock", "msf", "hidden"])
     what = draw.choice(["mail", "mail", "mail", "other", "link", "missing", "pipe", "closed"])
     if what == "missing":
-        here.world.leave(here.shown_of(one), "No such file")
+        here.leave(one, "No such file")
     elif what == "pipe":
-        here.pipe(one)
+        here.special(one)
     elif what == "closed":
         here.closed_file(one, grower.any_content())
     else:

@@ -8,29 +8,42 @@ from collections.abc import Sequence
 from pathlib import Path
 from typing import Optional
 
+from tests.support.homes import hand_over
 from tests.worlds.fates.names import Name, name
 from tests.worlds.fates.texts import Content, Fate
-from tests.support.homes import hand_over
 
-# how old a file is, in seconds: nobody has written to it for a while, and a lock of that age does not count
-OLD, FRESH = 3600, 60
+# how old a file is, in seconds: nobody has written to it for a while; a lock of that age does not count, a fresh one
+# does
+OLD, FRESH = 3600, 100
 # how long the name of a folder may be
 LONGEST = 255
 INBOX = "INBOX"
 
 
 class Thing:
-    """A name that was made, as rows print it, and what must become of it."""
+    """A name that was made, by the user and the path that its row has, and what must become of it."""
 
     def __init__(
-        self, shown: str, fate: Fate, says: str = "", folder: Optional[str] = None, messages: Sequence[bytes] = ()
+        self,
+        path: bytes,
+        fate: Fate,
+        says: str = "",
+        folder: Optional[str] = None,
+        messages: Sequence[bytes] = (),
+        user: str = "",
     ) -> None:
-        self.shown, self.fate, self.says, self.folder, self.messages = shown, fate, says, folder, tuple(messages)
-        # whether a pattern of --no-mail makes it no mail, as its row says
+        self.path, self.user, self.fate, self.says, self.folder = path, user, fate, says, folder
+        self.messages = tuple(messages)
+        # whether a pattern of --no-mail makes it no mail, as its row says; whose Maildir it goes into, if that is not
+        # the user's; and whether its row may have the user's other name
         self.is_spared = False
-        # the user whose Maildir it goes into, and how else a row may name it
-        self.user = ""
-        self.also: tuple[str, ...] = ()
+        self.owner = user
+        self.also = ""
+
+    @property
+    def keys(self) -> list[tuple[str, bytes]]:
+        """The users and the paths that its row may have."""
+        return [(user, self.path) for user in (self.user, self.also) if user == self.user or user]
 
     def leave(self, says: str = "") -> None:
         """Leaves the thing, whatever it holds."""
@@ -42,7 +55,7 @@ class Thing:
 
     def __repr__(self) -> str:
         where = f" in {self.folder}" if self.folder else ""
-        return f"{self.shown!r}: {self.fate.value}{where}"
+        return f"{self.user} {self.path!r}: {self.fate.value}{where}"
 
 
 class Choice:
@@ -79,10 +92,6 @@ class World:
         self.choices.append(Choice(thing))
         return thing
 
-    def leave(self, shown: str, says: str = "") -> Thing:
-        """Takes note of what must be left."""
-        return self.add(Thing(shown, Fate.LEFT, says))
-
     @property
     def things(self) -> list[Thing]:
         """All that was made."""
@@ -104,20 +113,12 @@ class World:
     def state(self) -> dict[bytes, tuple[int, ...]]:
         """What is in the world beside its Maildirs: each name with what a change of it would change."""
         found: dict[bytes, tuple[int, ...]] = {}
-        folders: list[bytes] = [os.fsencode(self.home)]
-        while folders:
-            for entry in os.scandir(folders.pop()):
-                if entry.path in self.maildirs.values():
-                    continue
-                seen = entry.stat(follow_symlinks=False)
-                is_folder = stat.S_ISDIR(seen.st_mode)
-                found[entry.path] = (
-                    seen.st_ino,
-                    seen.st_mode,
-                    seen.st_uid,
-                    *(() if is_folder else (seen.st_size, seen.st_mtime_ns)),
-                )
-                folders += [entry.path] if is_folder else []
+        for below, folders, files in os.walk(os.fsencode(self.home)):
+            folders[:] = [one for one in folders if os.path.join(below, one) not in self.maildirs.values()]
+            for path in (os.path.join(below, one) for one in (*folders, *files)):
+                seen = os.lstat(path)
+                of_file = () if stat.S_ISDIR(seen.st_mode) else (seen.st_size, seen.st_mtime_ns)
+                found[path] = (seen.st_ino, seen.st_mode, seen.st_uid, *of_file)
         return found
 
 
@@ -128,15 +129,16 @@ class Branch:
         self,
         world: World,
         path: bytes,
-        shown: str,
+        shown: bytes,
         top: Optional["Branch"] = None,
         parts: Optional[tuple[str, ...]] = (),
+        user: str = "",
     ) -> None:
         self.world, self.path, self.shown, self.parts = world, path, shown, parts
         self.top = top or self
         # at the top of a tree: whose it is, which names become the same folder, and which folders belong to others
         # already
-        self.user = ""
+        self.user = user
         self.folders: dict[str, list[Thing]] = {}
         self.empty_ones: list[Thing] = []
         self.taken: set[str] = set()
@@ -147,9 +149,9 @@ class Branch:
         """Its path below the top."""
         return b"" if self.top is self else os.path.relpath(self.path, self.top.path) + b"/"
 
-    def shown_of(self, one: Name) -> str:
+    def shown_of(self, one: Name) -> bytes:
         """How a row names what is here."""
-        return f"{self.shown}/{one.shown}"
+        return self.shown + b"/" + one.raw
 
     def path_of(self, one: Name) -> bytes:
         """The path of what is here."""
@@ -172,6 +174,15 @@ class Branch:
         os.utime(path, (time.time() - age,) * 2)
         return path
 
+    def leave(self, one: Optional[Name], says: str = "") -> Thing:
+        """Takes note of what must be left: this folder, or what is in it."""
+        path = self.shown_of(one) if one else self.shown
+        return self.world.add(Thing(path, Fate.LEFT, says, user=self.top.user))
+
+    def pass_over(self, one: Name) -> Thing:
+        """Takes note of what holds no mail."""
+        return self.world.add(Thing(self.shown_of(one), Fate.NO_MAIL, user=self.top.user))
+
     def file(self, one: Name, content: Content, age: int = OLD) -> Thing:
         """Writes a file, whose fate is that of its content."""
         self.put(one, content.data, age)
@@ -180,8 +191,7 @@ class Branch:
     def thing(self, one: Name, content: Content) -> Thing:
         """What must become of a content under this name."""
         content = content.under(one.raw)
-        thing = Thing(self.shown_of(one), content.fate, content.says, None, content.messages)
-        thing.user = self.top.user
+        thing = Thing(self.shown_of(one), content.fate, content.says, None, content.messages, self.top.user)
         if content.fate == Fate.LEFT and not self.is_sound(one):
             thing.leave()
         elif content.fate == Fate.DONE and not content.data and not self.is_sound(one):
@@ -213,10 +223,10 @@ class Branch:
 
     def locked(self, one: Name, content: Content, age: int) -> Thing:
         """Makes a file, and beside it a lock of this age. An old lock does not count."""
-        thing = self.file(one, content)
-        self.put(name(one.raw.decode() + ".lock"), b"", age)
-        self.world.add(Thing(self.shown_of(one) + ".lock", Fate.NO_MAIL))
-        if age < 1200:
+        thing, lock = self.file(one, content), name(one.raw.decode() + ".lock")
+        self.put(lock, b"", age)
+        self.pass_over(lock)
+        if age == FRESH:
             self.top.folders.pop(thing.folder or "", None)
             thing.leave("another program has locked it" if self.is_sound(one) else "")
         return thing
@@ -228,7 +238,7 @@ class Branch:
             file.seek(len(content.data) + 20_000_000)
             file.write(b"\n")
         os.utime(path, (time.time() - OLD,) * 2)
-        return self.world.leave(self.shown_of(one))
+        return self.leave(one)
 
     def hard_link(self, one: Name, first: Name, content: Content) -> None:
         """Gives a file with this content another name. Each of the two is a mailbox."""
@@ -239,35 +249,31 @@ class Branch:
         """Makes a file that may not be read."""
         path = self.put(one, content.data)
         self.world.modes.append((path, 0))
-        return self.world.leave(self.shown_of(one), "Permission denied" if self.is_sound(one) else "")
+        return self.leave(one, "Permission denied" if self.is_sound(one) else "")
 
     def closed_folder(self, one: Name, content: Content, mode: int) -> Thing:
         """Makes a folder that may not be entered, or not be listed, with a file in it. It is one thing."""
-        inside = Branch(self.world, self.path_of(one), self.shown_of(one))
+        inside = self.folder(one)
         inside.put(name("inside"), content.data)
         self.world.modes.append((inside.path, mode))
-        return self.world.leave(self.shown_of(one), "Permission denied")
+        return self.leave(one, "Permission denied")
 
     def link(self, one: Name, target: str) -> Thing:
         """Makes a symbolic link, which nobody follows."""
         os.symlink(target, self.path_of(one))
-        return self.world.leave(self.shown_of(one), "link")
+        return self.leave(one, "link")
 
-    def pipe(self, one: Name) -> Thing:
-        """Makes a FIFO."""
-        os.mkfifo(self.path_of(one))
-        return self.world.leave(self.shown_of(one), "not a regular file")
-
-    def socket(self, one: Name) -> Thing:
-        """Makes a socket."""
-        here = os.getcwd()
-        os.chdir(self.path)
-        try:
+    def special(self, one: Name, is_socket: bool = False) -> Thing:
+        """Makes a FIFO, or a socket, by its short name, since a long path would be too long for it."""
+        if is_socket:
+            here = os.getcwd()
+            os.chdir(self.path)
             with socket.socket(socket.AF_UNIX) as made:
                 made.bind(one.raw)
-        finally:
             os.chdir(here)
-        return self.world.leave(self.shown_of(one), "not a regular file")
+        else:
+            os.mkfifo(self.path_of(one))
+        return self.leave(one, "not a regular file")
 
     def folder(self, one: Name) -> "Branch":
         """Makes a folder of mailboxes."""
