@@ -10,8 +10,9 @@ from typing import NamedTuple, Optional
 from tests.support.archives import Home, letter, letters, run_rules, texts_of
 from tests.support.checks import equal
 from tests.support.running import Row, Run
-from tests.support.wayback.dialects import DIALECTS, bare
-from tests.support.wayback.programs import KEEPERS, Keeper
+from tests.support.splitter import split
+from tests.worlds.back.programs import KEEPERS, Keeper
+from tests.worlds.letters import bare
 
 # first lines that are no header
 ODD = {
@@ -112,7 +113,7 @@ class House:
     def has(self, wanted: dict[str, list[bytes]]) -> None:
         """The mail that was appended to each mailbox, in its order, and a new Maildir gets all of it unasked."""
         found = {path: text.replace(self.boxes.get(path, b""), b"") for path, text in self.texts().items()}
-        mails = {path: [bare(one) for _, one in DIALECTS["mboxrd"].read(text)] for path, text in found.items()}
+        mails = {path: [*map(bare, split(text, "mboxrd"))] for path, text in found.items()}
         equal("the mail", mails, {path: [*map(bare, several)] for path, several in wanted.items()})
         ran = self.home.place.run(["migrate", "--json", "--now", "N", "spool", "mail"])
         equal("a new Maildir", (ran.status, [row["reason"] for row in ran.rows if row["reason"]]), (0, []))
@@ -233,7 +234,7 @@ def fields_of_programs(home: Home) -> None:
     rows = {row.path: row for row in house.back()}
     for path, text in house.texts().items():
         name = Path(path).name
-        ((_, message),) = DIALECTS["mboxrd"].read(text.replace(boxes.get(path, b""), b""))
+        (message,) = split(text.replace(boxes.get(path, b""), b""), "mboxrd")
         own = KEEPERS[name].names if name in KEEPERS else ()
         there = [one for one in names_in(message) if one.lower().encode() in own]
         equal(f"{path}: the program's own", len(there), len({*there}))

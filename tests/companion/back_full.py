@@ -7,18 +7,17 @@ BACK_SEEDS says how many histories there are of each dialect, and BACK_FIRST the
 import os
 import shutil
 import subprocess
-from collections.abc import Iterator
+from collections.abc import Callable, Iterator
 from functools import partial
 from pathlib import Path
 
-from tests.companion.back import Trial
-from tests.support.archives import fresh
-from tests.support.cases import Failed, run_cases
+from tests.support.archives import Home, Kept, fresh, want
+from tests.support.cases import Failed, run_cases, try_all
 from tests.support.homes import want_users
 from tests.support.mounts import mount
 from tests.support.running import Run
-from tests.support.wayback.dialects import DIALECTS
-from tests.support.wayback.histories import History
+from tests.worlds.back.histories import DIALECTS, History
+from tests.worlds.back.trial import Trial, lived
 
 SEEDS, FIRST = int(os.environ.get("BACK_SEEDS") or 2), int(os.environ.get("BACK_FIRST") or 0)
 # what is on the disk, and how many of its blocks are free at first and then
@@ -27,17 +26,16 @@ BLOCK, SPARE, FILLER = 4096, 64, "filler"
 SAID = ("no-room", "No space left on device")
 
 
-class Full:
+class Full(Kept):
     """A history, and its way back onto a disk that is full."""
 
     def __init__(self, history: History) -> None:
-        self.history, self.home = history, history.home
-        self.kept = self.home.path.parent / "kept"
-        shutil.rmtree(self.kept, ignore_errors=True)
-        shutil.copytree(self.home.path, self.kept, copy_function=shutil.copy2)
-        self.trial = Trial(history)
+        super().__init__(history.home)
+        self.history, self.trial = history, Trial(history)
+        # how often a run found a disk too full
+        self.count = 0
 
-    def bring(self, disk: str) -> Path:
+    def bring_onto(self, disk: str) -> Path:
         """Brings the home back as it was, with one of its folders on a small disk. Returns what is mounted."""
         place = self.home.path / disk
         shutil.rmtree(self.home.path)
@@ -60,23 +58,21 @@ class Full:
         """Whatever is in the mailboxes is whole, and what is missing is said."""
         for folder, several in self.trial.added().items():
             wanted = {*self.trial.sure.get(folder.rstrip("!"), {}), *map(self.history.appended, self.trial.any_of)}
-            self.trial.wants(set(several) <= wanted, f"{folder}: {[one for one in several if one not in wanted]}", ran)
+            want(set(several) <= wanted, f"{folder}: {[one for one in several if one not in wanted]}", ran)
         if ran.status == 0:
             self.trial.check(ran)
         else:
-            self.trial.wants(any(word in ran.output for word in SAID), "unsaid", ran)
+            want(any(word in ran.output for word in SAID), "unsaid", ran)
 
-    def try_on(self, disk: str, rooms: tuple[int, int]) -> bool:
-        """Goes back while the disk is full, while it has some more room, and then with room enough. Returns whether it
-        was too full for a run."""
-        place = self.bring(disk)
+    def try_on(self, disk: str, rooms: tuple[int, int]) -> None:
+        """Goes back while the disk is full, while it has some more room, and then with room enough."""
+        place = self.bring_onto(disk)
         try:
-            statuses = []
             for room in rooms:
                 self.fill(place, room)
                 ran = self.home.place.run(self.trial.words)
                 self.want_nothing_cut(ran)
-                statuses.append(ran.status)
+                self.count += ran.status != 0
             (place / FILLER).unlink()
             # a copy of a large mailbox needs as much as that
             subprocess.run(["mount", "-o", "remount,size=256m", place], check=True)
@@ -84,39 +80,29 @@ class Full:
                 self.trial.check(self.home.place.run(self.trial.words))
             left = [str(path) for path in self.home.path.rglob("*") if "lock" in path.name or "-back" in path.name]
             left = [path for path in left if not path.endswith(("inbox-back", "sent-back", "b-back", "empty-back"))]
-            self.trial.wants(not left, f"left behind: {left}")
+            want(not left, f"left behind: {left}")
         except Failed as failed:
-            raise Failed(f"{disk}, rooms {rooms}: {failed}") from failed
+            raise Failed(f"seed {self.history.seed}, {disk}, rooms {rooms}: {failed}") from failed
         finally:
             subprocess.run(["umount", "-l", place], check=True)
-        return any(statuses)
 
 
-def disks_of(seed: int) -> Iterator[tuple[str, tuple[int, int]]]:
-    """What is tried after a history: each of the disks, with other rooms than after the one before."""
-    for number, disk in enumerate(DISKS):
-        yield disk, ROOMS[(seed + number) % len(ROOMS)]
+def tasks_of(home: Home, dialect: str) -> Iterator[Callable[[], None]]:
+    """What is tried after histories: each of the disks, with other rooms than after the one before."""
+    count = 0
+    for number in range(SEEDS):
+        full = Full(lived(home, FIRST + 200 + number, dialect, 14))
+        for place, disk in enumerate(DISKS):
+            yield partial(full.try_on, disk, ROOMS[(number + place) % len(ROOMS)])
+        count += full.count
+    want(count > 0, "no disk was full")
 
 
 def case(dialect: str) -> None:
     """A case: the way back after histories of one dialect."""
     want_users()
-    wrong, count, full = [], 0, 0
     with fresh() as home:
-        for seed in range(FIRST, FIRST + SEEDS):
-            history = History(home, seed + 200, dialect)
-            history.begin()
-            history.act(14)
-            one = Full(history)
-            for disk, rooms in disks_of(seed):
-                count += 1
-                try:
-                    full += one.try_on(disk, rooms)
-                except Failed as failed:
-                    wrong.append(f"seed {seed}: {failed}")
-    print(f"{dialect}: {SEEDS} histories, {count} disks, {full} of them too full, {len(wrong)} wrong", flush=True)
-    if wrong or not full:
-        raise Failed("\n".join(wrong[:3] or ["no disk was full"]))
+        try_all(f"{dialect}: {SEEDS} histories", tasks_of(home, dialect))
 
 
 if __name__ == "__main__":

@@ -6,23 +6,17 @@ nothing more is to be done then, and the mailboxes can be undone.
 EVERY_CALL says which calls are tried: each one (1), or each third one (3). Otherwise each 17th one is.
 """
 import os
-import re
-import shutil
-import sys
 import typing
 from collections import Counter
 from collections.abc import Callable, Sequence
 from functools import partial
-from pathlib import Path
 from typing import NamedTuple
 
-from tests.support.archives import RO, Home, fresh, letter, letters, number_of
-from tests.support.cases import Failed, run_cases
-from tests.support.kills import Killer, Moment, start_anew
+from tests.support.archives import RO, Home, Kept, fresh, letter, letters, number_of, want
+from tests.support.cases import try_all
+from tests.support.kills import Killer, Moment, moments, run_with_kills
 from tests.support.running import BY_OTHERS, Run
 
-STEP = int(os.environ.get("EVERY_CALL") or 17)
-SAID_BACK = re.compile(r"(\d+) messages? that had been deleted or moved came back|(\d+) [^;]*came back")
 UIDS = b"X-IMAPbase: 1700000000 0000000009\nX-UID: %d\nStatus: RO\n"
 
 
@@ -122,28 +116,18 @@ def files_of(home: Home) -> Files:
     )
 
 
-class Trial:
+class Trial(Kept):
     """A command that is killed again and again, in a home that is brought back each time."""
 
-    def __init__(self, home: Home, killer: Killer, deed: Deed) -> None:
-        self.home, self.killer, self.deed = home, killer, deed
-        self.words = ["migrate", "--json", "--now", *deed.words]
+    def __init__(self, home: Home, deed: Deed) -> None:
+        home.begin()
         deed.prepare(home)
-        self.kept = home.path.parent / "kept"
-        shutil.rmtree(self.kept, ignore_errors=True)
-        shutil.copytree(home.path, self.kept, copy_function=shutil.copy2)
-        ran, self.calls = killer.run(partial(home.place.run, self.words, BY_OTHERS))
-        self.wants(ran.status == 0, "the command fails", ran)
-        self.wants(bool(self.calls), "it makes no call", ran)
+        super().__init__(home)
+        self.deed, self.killer, self.words = deed, Killer(os.environ), ["migrate", "--json", "--now", *deed.words]
+        ran, self.calls = self.killer.run(partial(home.place.run, self.words, BY_OTHERS))
+        want(ran.status == 0 and bool(self.calls), "the command fails, or makes no call", ran)
         self.wanted = files_of(home)
         self.wanted_when_undone = self.undone()
-        # how many were killed, and how many of these said that mail came back, though nobody deleted any
-        self.killed, self.said_back = 0, 0
-
-    def wants(self, is_right: bool, what: str, *ran: Run) -> None:
-        """Fails if something is not right."""
-        if not is_right:
-            raise Failed("\n".join([what, *(f"{one.status}: {one.output}" for one in ran)]))
 
     def undone(self) -> Files:
         """What is left once the mailboxes are undone."""
@@ -154,69 +138,32 @@ class Trial:
 
     def try_at(self, moment: Moment) -> None:
         """Kills it at a moment, and gives the command again."""
-        home, when = self.home, f"killed before call {moment.number}, {self.calls[moment.number - 1]}: {moment}: "
-        shutil.rmtree(home.path)
-        shutil.copytree(self.kept, home.path, copy_function=shutil.copy2)
-        home.place.own(home.path, *home.path.rglob("*"))
-        killed, _ = self.killer.run(partial(home.place.run, self.words, BY_OTHERS), moment)
-        self.wants(killed.is_killed, f"{when}it is not killed", killed)
-        self.killed += 1
-        then = home.place.run(self.words)
+        run = self.home.place.run
+        when = f"killed before call {moment.number}, {self.calls[moment.number - 1]}: {moment}: "
+        self.bring()
+        killed, _ = self.killer.run(partial(run, self.words, BY_OTHERS), moment)
+        want(killed.is_killed, f"{when}it is not killed", killed)
+        then = run(self.words)
         is_over = "--undo" in self.words and then.status == 1
-        self.wants(then.status == 0 or is_over, f"{when}it does not go on", then)
-        there = files_of(home)
-        self.wants(there == self.wanted, f"{when}{differ(there, self.wanted)}", then)
-        self.said_back += bool(SAID_BACK.search(then.output))
-        last = home.place.run(self.words)
-        self.wants(last.status == 0 or is_over or "--undo" in self.words, f"{when}it is not done", then, last)
-        self.wants(files_of(home) == self.wanted, f"{when}a further run changes something", then, last)
-        undone = self.undone()
-        self.wants(undone == self.wanted_when_undone, f"{when}undone, {differ(undone, self.wanted_when_undone)}", then)
+        want(then.status == 0 or is_over, f"{when}it does not go on", then)
+        self.compare(files_of(self.home), self.wanted, when, then)
+        last = run(self.words)
+        want(last.status == 0 or is_over or "--undo" in self.words, f"{when}it is not done", then, last)
+        self.compare(files_of(self.home), self.wanted, f"{when}a further run", then, last)
+        self.compare(self.undone(), self.wanted_when_undone, f"{when}undone", then)
 
-
-def differ(there: Files, wanted: Files) -> str:
-    """What is too much, and what is missing."""
-    return f"too much: {dict(there - wanted)}, missing: {dict(wanted - there)}"
-
-
-def at_each_call(home: Home, killer: Killer, name: str) -> None:
-    """A case: a command that is killed at each call, or at some."""
-    trial = Trial(home, killer, DEEDS[name])
-    wrong = []
-    for number in range(1 + hash_of(name) % STEP, len(trial.calls) + 1, STEP):
-        for is_half in (False, True) if trial.calls[number - 1] == "write" else (False,):
-            try:
-                trial.try_at(Moment(number, is_half))
-            except Failed as failed:
-                wrong.append(str(failed))
-    told = f"{trial.killed} kills, {len(wrong)} wrong, {trial.said_back} said that mail came back"
-    print(f"{name}: {len(trial.calls)} calls, {told}", flush=True)
-    if wrong:
-        raise Failed("\n".join(wrong[:5]))
-
-
-def hash_of(name: str) -> int:
-    """A number that a name gives."""
-    return sum(name.encode())
+    @staticmethod
+    def compare(there: Files, wanted: Files, when: str, *ran: Run) -> None:
+        """Fails if too much is there, or something is missing."""
+        want(there == wanted, f"{when}: too much: {dict(there - wanted)}, missing: {dict(wanted - there)}", *ran)
 
 
 def case(name: str) -> None:
-    """One deed, in a home of its own."""
+    """A deed that is killed at each call, or at some, in a home of its own."""
     with fresh() as home:
-        home.begin()
-        at_each_call(home, Killer(os.environ), name)
-
-
-def main() -> None:
-    # a list of the cases wants no library, and may be told within another program
-    if sys.argv[1:] != ["--list"] and "KILLS" not in os.environ:
-        start_anew("tests.companion.every_call")
-    try:
-        run_cases({name: partial(case, name) for name in DEEDS})
-    finally:
-        if "KILLS" in os.environ:
-            shutil.rmtree(Path(os.environ["KILLS"]).parent, ignore_errors=True)
+        trial = Trial(home, DEEDS[name])
+        try_all(f"{name}: {len(trial.calls)} calls", (partial(trial.try_at, one) for one in moments(trial.calls, name)))
 
 
 if __name__ == "__main__":
-    main()
+    run_with_kills("tests.companion.every_call", {name: partial(case, name) for name in DEEDS})

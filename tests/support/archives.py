@@ -5,10 +5,8 @@ A message is known by its Message-ID, whatever mail programs have written into i
 import fcntl
 import itertools
 import json
-import os
 import re
 import shutil
-import time
 import typing
 from collections import Counter
 from collections.abc import Callable, Iterable, Iterator, Mapping, Sequence
@@ -19,16 +17,15 @@ from pathlib import Path
 from typing import Any, NamedTuple, Optional
 
 from tests.support.cases import Failed, run_cases
-from tests.support.copies import Copies
 from tests.support.homes import fresh_folder, in_memory, install
-from tests.support.running import NEVER, OWNER, Kill, Row, Run
+from tests.support.place import ENDED, Place
+from tests.support.running import NEVER, Kill, Row, Run
 
 RECORD, LEDGER = "mbox2maildir-record", "mbox2maildir-messages"
 ID = re.compile(rb"(?m)^Message-ID: <(\d+)@example.com>")
 RO = b"Status: RO\n"
 GMAIL = b"X-GM-THRID: 1785134556187161\n"
 TEN = list(range(10))
-ENDED = ("done", "done before", "undone", "no mail")
 
 Numbers = typing.Counter[int]
 
@@ -107,7 +104,7 @@ class Home:
 
     def __init__(self, path: Path, programs: Path) -> None:
         self.path, self.maildir = path, path / "M"
-        self.place = Copies(path, programs, OWNER, TZ="UTC")
+        self.place = Place(path, programs)
         # what each run is told
         self.words = []  # type: list[str]
         # what the last run printed, and the values with which a story began
@@ -116,9 +113,7 @@ class Home:
     def begin(self, *words: str) -> None:
         """Begins with an empty home. Each run is told these words, or to use one folder."""
         self.words = list(words) or ["--folder", "Archive"]
-        shutil.rmtree(str(self.path), ignore_errors=True)
-        self.path.mkdir()
-        self.place.own(self.path)
+        self.place.clear()
 
     def each(self, *several: Iterable[Any], words: Sequence[str] = ()) -> Iterator[Any]:
         """Begins with an empty home for each value, or for each combination of several. What fails names it."""
@@ -129,11 +124,7 @@ class Home:
 
     def write(self, name: str, text: bytes) -> str:
         """Writes a mailbox, and returns its name."""
-        path = self.path / name
-        path.parent.mkdir(exist_ok=True)
-        path.write_bytes(text)
-        self.place.own(path.parent, path)
-        os.utime(str(path), (time.time() - 3600,) * 2)
+        self.place.write(name, text)
         return name
 
     def run(self, *names: str, words: Sequence[str] = (), kill: Kill = NEVER) -> Outcome:
@@ -243,6 +234,27 @@ class Home:
         copy = self.path / f"kept-{name}"
         shutil.copytree(str(self.maildir), str(copy), copy_function=shutil.copy2)
         return copy
+
+
+class Kept:
+    """A home that is brought back as it was, again and again."""
+
+    def __init__(self, home: Home) -> None:
+        self.home, self.kept = home, home.path.parent / "kept"
+        shutil.rmtree(self.kept, ignore_errors=True)
+        shutil.copytree(home.path, self.kept, copy_function=shutil.copy2)
+
+    def bring(self) -> None:
+        """Brings it back."""
+        shutil.rmtree(self.home.path)
+        shutil.copytree(self.kept, self.home.path, copy_function=shutil.copy2)
+        self.home.place.own(self.home.path, *self.home.path.rglob("*"))
+
+
+def want(is_right: bool, what: str, *ran: Run) -> None:
+    """Fails if something is not right."""
+    if not is_right:
+        raise Failed("\n".join([what, *(f"{one.status}: {one.output}" for one in ran)]))
 
 
 Rule = Callable[[Home], None]

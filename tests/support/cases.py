@@ -63,6 +63,19 @@ def nothing_wrong(check: Callable[[], Iterable[str]]) -> None:
         raise Failed("\n".join(lines))
 
 
+def try_all(what: str, tasks: Iterable[Callable[[], object]]) -> None:
+    """Tries tasks, prints how many there were, and fails if one of them did."""
+    count, wrong = 0, []
+    for count, task in enumerate(tasks, 1):
+        try:
+            task()
+        except Failed as failed:
+            wrong.append(str(failed))
+    print(f"{what}: {count} tries, {len(wrong)} wrong", flush=True)
+    if wrong:
+        raise Failed("\n".join(wrong[:3]))
+
+
 def find_nothing(*checks: Callable[[], Iterable[str]]) -> None:
     """Runs checks as cases, `wrong_links` as `links`. A check gives a line for each thing that is wrong."""
     run_cases({check.__name__.replace("wrong_", "", 1): partial(nothing_wrong, check) for check in checks})

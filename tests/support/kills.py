@@ -3,17 +3,21 @@ tests/support/kills.c."""
 import ctypes
 import mmap
 import os
+import shutil
 import struct
 import sys
 import tempfile
-from collections.abc import Callable, Iterator, Mapping
+from collections.abc import Callable, Iterator, Mapping, Sequence
 from contextlib import contextmanager
 from pathlib import Path
 from typing import NamedTuple, TypeVar
 
+from tests.support.cases import run_cases
 from tests.support.preload import library
 
 NUMBERS, SIZE = struct.Struct("4q"), 1 << 16
+# which calls are tried where that takes long: each one (1), or each third one (3)
+STEP = int(os.environ.get("EVERY_CALL") or 17)
 # the number at which nothing is counted
 OFF = -1
 # Linux, prctl.h: orphans of a run become children of this process
@@ -42,6 +46,25 @@ def settings_in(folder: Path) -> dict[str, str]:
     shared.write_bytes(NUMBERS.pack(OFF, 0, 0, 0).ljust(SIZE, b"\0"))
     shared.chmod(0o666)
     return {"KILLS": str(shared), "LD_PRELOAD": str(library("kills", folder))}
+
+
+def moments(calls: Sequence[str], name: str) -> Iterator[Moment]:
+    """The moments that are tried of something that made these calls: each STEPth one."""
+    for number in range(1 + sum(name.encode()) % STEP, len(calls) + 1, STEP):
+        for is_half in (False, True) if calls[number - 1] == "write" else (False,):
+            yield Moment(number, is_half)
+
+
+def run_with_kills(module: str, cases: Mapping[str, Callable[[], None]]) -> None:
+    """Runs the cases of the module that is this program, with the library. A list of the cases wants no library, and
+    may be told within another program."""
+    if sys.argv[1:] != ["--list"] and "KILLS" not in os.environ:
+        start_anew(module)
+    try:
+        run_cases(cases)
+    finally:
+        if "KILLS" in os.environ:
+            shutil.rmtree(Path(os.environ["KILLS"]).parent, ignore_errors=True)
 
 
 def start_anew(module: str) -> None:

@@ -130,6 +130,13 @@ def split(
 ) -> tuple[bytes, ...]:
     """The messages of a text by a word, with the numbers of lines that are mail, and of lines that begin messages. NUL
     bytes before the first message belong to none."""
+    return tuple(message for _, message in pieces(text, word, mail, begin))
+
+
+def pieces(
+    text: bytes, word: str, mail: frozenset[int] = frozenset(), begin: frozenset[int] = frozenset()
+) -> list[tuple[bytes, bytes]]:
+    """The same, each with its From_ line."""
     lines, numbers = parted(text.lstrip(b"\0"), begin)
 
     def begins(place: int) -> bool:
@@ -138,16 +145,16 @@ def split(
         return is_from(lines[place]) and (word != "unquoted" or is_dated(lines[place]))
 
     named = frozenset(place for place, number in enumerate(numbers) if number in begin)
-    messages = messages_in(lines, begins, word in ("mboxcl", "mboxcl2"), named)
-    bodies = []
-    for one in messages:
+    found = []
+    for one in messages_in(lines, begins, word in ("mboxcl", "mboxcl2"), named):
         body = unquoted(one, word)
         if one.from_line.endswith(b"\r\n"):
             # the program that wrote the From_ line has added the CR before each line end
             body = [line[:-2] + b"\n" if line.endswith(b"\r\n") else line for line in body]
         # the blank line at its end belongs to the mailbox
-        bodies.append(b"".join(body[:-1] if body and body[-1] == b"\n" else body))
-    return tuple(bodies)
+        message = b"".join(body[:-1] if body and body[-1] == b"\n" else body)
+        found.append((one.from_line.rstrip(b"\r\n"), message))
+    return found
 
 
 def begins_dated(text: bytes) -> bool:

@@ -14,7 +14,7 @@ from typing import NamedTuple, Optional
 from tests.support.running import COMPANION, NEVER, Kill, Row, Run
 from tests.worlds.letters import KINDS, Letter
 from tests.worlds.oracle import Oracle, Reading, readings
-from tests.worlds.place import ENDED, Place
+from tests.support.place import ENDED, Place
 from tests.worlds.rewriters import USER, Mailbox, Rewriter
 from tests.worlds.stage import Stage
 

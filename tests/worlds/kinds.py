@@ -4,6 +4,7 @@ from typing import NamedTuple
 
 from tests.support.cases import Failed
 from tests.worlds import decisions, labels, mutated, passes, rewritten, shared, stray, trees, undone
+from tests.worlds.back import trial
 from tests.worlds.fates import drawn
 from tests.worlds.history import History
 from tests.worlds.stage import Stage
@@ -46,6 +47,8 @@ KINDS = {
     "mutated": Kind(mutated.one_text, 1000),
     # Takeouts, which go into folders by the labels of their messages
     "labels": Kind(labels.one_world, 16),
+    # mailboxes of five dialects, into which the mail of a Maildir goes back
+    "back": Kind(trial.one_world, 15),
     # mailboxes that share messages
     "shared": Kind(shared.one_world, 13),
     # texts and names of strangers

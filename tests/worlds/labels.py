@@ -15,7 +15,7 @@ from typing import NamedTuple, Optional
 from tests.support.running import NEVER, Kill, Run
 from tests.worlds.letters import id_of
 from tests.worlds.oracle import most
-from tests.worlds.place import ENDED
+from tests.support.place import ENDED
 from tests.worlds.stage import Stage
 
 Folders = dict[str, typing.Counter[bytes]]

@@ -3,6 +3,7 @@ whichever program rewrote it. Nothing here comes from the companion: a header is
 line."""
 import datetime
 import re
+from collections.abc import Sequence
 from random import Random
 from typing import NamedTuple
 
@@ -37,6 +38,8 @@ PLAIN = [
     b">",
     b"a\rb",
 ]
+# lines of mail that is odd in other ways
+ODD = [b"ends in CR LF\r", b"From me\r", b"a\0b", b"x" * 2000, b"Content-Length: 4", b"Status: RO", b"."]
 # fields that programs write, as they may be in mail that somebody sends
 SENT_FIELDS = ["Status: RO", "X-UID: 3", "status : O", "X-Keywords: a\n b", "X-Status: A", "Lines: 7", ""]
 # the bodies of letters that are told apart by their numbers, with parts that may be mistaken
@@ -94,12 +97,17 @@ class Letter(NamedTuple):
 
     def delivered(self, kind: str, days: int = 0) -> bytes:
         """The text that a delivery of a kind appends to a mailbox, some days later."""
-        line = b"From %s %s\n" % (self.sender, asctime(self.when + datetime.timedelta(days)))
-        quoted = QUOTED_BY.get(kind)
-        body = quoted.sub(rb">\g<0>", self.body) if quoted else self.body
-        length = b"Content-Length: %d\n" % len(body) if kind in ("mboxcl", "mboxcl2") else b""
-        text = line + self.header + length + b"\n" + body + b"\n"
-        return text.replace(b"\n", b"\r\n") if kind == "crlf" else text
+        line = b"From %s %s" % (self.sender, asctime(self.when + datetime.timedelta(days)))
+        return written(line, self.whole, kind)
+
+
+def written(line: bytes, message: bytes, kind: str) -> bytes:
+    """The text that a delivery of a kind appends to a mailbox: a From_ line without its end, and a message."""
+    quoted = QUOTED_BY.get(kind)
+    fields, end, body = parted(quoted.sub(rb">\g<0>", message) if quoted else message)
+    length = [b"Content-Length: %d\n" % len(body)] if kind in ("mboxcl", "mboxcl2") else []
+    text = b"".join([line, b"\n", *fields, *length, end, body, b"\n"])
+    return text.replace(b"\n", b"\r\n") if kind == "crlf" else text
 
 
 def moment(draw: Random) -> datetime.datetime:
@@ -213,6 +221,27 @@ def without(message: bytes, names: frozenset[str] = HIDDEN) -> bytes:
     """A message without the fields of these names, and without the CR of the line that ends its header."""
     fields, end, body = parted(message)
     return b"".join(field for field in fields if not is_one(field, names)) + end.replace(b"\r", b"") + body
+
+
+def bare(message: bytes, more: Sequence[bytes] = ()) -> bytes:
+    """A message without the fields that mailboxes are read by, and without more of these names. Its last line has
+    ended."""
+    fields, end, body = parted(message)
+    names = HIDDEN | {name.decode() for name in more}
+    text = b"".join([*(field for field in fields if not is_one(field, names)), end, body])
+    return text if text.endswith(b"\n") else text + b"\n"
+
+
+def field_of(message: bytes, name: bytes) -> bytes:
+    """The value of the last field of a name."""
+    found: list[bytes] = re.findall(rb"(?im)^%s: *([^\r\n]*)" % name, b"".join(parted(message)[0]))
+    return found[-1] if found else b""
+
+
+def with_fields(message: bytes, more: bytes) -> bytes:
+    """A message with more fields at the end of its header."""
+    fields, end, body = parted(message)
+    return b"".join([*fields, more, end, body])
 
 
 def content(message: bytes) -> bytes:

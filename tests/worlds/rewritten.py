@@ -10,7 +10,7 @@ from tests.support.ledgers import RECORD
 from tests.support.running import COMPANION, Row, Run
 from tests.worlds.history import INBOX, QUIET, Box, History
 from tests.worlds.oracle import Reading, reading
-from tests.worlds.place import ENDED
+from tests.support.place import ENDED
 from tests.worlds.rewriters import by_dovecot, there
 from tests.worlds.stage import Stage
 

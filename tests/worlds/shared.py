@@ -12,7 +12,7 @@ from typing import NamedTuple
 from tests.support.archives import RO, letter, number_of
 from tests.support.running import NEVER, Kill, Row
 from tests.worlds.oracle import most
-from tests.worlds.place import ENDED
+from tests.support.place import ENDED
 from tests.worlds.stage import Stage
 
 Numbers = typing.Counter[int]

@@ -13,7 +13,7 @@ from tests.support.cases import LeftOut
 from tests.support.dovecot.server import Dovecot, is_there
 from tests.support.homes import fresh_folder, in_memory, install, want_users
 from tests.support.running import COMPANION, NEVER, Kill, Row, Run
-from tests.worlds.place import Place
+from tests.support.place import Place
 
 # the users of a world, and another name of the first of them; no other account has this tree in its home
 PREFIX, COUNT, SECOND = "m90", 4, "info"

@@ -10,7 +10,7 @@ from tests.support.checks import LATER
 from tests.support.running import Desk, Row, Run
 from tests.worlds.fates.texts import Fate
 from tests.worlds.fates.world import INBOX, Choice, Thing, World
-from tests.worlds.place import Place
+from tests.support.place import Place
 
 # the words of a fate in a first run, in a further run, and in one that makes nothing
 FIRST, AGAIN, DRY = "done", "done before", "would be done"

@@ -22,7 +22,7 @@ from tests.worlds.fates.texts import TABLE, Fate
 from tests.worlds.fates.trees import ready
 from tests.worlds.fates.users import Homes
 from tests.worlds.fates.world import INBOX, Branch, Thing, World
-from tests.worlds.place import Place
+from tests.support.place import Place
 from tests.worlds.stage import Accounts
 
 ERRORS = [errno.EIO, errno.EACCES, errno.ENOMEM, errno.ESTALE]

@@ -13,10 +13,14 @@ from typing import NamedTuple, Optional
 from tests.support.archives import Home
 from tests.support.cases import Failed
 from tests.support.running import Run
-from tests.support.wayback.dialects import DIALECTS, bare, field_of, parted
-from tests.support.wayback.programs import KEEPERS, Deliveries, Keeper, with_fields, with_numbers
+from tests.support.splitter import is_from, pieces
+from tests.worlds.back.programs import KEEPERS, Deliveries, Keeper, with_numbers
+from tests.worlds.letters import HEADERLIKE, ODD, PLAIN, QUOTED, TALK, bare, field_of, parted, with_fields, written
 
-MAIL = "mail"
+# how mailboxes are written; the words by which `migrate` reads some
+DIALECTS = ("mboxrd", "mboxo", "mboxcl", "mboxcl2", "crlf")
+WORDS = {"mboxo": ["--as", "mboxo"], "mboxcl": ["--as", "mboxcl"]}
+LINE = b"From a@b Mon Mar  3 09:12:44 2025"
 # stands for the mailbox beside that of a folder, which gets what that cannot hold
 BESIDE = "!"
 # the mailboxes by their folders
@@ -25,11 +29,7 @@ FOLDERS = [*BOXES, ".new", ".lists.sheds"]
 NEW = {".new": "mail/new", ".lists.sheds": "mail/lists/sheds", ".sent.below": "mail/sent-below"}
 # a folder whose name was changed keeps its mailbox, so that a new one of its old name gets another
 NEW[".lists.b"] = "mail/lists-b"
-LINES = [
-    b"hello\n", b"From me to you\n", b"From a@b Mon Mar  3 09:12:44 2025\n", b">From the shed\n", b">>From afar\n",
-    b"\n", b"\n", b"ends in CR LF\r\n", b"From me\r\n", b"a\0b\n", b"se\xf1or \xe4\n", b"From: x\n", b"> From\n",
-    b"x" * 2000 + b"\n", b"Content-Length: 4\n", b"Status: RO\n", b"a\rb\n", b".\n",
-]  # fmt: skip
+LINES = [line + b"\n" for line in [*PLAIN, TALK[0], b"From a@b Mon Mar  3 09:12:44 2025", *QUOTED, *HEADERLIKE, *ODD]]
 # a hundred times that many bytes are 10 MB
 LONG_LINES = (b"y" * 76 + b"\n") * 1300
 FIELDS = [
@@ -68,12 +68,18 @@ class Appended(NamedTuple):
     kept: Optional[str] = None
 
 
+def read(text: bytes, dialect: str) -> list[tuple[bytes, bytes]]:
+    """The From_ lines of a mailbox, each with its message."""
+    assert not text or is_from(text), text[:80]
+    return pieces(text, dialect.replace("crlf", "mboxrd"))
+
+
 class History:
     """A home with mailboxes of one dialect, which were migrated, and what people did in the Maildir then."""
 
     def __init__(self, home: Home, seed: int, dialect: str = "") -> None:
-        self.home, self.draw = home, Random(seed)
-        self.dialect = DIALECTS[dialect or self.draw.choice(list(DIALECTS))]
+        self.home, self.seed, self.draw = home, seed, Random(seed)
+        self.dialect = dialect or self.draw.choice(DIALECTS)
         self.last = 0
         # the folder from which each known message came, and the names of its mailbox's folder by now
         self.known: dict[int, str] = {}
@@ -114,15 +120,14 @@ class History:
             messages = [one for one in messages if self.holds(one)]
             for one in messages:
                 self.known[self.number_of(one)] = next(folder for folder, its in self.boxes.items() if its == path)
-            line = b"From a@b Mon Mar  3 09:12:44 2025"
-            text = b"".join(self.dialect.write(one, line) for one in self.kept(path, list(map(bare, messages))))
-            if text and self.draw.random() < 0.3 and not self.dialect.has_lengths:
-                text = text[: -1 - self.dialect.crlf]
+            text = b"".join(written(LINE, one, self.dialect) for one in self.kept(path, list(map(bare, messages))))
+            if text and self.draw.random() < 0.3 and self.dialect not in ("mboxcl", "mboxcl2"):
+                text = text[: -1 - (self.dialect == "crlf")]
             file = self.home.path / path
             file.parent.mkdir(parents=True, exist_ok=True)
             self.home.write(path, text)
             self.filled |= {path} if text else set()
-        self.home.place.own(*(self.home.path / MAIL).glob("**/*"), self.home.path / MAIL)
+        self.home.place.own(*self.home.path.rglob("*"))
         self.migrate("M")
         for folder in self.boxes:
             self.home.place.own(self.path(folder))
@@ -132,7 +137,7 @@ class History:
         what = self.draw.random()
         if self.has_uids and what < 0.6:
             return with_numbers(messages)
-        if what < 0.7 or self.has_uids or self.dialect.name in ("mboxo", "mboxcl2") or not messages:
+        if what < 0.7 or self.has_uids or self.dialect in ("mboxo", "mboxcl2") or not messages:
             return messages
         program = self.keepers[path] = self.draw.choice(list(KEEPERS))
         flags = ["".join(self.draw.sample("DFPRST", self.draw.randrange(4))) for _ in messages]
@@ -153,21 +158,21 @@ class History:
     def commands(self, maildir: str) -> Iterator[list[str]]:
         """The words that migrate each mailbox. If none needs words, all of a tree are migrated at once. The record
         knows the folder of a mailbox beside another one."""
-        if not self.dialect.words:
+        if self.dialect not in WORDS:
             yield [maildir, "mail", "spool"]
+            return
         for folder, path in self.paths().items():
-            is_beside = folder.endswith(BESIDE)
-            if not (self.home.path / path).exists() or not self.dialect.words:
-                continue
-            place = self.place_of(folder) if maildir != "M" else "" if is_beside else folder
-            name = ["--folder", place[1:].replace(".", "/")] if place else []
-            yield [*(self.dialect.words if path in self.filled else ()), *name, maildir, path]
+            if (self.home.path / path).exists():
+                place = self.place_of(folder) if maildir != "M" else "" if folder.endswith(BESIDE) else folder
+                name = ["--folder", place[1:].replace(".", "/")] if place else []
+                yield [*(WORDS[self.dialect] if path in self.filled else ()), *name, maildir, path]
 
     def holds(self, message: bytes) -> bool:
-        """Whether a mailbox of the dialect can hold a message, so that nobody is asked how it is read: by its length, a
-        line that looks like a From_ line belongs to a mail."""
-        is_asked = self.dialect.quotes == "none" and LIKE_FROM.search(message)
-        return self.dialect.holds(message) and not is_asked
+        """Whether a mailbox of the dialect can hold a message: mboxo reads a line `>From ` as one `From `, and nobody
+        is to be asked how it is read: by its length, a line that looks like a From_ line belongs to a mail."""
+        if self.dialect == "mboxo":
+            return not re.search(rb"(?m)^>From ", message)
+        return self.dialect != "mboxcl2" or not LIKE_FROM.search(message)
 
     def paths(self) -> dict[str, str]:
         """The mailboxes by their folders, with those of new folders, and those beside others."""
@@ -177,7 +182,7 @@ class History:
 
     def place_of(self, folder: str) -> str:
         """The folder of a new Maildir for the mailbox of a folder."""
-        if self.dialect.words and not folder.endswith(BESIDE):
+        if self.dialect in WORDS and not folder.endswith(BESIDE):
             return folder
         path = self.paths()[folder]
         return "." + path.split("/", 1)[1].replace("/", ".") if "/" in path else {"spool": ""}.get(path, "." + path)
@@ -307,7 +312,7 @@ def text_at(path: Path) -> bytes:
 def tail_of(before: bytes, after: bytes) -> bytes:
     """What was appended to a mailbox, which must have stayed as it was, but for numbers in the first header. A line
     that had not ended may have ended."""
-    start = sum(map(len, parted(before)[:1]))
+    start = len(b"".join(parted(before)[0]))
     if not after[start:].startswith(before[start:]) or bare(after[:start]) != bare(before[:start]):
         raise Failed("what was there before has changed")
     tail = after[len(before) :]

@@ -10,7 +10,7 @@ from tests.support.cases import Failed
 from tests.support.copies import Copies
 from tests.support.dovecot.settings import settings_here
 from tests.support.homes import own_dovecot
-from tests.support.wayback.dialects import field_of, parted
+from tests.worlds.letters import field_of, with_fields
 
 # by their pages: the bits of X-Mozilla-Status, of X-Evolution, and the labels of Gmail
 MOZILLA = {"S": 0x1, "R": 0x2, "F": 0x4, "P": 0x1000}
@@ -76,12 +76,6 @@ KEEPERS = {
     ),
     "Gmail": Keeper(gmail, flags_of_labels, [b"x-gm-thrid", b"x-gmail-labels"]),
 }
-
-
-def with_fields(message: bytes, fields: bytes) -> bytes:
-    """A message with fields at the end of its header."""
-    head, gap, body = parted(message)
-    return head + fields + gap + body
 
 
 def with_numbers(messages: list[bytes]) -> list[bytes]:

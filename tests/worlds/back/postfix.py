@@ -16,7 +16,7 @@ from tests.support.cases import Failed, LeftOut
 from tests.support.checks import PATIENCE
 from tests.support.accounts import NOBODY
 from tests.support.homes import fresh_folder, in_memory
-from tests.support.wayback.programs import Deliver
+from tests.worlds.back.programs import Deliver
 
 DAEMONS = "/usr/lib/postfix/sbin"
 LOCAL, VIRTUAL = "local.example.org", "virtual.example.org"
