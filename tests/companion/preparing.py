@@ -37,11 +37,11 @@ MBOX = "mail_location = mbox:~/mail:INBOX=/var/mail/%u"
 NEW_MBOX = "mail_driver = mbox\nmail_path = %{home}/mail\nmail_inbox_path = /var/mail/%{user}"
 
 
-def doveconf(home: Path, settings: str) -> None:
-    """Puts a program in place of doveconf, which has these settings."""
-    path = home / "bin/doveconf"
-    path.write_bytes(f"#!/bin/sh\n[ $1 = -n ] || printf '%s\\n' '{settings}'\n".encode())
-    path.chmod(0o755)
+def doveconf(home: Path, settings: str, others: str = "") -> None:
+    """Puts a program in place of doveconf, which has these settings, and all of these that were set."""
+    script(
+        home / "bin/doveconf", f"if [ $1 = -n ]; then printf '%s\\n' '{others}'; else printf '%s\\n' '{settings}'; fi"
+    )
 
 
 def printed(home: Path) -> None:
@@ -98,6 +98,67 @@ def refused(home: Path) -> None:
     expect([*words[:2], "--unread", *words[2:]], home, 0, "box -> INBOX: ...: prepared\n...\n", **own)
     for wrong_words in (["--unread"], ["--prepare", "--again"], ["--prepare", "--undo"]):
         expect(["migrate", *wrong_words, "Maildir", "box"], home, 2, "", None)
+
+
+def of_2_4(path: str, inbox: str = "", driver: str = "mbox") -> str:
+    """The general settings of Dovecot 2.4."""
+    return f"mail_driver = {driver}\nmail_path = {path}\nmail_inbox_path = {inbox}"
+
+
+# general settings, what else is set, and whether Dovecot would find `Maildir` in the home by these
+SETTINGS = [
+    ("mail_location = ", "", True),
+    ("mail_location = auto:~/Maildir", "", True),
+    ("mail_location = ~/Maildir", "", True),
+    ("mail_location = maildir:%h/Maildir/:LAYOUT=fs", "", True),
+    ("mail_location = maildir:HOME/Maildir", "", True),
+    ("mail_location = maildir:/home/%u/Maildir/", "", True),
+    ("mail_location = maildir:/var/vmail/%d/%n", "", True),
+    ("mail_location = maildir:~/Mail", "", False),
+    ("mail_location = maildir:/var/vmail/%d/mail", "", False),
+    ("mail_location = mdbox:~/Maildir", "", False),
+    (MBOX, "namespace inbox {\n  location = maildir:~/Maildir\n}", True),
+    (MBOX, "namespace inbox {\n  location = \n}", False),
+    (of_2_4("", driver=""), "", True),
+    (of_2_4("~/Maildir", driver="maildir"), "", True),
+    (of_2_4("~/mail", "~/Maildir", "maildir"), "", True),
+    (of_2_4("~/mail", "~/in", "maildir"), "", False),
+    (of_2_4("~/Maildir"), "", False),
+    (of_2_4("~/mail"), "namespace a {\n  mail_driver = maildir\n  mail_path = ~/Maildir\n}", True),
+    (of_2_4("~/mail"), "namespace a {\n  mail_driver = maildir\n  mail_path = /srv/lists\n}", False),
+    (of_2_4("~/mail"), "namespace a {\n  mail_driver = maildir\n}\nnamespace b {\n  mail_path = ~/Maildir\n}", False),
+    (of_2_4("~/mail"), "namespace a {\n  mailbox b {\n    auto = no\n  }\n  mail_driver = \n}", True),
+    (of_2_4("~/Maildir"), "userdb a {\n  fields {\n    mail_driver = maildir\n  }\n}", True),
+    (
+        of_2_4("~/mail"),
+        "passdb a {\n  fields {\n    userdb_mail_driver = maildir\n    userdb_mail_inbox_path = ~/Maildir\n  }\n}",
+        True,
+    ),
+]
+# files of the home, and whether mail is delivered into `Maildir` by these
+DELIVERIES = [
+    (".forward", b"/home/mia/Maildir/\n", True),
+    (".forward", b"mia@example.org\n", False),
+    (".procmailrc", b"DEFAULT=$HOME/Maildir/\n", True),
+    (".procmailrc", b"MAILDIR=$HOME/mail\n", False),
+]
+
+
+def found_by_settings(home: Path) -> None:
+    """Which settings of Dovecot, and which deliveries, lead to the Maildir. Elsewhere Dovecot does not look by
+    itself."""
+    mailbox(home / "box", ONE)
+    words, own = ["migrate", "--dry-run", "--prepare", "Maildir", "box"], {"HOME": str(home)}
+    for general, others, is_found in SETTINGS:
+        doveconf(home, general.replace("HOME", str(home)), others)
+        equal(f"{general}, {others}", run(words, home, **own)[0], int(is_found))
+    doveconf(home, "mail_location = ")
+    expect([*words[:3], "New", "box"], home, 0, None, **own)
+    doveconf(home, MBOX)
+    for name, text, is_found in DELIVERIES:
+        path = mailbox(home / name, text)
+        equal(f"{text!r}", run(words, home, **own)[0], int(is_found))
+        path.unlink()
 
 
 def one_at_work(home: Path) -> None:
@@ -286,4 +347,14 @@ def of_users(home: Path) -> None:
 
 
 if __name__ == "__main__":
-    check_all(printed, refused, one_at_work, left_over, started_again, words_hold, without_deleted_mail, of_users)
+    check_all(
+        printed,
+        refused,
+        found_by_settings,
+        one_at_work,
+        left_over,
+        started_again,
+        words_hold,
+        without_deleted_mail,
+        of_users,
+    )

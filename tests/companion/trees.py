@@ -2,13 +2,15 @@
 stays in the folder that the record has, and what is passed over, then and later."""
 import json
 import os
+import re
 import shutil
 from pathlib import Path
 
 from tests.companion.migrate import grow, steps
-from tests.support.checks import equal, matches
+from tests.support.checks import equal, matches, text_of
 from tests.support.homes import by_json, check_all, expect, files_of, mailbox, run, run_printed, subjects
-from tests.support.mail import ONE, THREE, TWO
+from tests.support.ledgers import RECORD
+from tests.support.mail import A, B, MAY, ONE, THREE, TWO, with_length
 from tests.support.printed import rows_in
 
 
@@ -269,6 +271,55 @@ def passed_over(home: Path) -> None:
     mailbox(home / "tree/a.junk", b"hello once more\n")
     last = "4 mailboxes: 1 done before, 3 left; 1 other file: no mail"
     equal("with other bytes", run(without, home)[1].splitlines()[-1], last)
+
+
+# a pattern, what is migrated, a file below that, and whether it is passed over
+PATTERNS = [
+    ("*.junk", "tree", "tree/a/x.junk", True),
+    ("a/x.junk", "tree/", "tree/a/x.junk", True),
+    ("x.junk", "tree", "tree/a/x.junk", False),
+    ("a/x", "tree tree2", "tree2/a/x", True),
+    ("x.JUNK", "x.junk", "x.junk", False),
+    ("caf?", "caf\u00e9", "caf\u00e9", True),
+    ("caf\udce9", "caf\udce9", "caf\udce9", True),
+]
+
+
+def patterns(home: Path) -> None:
+    """A pattern is of a name, or if it has a slash of the path below what is migrated."""
+    (home / "tree").mkdir()
+    for pattern, names, path, is_spared in PATTERNS:
+        mailbox(home / path, b"hello\n")
+        ran = by_json(["migrate", "--now", "--dry-run", "--no-mail", pattern, "M", *names.split()], home)
+        verdicts = [row["verdict"] for row in ran.rows]
+        equal(f"{pattern!r}, {path!r}", verdicts, ["no mail" if is_spared else "left"])
+        (home / path).unlink()
+
+
+def commands_of_rehearsals(home: Path) -> None:
+    """Each command that a rehearsal prints is one of a rehearsal, and no other: about what is asked, beside each other,
+    of one folder, without a folder, without its ledger, partly there, and undone in part."""
+    part, long = with_length(A, MAY + b">From a\n") + b"\n" + B + b"\n", "y" * 200 + "/" + "x" * 200
+    for name in ("pair", "pair.mboxrd", "same", "same.mbox", "caf\udce9", long, "gone", "there", "undone"):
+        mailbox(home / "tree" / name, ONE)
+    for name, text in (("part", part), ("there", TWO)):
+        mailbox(home / "tree" / name, text)
+    expect("migrate --folder gone M tree/gone", home, 0, None)
+    expect("migrate --folder undone M tree/undone", home, 0, None)
+    (home / "M/.gone/mbox2maildir-messages").unlink()
+    record = home / "M" / RECORD
+    record.write_text(re.sub(r"(?m)^done(\t\.undone\t.*)$", r"done\1\nundoing\1", text_of(record)), encoding="utf-8")
+    for sub in ("new", "cur", "tmp"):
+        (home / "M/.there" / sub).mkdir(parents=True)
+    expect("mbox2maildir convert M/.there tree/there", home, 0, None, None)
+    for name, text in (("gone", THREE), ("there", ONE + TWO)):
+        mailbox(home / "tree" / name, text)
+    for options in (["--dry-run"], []):
+        rows = by_json(["migrate", *options, "--now", "M", "tree"], home).rows
+        equal("what is not left", [row["path"] for row in rows if row["verdict"] != "left"], [])
+        found = [one for row in rows for one in row.commands if "migrate" in one]
+        equal(f"{options}: {found}", {"--dry-run" in one for one in found}, {bool(options)})
+        equal(f"{options}: rows with a command", sum(any("migrate" in one for one in row.commands) for row in rows), 9)
 
 
 def passed_over_by_path(home: Path) -> None:
@@ -540,6 +591,8 @@ if __name__ == "__main__":
         links_that_are_named,
         prepared_by_hand,
         passed_over,
+        patterns,
+        commands_of_rehearsals,
         passed_over_by_path,
         nothing_outside,
         passed_over_later,

@@ -1,18 +1,15 @@
 """Each remark of a row has its word: what is done with mailboxes, and the words of the rows that come of it."""
 from functools import partial
 from pathlib import Path
-from typing import Union
 
 from tests.tables.labels import message
 from tests.support.cases import run_cases
 from tests.support.checks import TOP, equal, text_of
-from tests.support.homes import at_home, by_json, mailbox, run_printed
+from tests.support.homes import at_home
 from tests.support.mail import A, C, INTERNAL, ONE, THREE, TWO, with_length
-from tests.support.running import Run
 from tests.support.schema import SCHEMA
+from tests.support.stories import Step, take
 
-# a mailbox is written, a line is run by a shell, or a command of the companion
-Step = Union[tuple[str, bytes], str]
 PSEUDO = (
     b"From MAILER-DAEMON Mon Mar  3 09:12:44 2025\nSubject: DON'T DELETE THIS MESSAGE -- FOLDER INTERNAL DATA\n"
     b"X-IMAP: 1700000000 0000000003\nStatus: RO\n\nThis text is part of the internal format of your mail folder, and "
@@ -218,17 +215,7 @@ ELSEWHERE = {
 
 def words_of(steps: list[Step], home: Path) -> set[str]:
     """The words of the remarks in the rows of the last command."""
-    ran = Run(0, "")
-    for step in steps:
-        if isinstance(step, tuple):
-            mailbox(home / step[0], step[1])
-        elif step.startswith("!"):
-            equal(step, run_printed(step[1:], home).status, 0)
-        else:
-            word, *others = step.split()
-            now = [] if word == "verify" else ["--now"]
-            ran = by_json([word, *now, *others], home)
-    return {word for row in ran.rows for word in row.remarks}
+    return {word for row in take(steps, home).rows for word in row.remarks}
 
 
 def is_told(steps: list[Step], wanted: set[str], home: Path) -> None:

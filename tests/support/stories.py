@@ -1,0 +1,79 @@
+"""Stories: what is done in a home, step by step, what each command says then, and what mail is there."""
+import re
+from collections.abc import Iterable, Mapping
+from functools import partial
+from pathlib import Path
+from typing import Union
+
+from tests.support.cases import run_cases
+from tests.support.checks import equal, matches
+from tests.support.homes import at_home, by_json, mail_in, mailbox, run_printed
+from tests.support.running import Row, Run
+
+# A mailbox is written; a command of the companion says this of its rows; one is run, by the companion or after `!` by a
+# shell; after `=` stands the mail that is there then.
+Step = Union[tuple[str, bytes], tuple[str, str], str]
+LIST = "mbox2maildir-prepared"
+# the program, once another one was in its place
+RESTORED = "!mv real bin/mbox2maildir"
+
+
+def in_place(script: str) -> list[Step]:
+    """Has a script convert in place of the program, which it may run as `"$real"`."""
+    text = f'#!/bin/sh\nreal=${{0%/bin/*}}/real\n[ "$1" = convert ] || exec "$real" "$@"\n{script}\n'
+    made = "!test -e real || mv bin/mbox2maildir real"
+    return [made, ("bin/mbox2maildir", text.encode()), "!chmod +x bin/mbox2maildir"]
+
+
+def killed(words: str) -> list[Step]:
+    """Runs a command that is killed once the program has placed everything."""
+    return [*in_place('"$real" "$@"; kill -9 $PPID'), words, RESTORED]
+
+
+def said_of(row: Row) -> str:
+    """What is said of a mailbox: its verdict, why it is left, and more."""
+    reason = f" ({row['reason']})" if row["reason"] else ""
+    return ": ".join(filter(None, [f"{row['path']}: {row['verdict']}{reason}", row["says"]]))
+
+
+def there_in(maildir: Path) -> str:
+    """The mail of a Maildir: its subjects, each with its flags and behind its folder; and where lists are of what is
+    prepared."""
+    found = []
+    for folder in sorted({path.parent for path in maildir.rglob("cur")}):
+        name = f"{folder.name[1:]}/" if folder != maildir else ""
+        for path in mail_in(folder):
+            subject = re.search(rb"(?m)^Subject: (.*)", path.read_bytes())
+            flags = path.name.partition(":2,")[2]
+            found.append(name + (subject[1].decode() if subject else "-") + (f":{flags}" if flags else ""))
+    return " ".join(sorted(found) + sorted(f"{path.parent.name}+" for path in maildir.rglob(LIST)))
+
+
+def ran(words: str, home: Path) -> Run:
+    """Runs a command of the companion, which waits for no quiet minute."""
+    word, *others = words.split()
+    return by_json([word, *["--now"] * (word != "verify"), *others], home)
+
+
+def take(steps: Iterable[Step], home: Path) -> Run:
+    """Takes steps, and returns how the last command of the companion ended."""
+    last = Run(0, "")
+    for step in steps:
+        if isinstance(step, tuple) and isinstance(step[1], bytes):
+            mailbox(home / step[0], step[1])
+        elif isinstance(step, tuple):
+            last = ran(step[0], home)
+            said = "\n".join(sorted(said_of(row).replace(f"{home}/", "") for row in last.rows))
+            matches(f"{step[0]}: {last.err}", said, step[1])
+        elif step.startswith("!"):
+            equal(step, run_printed(step[1:], home).status, 0)
+        elif step.startswith("="):
+            equal(f"what is there, {last.output}", there_in(home / "M"), step[1:].strip())
+        else:
+            last = ran(step, home)
+    return last
+
+
+def run_stories(stories: Mapping[str, list[Step]]) -> None:
+    """Runs each story in a folder of its own, as a case of its name."""
+    run_cases({name: partial(at_home, partial(take, steps)) for name, steps in stories.items()})

@@ -1,0 +1,110 @@
+"""What answers a question about a mailbox: what it has brought without one, and what a human has answered before. If
+neither does, a human is asked."""
+from tests.support.mail import A, B, ONE, TWO, with_length
+from tests.support.stories import Step, run_stories
+
+# a message by its length, in which a line may begin another one, since a program may have escaped the next line; and
+# new mail, in which one may
+MEASURED = with_length(A, b"hello\nFrom here on.\n>From me.\n") + b"\n"
+NEW, CUT = B + b"\nyes\n\n", with_length(B, b"yes", 7)
+DOUBTFUL = B + b"\nyes\nFrom there on.\n\n"
+# messages without dates, of which nobody is sure once another one has a date
+UNDATED = b"From a\nSubject: x\n\none\n\nFrom a\nSubject: y\n\ntwo\n\n"
+# one that ends or begins at the line that is in question in both
+BOTH = with_length(A, b"hello\nFrom x\n\nyes\n>From y\n") + b"\n"
+ABOVE = with_length(A, b"hello\n") + b"\n"
+BELOW = with_length(B.split(b"\n", 1)[0] + b"\n", b"yes\n>From y\n") + b"\n"
+ASKED = "a: left (unclear): ..."
+GREW = "a: done: as the messages show that it brought; it grew by 1 message"
+
+# what a mailbox has brought without a question, what it has then, and what its row says
+BROUGHT = {
+    "a_line_within_what_was_brought": (MEASURED, MEASURED + NEW, GREW),
+    "a_line_above_what_was_brought": (UNDATED, UNDATED + NEW, GREW),
+    "a_line_in_new_mail": (MEASURED, MEASURED + DOUBTFUL, ASKED),
+    "a_line_in_the_second_new_mail": (MEASURED, MEASURED + NEW + DOUBTFUL, ASKED),
+    "a_line_in_new_mail_beside_undated": (UNDATED, UNDATED + NEW + DOUBTFUL, ASKED),
+    "a_length_in_new_mail": (MEASURED, MEASURED + NEW + MEASURED.replace(b"hello", b"hallo"), ASKED),
+    # nobody knows which of them was brought
+    "the_message_once_more": (MEASURED, MEASURED + NEW + MEASURED, ASKED),
+    "new_mail_that_is_cut": (MEASURED, MEASURED + CUT, ASKED),
+    "more_new_mail_that_is_cut": (MEASURED, MEASURED + NEW + CUT, ASKED),
+    # its sender wrote a length that leads over that
+    "new_mail_above_what_was_brought": (TWO, with_length(A, b"hello\n\n" + TWO) + b"\n" + ONE, ASKED),
+    # what ends or begins at the line was brought too, by itself
+    "what_begins_there_is_there": (BOTH + BELOW, BOTH + BELOW + NEW, "a: done: ...it grew by 1 message..."),
+    "what_begins_there_is_gone": (BOTH + BELOW, BOTH + NEW, ASKED),
+    "what_ends_and_begins_there_is_there": (BOTH + ABOVE + BELOW, BOTH + ABOVE + BELOW + NEW, "a: done: ..."),
+    "what_ends_and_begins_there_is_gone": (BOTH + ABOVE + BELOW, BOTH + NEW, ASKED),
+}
+FIRST, NOTED = "migrate --prepare --unread M a", A + b"\nhello\n\nFrom here on.\n\n"
+# the words of an answer in the record, of which `@` stands for the tie, and what the next pass says
+NOTES = {
+    "unquoted of=@": "a: prepared: as it was answered before; 1 prepared before",
+    "mboxo text=1 of=@": "a: prepared: as it was answered before...",
+    "unquoted of=@ drop-deleted": "a: prepared: ...as it was answered before...",
+    "mboxo": ASKED,
+    "of=@": ASKED,
+    "mboxo of=0123456789abcdef": ASKED,
+    "mboxq of=@": ASKED,
+    "text=1 of=@": ASKED,
+    "text=1 of=@ drop-deleted": ASKED,
+    "mboxo text=2 of=@": ASKED,
+    "mboxo of=@ more=1": ASKED,
+    "mboxo of=@ crlf": ASKED,
+}
+STORIES: dict[str, list[Step]] = {
+    # so it is as often as it grows: nobody has answered
+    "it_grows_twice": [
+        *(
+            ("a", MEASURED),
+            "migrate M a",
+            ("a", MEASURED + NEW),
+            ("migrate --dry-run M a", GREW.replace("done", "would be done")),
+        ),
+        *((LAST := "migrate M a", GREW), (LAST, "a: done before"), ("a", MEASURED + NEW + ONE), (LAST, GREW)),
+    ],
+    "it_was_read_by_another_word": [
+        *(("a", UNDATED + b">>From x\n\n"), "migrate --as mboxo M a", "!rm M/mbox2maildir-record"),
+        *(("a", UNDATED + b">>From x\n\n" + NEW), ("migrate M a", ASKED)),
+    ],
+    "a_human_says_otherwise": [
+        *(("a", MEASURED), "migrate M a", ("a", MEASURED + NEW)),
+        *(("migrate --as mboxrd M a", "a: left (another-reading): ..."), "= one"),
+    ],
+    "it_was_undone": [
+        *(("a", MEASURED), "migrate M a", ("a", MEASURED + NEW), "migrate --undo M a", ("migrate M a", ASKED)),
+    ],
+    "all_that_is_nowhere": [
+        *(("a", MEASURED), "migrate M a", ("a", MEASURED + NEW), "!rm M/new/*", "migrate --again M a", "= one two"),
+    ],
+    "it_is_new": [("a", MEASURED + NEW), ("migrate M a", ASKED)],
+    # on the day it has more mail, and stands elsewhere
+    "an_answer_of_a_first_pass": [
+        *(("a", NOTED), (FIRST, ASKED), "migrate --prepare --unread --as unquoted M a", "!mv a b", ("b", NOTED + ONE)),
+        ("migrate M b", "b: done: as it was answered before; 1 prepared before"),
+    ],
+    "an_answer_and_another_line": [
+        *(("a", NOTED), "migrate --as unquoted M a", ("a", NOTED + ONE + NOTED.replace(b"here on", b"there"))),
+        ("migrate M a", ASKED),
+    ],
+}
+
+if __name__ == "__main__":
+    run_stories(
+        {
+            **STORIES,
+            **{
+                name: [("a", before), "migrate M a", ("a", after), ("migrate M a", says)]
+                for name, (before, after, says) in BROUGHT.items()
+            },
+            **{
+                f"noted_{number}": [
+                    *(("a", NOTED), f"{FIRST} --as unquoted"),
+                    f"!sed -i 's/\\tunquoted of=\\([0-9a-f]*\\)/\\t{words}/' M/mbox2maildir-record".replace("@", "\\1"),
+                    *(("a", NOTED + ONE), (FIRST, says)),
+                ]
+                for number, (words, says) in enumerate(NOTES.items())
+            },
+        }
+    )

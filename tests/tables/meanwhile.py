@@ -1,0 +1,64 @@
+"""What others do with mailboxes and with what is noted of them, between two runs and while one is at work."""
+from tests.support.mail import ONE, TWO
+from tests.support.stories import RESTORED, Step, in_place, run_stories
+
+FIRST, RECORD, LEDGER = "migrate --prepare --unread M a", "M/mbox2maildir-record", "M/mbox2maildir-messages"
+SYNC_FAILS = in_place('"$real" "$@"; echo "mbox2maildir: folder call 9 failed" >&2; exit 1')
+BEGIN_ANEW = (
+    "a: left (sync-failed): its sync failed: read the system's log and mount the disk again before you believe "
+    "anything there, then remove what is prepared, and begin anew"
+)
+# leaves room in the record for one more line like the last, and not for two
+FILL = f"""!set -- $(tail -n 1 {RECORD} | wc -c) $(stat -c %s {RECORD})
+head -c $(((1 << 23) - $2 - $1 * 3 / 2)) /dev/zero | tr '\\0' x >>{RECORD}; echo >>{RECORD}"""
+STORIES: dict[str, list[Step]] = {
+    # its row waits for the sync of the disk, which comes once both are converted
+    "a_mailbox_changes_before_its_disk_is_synced": [
+        *(("old/a", ONE), ("old/b", TWO)),
+        *in_place('case $PWD in */.b) echo more >>../../old/a;; esac; "$real" "$@"'),
+        (
+            "migrate --jobs 1 M old",
+            "old/a: left (changed): it changed in the meantime: stop the program that ...\nold/b: done",
+        ),
+    ],
+    "the_sync_of_a_first_pass_fails": [
+        *(("a", ONE), *SYNC_FAILS, (FIRST, BEGIN_ANEW), RESTORED, (FIRST, BEGIN_ANEW), ("migrate M a", BEGIN_ANEW)),
+    ],
+    "the_record_takes_no_more": [
+        *(("a", ONE), "migrate M a", FILL, ("a", ONE + TWO)),
+        ("migrate M a", "a: left (record): ...: it is full: move it away; the ledgers in the folders say what was brought"),
+    ],
+    "the_record_cannot_note_that_a_sync_failed": [
+        *(("a", ONE), "migrate M a", FILL, ("a", ONE + TWO), *SYNC_FAILS),
+        (
+            "migrate M a",
+            "a: left (sync-failed): its sync failed: ...; note this yourself, because the record could not be ...",
+        ),
+    ],
+    "a_damaged_ledger": [
+        *(("a", ONE), "migrate M a", f"!echo hello >>{LEDGER}; cp {LEDGER} kept", ("a", ONE + TWO)),
+        ("migrate M a", "a: left (ledger): the ledger of its folder is damaged in line 6, so nothing shows which ..."),
+        *(("migrate --dry-run --again M a", "a: would be done: would place 1 message..."), f"!cmp {LEDGER} kept"),
+        *(("migrate --again M a", "a: done: placed 1 message..."), "= one two", ("migrate M a", "a: done before")),
+    ],
+    # a line that was torn, and one of NULs
+    "a_torn_ledger": [
+        *(("a", ONE), "migrate M a", f"!cp {LEDGER} kept; printf '=\\t1' >>{LEDGER}", ("a", ONE + TWO)),
+        *(("migrate --dry-run M a", "a: would be done: it grew by 1 message"), f"!cp kept {LEDGER}"),
+        *(f"!head -c 99 /dev/zero >>{LEDGER}", ("migrate M a", "a: done: it grew by 1 message"), "= one two"),
+    ],
+    # a dry run of it writes nothing
+    "a_mailbox_was_moved": [
+        *(("a", ONE), "migrate M a", f"!mv a b; cat {LEDGER} {RECORD} >kept"),
+        *(("migrate --dry-run M b", "b: done before"), f"!cat {LEDGER} {RECORD} | cmp - kept"),
+        *(("migrate M b", "b: done before"), ("a", TWO), ("migrate M a", "a: done: INBOX has the mail of b too")),
+    ],
+    "a_mailbox_was_moved_and_grew": [
+        *(("a", ONE), "migrate M a", ("more", TWO), f"!mv a b; cat more >>b; cat {LEDGER} {RECORD} >kept"),
+        *(("migrate --dry-run M b", "b: would be done: it grew by 1 message"), f"!cat {LEDGER} {RECORD} | cmp - kept"),
+        *(("migrate M b", "b: done: it grew by 1 message"), "= one two"),
+    ],
+}
+
+if __name__ == "__main__":
+    run_stories(STORIES)

@@ -1,0 +1,259 @@
+"""Mailboxes that are prepared step by step while people use them: what each pass says, where none prepares or finishes
+anything, and what mail is there then."""
+from tests.support.mail import ONE, THREE, TWO
+from tests.support.stories import Step, killed, run_stories
+
+FIRST, LAST, FIRST_OF_TREE, TREE = (
+    "migrate --prepare --unread M a",
+    "migrate M a",
+    "migrate --prepare --unread M old",
+    "migrate M old",
+)
+SEEN = ONE.replace(b"\n\n", b"\nX-Mozilla-Status: 0001\n\n", 1)
+# a reader gives each message a flag; a server looks at the folder; a program delivers what the mailbox has too
+READ, LOOKS = "!cd M; for a in new/*; do mv $a cur/${a##*/}:2,S; done", "!echo >M/dovecot.index.log"
+DELIVERS = "!cp $(grep -l 'Subject: one' M/new/*) M/new/17000.M1.host"
+LIST, LEDGER, RECORD = (f"M/mbox2maildir-{name}" for name in ("prepared", "messages", "record"))
+READS = "a: left (prepared): somebody reads in its folder already: M/"
+SYNC_FAILED = "a: left (sync-failed): its sync failed: read the system's log and mount the disk again before you ..."
+# a last pass that is killed once all is placed
+KILLED = killed(LAST)
+TEN: list[Step] = [*((f"old/{number}", ONE) for number in range(10)), FIRST_OF_TREE]
+ALL_TEN = " ".join(f"{number}/one" for number in range(10))
+
+STORIES: dict[str, list[Step]] = {
+    "each_pass_follows_the_mailbox": [
+        ("a", ONE + TWO),
+        (FIRST, "a: prepared"),
+        "= one two M+",
+        ("a", TWO + THREE),
+        (FIRST, "a: prepared: 1 prepared before, 1 message removed"),
+        "= three two M+",
+        (FIRST, "a: prepared: 2 prepared before"),
+        ("a", THREE + ONE),
+        (LAST, "a: done: 1 prepared before, 1 message removed"),
+        "= one three",
+        (LAST, "a: done before"),
+        (FIRST, "a: done before"),
+    ],
+    "dry_runs": [
+        ("a", ONE),
+        ("migrate --dry-run --prepare --unread M a", "a: would be prepared"),
+        "!test ! -e M",
+        FIRST,
+        ("a", TWO),
+        ("migrate --dry-run M a", "a: would be done: 0 prepared before, 1 message to be removed"),
+        "= one M+",
+    ],
+    "what_was_removed_by_hand": [
+        *(("a", ONE + TWO), FIRST, "!rm $(grep -l 'Subject: one' M/new/*)"),
+        *(FIRST, "= one two M+", "!rm $(grep -l 'Subject: two' M/new/*)"),
+        *(LAST, "= one two"),
+    ],
+    "what_somebody_edited": [
+        *(("a", ONE + TWO), FIRST, "!echo more >>$(grep -l 'Subject: one' M/new/*)", ("a", TWO)),
+        (LAST, "a: done: 1 prepared before; 1 file kept that somebody edited"),
+        "= one two",
+    ],
+    "what_others_delivered": [
+        *(("a", ONE + TWO), FIRST, DELIVERS),
+        (LAST, "a: done: 1 prepared before, 1 message removed; 1 message there already, by no mailbox; 1 message ..."),
+        "= one two",
+    ],
+    "flags_come_on_the_day": [
+        *(("a", SEEN), FIRST, "= one M+"),
+        (LAST, "a: done: 1 prepared before; 1 message with flags of Thunderbird"),
+        "= one:S",
+    ],
+    "flags_of_two_programs": [
+        ("a", SEEN.replace(b"\n\n", b"\nX-Status: F\n\n", 1)),
+        *(FIRST, "= one:F M+", LAST, "= one:FS"),
+    ],
+    "flags_of_two_programs_after_a_reader": [
+        ("a", SEEN.replace(b"\n\n", b"\nX-Status: F\n\n", 1)),
+        *(FIRST, "migrate --again M a", "= one:F"),
+    ],
+    "an_emptied_mailbox": [
+        *(("a", ONE), FIRST, ("a", b""), (FIRST, "a: prepared"), "="),
+        *(("a", ONE), FIRST, ("a", b""), (LAST, "a: done"), "="),
+    ],
+    "an_emptied_mailbox_by_again": [("a", ONE), FIRST, ("a", b""), "migrate --again M a", "= one"],
+    # where somebody reads
+    "somebody_reads": [
+        *(("a", ONE), FIRST, READ, ("a", ONE + TWO)),
+        *((words, f"{READS}cur/...:2,S") for words in (FIRST, LAST)),
+        ("a", TWO),
+        ("migrate --again M a", "a: done: 1 prepared before stay, whatever the mailbox has now; placed 1 message"),
+        "= one:S two",
+    ],
+    "a_server_has_looked": [
+        ("a", ONE),
+        "!mkdir -p M/new M/cur M/tmp",
+        LOOKS,
+        (FIRST, f"{READS}dovecot.index.log"),
+        "=",
+    ],
+    "a_server_looks_and_nothing_changes": [("a", ONE), FIRST, LOOKS, (FIRST, f"{READS}dovecot.index.log"), "= one M+"],
+    "a_server_looks_at_another_folder": [
+        *(("x", ONE), "migrate --prepare --unread --folder x M x", "!mkdir -p M/new M/cur M/tmp", LOOKS, ("a", TWO)),
+        "migrate --folder INBOX M a",
+        "= two x/one .x+",
+    ],
+    # where other mail is
+    "mail_of_a_mailbox": [
+        *(("a", ONE), LAST, ("a", ONE + TWO)),
+        *(
+            step
+            for name in (RECORD, LEDGER)
+            for step in (
+                f"!mv {name} kept",
+                (FIRST, "a: left (prepared): mail of a mailbox is in its folder already, and migrate brings the rest"),
+                f"!mv kept {name}",
+            )
+        ),
+        "= one",
+    ],
+    "another_mailbox": [
+        *(("a", ONE), ("b", ONE + TWO), FIRST),
+        (
+            "migrate --prepare --unread M b",
+            "b: left (prepared): a is prepared in its folder, and only one mailbox can be",
+        ),
+        *("!rm a", ("migrate --prepare --unread M b", "b: prepared: 1 prepared before"), "= one two M+"),
+    ],
+    "one_that_is_named_as_a_folder": [
+        *(("mbox", ONE), "migrate --prepare --unread M mbox", ("mbox", ONE + TWO)),
+        ("migrate --prepare --unread M mbox", "mbox: prepared: 1 prepared before"),
+        ("sent", ONE),
+        ("migrate --prepare --unread M sent", "sent: left (no-folder): INBOX has or gets other mail, ..."),
+        "!mkdir old; mv mbox old",
+        ("migrate M old/mbox", "old/mbox: done: 2 prepared before"),
+        "= one two",
+    ],
+    "an_empty_file_in_place_of_what_is_done": [
+        *(("b", ONE), "migrate M b", READ, LOOKS, ("a", b"")),
+        *(
+            (words, f"a: {verdict}")
+            for words, verdict in (
+                ("migrate --dry-run --prepare --unread M a", "would be prepared"),
+                (FIRST, "prepared"),
+            )
+        ),
+        "= one:S",
+        ("a", TWO),
+        (FIRST, "a: left (prepared): mail of a mailbox is in its folder already, and migrate brings the rest"),
+    ],
+    # what was lost or damaged
+    "the_list_is_lost": [
+        *(("a", ONE), FIRST, f"!rm {LIST}", ("a", ONE + TWO)),
+        (LAST, "a: left (ledger): the list of what was prepared in its folder is gone, so nothing shows which ..."),
+        LOOKS,
+        (LAST, "a: left (ledger): the list of what was prepared in its folder is gone, so nothing shows which ..."),
+        *("= one", "migrate --again M a", "= one two"),
+    ],
+    "the_record_is_lost": [
+        *(("a", ONE + TWO), FIRST, f"!rm {RECORD}", LOOKS, ("a", TWO)),
+        *((LAST, f"{READS}dovecot.index.log"), "!rm M/dovecot.index.log", LAST, "= two"),
+    ],
+    "the_record_is_older_than_the_day": [
+        *(("a", ONE), FIRST, f"!cp {RECORD} kept", LAST, f"!mv kept {RECORD}", LOOKS, ("a", ONE + TWO)),
+        *((LAST, "a: done: it grew by 1 message"), "= one two"),
+    ],
+    "the_list_is_damaged": [
+        *(("a", ONE), FIRST, f"!echo damage >>{LIST}", ("a", TWO)),
+        *((LAST, "a: left (ledger): M/mbox2maildir-prepared: line ... is damaged: ..."), "= one M+"),
+    ],
+    "the_list_is_of_another_version": [
+        *(("a", ONE + TWO), FIRST, f"!sed -i 's/\tmboxrd\t/\tmboxy\t/' {LIST}", (LAST, "a: done: 2 prepared before")),
+        "= one two",
+    ],
+    "the_list_comes_from_a_backup": [
+        *(("a", ONE + TWO), FIRST, f"!cp {LIST} kept", LAST, f"!cp -p kept {LIST}"),
+        *(("migrate --dry-run M a", "a: done before"), "= one two M+", (LAST, "a: done before"), "= one two"),
+        *(f"!cp -p kept {LIST}", ("a", TWO + THREE), FIRST, "= one two"),
+        *(f"!cp -p kept {LIST}", LAST, "= one three two"),
+    ],
+    "a_sync_failed": [
+        *(("a", ONE), FIRST, f"!echo '!' >>{LIST}", ("a", TWO), (FIRST, SYNC_FAILED), (LAST, SYNC_FAILED), "= one M+"),
+    ],
+    "it_was_prepared_with_dovecot": [
+        *(("a", ONE), "migrate --prepare --unread --dovecot M a"),
+        (LAST, "a: left (prepared): it was prepared with --dovecot"),
+        *("migrate --dovecot M a", "= one"),
+    ],
+    # a last pass was killed, and the mailbox may be another one by then
+    "killed_and_prepared_again": [
+        *(("a", ONE), FIRST, ("a", SEEN + TWO + THREE), *KILLED, "= one three two M+"),
+        *(("a", ONE + THREE), FIRST, "= one three M+", ("a", ONE + TWO), LAST, "= one two"),
+    ],
+    "killed_before_it_was_prepared": [
+        *(("x", ONE), "migrate --prepare --unread --folder x M x", ("a", TWO), *KILLED, ("a", TWO + THREE)),
+        *((FIRST, "a: prepared"), "= three two x/one .x+ M+"),
+    ],
+    "killed_and_its_ledger_is_gone": [
+        *(("a", ONE + TWO), FIRST, ("a", ONE + TWO + THREE), *KILLED, f"!rm {LEDGER}", ("a", ONE)),
+        *((LAST, "a: left (ledger): the ledger of its folder is missing, so nothing shows which ..."), "= one two M+"),
+    ],
+    "killed_and_its_ledger_is_damaged": [
+        *(("a", ONE), FIRST, ("a", ONE + TWO), *KILLED, f"!echo damage >>{LEDGER}", ("a", THREE)),
+        *((LAST, "a: left (ledger): ..."), "= one two M+"),
+    ],
+    "killed_and_dry": [
+        *(("a", ONE), FIRST, ("a", SEEN + TWO), *KILLED, f"!cp {LIST} kept"),
+        *("migrate --dry-run M a", "migrate --dry-run --prepare --unread M a", "= one two M+", f"!cmp {LIST} kept"),
+    ],
+    "killed_and_somebody_reads": [
+        *(("a", ONE), FIRST, ("a", ONE + TWO), *KILLED, LOOKS, ("a", ONE)),
+        *((LAST, f"{READS}dovecot.index.log"), "= one two M+"),
+    ],
+    "killed_and_delivered": [
+        *(("a", ONE), FIRST, "!printf 'Subject: new\\n\\n' >M/new/17000.M1.host", ("a", ONE + TWO), *KILLED),
+        *(("a", ONE), (FIRST, "a: prepared: 1 prepared before..."), "= new one M+"),
+    ],
+    "killed_and_edited": [
+        *(("a", ONE), FIRST, ("a", ONE + TWO), *KILLED, "!for a in M/new/*; do echo edited >>$a; done", ("a", THREE)),
+        *(LAST, "= one three two"),
+    ],
+    # what no mailbox goes into on the day
+    "one_of_ten_is_gone": [
+        *(*TEN, "!mv old older; rm older/3"),
+        *("migrate --dry-run M older", f"= {ALL_TEN} " + " ".join(f".{number}+" for number in range(10))),
+        *("migrate M older", f"= {ALL_TEN.replace('3/one ', '')}", "!test ! -e M/.3"),
+    ],
+    "mail_of_others_stays": [
+        *(*TEN, "!echo >M/.3/new/17000.M1.host; rm old/3", TREE, f"= {ALL_TEN.replace('3/one', '3/-')}"),
+    ],
+    "two_of_ten_are_gone": [
+        *(*TEN, "!rm old/3 old/4", TREE, f"= {ALL_TEN} .3+ .4+"),
+    ],
+    "a_renamed_mailbox": [
+        *(*TEN, "!mv old/3 old/new", FIRST_OF_TREE, "!test -e M/.3", TREE, "!test ! -e M/.3"),
+        f"= {ALL_TEN.replace('3/one ', '')} new/one",
+    ],
+    # the name of one is the beginning of the other's
+    "another_tree": [
+        *(*TEN[:-1], ("older/c", TWO), f"{FIRST_OF_TREE} older", TREE, f"= {ALL_TEN} c/two .c+"),
+        *(("migrate M older", "older/c: done: 1 prepared before"), f"= {ALL_TEN} c/two"),
+    ],
+    "a_file_that_holds_no_mail_any_more": [
+        *(("old/a", ONE), ("old/b", ONE), FIRST_OF_TREE, ("old/a", b"milk\n"), "migrate --no-mail a M old"),
+        "= a/one b/one .a+",
+    ],
+    "a_list_of_a_mailbox_that_is_gone_is_damaged": [
+        *(("old/a", ONE), ("old/b", ONE), FIRST_OF_TREE, "!echo '?' >>M/.b/mbox2maildir-prepared; rm old/b"),
+        (
+            TREE,
+            "old/a: done: 1 prepared before\nold/b: left (ledger): ...: line 8 of it is damaged: nothing shows what ...",
+        ),
+        "= a/one b/one .b+",
+    ],
+    "passes_that_placed_nothing": [
+        *(("old/a", ONE), FIRST_OF_TREE, "!mkdir M/.c M/.d M/.e; : >M/.c/mbox2maildir-prepared"),
+        "!for a in d e; do printf 'mbox2maildir-prepared\\t1\\n/\\n' >M/.$a/mbox2maildir-prepared; done; : >M/.e/dovecot-uidlist",
+        *(FIRST_OF_TREE, "migrate --dry-run M old", "!test -e M/.c -a -e M/.d"),
+        *(TREE, "= a/one", "!test -e M/.c -a ! -e M/.d -a -e M/.e"),
+    ],
+}
+
+if __name__ == "__main__":
+    run_stories(STORIES)
