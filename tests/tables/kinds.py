@@ -340,6 +340,24 @@ def copies(home: Path) -> None:
     print(f"kinds: quote: {len(COPIES)} texts")
 
 
+def whose_copies_are(home: Path) -> None:
+    """A copy has the owner and the mode of its mailbox, but is nothing that anybody runs. If it cannot have the owner,
+    it is for whoever made it alone."""
+    want_root()
+    (home / "box").write_bytes(A + b"\n")
+    os.chown(home / "box", 65534, 65534)
+    (home / "box").chmod(0o6754)
+    home.chmod(0o777)
+    quote = "umask 0; mbox2maildir-admin quote --as mboxo box -o"
+    for command, owner, mode in (
+        (f"{quote} roots", 65534, 0o644),
+        (f"setpriv --reuid 1 -- sh -c '{quote} ones'", 1, 0o600),
+    ):
+        equal(command, run_printed(command, home).status, 0)
+        state = (home / command.rstrip("'").split()[-1]).stat()
+        equal(f"{command}: owner and mode", (state.st_uid, oct(state.st_mode & 0o7777)), (owner, oct(mode)))
+
+
 def no_copy_is_cut(home: Path) -> None:
     """The file may not grow that far, or is the copy itself."""
     (home / "big").write_bytes(A + b"\n" + b"a" * 3_000_000)
@@ -373,5 +391,12 @@ def no_copy_on_a_full_disk(home: Path) -> None:
 
 if __name__ == "__main__":
     check_all(
-        kinds, other_files, no_place_beside, delivered_to_meanwhile, copies, no_copy_is_cut, no_copy_on_a_full_disk
+        kinds,
+        other_files,
+        no_place_beside,
+        delivered_to_meanwhile,
+        copies,
+        whose_copies_are,
+        no_copy_is_cut,
+        no_copy_on_a_full_disk,
     )

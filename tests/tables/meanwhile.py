@@ -1,8 +1,9 @@
 """What others do with mailboxes and with what is noted of them, between two runs and while one is at work."""
-from tests.support.mail import ONE, TWO
+from tests.support.mail import C, ONE, THREE, TWO
 from tests.support.stories import RESTORED, Step, in_place, run_stories
 
 FIRST, RECORD, LEDGER = "migrate --prepare --unread M a", "M/mbox2maildir-record", "M/mbox2maildir-messages"
+FOUR = C.replace(b"three", b"four") + b"\n"
 SYNC_FAILS = in_place('"$real" "$@"; echo "mbox2maildir: folder call 9 failed" >&2; exit 1')
 BEGIN_ANEW = (
     "a: left (sync-failed): its sync failed: read the system's log and mount the disk again before you believe "
@@ -24,9 +25,28 @@ STORIES: dict[str, list[Step]] = {
     "the_sync_of_a_first_pass_fails": [
         *(("a", ONE), *SYNC_FAILS, (FIRST, BEGIN_ANEW), RESTORED, (FIRST, BEGIN_ANEW), ("migrate M a", BEGIN_ANEW)),
     ],
+    # the program numbers equal messages, so it gets those that are there too; of the others none comes back
+    "what_is_deleted_once_it_was_looked_at": [
+        *(("a", ONE + THREE), "!mbox2maildir convert M a", ("a", ONE + TWO + ONE + THREE + FOUR)),
+        *in_place('test -e ../gone || rm $(grep -l one new/*); : >../gone; "$real" "$@"'),
+        ("migrate --again M a", "a: done: placed 3 messages; ...; up to 1 message that had been deleted or moved ..."),
+        "= four one one three two",
+    ],
+    "what_is_deleted_and_nothing_equals": [
+        *(("a", TWO), "!mbox2maildir convert M a", ("a", ONE + TWO + THREE)),
+        *in_place('test -e ../gone || rm new/*; : >../gone; "$real" "$@"'),
+        *(("migrate --again M a", "a: done: placed 2 messages; 1 message there already, by no mailbox"), "= one three"),
+    ],
+    "the_record_takes_no_more_of_several": [
+        *(*((f"old/{number}", ONE) for number in range(6)), "migrate M old/0", FILL, "migrate --jobs 3 M old"),
+        f"!test $(stat -c %s {RECORD}) -le $((1 << 23))",
+    ],
     "the_record_takes_no_more": [
         *(("a", ONE), "migrate M a", FILL, ("a", ONE + TWO)),
-        ("migrate M a", "a: left (record): ...: it is full: move it away; the ledgers in the folders say what was brought"),
+        (
+            "migrate M a",
+            "a: left (record): ...: it is full: move it away; the ledgers in the folders say what was brought",
+        ),
     ],
     "the_record_cannot_note_that_a_sync_failed": [
         *(("a", ONE), "migrate M a", FILL, ("a", ONE + TWO), *SYNC_FAILS),
