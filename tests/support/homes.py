@@ -226,7 +226,7 @@ def fresh_home() -> Iterator[Path]:
         yield home
 
 
-def at_home(check: Callable[[Path], None]) -> None:
+def at_home(check: Callable[[Path], object]) -> None:
     """Runs a check in a fresh folder, which has the programs in bin/."""
     with fresh_home() as home:
         install(home / "bin")

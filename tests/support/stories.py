@@ -1,6 +1,6 @@
 """Stories: what is done in a home, step by step, what each command says then, and what mail is there."""
 import re
-from collections.abc import Iterable, Mapping
+from collections.abc import Callable, Iterable, Mapping
 from functools import partial
 from pathlib import Path
 from typing import Union
@@ -11,7 +11,7 @@ from tests.support.homes import at_home, by_json, mail_in, mailbox, run_printed
 from tests.support.running import Row, Run
 
 # A mailbox is written; a command of the companion says this of its rows; one is run, by the companion or after `!` by a
-# shell; after `=` stands the mail that is there then.
+# shell, `>` is the first command that was printed last; after `=` stands the mail that is there then.
 Step = Union[tuple[str, bytes], tuple[str, str], str]
 LIST = "mbox2maildir-prepared"
 # the program, once another one was in its place
@@ -49,8 +49,10 @@ def there_in(maildir: Path) -> str:
     return " ".join(sorted(found) + sorted(f"{path.parent.name}+" for path in maildir.rglob(LIST)))
 
 
-def ran(words: str, home: Path) -> Run:
-    """Runs a command of the companion, which waits for no quiet minute."""
+def ran(words: str, home: Path, before: Run) -> Run:
+    """Runs a command of the companion, which waits for no quiet minute, or the first one that was printed before."""
+    if words == ">":
+        return run_printed(before.rows[0].commands[0], home, "--json")
     word, *others = words.split()
     return by_json([word, *["--now"] * (word != "verify"), *others], home)
 
@@ -62,7 +64,7 @@ def take(steps: Iterable[Step], home: Path) -> Run:
         if isinstance(step, tuple) and isinstance(step[1], bytes):
             mailbox(home / step[0], step[1])
         elif isinstance(step, tuple):
-            last = ran(step[0], home)
+            last = ran(step[0], home, last)
             said = "\n".join(sorted(said_of(row).replace(f"{home}/", "") for row in last.rows))
             matches(f"{step[0]}: {last.err}", said, step[1])
         elif step.startswith("!"):
@@ -70,10 +72,12 @@ def take(steps: Iterable[Step], home: Path) -> Run:
         elif step.startswith("="):
             equal(f"what is there, {last.output}", there_in(home / "M"), step[1:].strip())
         else:
-            last = ran(step, home)
+            last = ran(step, home, last)
     return last
 
 
-def run_stories(stories: Mapping[str, list[Step]]) -> None:
-    """Runs each story in a folder of its own, as a case of its name."""
-    run_cases({name: partial(at_home, partial(take, steps)) for name, steps in stories.items()})
+def run_stories(stories: Mapping[str, list[Step]], *checks: Callable[[Path], None]) -> None:
+    """Runs each story, and each check, in a folder of its own, as a case of its name."""
+    cases: dict[str, Callable[[Path], object]] = {name: partial(take, steps) for name, steps in stories.items()}
+    cases.update({check.__name__: check for check in checks})
+    run_cases({name: partial(at_home, case) for name, case in cases.items()})

@@ -1,7 +1,7 @@
 """What answers a question about a mailbox: what it has brought without one, and what a human has answered before. If
 neither does, a human is asked."""
 from tests.support.mail import A, B, ONE, TWO, with_length
-from tests.support.stories import Step, run_stories
+from tests.support.stories import Step, killed, run_stories
 
 # a message by its length, in which a line may begin another one, since a program may have escaped the next line; and
 # new mail, in which one may
@@ -14,6 +14,8 @@ UNDATED = b"From a\nSubject: x\n\none\n\nFrom a\nSubject: y\n\ntwo\n\n"
 BOTH = with_length(A, b"hello\nFrom x\n\nyes\n>From y\n") + b"\n"
 ABOVE = with_length(A, b"hello\n") + b"\n"
 BELOW = with_length(B.split(b"\n", 1)[0] + b"\n", b"yes\n>From y\n") + b"\n"
+LINES = A + b"\n>From x\nFrom the first\nhello\n\n" + B + b"\n"
+QUOTED = A + b"\n>>From x\n\n" + TWO
 ASKED = "a: left (unclear): ..."
 GREW = "a: done: as the messages show that it brought; it grew by 1 message"
 
@@ -71,6 +73,28 @@ STORIES: dict[str, list[Step]] = {
     "a_human_says_otherwise": [
         *(("a", MEASURED), "migrate M a", ("a", MEASURED + NEW)),
         *(("migrate --as mboxrd M a", "a: left (another-reading): ..."), "= one"),
+    ],
+    # what a human says of a line of new mail holds by the reading of before too
+    "a_human_names_a_line": [
+        *(("a", QUOTED), "migrate --as mboxrd M a", ("a", QUOTED + LINES), ("migrate M a", ASKED)),
+        (">", "a: left (another-reading): it was read as mboxrd when it was migrated, and 1 message of that ..."),
+        *((">", "a: done: it grew by 2 messages"), "= one one two two"),
+    ],
+    "it_was_begun_by_another_word": [
+        *(("a", NOTED), *killed("migrate --as unquoted M a")),
+        (
+            "migrate --as mboxrd M a",
+            "a: left (another-reading): its conversion was begun with another reading: 1 of 1 ...",
+        ),
+        *("= one", "migrate --as unquoted M a", "= one"),
+    ],
+    "it_was_begun_by_another_word_once_it_was_done": [
+        *(("a", TWO), "migrate M a", ("a", TWO + NOTED), *killed("migrate --as unquoted M a")),
+        (
+            "migrate --as mboxrd M a",
+            "a: left (another-reading): its conversion was begun with another reading: 2 of 2 ...",
+        ),
+        "= one two",
     ],
     "it_was_undone": [
         *(("a", MEASURED), "migrate M a", ("a", MEASURED + NEW), "migrate --undo M a", ("migrate M a", ASKED)),

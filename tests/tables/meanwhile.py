@@ -1,6 +1,12 @@
 """What others do with mailboxes and with what is noted of them, between two runs and while one is at work."""
+import shutil
+from pathlib import Path
+
+from tests.support.checks import equal
+from tests.support.homes import by_json, expect, mailbox
 from tests.support.mail import C, ONE, THREE, TWO
-from tests.support.stories import RESTORED, Step, in_place, run_stories
+from tests.support.running import Desk, Kill, Run
+from tests.support.stories import RESTORED, Step, in_place, killed, run_stories
 
 FIRST, RECORD, LEDGER = "migrate --prepare --unread M a", "M/mbox2maildir-record", "M/mbox2maildir-messages"
 FOUR = C.replace(b"three", b"four") + b"\n"
@@ -36,6 +42,22 @@ STORIES: dict[str, list[Step]] = {
         *(("a", TWO), "!mbox2maildir convert M a", ("a", ONE + TWO + THREE)),
         *in_place('test -e ../gone || rm new/*; : >../gone; "$real" "$@"'),
         *(("migrate --again M a", "a: done: placed 2 messages; 1 message there already, by no mailbox"), "= one three"),
+    ],
+    # the program removes it, though nothing is to be placed
+    "a_power_cut_kept_a_file_in_tmp_too": [
+        *(("a", ONE), *killed("migrate M a"), "!cp M/new/* M/tmp", ("migrate M a", "a: done"), "!rmdir M/tmp"),
+        *("!rm -r M", FIRST, "!cp M/new/* M/tmp", "migrate M a", "!rmdir M/tmp"),
+    ],
+    # its mail is as good as removed
+    "the_undo_of_another_mailbox_was_killed": [
+        *(("a", ONE + TWO), "migrate M a", f"!sed -i 's/^done\\(\t.*\\)$/done\\1\\nundoing\\1/' {RECORD}"),
+        *("!rm $(grep -l two M/new/*)", ("b", TWO), ("migrate M b", "b: done: INBOX has the mail of a too")),
+        *("= one two", "migrate --undo M a", "= two"),
+    ],
+    "the_ledger_is_older_than_two_others": [
+        *(("a", ONE), "migrate M a", f"!cp {LEDGER} kept", ("b", TWO), "migrate M b", ("c", THREE), "migrate M c"),
+        *(f"!cp kept {LEDGER}; rm M/new/*", ("d", TWO + THREE)),
+        ("migrate M d", "d: done: ...up to 2 messages that had been deleted or moved came back"),
     ],
     "the_record_takes_no_more_of_several": [
         *(*((f"old/{number}", ONE) for number in range(6)), "migrate M old/0", FILL, "migrate --jobs 3 M old"),
@@ -80,5 +102,19 @@ STORIES: dict[str, list[Step]] = {
     ],
 }
 
+
+def killed_while_it_is_noted_that_a_mailbox_was_moved(home: Path) -> None:
+    """It is done before all the same, even if the ledger is lost then: the record has it by one of its paths."""
+    ran, number = Run(-1, ""), 0
+    while ran.is_killed:
+        number += 1
+        expect(["migrate", "--now", "M", mailbox(home / "a", ONE)], home, 0, None)
+        (home / "a").rename(home / "b")
+        ran = Desk(home).run(["migrate", "--now", "M", "b"], Kill(call=number))
+        (home / LEDGER).unlink()
+        equal(f"killed at {number}: {ran}", by_json("migrate --now M b", home).row["verdict"], "done before")
+        shutil.rmtree(home / "M")
+
+
 if __name__ == "__main__":
-    run_stories(STORIES)
+    run_stories(STORIES, killed_while_it_is_noted_that_a_mailbox_was_moved)
