@@ -314,11 +314,11 @@ def commands_of_rehearsals(home: Path) -> None:
     expect("mbox2maildir convert M/.there tree/there", home, 0, None, None)
     for name, text in (("gone", THREE), ("there", ONE + TWO)):
         mailbox(home / "tree" / name, text)
-    for options in (["--dry-run"], []):
-        rows = by_json(["migrate", *options, "--now", "M", "tree"], home).rows
+    for options in ("--dry-run --now", "--now"):
+        rows = by_json(["migrate", *options.split(), "M", "tree"], home).rows
         equal("what is not left", [row["path"] for row in rows if row["verdict"] != "left"], [])
         found = [one for row in rows for one in row.commands if "migrate" in one]
-        equal(f"{options}: {found}", {"--dry-run" in one for one in found}, {bool(options)})
+        equal(f"{options}: {found}", {"--dry-run" in one for one in found}, {options != "--now"})
         equal(f"{options}: rows with a command", sum(any("migrate" in one for one in row.commands) for row in rows), 9)
 
 

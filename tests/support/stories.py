@@ -18,6 +18,11 @@ LIST = "mbox2maildir-prepared"
 RESTORED = "!mv real bin/mbox2maildir"
 
 
+def steps(*several: Step) -> list[Step]:
+    """Some steps of a story."""
+    return [*several]
+
+
 def in_place(script: str) -> list[Step]:
     """Has a script convert in place of the program, which it may run as `"$real"`."""
     text = f'#!/bin/sh\nreal=${{0%/bin/*}}/real\n[ "$1" = convert ] || exec "$real" "$@"\n{script}\n'
@@ -57,16 +62,18 @@ def ran(words: str, home: Path, before: Run) -> Run:
     return by_json([word, *["--now"] * (word != "verify"), *others], home)
 
 
-def take(steps: Iterable[Step], home: Path) -> Run:
+def take(several: Iterable[Step], home: Path) -> Run:
     """Takes steps, and returns how the last command of the companion ended."""
     last = Run(0, "")
-    for step in steps:
-        if isinstance(step, tuple) and isinstance(step[1], bytes):
-            mailbox(home / step[0], step[1])
-        elif isinstance(step, tuple):
-            last = ran(step[0], home, last)
+    for step in several:
+        if isinstance(step, tuple):
+            given, wanted = step
+            if isinstance(wanted, bytes):
+                mailbox(home / given, wanted)
+                continue
+            last = ran(given, home, last)
             said = "\n".join(sorted(said_of(row).replace(f"{home}/", "") for row in last.rows))
-            matches(f"{step[0]}: {last.err}", said, step[1])
+            matches(f"{given}: {last.err}", said, wanted)
         elif step.startswith("!"):
             equal(step, run_printed(step[1:], home).status, 0)
         elif step.startswith("="):
@@ -78,6 +85,6 @@ def take(steps: Iterable[Step], home: Path) -> Run:
 
 def run_stories(stories: Mapping[str, list[Step]], *checks: Callable[[Path], None]) -> None:
     """Runs each story, and each check, in a folder of its own, as a case of its name."""
-    cases: dict[str, Callable[[Path], object]] = {name: partial(take, steps) for name, steps in stories.items()}
+    cases: dict[str, Callable[[Path], object]] = {name: partial(take, several) for name, several in stories.items()}
     cases.update({check.__name__: check for check in checks})
     run_cases({name: partial(at_home, case) for name, case in cases.items()})

@@ -1,7 +1,7 @@
 """What answers a question about a mailbox: what it has brought without one, and what a human has answered before. If
 neither does, a human is asked."""
 from tests.support.mail import A, B, ONE, TWO, with_length
-from tests.support.stories import Step, killed, run_stories
+from tests.support.stories import Step, killed, run_stories, steps
 
 # a message by its length, in which a line may begin another one, since a program may have escaped the next line; and
 # new mail, in which one may
@@ -89,7 +89,7 @@ STORIES: dict[str, list[Step]] = {
         *("= one", "migrate --as unquoted M a", "= one"),
     ],
     "it_was_begun_by_another_word_once_it_was_done": [
-        *(("a", TWO), "migrate M a", ("a", TWO + NOTED), *killed("migrate --as unquoted M a")),
+        *steps(("a", TWO), "migrate M a", ("a", TWO + NOTED), *killed("migrate --as unquoted M a")),
         (
             "migrate --as mboxrd M a",
             "a: left (another-reading): its conversion was begun with another reading: 2 of 2 ...",

@@ -6,7 +6,7 @@ from tests.support.checks import equal
 from tests.support.homes import by_json, expect, mailbox
 from tests.support.mail import C, ONE, THREE, TWO
 from tests.support.running import Desk, Kill, Run
-from tests.support.stories import RESTORED, Step, in_place, killed, run_stories
+from tests.support.stories import RESTORED, Step, in_place, killed, run_stories, steps
 
 FIRST, RECORD, LEDGER = "migrate --prepare --unread M a", "M/mbox2maildir-record", "M/mbox2maildir-messages"
 FOUR = C.replace(b"three", b"four") + b"\n"
@@ -60,7 +60,8 @@ STORIES: dict[str, list[Step]] = {
         ("migrate M d", "d: done: ...up to 2 messages that had been deleted or moved came back"),
     ],
     "the_record_takes_no_more_of_several": [
-        *(*((f"old/{number}", ONE) for number in range(6)), "migrate M old/0", FILL, "migrate --jobs 3 M old"),
+        *(("old/0", ONE), "!for n in 1 2 3 4 5; do cp -p old/0 old/$n; done", "migrate M old/0", FILL),
+        "migrate --jobs 3 M old",
         f"!test $(stat -c %s {RECORD}) -le $((1 << 23))",
     ],
     "the_record_takes_no_more": [
@@ -71,7 +72,7 @@ STORIES: dict[str, list[Step]] = {
         ),
     ],
     "the_record_cannot_note_that_a_sync_failed": [
-        *(("a", ONE), "migrate M a", FILL, ("a", ONE + TWO), *SYNC_FAILS),
+        *steps(("a", ONE), "migrate M a", FILL, ("a", ONE + TWO), *SYNC_FAILS),
         (
             "migrate M a",
             "a: left (sync-failed): its sync failed: ...; note this yourself, because the record could not be ...",

@@ -1,7 +1,7 @@
 """Mailboxes that are prepared step by step while people use them: what each pass says, where none prepares or finishes
 anything, and what mail is there then."""
 from tests.support.mail import ONE, THREE, TWO
-from tests.support.stories import Step, killed, run_stories
+from tests.support.stories import Step, killed, run_stories, steps
 
 FIRST, LAST, FIRST_OF_TREE, TREE = (
     "migrate --prepare --unread M a",
@@ -15,6 +15,7 @@ READ, LOOKS = "!cd M; for a in new/*; do mv $a cur/${a##*/}:2,S; done", "!echo >
 DELIVERS = "!cp $(grep -l 'Subject: one' M/new/*) M/new/17000.M1.host"
 LIST, LEDGER, RECORD = (f"M/mbox2maildir-{name}" for name in ("prepared", "messages", "record"))
 READS = "a: left (prepared): somebody reads in its folder already: M/"
+OF_ANOTHER = "a: left (prepared): mail of a mailbox is in its folder already, and migrate brings the rest"
 SYNC_FAILED = "a: left (sync-failed): its sync failed: read the system's log and mount the disk again before you ..."
 # a last pass that is killed once all is placed
 KILLED = killed(LAST)
@@ -102,15 +103,7 @@ STORIES: dict[str, list[Step]] = {
     # where other mail is
     "mail_of_a_mailbox": [
         *(("a", ONE), LAST, ("a", ONE + TWO)),
-        *(
-            step
-            for name in (RECORD, LEDGER)
-            for step in (
-                f"!mv {name} kept",
-                (FIRST, "a: left (prepared): mail of a mailbox is in its folder already, and migrate brings the rest"),
-                f"!mv kept {name}",
-            )
-        ),
+        *(f"!mv {RECORD} kept", (FIRST, OF_ANOTHER), f"!mv kept {RECORD}; mv {LEDGER} kept", (FIRST, OF_ANOTHER)),
         "= one",
     ],
     "another_mailbox": [
@@ -141,7 +134,7 @@ STORIES: dict[str, list[Step]] = {
         ),
         "= one:S",
         ("a", TWO),
-        (FIRST, "a: left (prepared): mail of a mailbox is in its folder already, and migrate brings the rest"),
+        (FIRST, OF_ANOTHER),
     ],
     # what was lost or damaged
     "the_list_is_lost": [
@@ -183,35 +176,37 @@ STORIES: dict[str, list[Step]] = {
     ],
     # a last pass was killed, and the mailbox may be another one by then
     "killed_and_prepared_again": [
-        *(("a", ONE), FIRST, ("a", SEEN + TWO + THREE), *KILLED, "= one three two M+"),
+        *steps(("a", ONE), FIRST, ("a", SEEN + TWO + THREE), *KILLED, "= one three two M+"),
         *(("a", ONE + THREE), FIRST, "= one three M+", ("a", ONE + TWO), LAST, "= one two"),
     ],
     "killed_before_it_was_prepared": [
-        *(("x", ONE), "migrate --prepare --unread --folder x M x", ("a", TWO), *KILLED, ("a", TWO + THREE)),
+        *steps(("x", ONE), "migrate --prepare --unread --folder x M x", ("a", TWO), *KILLED, ("a", TWO + THREE)),
         *((FIRST, "a: prepared"), "= three two x/one .x+ M+"),
     ],
     "killed_and_its_ledger_is_gone": [
-        *(("a", ONE + TWO), FIRST, ("a", ONE + TWO + THREE), *KILLED, f"!rm {LEDGER}", ("a", ONE)),
+        *steps(("a", ONE + TWO), FIRST, ("a", ONE + TWO + THREE), *KILLED, f"!rm {LEDGER}", ("a", ONE)),
         *((LAST, "a: left (ledger): the ledger of its folder is missing, so nothing shows which ..."), "= one two M+"),
     ],
     "killed_and_its_ledger_is_damaged": [
-        *(("a", ONE), FIRST, ("a", ONE + TWO), *KILLED, f"!echo damage >>{LEDGER}", ("a", THREE)),
+        *steps(("a", ONE), FIRST, ("a", ONE + TWO), *KILLED, f"!echo damage >>{LEDGER}", ("a", THREE)),
         *((LAST, "a: left (ledger): ..."), "= one two M+"),
     ],
     "killed_and_dry": [
-        *(("a", ONE), FIRST, ("a", SEEN + TWO), *KILLED, f"!cp {LIST} kept"),
+        *steps(("a", ONE), FIRST, ("a", SEEN + TWO), *KILLED, f"!cp {LIST} kept"),
         *("migrate --dry-run M a", "migrate --dry-run --prepare --unread M a", "= one two M+", f"!cmp {LIST} kept"),
     ],
     "killed_and_somebody_reads": [
-        *(("a", ONE), FIRST, ("a", ONE + TWO), *KILLED, LOOKS, ("a", ONE)),
+        *steps(("a", ONE), FIRST, ("a", ONE + TWO), *KILLED, LOOKS, ("a", ONE)),
         *((LAST, f"{READS}dovecot.index.log"), "= one two M+"),
     ],
     "killed_and_delivered": [
-        *(("a", ONE), FIRST, "!printf 'Subject: new\\n\\n' >M/new/17000.M1.host", ("a", ONE + TWO), *KILLED),
+        *steps(("a", ONE), FIRST, "!printf 'Subject: new\\n\\n' >M/new/17000.M1.host", ("a", ONE + TWO), *KILLED),
         *(("a", ONE), (FIRST, "a: prepared: 1 prepared before..."), "= new one M+"),
     ],
     "killed_and_edited": [
-        *(("a", ONE), FIRST, ("a", ONE + TWO), *KILLED, "!for a in M/new/*; do echo edited >>$a; done", ("a", THREE)),
+        *steps(
+            ("a", ONE), FIRST, ("a", ONE + TWO), *KILLED, "!for a in M/new/*; do echo edited >>$a; done", ("a", THREE)
+        ),
         *(LAST, "= one three two"),
     ],
     # what no mailbox goes into on the day
@@ -243,15 +238,16 @@ STORIES: dict[str, list[Step]] = {
         *(("old/a", ONE), ("old/b", ONE), FIRST_OF_TREE, "!echo '?' >>M/.b/mbox2maildir-prepared; rm old/b"),
         (
             TREE,
-            "old/a: done: 1 prepared before\nold/b: left (ledger): ...: line 8 of it is damaged: nothing shows what ...",
+            "old/a: done: 1 prepared before\nold/b: left (ledger): ...: line 8 of it is damaged: nothing shows ...",
         ),
         "= a/one b/one .b+",
     ],
     "passes_that_placed_nothing": [
         *(("old/a", ONE), FIRST_OF_TREE, "!mkdir M/.c M/.d M/.e; : >M/.c/mbox2maildir-prepared"),
-        "!for a in d e; do printf 'mbox2maildir-prepared\\t1\\n/\\n' >M/.$a/mbox2maildir-prepared; done; : >M/.e/dovecot-uidlist",
-        *(FIRST_OF_TREE, "migrate --dry-run M old", "!test -e M/.c -a -e M/.d"),
-        *(TREE, "= a/one", "!test -e M/.c -a ! -e M/.d -a -e M/.e"),
+        "!for a in d e; do printf 'mbox2maildir-prepared\t1\n/\n' >M/.$a/mbox2maildir-prepared; done",
+        "!: >M/.e/dovecot-uidlist; mkdir M/mbox2maildir-aside.x",
+        *(FIRST_OF_TREE, "migrate --dry-run M old", "!test -e M/.c -a -e M/.d -a -e M/mbox2maildir-aside.x"),
+        *(TREE, "= a/one", "!test -e M/.c -a ! -e M/.d -a -e M/.e -a ! -e M/mbox2maildir-aside.x"),
     ],
 }
 

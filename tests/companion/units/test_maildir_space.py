@@ -1,4 +1,4 @@
-"""Space on a disk, and what fails there. What is needed of it is in test_migration too."""
+"""Space on a disk, and what fails there."""
 import errno
 import os
 import unittest

@@ -1,4 +1,4 @@
-"""Texts without a name. A copy of some messages is in test_migration too."""
+"""Texts without a name."""
 import os
 import unittest
 from unittest import mock
