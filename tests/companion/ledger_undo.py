@@ -174,6 +174,7 @@ FILES = (
     (gets(",U=1:2,S"), 1, ["removed 1 message", RENAMED]),
     (lambda path: path.rename(path.parents[1] / "cur/17.host:2,S"), 1, ["removed 1 message", RENAMED]),
     (edited, 1, ["removed 1 message", EDITED]),
+    (lambda path: (edited(path), gets(",U=1:2,S")(path)), 1, ["removed 1 message", RENAMED]),
     (linked, 1, ["removed 1 message", EDITED]),
     (twice, 1, ["removed 2 messages"]),
     (os.unlink, 0, ["removed 1 message", "1 message already gone"]),
@@ -195,14 +196,14 @@ def rule_6_whatever_became_of_a_file(home: Home) -> None:
 
 def rule_6_what_is_kept(home: Home) -> None:
     """What the mailbox does not have any more stays, and so does what others have or had, which is counted each."""
-    home.bring(OLD=letters(*TEN), OTHER=letters(0, 1))
-    home.bring(OTHER=letters(1))
+    home.bring(OLD=letters(*TEN), OTHER=letters(0, 1, 3))
+    home.bring(OTHER=letters(1, 3))
     home.bring(ANOTHER=letters(2))
     home.write("OLD", letters(*range(6)))
     home.take(9)
     rehearsed, row = (ran["OLD"] for ran in (home.run("OLD", words=["--undo", "--dry-run"]), home.undo("OLD")))
-    home.has(0, 1, 2, 6, 7, 8)
-    others = "2 messages that ANOTHER and 1 more have too"
+    home.has(0, 1, 2, 3, 6, 7, 8)
+    others = "3 messages that OTHER and 1 more have too"
     for one, keeps in (rehearsed, "would keep"), (row, "kept"):
         for says in others, "3 messages that it no longer has", "1 message that another mailbox brought too":
             want_said(one, f"{keeps} {says}", "1 message already gone")
@@ -311,6 +312,11 @@ def rule_6_a_file_for_two_mailboxes(home: Home) -> None:
     row = home.undo("OTHER")["OTHER"]
     home.has(5)
     want_said(row, 1, "has too")
+    # the first has not brought it twice by that
+    home.bring(MORE=letters(5, 5))
+    home.has(5, 5)
+    home.undo("MORE")
+    home.has(5)
     home.undo("OLD")
     home.has(5)
     home.undo("THIRD")
@@ -407,6 +413,14 @@ def rule_6_what_it_had_in_other_bytes(home: Home) -> None:
         there = [path.read_bytes().count(b">From") for path in home.files()]
         if there != [1 - kept]:
             raise Failed(f"{kept} is in the mailbox, {there} are in the folder: {row}")
+
+
+def rule_6_a_damaged_ledger(home: Home) -> None:
+    """Nobody knows then what others have: nothing is removed."""
+    home.bring(OLD=letters(1))
+    with open(home.ledger(), "ab") as file:
+        file.write(b"hello\n")
+    want_said(home.left("OLD", words=["--undo"]), "the ledger of its folder is damaged in line 6")
 
 
 def rule_6_by_a_copy(home: Home) -> None:

@@ -14,11 +14,12 @@ from pathlib import Path
 
 from tests.support.cases import LeftOut
 from tests.support.checks import LATER, PATIENCE, equal, match_in
-from tests.support.homes import check_all, expect, mail_in, mailbox, run, subjects
+from tests.support.copies import Copies, Meanwhile
+from tests.support.homes import check_all, expect, hand_over, is_root, mail_in, mailbox, run, subjects
 from tests.support.kills import Killer, Moment, settings_in
 from tests.support.ledgers import LEDGER, RECORD, wait_for_lock
 from tests.support.mail import ONE, THREE, TWO, bodies_of, numbered
-from tests.support.running import BY_OTHERS, Desk
+from tests.support.running import BY_OTHERS, Desk, Kill
 
 KILLS = int(os.environ.get("UNDO_KILLS", "4"))
 # an undo makes about as many calls that change files
@@ -74,11 +75,19 @@ def folders_and_users_words(home: Path) -> None:
     out = "tree/sent -> New: messages 2: undone, removed 2 messages\n1 mailbox: 1 undone\n"
     expect(undo, home, 0, out)
     expect(undo, home, 1, "...no ledger has it...\n1 mailbox: 1 left\n")
+    # also if the old name is given
+    expect("migrate --folder Old M tree/sent", home, 0, None)
+    (home / "M/.Old").rename(home / "M/.Newer")
+    expect([*undo[:3], "--folder", "Old", *undo[3:]], home, 0, out.replace("New", "Newer"))
     # of programs
     mailbox(home / "tree/sent", ONE)
     expect("migrate M tree/sent", home, 0, None)
     out = run("migrate --undo --json M tree/sent", home)[1]
     assert '"verdict": "undone", "reason": null, "says": "removed 1 message"' in out, out
+    if is_root():
+        hand_over(home / "tree/sent")
+        err = run("migrate --undo M tree/sent", home).err
+        match_in(rf"mbox2maildir-admin migrate --undo {home}/M {home}/tree/sent", err)
 
 
 def who_is_at_work(home: Path) -> None:
@@ -105,6 +114,81 @@ def who_is_at_work(home: Path) -> None:
     os.utime(str(home / "box"), (1e9, 1e9))
     ran.communicate(timeout=PATIENCE)
     equal("its status", ran.returncode, 0)
+
+
+def flag(path: Path) -> None:
+    """A mail program gives a file another flag."""
+    base, _, flags = path.name.partition(":2,")
+    path.rename(path.parents[1] / "cur" / f"{base}:2,{'F' if flags == 'S' else 'S'}")
+
+
+def put_away(box: Path) -> None:
+    """The mailbox gets another name."""
+    box.rename(box.with_name("away"))
+
+
+NAMES = "names in its folder keep changing: stop mail programs, and run this again"
+CHANGED = "it changed in the meantime: put it back as it was, and run this again"
+FILE = "/(new|cur)/[0-9a-f]{64}"
+# what happens meanwhile, just before a file is opened or removed, and how often; why the mailbox is left, or nothing; and
+# how many messages are there then
+MEANWHILE = (
+    ("open", flag, 2, "", 0),
+    ("open", flag, 1000, NAMES, 3),
+    ("os.remove", flag, 1, "", 0),
+    ("os.remove", Path.unlink, 1, "", 0),
+    ("os.remove", lambda path: mailbox(path.parents[2] / "box", ONE), 1, CHANGED, 2),
+    ("os.remove", lambda path: put_away(path.parents[2] / "box"), 1, CHANGED, 2),
+    ("os.remove", lambda path: (path.parents[2] / "same").replace(path.parents[2] / "box"), 1, CHANGED, 2),
+)
+
+
+def meanwhile(home: Path) -> None:
+    """Mail programs are at work in the folder, or in the mailbox, while it is undone. No further file is removed once
+    the mailbox is not as it was."""
+    for thing, deed, often, why, left in MEANWHILE:
+        shutil.rmtree(str(home / "M"), ignore_errors=True)
+        for name in ("real", "same"):
+            mailbox(home / name, ONE + TWO + THREE)
+        (home / "box").unlink(missing_ok=True)
+        (home / "box").symlink_to("real")
+        expect("migrate M box", home, 0, None)
+        ran = Meanwhile(home, thing, FILE, deed, often).run([*UNDO[:3], "--json", *UNDO[3:]])
+        row = ran.row
+        equal(f"{thing} {deed}: {row}", (row["verdict"], row["says"] * bool(why)), ("left" if why else "undone", why))
+        equal(f"{thing} {deed}: what is there", len(subjects(home / "M")), left)
+
+
+def only_prepared(home: Path) -> None:
+    """What a first pass has placed goes without its mailbox, also after a last one that was killed, but not what somebody
+    edited or delivered. A list from a backup counts for nothing: the ledger has what is done."""
+    for event in range(30, 80, 5):
+        shutil.rmtree(str(home / "M"), ignore_errors=True)
+        mailbox(home / "box", ONE)
+        expect("migrate --prepare M box", home, 0, None)
+        mailbox(home / "box", ONE + TWO + THREE)
+        equal("killed", Copies(home).run("migrate --now M box".split(), Kill(event=event)).is_killed, True)
+        wait_for_lock(home / "M")
+        status, out, _ = run(UNDO, home)
+        equal(f"{event}: {out}", (status, subjects(home / "M")), (0, []))
+    mailbox(home / "box", ONE + TWO)
+    expect("migrate --prepare M box", home, 0, None)
+    (home / "box").unlink()
+    next(mail_in(home / "M")).write_bytes(b"Subject: edited\n\n")
+    (home / "M/new/17.host").write_bytes(b"Subject: new\n\n")
+    says = "removed 1 message; kept 1 message that somebody edited"
+    expect([*UNDO[:3], "--dry-run", *UNDO[3:]], home, 0, rows("would be undone", says, 2))
+    expect(UNDO, home, 0, rows("undone", says, 2))
+    equal("what stays", subjects(home / "M"), ["edited", "new"])
+    mailbox(home / "box", ONE)
+    expect("migrate --prepare N box", home, 0, None)
+    prepared = home / "N/mbox2maildir-prepared"
+    kept = prepared.read_bytes()
+    expect("migrate N box", home, 0, None)
+    prepared.write_bytes(kept)
+    prepared.chmod(0o600)
+    expect([*UNDO[:3], "N", "box"], home, 0, rows("undone", "", 1).replace("1 messages", "1 message"))
+    equal("what is left", subjects(home / "N"), [])
 
 
 def half_done_by_mb2md(home: Path) -> None:
@@ -345,6 +429,8 @@ if __name__ == "__main__":
         there_and_back,
         folders_and_users_words,
         who_is_at_work,
+        meanwhile,
+        only_prepared,
         half_done_by_mb2md,
         a_second_batch,
         twins,

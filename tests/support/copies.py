@@ -2,6 +2,7 @@
 own, and can be killed at anything that Python reports."""
 import importlib
 import os
+import re
 import signal
 import sys
 import time
@@ -62,6 +63,29 @@ class Copies(Desk):
     def main(self) -> int:
         """What is run in the copy."""
         return cli.main()
+
+
+class Meanwhile(Copies):
+    """A desk at which something happens, as another program or a person does it, just before the companion does a thing
+    that Python reports, by its name, such as `os.remove`, to a path that matches a pattern; each time, or so often."""
+
+    def __init__(self, home: Path, thing: str, pattern: str, deed: Callable[[Path], object], often: int = 1) -> None:
+        super().__init__(home)
+        self.thing, self.pattern, self.deed, self.often = thing, pattern, deed, often
+
+    def heed(self, name: str, words: tuple[Any, ...]) -> None:
+        """Does it at its time."""
+        if name == self.thing and self.often and not isinstance(words[0], int):
+            path = os.path.join(self.home, os.fsdecode(words[0]))
+            if re.search(self.pattern, path):
+                number, self.often = self.often, 0
+                self.deed(Path(path))
+                self.often = number - 1
+
+    def main(self) -> int:
+        add: Any = getattr(sys, "addaudithook")
+        add(self.heed)
+        return super().main()
 
 
 @lru_cache(maxsize=None)

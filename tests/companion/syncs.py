@@ -1,0 +1,90 @@
+"""Each sync that a power cut makes necessary, and what comes before and after it, as strace shows what the companion
+calls. What the program itself syncs is not shown. What a cut leaves is in tests/world/powercut.py, which is run by hand."""
+import os
+import re
+import shutil
+import sys
+from collections.abc import Sequence
+from pathlib import Path
+
+from tests.support.cases import LeftOut
+from tests.support.checks import equal
+from tests.support.homes import ADMIN, check_all, expect, mailbox
+from tests.support.mail import ONE, TWO
+from tests.support.running import Desk
+
+CALLS = "fsync,fdatasync,syncfs,write,pwrite64,link,linkat,rename,renameat,renameat2,unlink,unlinkat"
+# a call, and the last path in its words that is named or open
+CALL = re.compile(r"^(?:\d+ +)?(\w+?)(?:at2?|64)?\((.*)\) += (?!-1 )", re.MULTILINE)
+NAMES = {"fsync": "sync", "fdatasync": "sync", "syncfs": "sync all of", "pwrite": "write", "unlink": "remove"}
+BATCH = ["write M/mbox2maildir-messages", "sync M/mbox2maildir-messages"]
+STEP = ["write M/mbox2maildir-record", "sync M/mbox2maildir-record"]
+MADE, PLACED = ["sync M", "sync ."], ["write M/mbox2maildir-messages", "sync all of M"]
+LATER = ONE.replace(b"one", b"later").replace(b"\nSubject", b"\nX-UID: 4\nSubject")
+NUMBERED, RAISED = (ONE.replace(b"\nSubject", b"\nX-IMAPbase: 222 %d\nX-UID: 3\nSubject" % last) for last in (3, 4))
+LOCK = "M/dovecot-uidlist.lock"
+PART = "M/tmp/mbox2maildir-admin-dovecot-uidlist"
+LISTED = [f"write {PART}", f"sync {PART}", "link M/dovecot-uidlist", f"remove {PART}", "sync M"]
+REPLACED = [f"write {LOCK}", f"sync {LOCK}", "rename M/dovecot-uidlist", "sync M"]
+UIDS = "--dovecot M"
+FLAGS = ["sync M/cur", "sync M/new"]
+FLAGGED = ONE.replace(b"\nSubject", b"\nX-Mozilla-Status: 0001\nSubject")
+# the mailbox before, and the words of a first run of `migrate`; the mailbox, the words, and what the run calls then
+RUNS = (
+    # all names are on the disk, each folder synced once, before the first line of a file is written
+    (b"", "", ONE, "M", [*MADE, *BATCH, *STEP, *PLACED, *BATCH, *STEP]),
+    (ONE, "M", ONE, "M", []),
+    (ONE, "M", ONE + TWO, "M", [*BATCH, *STEP, *PLACED, *BATCH, *STEP]),
+    (ONE, "M", ONE, "--undo M", [*STEP, "remove NEW", "sync M", *FLAGS, *BATCH, *STEP]),
+    (b"", "", FLAGGED, "M", [*MADE, *BATCH, *STEP, PLACED[0], "rename CUR", *FLAGS, PLACED[1], *BATCH, *STEP]),
+    # what the record says of a list comes before it
+    (
+        b"",
+        "",
+        NUMBERED,
+        UIDS,
+        [*MADE, *BATCH, *STEP, PLACED[0], *STEP, *FLAGS, *STEP, *LISTED, PLACED[1], *BATCH, *STEP],
+    ),
+    (
+        NUMBERED,
+        UIDS,
+        RAISED + LATER,
+        UIDS,
+        [*BATCH, *STEP, PLACED[0], *FLAGS, *STEP, *REPLACED, PLACED[1], *BATCH, *STEP],
+    ),
+)  # type: Sequence[tuple[bytes, str, bytes, str, list[str]]]
+
+
+def called(home: Path, words: Sequence[str]) -> list[str]:
+    """What the companion calls of files below a folder in a run that ends well."""
+    path = home.parent / "trace"
+    strace = ["/usr/bin/env", "strace", "-qq", "-y", "-e", "signal=none", "-e", f"trace={CALLS}", "-o", str(path)]
+    ran = Desk(home).run([*strace, sys.executable, "-I", "-S", "-B", str(home / "bin" / ADMIN.name), *words])
+    equal(f"{words}: {ran.output}", ran.status, 0)
+    return [one for one in (named(home, *call) for call in CALL.findall(path.read_text())) if one]
+
+
+def named(home: Path, name: str, words: str) -> str:
+    """A call by its name and path; empty if it is of a file that is elsewhere or has no name. All files of messages have
+    one name here."""
+    found = re.findall(r'<([^<>]*)>|"((?:/|M)[^"]*)"', words if name != "write" else words.split(",")[0])
+    path = os.path.relpath(os.path.join(home, "".join(found[-1])), home) if found else ".."
+    path = re.sub(r"M/(new|cur)/[0-9a-f]{64}\S*", lambda its: its[1].upper(), path)
+    return "" if path.startswith("..") or "#" in path else f"{NAMES.get(name, name)} {path}"
+
+
+def runs(home: Path) -> None:
+    """Nothing is done to a Maildir before what it needs is on the disk."""
+    if not shutil.which("strace"):
+        raise LeftOut("strace is not here")
+    for before, first, text, words, wanted in RUNS:
+        shutil.rmtree(home / "M", ignore_errors=True)
+        if before:
+            mailbox(home / "box", before)
+            expect(["migrate", "--now", *first.split(), "box"], home, 0, None)
+        mailbox(home / "box", text)
+        equal(f"{before!r}, {words}", called(home, ["migrate", "--now", *words.split(), "box"]), wanted)
+
+
+if __name__ == "__main__":
+    check_all(runs)
