@@ -1,14 +1,16 @@
 """mbox2maildir-admin migrate leaves a mailbox if its own look finds something wrong. In place of mbox2maildir a program
 delivers, ends well, and then changes a file of the Maildir, or the mailbox."""
+import os
 import shutil
 from functools import partial
 from pathlib import Path
 
 from tests.support.cases import run_cases
-from tests.support.checks import LATER, equal
-from tests.support.homes import at_home, expect, mailbox, script
+from tests.support.checks import LATER, equal, matches
+from tests.support.homes import at_home, expect, mailbox, run, script
 from tests.support.ledgers import ends_in
 from tests.support.mail import ONE, THREE, TWO
+from tests.support.running import Desk
 
 CHANGED = "it changed while it was converted: stop the program that writes to it, and run this again"
 # of three messages
@@ -36,6 +38,51 @@ CASES = {
         CHANGED,
     ),
 }
+# what takes the place of the list of the program, as lines for the shell, where REAL prints that; and why the mailbox is
+# left then
+LISTS = {
+    "exit 0": "`mbox2maildir list` gave fewer messages than were read here",
+    "REAL | head -n 2": "`mbox2maildir list` gave fewer messages than were read here",
+    "REAL; echo 4 more": "`mbox2maildir list` gave more messages than were read here",
+    "REAL | sed '2s/^2/7/'": "line 7: message 2 differs from what `mbox2maildir list` gave",
+    "REAL | sed '2s/[.]1 /.2 /'": "line 7: message 2 differs from what `mbox2maildir list` gave",
+    r"REAL | sed -E '2s/([^ ]+ [^ ]+ [^ ]+ [^ ]+) [0-9]+/\1 1/'": "line 7: message 2 differs from what ...",
+    "echo no library >&2; echo more >&2; exit 1": "`mbox2maildir list` failed: no library",
+    "REAL; echo late >&2; exit 1": "`mbox2maildir list` failed: late",
+    "exit 3": "`mbox2maildir list` failed: it ended with 3",
+    "kill -9 $$": "`mbox2maildir list` failed: it ended with 9",
+}
+
+
+def other_lists(home: Path) -> None:
+    """What the program lists is compared with what is read here, before anything is placed."""
+    mailbox(home / "box", ONE + TWO + THREE)
+    shutil.move(str(home / "bin/mbox2maildir"), str(home / "real"))
+    for deed, why in LISTS.items():
+        does = deed.replace("REAL", f"{home}/real list")
+        script(home / "bin/mbox2maildir", f'test "$1" = list || exec {home}/real "$@"\n{does}')
+        status, out, _ = run("migrate --all --now M box", home)
+        matches(deed, out.split("): ", 1)[-1], f"{why}\n1 mailbox: 1 left\n")
+        equal(f"{deed}: what is there", (status, [*(home / "M").glob("*/*")]), (1, []))
+
+
+def where_the_program_is(home: Path) -> None:
+    """Beside the companion, or else in PATH, or else where a clone builds it."""
+    mailbox(home / "box", ONE)
+    program, clone = home / "bin/mbox2maildir", home / "clone"
+    shutil.copytree(home / "bin", clone / "admin")
+    for path in program, clone / "admin/mbox2maildir":
+        path.rename(path.with_name("other"))
+    used = home / "used"
+    path = f"{home}/paths:{clone}/admin:{os.environ['PATH']}"
+    for place in "", "clone/build", "paths", "clone/admin":
+        if place:
+            (home / place).mkdir(exist_ok=True)
+            script(home / place / "mbox2maildir", f'echo {place} >{used}\nexec {clone}/admin/other "$@"')
+        ran = Desk(home, clone / "admin", "", PATH=path).run(["migrate", "--dry-run", "M", "box"])
+        says = f"could not find mbox2maildir in {clone}/admin or in PATH\n    run this next:\n        make -C {clone}\n"
+        equal(f"it is in {place}", ran.err, "" if place else f"mbox2maildir-admin: {says}")
+        equal(f"it is in {place}", used.read_text() if place else "\n", f"{place}\n")
 
 
 def is_left(deed: str, why: str, home: Path) -> None:
@@ -79,6 +126,8 @@ if __name__ == "__main__":
     run_cases(
         {
             **{name: partial(at_home, partial(is_left, *row)) for name, row in CASES.items()},
+            "other_lists": partial(at_home, other_lists),
+            "where_the_program_is": partial(at_home, where_the_program_is),
             "a_copy": partial(at_home, a_copy),
             "comes_back": partial(at_home, comes_back),
         }
