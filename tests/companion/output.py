@@ -1,11 +1,13 @@
 """Outputs that fail, and which modules a run loads."""
 import re
+import time
 from collections.abc import Sequence
 from pathlib import Path
 
-from tests.support.checks import equal
+from tests.support.checks import equal, match_in
+from tests.support.copies import Copies
 from tests.support.homes import ADMIN, check_all, mailbox, run, run_printed
-from tests.support.mail import A, ONE
+from tests.support.mail import A, ONE, numbered
 
 COMMANDS = "kind", "quote", "dates", "migrate", "verify", "back"
 
@@ -29,6 +31,26 @@ def output_fails(home: Path) -> None:
                 equal(f"{words[:20]} {to}", (ran.status, ran.err), (1, says))
     for to, status in (("2>&-", 1), ("2>/dev/full", 1), (">&- 2>&-", 1), (">/dev/full 2>/dev/full", 1), ("<&-", 1)):
         equal(f"kind {to}: status", run_printed(f"mbox2maildir-admin kind box none {to}", home).status, status)
+
+
+class Hasty(Copies):
+    """A desk whose clock runs fast, as if each run took minutes."""
+
+    def main(self) -> int:
+        monotonic, begun = time.monotonic, time.monotonic()
+        time.monotonic = lambda: begun + 50_000 * (monotonic() - begun)
+        return super().main()
+
+
+def each_minute(home: Path) -> None:
+    """Without a terminal a line each minute says how far a run is."""
+    mailbox(home / "box", numbered("message", 20).replace(b"hello\n", b"hello " * 40_000 + b"\n"))
+    ran = Hasty(home).run(["migrate", "--now", "M", "box"])
+    equal("its status", ran.status, 0)
+    left = r"(\d+ s|\d+ min|\d+ h \d+ min) left, \d+\.\d MB/s, "
+    for pattern in r"\d+ %, step 1 of 5", rf"\d+ %, {left}step 1 of 5":
+        match_in(rf"(?m)^mbox2maildir-admin: 1/1 box: reading \d\.\d of 4\.8 MB, {pattern}$", ran.err)
+    equal("all that is said", re.findall("(?m)^(?!mbox2maildir-admin: 1/1 box: )(.+)$", ran.err), [])
 
 
 def loaded(words: Sequence[str], home: Path) -> set[str]:
@@ -63,4 +85,4 @@ def modules(home: Path) -> None:
 
 
 if __name__ == "__main__":
-    check_all(output_fails, modules)
+    check_all(output_fails, each_minute, modules)

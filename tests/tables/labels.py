@@ -1,6 +1,7 @@
 """mbox2maildir-admin migrate --labels: the folders of a Takeout's labels, what a human is asked, what comes of a later
 Takeout, and verify, --again and --undo, which know the folders from the record. The Takeouts are written by the form
 that Google gives its own."""
+import fcntl
 import os
 import re
 import shlex
@@ -404,6 +405,34 @@ def the_record_knows_the_folders(home: Path) -> None:
     equal("without labels", len(folders_in(home / "M")[""]), 9)
 
 
+def some_folders_alone(home: Path) -> None:
+    """A folder that cannot be is left, and the others are done. A run that was killed before it placed anything has
+    noted the folders: there is nothing to undo. A Takeout that is locked is left as a whole."""
+    takeout(home)
+    for sub in ("new", "cur", "tmp"):
+        (home / "M" / sub).mkdir(parents=True)
+    (home / "M/.Junk").write_text("no folder\n")
+    ran = by_json("migrate --labels --now M t.mbox", home)
+    equal("what is left", [row["folder"] for row in ran.rows if row["verdict"] != "done"], ["Junk"])
+    (home / "M/.Junk").unlink()
+    out = "t.mbox -> Junk: messages 1: done\n10 mailboxes: 1 done, 9 done before\n"
+    expect("migrate --labels --now M t.mbox", home, 0, out)
+    undo = ["migrate", "--undo", "--now", "M", "t.mbox"]
+    with open(home / "t.mbox", "rb+") as box:
+        fcntl.lockf(box, fcntl.LOCK_EX)
+        equal("locked", [row["reason"] for row in by_json(undo, home).rows], ["locked"])
+    record = home / "M" / RECORD
+    first, noted, *_ = record.read_bytes().splitlines(True)
+    for path in (home / "M").iterdir():
+        if path != record and path.name.startswith((".", "mbox2maildir")):
+            (shutil.rmtree if path.is_dir() else os.unlink)(path)
+    record.write_bytes(first + noted)
+    for more, verdict in (["--dry-run"], "would be undone"), ([], "undone"):
+        row = by_json([*undo[:2], *more, *undo[2:]], home).row
+        wanted = (verdict, ["nothing of it was placed"])
+        equal("of nothing", (row["verdict"], [one["says"] for one in row["remarks"]]), wanted)
+
+
 def room_is_counted_first(home: Path) -> None:
     """The copies in all folders must fit before the first is made."""
     if not is_root():
@@ -469,6 +498,7 @@ if __name__ == "__main__":
         a_later_takeout,
         with_labels_and_without,
         the_record_knows_the_folders,
+        some_folders_alone,
         room_is_counted_first,
         the_command_for_an_archive_leads_to_its_mailbox,
     )
