@@ -8,11 +8,23 @@ from pathlib import Path
 
 from tests.companion.migrate import grow, steps
 from tests.support.checks import equal, matches, text_of
-from tests.support.homes import by_json, check_all, expect, files_of, mailbox, run, run_printed, subjects
+from tests.support.copies import Copies
+from tests.support.homes import (
+    by_json,
+    check_all,
+    expect,
+    files_of,
+    hand_over,
+    mailbox,
+    run,
+    run_printed,
+    subjects,
+    want_root,
+)
 from tests.support.ledgers import RECORD
 from tests.support.mail import A, B, MAY, ONE, THREE, TWO, with_length
 from tests.support.printed import rows_in
-
+from tests.support.running import BY_OTHERS, OWNER
 
 # the line before a command that is to be run, and what comes before the command itself
 RUN = "    run this next:\n        "
@@ -472,6 +484,19 @@ def profile(home: Path) -> None:
     equal("without deleted mail", subjects(home / "D"), ["one"])
 
 
+def a_profile_that_cannot_be_read(home: Path) -> None:
+    """Beside the list of profiles a folder that cannot be looked into may be one: it is left, and passed over by no
+    run."""
+    want_root()
+    make_profile(home / "thunderbird/y")
+    mailbox(home / "thunderbird/x/Mail/a/Inbox", ONE)
+    mailbox(home / "thunderbird/profiles.ini", b"[General]\n")
+    hand_over(home)
+    (home / "thunderbird/x").chmod(0)
+    ran = Copies(home, home / "bin", OWNER).run(["migrate", "--json", "--now", "M", "thunderbird"], BY_OTHERS)
+    equal(f"it is left: {ran.output}", (ran.status, ran.of("thunderbird/x")["says"]), (1, "Permission denied"))
+
+
 def two_names(home: Path) -> None:
     """Each name of a file is a folder of its own, as two names were to its people, whichever is named how. A row names
     the others."""
@@ -597,6 +622,7 @@ if __name__ == "__main__":
         nothing_outside,
         passed_over_later,
         profile,
+        a_profile_that_cannot_be_read,
         two_names,
         in_two_commands,
         exported,

@@ -22,6 +22,7 @@ MAIL = b"Subject: one\nFrom: a@b\n\nhello\nFrom here on\n"
 LIST = b'<?xml version="1.0" encoding="UTF-8"?>\n<!DOCTYPE plist PUBLIC "-//Apple//DTD PLIST 1.0//EN">\n<plist/>\n'
 # names that a shell would take for something else
 NAMES = ("a b", "it's", 'say "x"', "-v", "$HOME", "c:d", "`id`")
+LONGEST = "n" * 255
 
 
 def piped(*words: str) -> Callable[[], bytes]:
@@ -139,7 +140,9 @@ def of_a_tree(home: Path) -> None:
 
 
 def of_names(home: Path) -> None:
-    """Names that a shell would read in another way, in a folder and by themselves."""
+    """Names that a shell would read in another way, in a folder and by themselves, and one that is as long as can be."""
+    mailbox(home / "own" / LONGEST, MAIL)
+    equal("as long as can be", migrate_and_do(["L", f"own/{LONGEST}"], home)[0], 0)
     for name in NAMES:
         mailbox(home / "old" / name, tar_of_two())
         mailbox(home / "own" / name, MAIL)

@@ -61,6 +61,14 @@ def old_archive() -> bytes:
     return bytes(head) + MBOX
 
 
+def block_of_tar(name: bytes, more: int = 0) -> bytes:
+    """A block of tar with this name, whose checksum is wrong by this much."""
+    block = bytearray(name.ljust(512, b"\0"))
+    block[148:156] = b" " * 8
+    block[148:156] = b"%06o\0 " % (sum(block) + more)
+    return bytes(block)
+
+
 def zipped() -> bytes:
     """An archive that Python's zipfile makes."""
     file = io.BytesIO()
@@ -76,6 +84,8 @@ def beginning(digits: str, length: int = 100) -> bytes:
 
 OF_GZIP = "compressed by gzip: its content is left"
 BZIPPED = LIKE_MAIL.replace("file {}", "bzip2 -dc <{} | file -")
+# a record of Dovecot's log of mailboxes
+RECORD = bytes.fromhex("040000002958081344f4a921d25dc8b2a1ca81ed6b08b5cf")
 # What a file holds, its kind, and the next command: whole files as Python's modules make them, otherwise the first
 # bytes that the named program wrote, or that the format's specification has
 KINDS = [
@@ -186,7 +196,7 @@ KINDS = [
         LEAVE_OUT,
     ),
     (
-        bytes.fromhex("040000002958081344f4a921d25dc8b2a1ca81ed6b08b5cf" * 2),
+        RECORD * 2,
         "no mail: Dovecot's log of mailboxes",
         LEAVE_OUT,
     ),
@@ -217,9 +227,26 @@ KINDS = [
     (b"6b08b5d0", "not known", NOT_KNOWN),
     (b"V\t2\n\nlists\n\nFrom a\n", "not known", LIKE_MAIL),
     (b'version="9"\nlogging="no"\nand then a text\n', "not known", NOT_KNOWN),
-    (bytes.fromhex("040000002958081344f4a921d25dc8b2a1ca81ed6b08b5cf") + b"more", "not known", NOT_KNOWN),
+    (RECORD + b"more", "not known", NOT_KNOWN),
     (b"-----BEGIN PGP PUBLIC KEY BLOCK-----\n\nmQEN\n", "not known", NOT_KNOWN),
     (old_archive()[6:300], "not known", NOT_KNOWN),
+    (block_of_tar(b"From a Mon Mar  3 09:12:44 2025\nSubject: x\n"), "an archive of tar", TAR),
+    (block_of_tar(b"a", 1), "not known", NOT_KNOWN),
+    (block_of_tar(b"a")[:511], "not known", NOT_KNOWN),
+    (b"11\nSubject: a\n<?xml", "Apple Mail's emlx, of one message", MAKES % EMLX),
+    (b"11   \nSubject: a\n<!DOCTYPE plist", "Apple Mail's emlx, of one message", MAKES % EMLX),
+    (b"11\nSubject: a\nmore<?xml", "not known", LIKE_MAIL),
+    (b"10\nSubject: a\n<?xml", "Apple Mail's emlx, of one message", MAKES % EMLX),
+    (b"11\nSubject: a\n", "not known", LIKE_MAIL),
+    (b"5\nhello<?xml", "not known", NOT_KNOWN),
+    (b"999999999999999999\nSubject: a\n<?xml", "not known", LIKE_MAIL),
+    (b"\x0c" + RECORD[1:], "no mail: Dovecot's log of mailboxes", LEAVE_OUT),
+    (b"\x0d" + RECORD[1:], "not known", NOT_KNOWN),
+    (RECORD + b"To a".ljust(24), "not known", NOT_KNOWN),
+    (b"V\t2\n\n", "no mail: subscriptions", LEAVE_OUT),
+    (b"V\t2\n\na\0\n", "not known", NOT_KNOWN),
+    (b'version="9"\nlogging="yes"\nname="a"b"\r\n', "no mail: Thunderbird's rules", LEAVE_OUT),
+    (b'version="9"\nlogging="yes"\nname="a"', "not known", NOT_KNOWN),
 ]
 # A file that is known by its name, and what is printed of it
 NAMED = [
@@ -232,6 +259,12 @@ NAMED = [
     (".subscriptions", b"lists\n\nsheds\n", "not known"),
     (".subscriptions", b"lists\nFrom a\n", "not known"),
     (".subscriptions", b"lists\n" * 200_000, "not known"),
+    (".subscriptions", b"a\tb\n", "not known"),
+    (".subscriptions", b"a\0\n", "not known"),
+    (".subscriptions", b"a" * 255 + b"\n", "no mail: subscriptions"),
+    (".subscriptions", b"a" * 256 + b"\n", "not known"),
+    ("subscriptions", b"lists\n", "not known"),
+    ("uidvalidity", b"6b08b5d0", "not known"),
     ("dovecot-uidvalidity", b"6b08b5d0", "no mail: Dovecot's UIDVALIDITY"),
     ("dovecot-uidvalidity", b"6b08b5d0\n", "not known"),
     ("report.dat", MBOX, "mboxrd or mboxo, messages 1"),
@@ -256,6 +289,36 @@ IN_INDEXES = (
     (b"\0\0\1\7Sheds\n>From a\n\2", "left", "not-known"),
     (b"\0\0\1\7Sheds\n" + MBOX, "left", "unclear"),
 )
+# names with what little is in such files, and whether they hold no mail: empty files of some names, and locks of one line
+AUXILIARY = [
+    (".x", b"", True),
+    ("a.lock", b"", True),
+    ("a.msf", b"", True),
+    ("dovecot-uidvalidity.6b08b5d0", b"", True),
+    ("a.lock", b"1234\n", True),
+    ("a.lock", b"1234", True),
+    ("a.lock", b"1234\r\n", True),
+    (".a.lock", b"1234\n", True),
+    ("a.lock", b"x" * 256, True),
+    ("a.lock", b"\n", True),
+    ("a.lock", b"1234:host", True),
+    ("a.lock", b"x" * 257, False),
+    ("a.lock", b"host:1234\n", False),
+    ("a.lock", b"a\nb\n", False),
+    ("a.lock", b"Rar!\x1a\x07\x01\x00", False),
+    ("a.lock", b"a\n\n", False),
+    ("a.lock", b"From a\n", False),
+    ("a.lock", b">From a\n", False),
+    ("a.lock", b"Subject: x\n", False),
+    ("a.lock", b"a\rFrom b\n", False),
+    ("a.dat", b"", False),
+    ("a", b"", False),
+    ("msf", b"", False),
+    ("dovecot-uidvalidity.old", b"", False),
+    (".x", b"1", False),
+    ("a.dat", b"1234\n", False),
+    (".subscriptions", b"1234", False),
+]
 # how many lines stand below those that have more than one
 BELOW = {"not known": 4, "mboxrd or mboxo, messages 1": 2}
 NO_SENDER = b"From MAILER-DAEMON Thu Jan  1 00:00:00 1970"
@@ -304,6 +367,22 @@ def names(home: Path) -> None:
     for name, text, kind in NAMED:
         (home / name).write_bytes(text)
         expect(["kind", name], home, 0 if text == MBOX else 1, f"{name}: {kind}\n" + "...\n" * BELOW.get(kind, 1))
+
+
+def auxiliary(home: Path) -> None:
+    """Files that hold no mail by their name and size, or as a lock of one line, in folders of mailboxes."""
+    for number, (name, text, _) in enumerate(AUXILIARY):
+        mailbox(home / f"old{number}" / name, text)
+    (home / "old0/link.lock").symlink_to("nowhere")
+    os.mkfifo(home / "old0/fifo.lock")
+    lines = run(["kind", *(f"old{number}" for number in range(len(AUXILIARY)))], home)[1].splitlines()
+    found = [f"old{number}/{name}: no mail" in lines for number, (name, _, _) in enumerate(AUXILIARY)]
+    equal("no mail", found, [is_none for _, _, is_none in AUXILIARY])
+    equal(
+        "what is no file",
+        [line for line in lines if "old0/" in line and line.endswith(": no mail")],
+        ["old0/.x: no mail"],
+    )
 
 
 def next_commands(home: Path) -> None:
@@ -398,4 +477,4 @@ def indexes(home: Path) -> None:
 
 
 if __name__ == "__main__":
-    check_all(table, names, indexes, next_commands, first_line_by_hand, real_files)
+    check_all(table, names, auxiliary, indexes, next_commands, first_line_by_hand, real_files)

@@ -1,0 +1,241 @@
+"""Mailboxes that other programs lock or write to, on disks that lock nothing too: when `migrate` waits, takes a mailbox
+or leaves it, and what `back` makes of FILE.lock."""
+import errno
+import fcntl
+import os
+import shutil
+import signal
+import subprocess
+import time
+from collections.abc import Callable, Sequence
+from pathlib import Path
+from typing import Any
+
+from tests.support.checks import LATER, equal, matches
+from tests.support.copies import Copies
+from tests.support.homes import by_json, check_all, expect, mail_in, mailbox, run, script
+from tests.support.mail import A, B, ONE, TWO
+from tests.support.processes import wait_for
+from tests.support.running import BY_OTHERS, Row, Run
+
+WAITS = "waiting {} seconds, because it changed a moment ago"
+KEEPS_CHANGING = "it keeps changing: stop the program that writes to it, and run this again"
+LOCKED = "another program has locked it: wait, or stop that program"
+# what a disk says that has no locks, and why a mailbox is left for what another error says
+WITHOUT_LOCKS = errno.ENOLCK, errno.ENOSYS, errno.EOPNOTSUPP
+OTHER_ERRORS = errno.EIO, errno.EINVAL, errno.ESTALE
+# for how many seconds a mailbox was left alone, when mail is delivered to it, how many messages are migrated, or None if
+# it keeps changing, and how long that takes: the last minute is a quiet one, and all of it is five minutes at most
+QUIET: list[tuple[float, Sequence[float], object, tuple[float, float]]] = [
+    (60, [], 1, (0, 0)),
+    (58, [], 1, (2, 3)),
+    (-3600, [], 1, (0, 0)),
+    (10, [20.5, 40.5], 3, (100.5, 102)),
+    (0, [30 * count for count in range(1, 20)], None, (300, 302)),
+]
+
+
+class Clocked(Copies):
+    """A place with a clock that goes on only while the companion sleeps. What is to happen at a moment is done then."""
+
+    def __init__(self, home: Path, deeds: Sequence[tuple[float, Callable[[], object]]], start: float) -> None:
+        super().__init__(home, home / "bin")
+        self.deeds, self.begun, self.slept = list(deeds), start, 0.0
+
+    def sleep(self, seconds: float) -> None:
+        """Goes on, and does what is due."""
+        self.slept += seconds
+        while self.deeds and self.deeds[0][0] <= self.slept:
+            self.deeds.pop(0)[1]()
+        (self.home / "slept").write_text(str(self.slept), encoding="ascii")
+
+    def main(self) -> int:
+        for name, does in (
+            ("sleep", self.sleep),
+            ("monotonic", lambda: self.slept),
+            ("time", lambda: self.begun + self.slept),
+        ):
+            setattr(time, name, does)
+        return super().main()
+
+
+class Failing(Copies):
+    """A place in which locks of files other than records fail with an error."""
+
+    def __init__(self, home: Path, names: Sequence[str], number: int) -> None:
+        super().__init__(home, home / "bin")
+        self.names, self.number = names, number
+
+    def main(self) -> int:
+        def failing(lock: Callable[..., Any]) -> Callable[..., Any]:
+            def refuse(file: Any, *words: Any) -> Any:
+                if "/box" in os.readlink(f"/proc/self/fd/{file}"):
+                    raise OSError(self.number, os.strerror(self.number))
+                return lock(file, *words)
+
+            return refuse
+
+        for name in self.names:
+            setattr(fcntl, name, failing(getattr(fcntl, name)))
+        return super().main()
+
+
+def deliver(path: Path, when: float) -> None:
+    """Delivers a message, as a program that locks the mailbox for it."""
+    with path.open("ab") as file:
+        fcntl.flock(file, fcntl.LOCK_EX | fcntl.LOCK_NB)
+        file.write(B + b"\n")
+    os.utime(path, (when, when))
+
+
+def is_locked(path: Path) -> bool:
+    """Whether a delivery would have to wait."""
+    with path.open("ab") as file:
+        try:
+            fcntl.flock(file, fcntl.LOCK_EX | fcntl.LOCK_NB)
+        except BlockingIOError:
+            return True
+    return False
+
+
+def let_go(process: int, path: Path) -> None:
+    """Kills a process, which has a file locked."""
+    os.kill(process, signal.SIGKILL)
+    while is_locked(path):
+        pass
+
+
+def row_of(ran: Run) -> Row:
+    """The row of a run, without what is said of others."""
+    assert "(defect)" not in ran.output, ran.output
+    return ran.row
+
+
+def quiet(home: Path) -> None:
+    """A mailbox is migrated once it was left alone for a minute, with all that was delivered until then."""
+    box, start = home / "box", time.time()
+    for number, (age, moments, wanted, (least, most)) in enumerate(QUIET):
+        mailbox(box, ONE)
+        os.utime(box, (start - age,) * 2)
+        (home / "slept").write_text("0", encoding="ascii")
+        deeds = [(one, lambda when=start + one: deliver(box, when)) for one in moments]
+        ran = Clocked(home, deeds, start).run(["migrate", "--json", f"M{number}", "box"], BY_OTHERS)
+        slept = float((home / "slept").read_text(encoding="ascii"))
+        equal(f"{age} {moments}: {slept} seconds", least <= slept <= most, True)
+        row = row_of(ran)
+        if wanted:
+            equal(f"{age} {moments}: {ran.output}", (row["verdict"], row["messages"]), ("done", wanted))
+        else:
+            equal(f"{age}: {ran.output}", (ran.status, row["reason"], row["says"]), (LATER, "changed", KEEPS_CHANGING))
+        said = [line for line in ran.err.split("\n") if "waiting" in line]
+        equal(f"{age}: what is said once: {said}", len(said), 1 if slept and slept < 60 else len(said))
+
+
+def errors(home: Path) -> None:
+    """Each error that a lock may give: a disk has no locks, another program has it, or the mailbox is left with it."""
+    mailbox(home / "box", ONE)
+    for name in ("flock", "fcntl"):
+        for number in (*WITHOUT_LOCKS, errno.EAGAIN, errno.EACCES, *OTHER_ERRORS):
+            ran = Failing(home, [name], number).run(["migrate", "--json", "--dry-run", "--now", "M", "box"], BY_OTHERS)
+            row, what = row_of(ran), f"{name} {errno.errorcode[number]}: {ran.output}"
+            if number in WITHOUT_LOCKS:
+                equal(what, (ran.status, row["verdict"]), (0, "would be done"))
+            elif number in OTHER_ERRORS:
+                equal(what, (ran.status, row["says"]), (1, os.strerror(number)))
+            else:
+                equal(what, (ran.status, row["reason"], row["says"]), (LATER, "locked", LOCKED))
+
+
+def prepared_meanwhile(home: Path) -> None:
+    """A first pass takes a copy of a mailbox. What is appended meanwhile comes with the next pass; one that changes
+    otherwise, each time, is left; and who has locked it is waited for."""
+    box = mailbox(home / "box", (A + b"\n" + b"hello\n" * 1_000_000 + b"\n") * 3)
+    words = ["migrate", "--json", "--prepare", "--unread", "M", "box"]
+
+    def append() -> None:
+        with box.open("ab", 0) as file:
+            file.write(B + b"\n")
+
+    ran = Copies(home, home / "bin").run(words, BY_OTHERS, append)
+    row = row_of(ran)
+    equal(f"appended: {ran.output}", (ran.status, row["verdict"]), (0, "prepared"))
+    count = box.read_bytes().count(b"Subject: two")
+    assert 3 <= row["messages"] < 3 + count, f"{row['messages']} of {count}"
+    ran = Copies(home, home / "bin").run(words, BY_OTHERS, lambda: os.utime(box))
+    says = "it keeps changing: the next pass may find it at rest"
+    equal(f"changed: {ran.output}", (ran.status, row_of(ran)["reason"], ran.row["says"]), (LATER, "changed", says))
+    for text, releases, wanted, (least, most) in (
+        (ONE, True, (0, "prepared"), (3, 4)),
+        (ONE + TWO, False, (LATER, "left"), (15, 16)),
+    ):
+        mailbox(box, text)
+        with subprocess.Popen(["flock", "--close", box, "cat"], stdin=subprocess.PIPE) as holder:
+            wait_for(lambda: is_locked(box), holder)
+            deeds = [(3.0, lambda holder=holder: let_go(holder.pid, box))] * releases
+            ran = Clocked(home, deeds, time.time()).run(words, BY_OTHERS)
+            holder.kill()
+        equal(f"locked: {ran.output}", (ran.status, row_of(ran)["verdict"]), wanted)
+        equal("how long it waited", least <= float((home / "slept").read_text(encoding="ascii")) <= most, True)
+
+
+def holes(home: Path) -> None:
+    """A file of which more than 16 MB were never written is left, wherever the holes are."""
+    limit, page = 16 << 20, 1 << 16
+    for number, (first, size, is_left) in enumerate(
+        (
+            (b"", limit, False),
+            (b"", limit + page, True),
+            (ONE, 8 << 40, True),
+        )
+    ):
+        with (home / "box").open("wb") as file:
+            file.write(first)
+            file.truncate(size)
+        os.utime(home / "box", (1e9, 1e9))
+        row = row_of(by_json(f"migrate --dry-run M{number} box", home))
+        equal(f"{number}: {row}", row["reason"] == "holes", is_left)
+    with (home / "box").open("wb") as file:
+        for count in range(1, 20):
+            file.write(b"x" * page)
+            file.seek(count << 20)
+        file.write(b"x" * page)
+    row = row_of(by_json("migrate --dry-run --now M box", home))
+    says = "more than 16 MB of it are holes, which were never written: find a complete copy"
+    equal("between data", (row["reason"], row["says"]), ("holes", says))
+
+
+def brought_back(home: Path, name: str) -> list[str]:
+    """New mail comes into the folder of a mailbox, and is brought back. Returns what is beside the mailbox then."""
+    new = home / f"M/.{name}/new/1.h"
+    new.write_bytes(b"Subject: new\n\nhello\n")
+    equal("mail in the mailbox", b"Subject: new" in (home / "old" / name).read_bytes(), False)
+    return sorted(one.name for one in (home / "old").iterdir())
+
+
+def locks_of_back(home: Path) -> None:
+    """A lock that another program takes away meanwhile, or makes its own, is not removed; where none can be made, and
+    on a disk without locks, mail comes back too."""
+    real = home / "real"
+    for name, deed, left in (
+        ("box", "true", []),
+        ("box", "rm -f old/box.lock", []),
+        ("box", "rm -f old/box.lock; echo 17 >old/box.lock", ["box.lock"]),
+        ("box" + "x" * 250, "true", []),
+        ("box-no-flock", "true", []),
+    ):
+        mailbox(home / "old" / name, ONE)
+        expect("migrate --now M old", home, 0, None)
+        brought_back(home, name)
+        (home / "bin/mbox2maildir").rename(real)
+        script(home / "bin/mbox2maildir", f'cd "{home}" && {deed}\nexec "{real}" "$@"')
+        numbers = ["flock"] if "no-flock" in name else []
+        ran = Failing(home, numbers, errno.ENOLCK).run(["back", "--json", "--now", "M", "old"], BY_OTHERS)
+        equal(f"{deed}: {ran.output}", (ran.status, b"Subject: new" in (home / "old" / name).read_bytes()), (0, True))
+        equal(f"{deed}: what is there", sorted(one.name for one in (home / "old").iterdir()), [name, *left])
+        real.rename(home / "bin/mbox2maildir")
+        for folder in ("M", "old"):
+            shutil.rmtree(home / folder)
+
+
+if __name__ == "__main__":
+    check_all(quiet, errors, prepared_meanwhile, holes, locks_of_back)
