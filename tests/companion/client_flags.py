@@ -136,7 +136,7 @@ def forms(home: Path) -> None:
         mailbox(home / f"old/{place}", text)
     equal("the status", by_json("migrate --now M old", home).status, 0)
     for place, (fields, letters) in enumerate(FORMS):
-        wanted = {None: "FS" if "Evolution" in fields else "FRS"}.get(letters, letters)
+        wanted = letters if letters is not None else "FS" if "Evolution" in fields else "FRS"
         equal(fields, places(home / f"M/.{place}"), [f"cur:2,{wanted}" if wanted else "new"])
 
 

@@ -24,6 +24,7 @@ from tests.support.archives import (
     says,
 )
 from tests.support.cases import Failed
+from tests.support.checks import equal
 from tests.support.ledgers import as_if_killed
 from tests.support.mail import INTERNAL
 
@@ -69,26 +70,19 @@ def rule_1_killed_and_taken_by_another(home: Home) -> None:
         want_said(row, 1, "already", "OLD")
 
 
-def fields_change(home: Home, fields: Fields, words: Sequence[str]) -> None:
+def fields_change(fields: Fields, home: Home) -> None:
     """A mail program changes its fields in each message. Nothing is placed, what is new then is placed once, and the
-    mailbox can be undone."""
-    home.begin()
-    home.bring(OLD=letters(*range(8), fields=fields.before), words=words)
-    home.take(3)
-    names = home.names()
-    ran = home.bring(OLD=letters(*range(8), fields=fields.after), words=words)
-    if {name.split(":")[0] for name in home.names()} != {name.split(":")[0] for name in names}:
-        raise Failed(f"{fields}: other files: {ran.text}")
-    home.bring(OLD=letters(*range(9), fields=fields.after), words=words)
-    home.has(*range(3), *range(4, 9), why=fields)
-    home.undo("OLD")
-    home.has()
-
-
-def rule_2_the_fields_of(home: Home, fields: Fields) -> None:
-    """The same without and with --dovecot."""
-    for words in NONE, DOVECOT:
-        fields_change(home, fields, words)
+    mailbox can be undone; the same without and with --dovecot."""
+    for words in home.each((NONE, DOVECOT)):
+        home.bring(OLD=letters(*range(8), fields=fields.before), words=words)
+        home.take(3)
+        bases = {name.split(":")[0] for name in home.names()}
+        home.bring(OLD=letters(*range(8), fields=fields.after), words=words)
+        equal(f"{fields} {words}: files", {name.split(":")[0] for name in home.names()}, bases)
+        home.bring(OLD=letters(*range(9), fields=fields.after), words=words)
+        home.has(*range(3), *range(4, 9))
+        home.undo("OLD")
+        home.has()
 
 
 def rule_2_the_fields_of_another_mailbox(home: Home) -> None:
@@ -182,24 +176,21 @@ def rule_2_verified(home: Home) -> None:
             raise Failed(f"{name} {deleted}: {counts}")
 
 
+def want_undeleted(home: Home, *numbers: int) -> None:
+    """A file of each of these messages must not be marked as deleted."""
+    for number in numbers:
+        flags = [path.name.partition(":2,")[2] for path in home.those(number)]
+        equal(f"{home.values}: flags of {number}: {flags}", all("T" in one for one in flags), False)
+
+
 def rule_2_deleted(home: Home) -> None:
-    """A file that is marked as deleted serves no message that is not."""
-    for mark in home.each((b"Status: ROD\n", b"Status: RO\nX-Status: D\n", b"X-Evolution: 00000001-0012\n")):
+    """A file that is marked as deleted serves no message that is not. So does one that a reader has marked."""
+    for mark in home.each((b"Status: ROD\n", b"Status: RO\nX-Status: D\n", b"X-Evolution: 00000001-0012\n", b"")):
         home.bring(OLD=letters(0, 1, 2, fields=mark))
+        for path in home.files() if not mark else ():
+            path.rename(path.parents[1] / "cur" / f"{path.name.split(':')[0]}:2,ST")
         home.bring(OTHER=letters(1, 2, 3, fields=RO))
-        for number in (1, 2, 3):
-            if all("T" in path.name.partition(":2,")[2] for path in home.those(number)):
-                raise Failed(f"{mark!r}: {number} is there as deleted alone")
-
-
-def rule_2_deleted_by_a_reader(home: Home) -> None:
-    """The same of a file that a reader has marked."""
-    home.bring(OLD=letters(0, 1))
-    for path in home.those(1):
-        path.rename(path.parent.parent / "cur" / (path.name.split(":")[0] + ":2,ST"))
-    home.bring(OTHER=letters(1, 2, fields=RO))
-    if all("T" in path.name.partition(":2,")[2] for path in home.those(1)):
-        raise Failed(f"1 is there as deleted alone: {home.names().keys()}")
+        want_undeleted(home, 1, 2, 3)
 
 
 def rule_2_flags(home: Home) -> None:
@@ -209,28 +200,6 @@ def rule_2_flags(home: Home) -> None:
     unread = [number for number in (1, 2) if "S" not in home.those(number)[0].name.partition(":2,")[2]]
     if unread:
         want_said(row, len(unread), "flags")
-
-
-def zipped(home: Home, text: bytes) -> str:
-    """The mailbox was compressed."""
-    (home.path / "OLD").unlink()
-    return home.write("OLD.gz", gzip.compress(text))
-
-
-def renamed(home: Home, text: bytes) -> str:
-    """The mailbox has another name."""
-    (home.path / "OLD").unlink()
-    return home.write("PUT-ASIDE", text)
-
-
-def stays(home: Home, text: bytes) -> str:
-    """The mailbox has its name."""
-    return home.write("OLD", text)
-
-
-def copied(home: Home, text: bytes) -> str:
-    """A copy stands beside the mailbox."""
-    return home.write("COPY", text)
 
 
 # what a mailbox of ten messages is then, with new ones
@@ -246,22 +215,24 @@ MADE = {
 }  # type: dict[str, Callable[[Sequence[int]], bytes]]
 
 
-WHERE = (stays, renamed, zipped, copied)
+# where it is then: a copy stands beside the mailbox
+WHERE = {"stays": "OLD", "renamed": "PUT-ASIDE", "zipped": "OLD.gz", "copied": "COPY"}
 
 
-def rule_3_never_again(home: Home, where: Callable[[Home, bytes], str]) -> None:
+def never_again(name: str, home: Home) -> None:
     """A mailbox whose third message a reader has deleted is changed, and may have grown. Only what is new is placed."""
-    for what, made in MADE.items():
-        for new in [*range(0)], [10]:
-            if what == "has CR LF" and where is not stays:
-                continue
-            home.begin()
-            home.bring(OLD=letters(*TEN))
-            home.take(2)
-            name = where(home, made(new))
-            for _ in range(2):
-                home.done(name)
-                home.has(0, 1, *TEN[3:], *new, why=what)
+    for what, new in home.each(MADE, (range(0), range(10, 11))):
+        if what == "has CR LF" and name != "OLD":
+            continue
+        home.bring(OLD=letters(*TEN))
+        home.take(2)
+        text = MADE[what](new)
+        if name != "COPY":
+            (home.path / "OLD").unlink()
+        home.write(name, gzip.compress(text) if name.endswith(".gz") else text)
+        for _ in range(2):
+            home.done(name)
+            home.has(0, 1, *TEN[3:], *new)
 
 
 def rule_3_then_it_grows_again(home: Home) -> None:
@@ -528,11 +499,11 @@ def rule_5_renamed_in_two_bare_forms(home: Home) -> None:
         home.has(0, 0, 0)
 
 
-def main() -> None:
-    rules = {f"rule_2_{name}": partial(rule_2_the_fields_of, fields=fields) for name, fields in PROGRAMS.items()}
-    rules.update((f"rule_3_{where.__name__}", partial(rule_3_never_again, where=where)) for where in WHERE)
-    run_rules({**rules, **rules_in(globals())})
-
-
 if __name__ == "__main__":
-    main()
+    run_rules(
+        {
+            **{f"rule_2_{name}": partial(fields_change, fields) for name, fields in PROGRAMS.items()},
+            **{f"rule_3_{word}": partial(never_again, name) for word, name in WHERE.items()},
+            **rules_in(globals()),
+        }
+    )

@@ -26,25 +26,19 @@ from tests.support.checks import equal
 from tests.support.running import Kill
 
 
-def equal_mailboxes(home: Home, undone: Sequence[str], is_one_command: bool, fields: bytes) -> None:
-    """Two mailboxes have the same messages. What one has brought stays until the other one is undone too."""
-    home.begin()
-    home.write("OLD", letters(*TEN))
-    home.write("TWIN", letters(*TEN, fields=fields))
-    for names in [["OLD", "TWIN"]] if is_one_command else [["OLD"], ["TWIN"]]:
-        home.done(*names)
-    home.has(*TEN)
-    for number, name in enumerate(undone, 1):
-        home.undo(name)
-        home.has(*TEN * (number < 2), why=(undone, is_one_command, fields))
-
-
 def rule_6_equal_mailboxes(home: Home) -> None:
-    """The same in one command and in two, in any order, also if a server has written into one of them."""
-    for undone in (["OLD"], ["TWIN"], ["OLD", "TWIN"], ["TWIN", "OLD"]):
-        for is_one_command in (True, False):
-            for fields in (b"", RO):
-                equal_mailboxes(home, undone, is_one_command, fields)
+    """Two mailboxes have the same messages, in one command and in two, also if a server has written into one of them. What
+    one has brought stays until the other one is undone too, in any order."""
+    orders = (["OLD"], ["TWIN"], ["OLD", "TWIN"], ["TWIN", "OLD"])
+    for undone, is_one_command, fields in home.each(orders, (True, False), (b"", RO)):
+        home.write("OLD", letters(*TEN))
+        home.write("TWIN", letters(*TEN, fields=fields))
+        for names in [["OLD", "TWIN"]] if is_one_command else [["OLD"], ["TWIN"]]:
+            home.done(*names)
+        home.has(*TEN)
+        for number, name in enumerate(undone, 1):
+            home.undo(name)
+            home.has(*TEN * (number < 2))
 
 
 def rule_6_after_a_killed_run(home: Home) -> None:
@@ -63,24 +57,13 @@ def rule_6_after_a_killed_run(home: Home) -> None:
 
 
 def rule_6_nothing_is_gone_after_a_killed_run(home: Home) -> None:
-    """Whatever a killed run was to bring, the next one has brought it, and an undo says nothing of it."""
-    for call in home.each(range(1, 24, 2)):
+    """Whatever a killed run was to bring, the next one has brought it, and an undo says nothing of it, also if a program
+    rewrote the mailbox between the two, so that its files have other names."""
+    for call, fields in home.each(range(1, 24, 2), (b"", RO)):
         home.write("OLD", letters(1, 2, 3))
         home.run("OLD", kill=Kill(call=call))
-        home.done("OLD")
-        row = home.undo("OLD")["OLD"]
-        want_unsaid(row, "gone")
-        home.has()
-
-
-def rule_6_nothing_is_gone_of_a_rewritten_mailbox(home: Home) -> None:
-    """The same if a program rewrote the mailbox between the two, so that its files have other names."""
-    for call in home.each(range(1, 24, 2)):
-        home.write("OLD", letters(1, 2, 3))
-        home.run("OLD", kill=Kill(call=call))
-        home.bring(OLD=letters(1, 2, 3, fields=RO))
-        row = home.undo("OLD")["OLD"]
-        want_unsaid(row, "gone")
+        home.bring(OLD=letters(1, 2, 3, fields=fields))
+        want_unsaid(home.undo("OLD")["OLD"], "gone")
         home.has()
 
 
@@ -101,30 +84,18 @@ def rule_6_three_words(home: Home) -> None:
     home.has(*range(6), 20)
 
 
-def gone(path: os.PathLike[str]) -> None:
-    """The other mailbox is not there any more."""
-    os.unlink(path)
-
-
-def moved(path: os.PathLike[str]) -> None:
-    """It has another name."""
-    os.rename(path, f"{os.fspath(path)}.old")
-
-
-def emptied(path: os.PathLike[str]) -> None:
-    """It is empty."""
-    os.truncate(path, 0)
-
-
-def replaced(path: os.PathLike[str]) -> None:
-    """It has other mail."""
-    with open(path, "wb") as file:
-        file.write(letters(77))
+# the other mailbox is not there any more, has another name, is empty, or has other mail
+SPOILT: Sequence[Callable[[Path], object]] = (
+    os.unlink,
+    lambda path: path.rename(f"{path}.old"),
+    lambda path: os.truncate(path, 0),
+    lambda path: path.write_bytes(letters(77)),
+)
 
 
 def rule_6_without_the_other_mailbox(home: Home) -> None:
     """What the other mailbox is now makes no difference."""
-    for spoil, names in home.each((gone, moved, emptied, replaced), (["OLD", "OTHER"], ["OTHER", "OLD"])):
+    for spoil, names in home.each(SPOILT, (["OLD", "OTHER"], ["OTHER", "OLD"])):
         home.write("OLD", letters(*range(9)))
         home.write("OTHER", letters(*range(6, 12), fields=RO))
         home.done(*names)
@@ -156,6 +127,12 @@ def edited(path: Path) -> None:
     path.write_bytes(path.read_bytes() + b"more\n")
 
 
+def edited_and_renamed(path: Path) -> None:
+    """Somebody edits a file, and mbsync gives it a name of its own."""
+    edited(path)
+    gets(",U=1:2,S")(path)
+
+
 def linked(path: Path) -> None:
     """A symbolic link stands in the place of a file."""
     path.symlink_to(path.rename(path.parents[3] / "elsewhere"))
@@ -174,7 +151,7 @@ FILES = (
     (gets(",U=1:2,S"), 1, ["removed 1 message", RENAMED]),
     (lambda path: path.rename(path.parents[1] / "cur/17.host:2,S"), 1, ["removed 1 message", RENAMED]),
     (edited, 1, ["removed 1 message", EDITED]),
-    (lambda path: (edited(path), gets(",U=1:2,S")(path)), 1, ["removed 1 message", RENAMED]),
+    (edited_and_renamed, 1, ["removed 1 message", RENAMED]),
     (linked, 1, ["removed 1 message", EDITED]),
     (twice, 1, ["removed 2 messages"]),
     (os.unlink, 0, ["removed 1 message", "1 message already gone"]),

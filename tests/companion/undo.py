@@ -9,7 +9,7 @@ import shutil
 import subprocess
 import typing
 from collections import Counter
-from collections.abc import Mapping
+from collections.abc import Callable, Mapping, Sequence
 from pathlib import Path
 
 from tests.support.cases import LeftOut
@@ -132,7 +132,7 @@ CHANGED = "it changed in the meantime: put it back as it was, and run this again
 FILE = "/(new|cur)/[0-9a-f]{64}"
 # what happens meanwhile, just before a file is opened or removed, and how often; why the mailbox is left, or nothing; and
 # how many messages are there then
-MEANWHILE = (
+MEANWHILE: Sequence[tuple[str, Callable[[Path], object], int, str, int]] = (
     ("open", flag, 2, "", 0),
     ("open", flag, 1000, NAMES, 3),
     ("os.remove", flag, 1, "", 0),

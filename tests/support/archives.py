@@ -12,7 +12,6 @@ from collections import Counter
 from collections.abc import Callable, Iterable, Iterator, Mapping, Sequence
 from contextlib import contextmanager, suppress
 from functools import partial
-from inspect import signature
 from pathlib import Path
 from typing import Any, NamedTuple, Optional
 
@@ -303,10 +302,9 @@ def fresh() -> Iterator[Home]:
         yield Home(top / "home", top / "bin")
 
 
-def rules_in(module: Mapping[str, Any]) -> dict[str, Rule]:
-    """The rules of a module, whose names begin so: functions of a home alone."""
-    several = {name: one for name, one in module.items() if name.startswith("rule_")}
-    return {name: one for name, one in several.items() if [*signature(one).parameters] == ["home"]}
+def rules_in(module: Mapping[str, Rule]) -> dict[str, Rule]:
+    """The rules of a module, whose names begin so."""
+    return {name: one for name, one in module.items() if name.startswith("rule_")}
 
 
 def run_rules(rules: Mapping[str, Rule]) -> None:

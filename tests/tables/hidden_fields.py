@@ -115,6 +115,13 @@ FLAGS = [
 APPEARS = "its first message, which Dovecot hid, appears"
 ANEW = "its UIDs start anew, because too few are left above the last one"
 NEW = "some messages get new UIDs, because a message before them has none"
+
+
+def keyworded(count: int) -> str:
+    """A field with so many keywords."""
+    return f"X-IMAPbase: 222 9 {' '.join(f'k{one:02}' for one in range(count))}\n"
+
+
 K26 = "only 26 keywords are kept; lost: k26 k27 k28 k29"
 # fields of messages, and what the row says
 SAID = [
@@ -125,10 +132,9 @@ SAID = [
     ([f"X-IMAPbase: 222 {MOST - 2 - ROOM}\n"], [ANEW]),
     ([f"X-IMAP: 222 {MOST - 3 - ROOM}\n"], [APPEARS]),
     ([f"X-IMAP: 222 {MOST - 2 - ROOM}\n"], [APPEARS, ANEW]),
-    *(
-        ([f"X-IMAPbase: 222 9 {' '.join(f'k{one:02}' for one in range(count))}\n"], wanted)
-        for count, wanted in ((26, []), (30, [K26]), (99, [f"{K26} k30 and 68 more"]))
-    ),
+    ([keyworded(26)], []),
+    ([keyworded(30)], [K26]),
+    ([keyworded(99)], [f"{K26} k30 and 68 more"]),
 ]  # type: list[tuple[list[str], list[str]]]
 # what is not the message by which Dovecot keeps an empty mailbox, but mail
 NOT_INTERNAL = {
@@ -211,16 +217,16 @@ def hidden(home: Path) -> None:
 def keywords_and_flags(home: Path) -> None:
     """Files have the keywords and flags that Dovecot showed. A message that was listed is not new."""
     texts = [text_of(row[0]) for row in KEYWORDS] + [text_of([header for header, _ in FLAGS])]
-    *several, (_, flags) = [(row, Folder.of(path)) for row, path in migrated(home, texts)]
-    for (headers, keywords, letters), (_, found) in zip(KEYWORDS, several):
-        equal(f"{headers}", (found.keywords, [one[2] for one in found.mail]), (keywords, letters))
-    for (header, letters), (_, _, got) in zip(FLAGS, flags.mail):
+    *several, of_flags = [Folder.of(path) for _, path in migrated(home, texts)]
+    for (headers, keywords, wanted), found in zip(KEYWORDS, several):
+        equal(f"{headers}", (found.keywords, [one[2] for one in found.mail]), (keywords, wanted))
+    for (header, letters), (_, _, got) in zip(FLAGS, of_flags.mail):
         equal(f"the flags of {header[:20]!r}", got, letters)
     text = text_of(["X-IMAPbase: 222 9 Foo\nX-Status: T\nX-Keywords: Foo\n", "", "Status: O\n"])
     mailbox(home / "box", text)
     equal("its status", by_json("migrate --dovecot --now --folder Box M box", home).status, 0)
-    found = [f"{path.parent.name}/{path.name.partition(':')[2]}" for path in mail_in(home / "M/.Box")]
-    equal("where they are", sorted(found), ["cur/2,", "cur/2,Da", "new/"])
+    names = [f"{path.parent.name}/{path.name.partition(':')[2]}" for path in mail_in(home / "M/.Box")]
+    equal("where they are", sorted(names), ["cur/2,", "cur/2,Da", "new/"])
 
 
 def said(home: Path) -> None:

@@ -423,12 +423,13 @@ def some_folders_alone(home: Path) -> None:
         equal("locked", [row["reason"] for row in by_json(undo, home).rows], ["locked"])
     record = home / "M" / RECORD
     first, noted, *_ = record.read_bytes().splitlines(True)
-    for path in (home / "M").iterdir():
-        if path != record and path.name.startswith((".", "mbox2maildir")):
-            (shutil.rmtree if path.is_dir() else os.unlink)(path)
+    shutil.rmtree(home / "M")
+    for sub in ("new", "cur", "tmp"):
+        (home / "M" / sub).mkdir(parents=True)
     record.write_bytes(first + noted)
-    for more, verdict in (["--dry-run"], "would be undone"), ([], "undone"):
-        row = by_json([*undo[:2], *more, *undo[2:]], home).row
+    record.chmod(0o600)
+    for words, verdict in ([*undo, "--dry-run"], "would be undone"), (undo, "undone"):
+        row = by_json(words, home).row
         wanted = (verdict, ["nothing of it was placed"])
         equal("of nothing", (row["verdict"], [one["says"] for one in row["remarks"]]), wanted)
 

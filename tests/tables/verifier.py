@@ -74,12 +74,12 @@ def where_the_program_is(home: Path) -> None:
     for path in program, clone / "admin/mbox2maildir":
         path.rename(path.with_name("other"))
     used = home / "used"
-    path = f"{home}/paths:{clone}/admin:{os.environ['PATH']}"
+    names = f"{home}/paths:{clone}/admin:{os.environ['PATH']}"
     for place in "", "clone/build", "paths", "clone/admin":
         if place:
             (home / place).mkdir(exist_ok=True)
             script(home / place / "mbox2maildir", f'echo {place} >{used}\nexec {clone}/admin/other "$@"')
-        ran = Desk(home, clone / "admin", "", PATH=path).run(["migrate", "--dry-run", "M", "box"])
+        ran = Desk(home, clone / "admin", "", PATH=names).run(["migrate", "--dry-run", "M", "box"])
         says = f"could not find mbox2maildir in {clone}/admin or in PATH\n    run this next:\n        make -C {clone}\n"
         equal(f"it is in {place}", ran.err, "" if place else f"mbox2maildir-admin: {says}")
         equal(f"it is in {place}", used.read_text() if place else "\n", f"{place}\n")
