@@ -584,6 +584,7 @@ def in_question(home: Path) -> None:
     ran = by_json("migrate M tree", home)
     left = ("no-folder", "another mailbox goes into twice too")
     equal("what lacks its folder", (ran.status, [(row["reason"], row["says"]) for row in ran.rows]), (1, [left] * 2))
+    equal("how many", ran.sums["left"], [{"reason": "no-folder", "count": 2}])
     command = ran.of("tree/twice.mbox").command
     equal("its command", command, "mbox2maildir-admin migrate --folder NAME M tree/twice.mbox")
     asked = run_printed(command.replace("NAME", "Once"), home, "--json")

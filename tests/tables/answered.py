@@ -108,6 +108,12 @@ STORIES: dict[str, list[Step]] = {
         *(("a", NOTED), (FIRST, ASKED), "migrate --prepare --unread --as unquoted M a", "!mv a b", ("b", NOTED + ONE)),
         ("migrate M b", "b: done: as it was answered before; 1 prepared before"),
     ],
+    # a pass over it where it is now, which had the answer, was killed
+    "an_answer_of_a_pass_that_was_killed": [
+        *steps(("a", ONE), FIRST, "!mv a b", ("b", ONE + NOTED)),
+        *killed("migrate --prepare --unread --as unquoted M b"),
+        ("migrate --prepare --unread M b", "b: prepared: as it was answered before; 2 prepared before"),
+    ],
     "an_answer_and_another_line": [
         *(("a", NOTED), "migrate --as unquoted M a", ("a", NOTED + ONE + NOTED.replace(b"here on", b"there"))),
         ("migrate M a", ASKED),

@@ -94,6 +94,9 @@ STORIES: dict[str, list[Step]] = {
         (FIRST, f"{READS}dovecot.index.log"),
         "=",
     ],
+    "a_server_has_renamed_a_file": [
+        *steps(("a", ONE), FIRST, "!for a in M/new/*; do mv $a $a,U=7; done", (LAST, f"{READS}new/...,U=7")),
+    ],
     "a_server_looks_and_nothing_changes": [("a", ONE), FIRST, LOOKS, (FIRST, f"{READS}dovecot.index.log"), "= one M+"],
     "a_server_looks_at_another_folder": [
         *(("x", ONE), "migrate --prepare --unread --folder x M x", "!mkdir -p M/new M/cur M/tmp", LOOKS, ("a", TWO)),

@@ -8,6 +8,7 @@ from typing import NamedTuple
 from tests.support.checks import equal, matches
 from tests.support.homes import by_json, check_all, mailbox, want_users
 from tests.support.mail import A, ONE, THREE, TWO, numbered
+from tests.support.stories import in_place, take
 
 COPIES = " (--dry-run and kind make copies there or where TMPDIR says, other runs on the Maildir's disk)"
 # a text of which a copy is made
@@ -62,5 +63,16 @@ def needs(home: Path) -> None:
             equal(row.words, by_json(words, home, **settings).status, 0)
 
 
+def of_two_at_once(home: Path) -> None:
+    """Of two mailboxes that fit alone, one is done, though there was room for the other when it was looked at."""
+    want_users()
+    take(in_place('sleep 1; "$real" "$@"'), home)
+    for name in "ab":
+        mailbox(home / "old" / name, numbered(name, 300))
+    with disk(home, "size=2m"):
+        rows = by_json("migrate --now --jobs 2 disk/M old", home).rows
+        equal("one after the other", sorted(row["reason"] or row["verdict"] for row in rows), ["done", "no-room"])
+
+
 if __name__ == "__main__":
-    check_all(needs)
+    check_all(needs, of_two_at_once)
