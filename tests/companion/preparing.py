@@ -159,6 +159,10 @@ def found_by_settings(home: Path) -> None:
         path = mailbox(home / name, text)
         equal(f"{text!r}", run(words, home, **own)[0], int(is_found))
         path.unlink()
+    # without a server a human says so
+    (home / "bin/doveconf").unlink()
+    for more, status in ((["--unread"], 0), ([], 1)):
+        equal(f"{more}", run([*words[:3], *more, *words[3:]], home, PATH=str(home / "bin"), **own)[0], status)
 
 
 def one_at_work(home: Path) -> None:

@@ -140,11 +140,13 @@ def folders_of_messages(home: Path) -> None:
     for sub in ("cur", "new", "tmp"):
         (home / "tree/lists" / sub).mkdir(parents=True)
         (home / "tree/more" / sub).mkdir(parents=True)
+        (home / "tree/caf\udce9" / sub).mkdir(parents=True)
     mailbox(home / "tree/more/notes", b"!BDN")
     out = run("migrate --all M tree", home)[1]
     for name, task in (
         ("lists", "move the files in its new and cur into those of M/.lists"),
         ("more", "move out of it what is not part of a Maildir, and run this again"),
+        ("caf\\xe9", "move it to M/.NAME"),
     ):
         assert f"tree/{name}: left (maildir): it is a Maildir\n    {task}\n" in out, out
     # the Maildir into which everything goes is not part of the tree
