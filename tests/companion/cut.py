@@ -63,6 +63,8 @@ CASES = {
         ONE + B + b"\n>>From here\n>>Fro", b"m there\n\n" + THREE, ("--as", "mboxo"), ("--as", "mboxo")
     ),
     "within_the_end_of_a_line": Cut(crlf(ONE + TORN) + b"d\r", b"\n\r\n" + crlf(THREE)),
+    "within_a_field_of_a_program": Cut(ONE + B + b"X-U", b"ID: 7\n\nhello\n\n" + THREE),
+    "behind_a_megabyte": Cut(ONE + B + b"\n" + b"text\n" * 300_000 + b"last li", b"ne\n\n" + THREE, then=("--again",)),
     "within_a_from_line": Cut(ONE + B + b"\nhello\n\n" + C[:3], C[3:] + b"\nhello\n\n"),
     "within_a_from_line_by_again": Cut(ONE + B + b"\nhello\n\n" + C[:3], C[3:] + b"\nhello\n\n", then=("--again",)),
     "read_since": Cut(ONE + B + b"Status: O\n\nlast line without its en", b"d\n\n" + THREE, between=is_read),

@@ -38,9 +38,11 @@ QUIET: list[tuple[float, Sequence[float], object, tuple[float, float]]] = [
 class Clocked(Copies):
     """A place with a clock that goes on only while the companion sleeps. What is to happen at a moment is done then."""
 
-    def __init__(self, home: Path, deeds: Sequence[tuple[float, Callable[[], object]]], start: float) -> None:
+    def __init__(
+        self, home: Path, deeds: Sequence[tuple[float, Callable[[], object]]], start: float, step: float = 0
+    ) -> None:
         super().__init__(home, home / "bin")
-        self.deeds, self.begun, self.slept = list(deeds), start, 0.0
+        self.deeds, self.begun, self.slept, self.step = list(deeds), start, 0.0, step
 
     def sleep(self, seconds: float) -> None:
         """Goes on, and does what is due."""
@@ -49,13 +51,34 @@ class Clocked(Copies):
             self.deeds.pop(0)[1]()
         (self.home / "slept").write_text(str(self.slept), encoding="ascii")
 
+    def monotonic(self) -> float:
+        """How long it has gone on. A look at it may take its time."""
+        self.sleep(self.step)
+        return self.slept
+
     def main(self) -> int:
         for name, does in (
             ("sleep", self.sleep),
-            ("monotonic", lambda: self.slept),
+            ("monotonic", self.monotonic),
             ("time", lambda: self.begun + self.slept),
         ):
             setattr(time, name, does)
+        return super().main()
+
+
+class Late(Clocked):
+    """The same, and mail is delivered just before the mailbox is locked first."""
+
+    def main(self) -> int:
+        take = fcntl.flock
+
+        def lock(file: int, how: int) -> None:
+            if "/box" in os.readlink(f"/proc/self/fd/{file}"):
+                setattr(fcntl, "flock", take)
+                deliver(self.home / "box", self.begun + self.slept)
+            take(file, how)
+
+        setattr(fcntl, "flock", lock)
         return super().main()
 
 
@@ -178,6 +201,31 @@ def prepared_meanwhile(home: Path) -> None:
         equal("how long it waited", least <= float((home / "slept").read_text(encoding="ascii")) <= most, True)
 
 
+def locked_for_ten_seconds(home: Path) -> None:
+    """While a copy is taken of a mailbox, it is locked for ten seconds at most."""
+    box = mailbox(home / "box", A + b"\n" + b"hello\n" * 2_000_000 + b"\n")
+
+    def try_at(second: int) -> None:
+        if is_locked(box):
+            (home / f"refused at {second}").touch()
+
+    deeds = [(float(second), lambda second=second: try_at(second)) for second in (10, 14, 23)]
+    words = ["migrate", "--json", "--prepare", "--unread", "M", "box"]
+    ran = Clocked(home, deeds, time.time(), step=2).run(words, BY_OTHERS)
+    equal(f"it is prepared: {ran.output}", (ran.status, row_of(ran)["verdict"]), (0, "prepared"))
+    equal("when it was locked", sorted(one.name for one in home.glob("refused*")), ["refused at 10", "refused at 14"])
+
+
+def delivered_at_the_last_moment(home: Path) -> None:
+    """Mail is delivered to a quiet mailbox just before it is locked: another minute is waited for, in which it is
+    unlocked."""
+    box, start = mailbox(home / "box", ONE), time.time()
+    deeds = [(20.0, lambda: deliver(box, start + 20))]
+    ran = Late(home, deeds, start).run(["migrate", "--json", "M", "box"], BY_OTHERS)
+    equal(f"with both: {ran.output}", (ran.status, row_of(ran)["messages"]), (0, 3))
+    assert 80 <= float((home / "slept").read_text(encoding="ascii")) <= 81
+
+
 def holes(home: Path) -> None:
     """A file of which more than 16 MB were never written is left, wherever the holes are."""
     limit, page = 16 << 20, 1 << 16
@@ -238,4 +286,12 @@ def locks_of_back(home: Path) -> None:
 
 
 if __name__ == "__main__":
-    check_all(quiet, errors, prepared_meanwhile, holes, locks_of_back)
+    check_all(
+        quiet,
+        delivered_at_the_last_moment,
+        errors,
+        prepared_meanwhile,
+        locked_for_ten_seconds,
+        holes,
+        locks_of_back,
+    )

@@ -486,17 +486,49 @@ def profile(home: Path) -> None:
     equal("without deleted mail", subjects(home / "D"), ["one"])
 
 
-def a_profile_that_cannot_be_read(home: Path) -> None:
-    """Beside the list of profiles a folder that cannot be looked into may be one: it is left, and passed over by no
-    run."""
+def what_cannot_be_read(home: Path) -> None:
+    """Beside the list of profiles a folder that cannot be looked into may be one: it is left. A file that cannot be read
+    is no message of MH, and in a Maildir it is known by its name alone."""
     want_root()
-    make_profile(home / "thunderbird/y")
-    mailbox(home / "thunderbird/x/Mail/a/Inbox", ONE)
-    mailbox(home / "thunderbird/profiles.ini", b"[General]\n")
+    make_profile(home / "old/thunderbird/y")
+    mailbox(home / "old/thunderbird/x/Mail/a/Inbox", ONE)
+    mailbox(home / "old/thunderbird/profiles.ini", b"[General]\n")
+    for name in ("mh/1", "mh/2", "lists/new/1.h", "lists/maildirsize"):
+        mailbox(home / "old" / name, b"Subject: one\n\nhello\n")
+    for name in ("cur", "tmp"):
+        (home / "old/lists" / name).mkdir()
     hand_over(home)
-    (home / "thunderbird/x").chmod(0)
-    ran = Copies(home, home / "bin", OWNER).run(["migrate", "--json", "--now", "M", "thunderbird"], BY_OTHERS)
-    equal(f"it is left: {ran.output}", (ran.status, ran.of("thunderbird/x")["says"]), (1, "Permission denied"))
+    for name in ("thunderbird/x", "mh/1", "lists/maildirsize"):
+        (home / "old" / name).chmod(0)
+    ran = Copies(home, home / "bin", OWNER).run(["migrate", "--json", "--now", "M", "old"], BY_OTHERS)
+    left = {row["path"][4:]: row["says"] or row["messages"] for row in ran.rows if row["verdict"] == "left"}
+    wanted = {"thunderbird/x": "Permission denied", "mh/1": "Permission denied", "mh": 1, "lists": "it is a Maildir"}
+    equal(f"what is left: {ran.output}", left, wanted)
+
+
+def profile_of_one_account(home: Path) -> None:
+    """Where one account alone has mail in mailboxes, no folder is named after it. Messages that have files of their own
+    do not count, nor does what is no profile, beside which all is migrated."""
+    top = home / "old/Profiles/x.default"
+    mailbox(home / "old/profiles.ini", b"[General]\n")
+    mailbox(top / "prefs.js", b"// preferences\n")
+    for name, text in (
+        ("ImapMail/a.b/INBOX", ONE),
+        ("ImapMail/a.b/Trash", b""),
+        ("ImapMail/a.b/Feeds.json", b"{}"),
+        ("Mail/c/Inbox", b""),
+        ("Mail/e/Inbox/cur/1", ONE),
+        ("Mail/e/Inbox/new/1", ONE),
+        ("Mail/e/Inbox/tmp/1", ONE),
+    ):
+        mailbox(top / name, text)
+    ran = by_json("migrate --dry-run --now M old", home)
+    found = {row["path"][23:]: row["folder"] for row in ran.rows if row["verdict"] == "would be done"}
+    equal(f"folders: {ran.output}", found, {"ImapMail/a.b/INBOX": "INBOX", "ImapMail/a.b/Trash": "Trash"})
+    mailbox(home / "other/Mail/c/Inbox", ONE)
+    mailbox(home / "other/notes", TWO)
+    rows = by_json("migrate --dry-run --now M other", home).rows
+    equal("no profile", sorted(row["folder"] for row in rows), ["Mail/c/Inbox", "notes"])
 
 
 def two_names(home: Path) -> None:
@@ -625,7 +657,8 @@ if __name__ == "__main__":
         nothing_outside,
         passed_over_later,
         profile,
-        a_profile_that_cannot_be_read,
+        what_cannot_be_read,
+        profile_of_one_account,
         two_names,
         in_two_commands,
         exported,

@@ -207,6 +207,7 @@ ANOTHER = "what is asked about it has changed since this was answered"
 NOTHING = f"{ANOTHER}\n    run this next: ...:\n        mbox2maildir-admin quote -o copy 'a b'"
 # a line that is shown with those around it, and two answers
 ASKED = "\n..." * 11
+X = (1 << 20) - len(A) - 2
 BARE = A + b"\nx\nFrom a\n>From b\n>>From c\n\n" + B
 COPIES = [
     (with_length(A, MAY) + b"\n" + C, "", A + b"\n" + MAY.replace(b"From", b">From") + b"\n" + B + b"\nyes\n\n"),
@@ -288,6 +289,8 @@ COPIES = [
     (b"\xef\xbb\xbf\r\n\n" + A + b"\n", "", A + b"\n"),
     ((A + b"\nx\ry\n").replace(b"\n", b"\r\n"), "", A + b"\nx\ry\n"),
     ((A + b"\nx\n\n" + B).replace(b"\n", b"\r"), "--as mboxo", A + b"\nx\n\n" + B),
+    # a CR LF that two blocks share
+    (A.replace(b"\n", b"\r") + b"\r" + X * b"x" + b"\r\n\r\n" + B, "--as mboxo", A + b"\n" + X * b"x" + b"\n\n" + B),
     (
         (with_length(A, MAY) + b"\n").replace(b"\n", b"\r\n").replace(b": 44", b": 47"),
         "",

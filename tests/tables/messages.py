@@ -181,7 +181,7 @@ def wherever_blocks_end(home: Path) -> None:
 
 def at_the_end(home: Path) -> None:
     """A text may end within anything."""
-    for number, mail in enumerate((b"", b"body", b"A: b\nStatus: RO", b"A: b\n\n>From", b"A: b\n\n\n", b"A: b\n\nx\r")):
+    for number, mail in enumerate((b"", b"body", b"A: b\nStatus: RO", b"A: b\nStatus: RO\n x", b"A: b\n\n>From", b"A: b\n\n\n", b"A: b\n\nx\r")):
         name = f"box{number}"
         mailbox(home / name, FROM_LINE + mail)
         expect(f"migrate --now --as mboxrd M{number} {name}", home, 0, None)
