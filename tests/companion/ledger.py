@@ -308,8 +308,7 @@ def rule_3_edited_as_a_whole(home: Home) -> None:
     nowhere."""
     for count, edited in home.each(((10, 4), (4, 4), (60, 7), (30, 30))):
         home.bring(OLD=letters(*range(count)))
-        want_offered(home.left("OLD", with_edited(count, edited)), "--again")
-        home.done("OLD", words=["--again"])
+        home.brings_again("OLD", with_edited(count, edited))
         home.has(*range(count), *range(edited))
         home.done("OLD")
         home.has(*range(count), *range(edited))

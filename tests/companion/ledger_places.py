@@ -8,11 +8,11 @@ import gzip
 import os
 import shutil
 from collections import Counter
+from collections.abc import Callable
 from pathlib import Path
 from random import Random
 
 from tests.support.archives import (
-    RECORD,
     RO,
     Home,
     Outcome,
@@ -34,6 +34,8 @@ from tests.support.mail import digest_of
 from tests.support.running import Kill, Row
 
 SEEDS = int(os.environ.get("LEDGER_SEEDS", "8"))
+# at which things a run may be killed while it places messages
+EVENTS = range(20, 261)
 FIVE = range(5)
 JOBS = ["--jobs", "1"]
 
@@ -41,11 +43,8 @@ JOBS = ["--jobs", "1"]
 def rule_1_killed_and_deleted(home: Home) -> None:
     """A run is killed at any moment, and a reader deletes a message that it has placed. If the message comes back, that
     is counted, and if it does not, it counts as gone. All else is there once."""
-    draw = Random(1)
-    for _ in home.each(range(SEEDS)):
-        home.write("OLD", letters(*FIVE))
-        kill = Kill(event=draw.randint(20, 260))
-        home.run("OLD", kill=kill)
+    for event in home.each(Random(1).choices(EVENTS, k=SEEDS)):
+        home.killed(Kill(event=event), OLD=letters(*FIVE))
         there = list(home.numbers())
         if not there:
             continue
@@ -59,20 +58,17 @@ def rule_1_killed_and_deleted(home: Home) -> None:
 def rule_1_killed_and_gone_from_it(home: Home) -> None:
     """A run is killed at any moment, and its mailbox loses a message then. If the run has placed it, its file stays,
     and the row says so."""
-    draw = Random(2)
-    for _ in home.each(range(SEEDS)):
-        home.write("OLD", letters(*FIVE))
-        kill = Kill(event=draw.randint(20, 260))
-        home.run("OLD", kill=kill)
+    for event in home.each(Random(2).choices(EVENTS, k=SEEDS)):
+        home.killed(Kill(event=event), OLD=letters(*FIVE))
         there = home.numbers()
         row = home.bring(OLD=letters(0, 2, 3, 4, 5))["OLD"]
         home.has(0, *[1] * there[1], 2, 3, 4, 5)
         equal(
-            f"{kill}: whether it is said: {row}",
+            f"{event}: whether it is said: {row}",
             says(row, "1 message gone from it that it had brought"),
             bool(there[1]),
         )
-        equal(f"{kill}: what is said later", says(home.done("OLD")["OLD"], "gone from it"), False)
+        equal(f"{event}: what is said later", says(home.done("OLD")["OLD"], "gone from it"), False)
 
 
 def rule_1_killed_and_emptied(home: Home) -> None:
@@ -99,7 +95,6 @@ def rule_1_deleted_and_brought_by_another(home: Home) -> None:
 def rule_1_deleted_at_once(home: Home) -> None:
     """A run placed all, and was killed while it verified. A reader deletes the last message within a tick of the
     kernel's clock after it was placed. It comes back, and that is said."""
-    home.begin()
     home.bring(OLD=letters(*FIVE))
     as_if_killed(home.maildir)
     new = home.folder() / "new"
@@ -114,7 +109,6 @@ def rule_1_deleted_at_once(home: Home) -> None:
 
 def rule_1_said_by_later_runs(home: Home) -> None:
     """A run that brought mail back was killed before it said so. Then the mailbox grows. Each later run says it."""
-    home.begin()
     home.bring(OLD=letters(*FIVE))
     as_if_killed(home.maildir)
     home.take(0, 1)
@@ -128,28 +122,25 @@ def rule_1_said_by_later_runs(home: Home) -> None:
 
 def rule_1_killed_and_moved(home: Home) -> None:
     """A run over a tree is killed in `mail/x`, which is `mail/y` then. No message is in two folders unsaid."""
-    draw = Random(2)
-    for _ in home.each(range(SEEDS), words=JOBS):
+    for event in home.each(Random(2).choices(range(60, 301), k=SEEDS), words=JOBS):
         home.write("mail/x", letters(*range(6)))
-        kill = Kill(event=draw.randint(60, 300))
-        home.run("mail", kill=kill)
+        home.run("mail", kill=Kill(event=event))
         there = sum(home.numbers().values())
         os.rename(home.path / "mail/x", home.path / "mail/y")
         ran = home.run("mail")
         numbers = home.numbers()
         twice = sum(count > 1 for count in numbers.values())
         if set(numbers) != set(range(6)) and ran.status == 0:
-            raise Failed(f"{kill}: {there} were there: {dict(numbers)}: {ran.text}")
+            raise Failed(f"{event}: {there} were there: {dict(numbers)}: {ran.text}")
         if twice and not says(ran["mail/y"], twice) and not says(ran["mail/y"], "x"):
-            raise Failed(f"{kill}: {twice} are there twice, unsaid: {ran.text}")
+            raise Failed(f"{event}: {twice} are there twice, unsaid: {ran.text}")
 
 
 def rule_1_a_file_counts_once(home: Home) -> None:
     """A run was killed, and the next one ended. Then the mailbox has one more of an equal message, in the form that the
     first had before a mail program wrote into it: its file is that of the first, so one more is placed."""
     for event in home.each(range(40, 280, 12)):
-        home.write("OLD", letters(1, 2, fields=RO))
-        home.run("OLD", kill=Kill(event=event))
+        home.killed(Kill(event=event), OLD=letters(1, 2, fields=RO))
         home.done("OLD")
         home.bring(OLD=letters(1, 2) + letter(1, RO))
         home.has(1, 1, 2)
@@ -158,9 +149,7 @@ def rule_1_a_file_counts_once(home: Home) -> None:
 def rule_3_filed_into_another_folder(home: Home) -> None:
     """A reader deletes a message of one folder, and files one of another folder there. Both rows say what is gone."""
     home.begin(*JOBS)
-    home.write("mail/x", letters(0, 1, 2))
-    home.write("mail/y", letters(3, 4, 5))
-    home.done("mail")
+    home.bring_tree(x=letters(0, 1, 2), y=letters(3, 4, 5))
     home.take(1, name="x")
     path = home.those(4, "y")[0]
     path.rename(home.folder("x") / "cur" / f"{path.name.split(':')[0]}:2,S")
@@ -174,9 +163,7 @@ def rule_3_filed_into_another_folder(home: Home) -> None:
 def a_tree(home: Home) -> None:
     """A tree of two mailboxes is done. One message of the first was deleted."""
     home.begin(*JOBS)
-    home.write("mail/x", letters(*FIVE))
-    home.write("mail/y", letters(10, 11))
-    home.done("mail")
+    home.bring_tree(x=letters(*FIVE), y=letters(10, 11))
     home.take(2, name="x")
 
 
@@ -185,13 +172,11 @@ def rule_8_a_folder_was_renamed(home: Home) -> None:
     for new in (b"", letter(6)):
         a_tree(home)
         home.folder("x").rename(home.folder("put-aside"))
-        home.write("mail/x", letters(*FIVE) + new)
-        home.done("mail")
+        home.bring_tree(x=letters(*FIVE) + new)
         wanted = [0, 1, 3, 4, *[6] * bool(new)]
         home.has(*wanted, name="put-aside")
         home.has(*wanted, 10, 11)
-        home.write("mail/x", letters(*FIVE, 6, 7, fields=RO))
-        home.done("mail")
+        home.bring_tree(x=letters(*FIVE, 6, 7, fields=RO))
         home.has(0, 1, 3, 4, 6, 7, name="put-aside")
         home.has(0, 1, 3, 4, 6, 7, 10, 11)
         home.undo("mail/x")
@@ -211,8 +196,7 @@ def rule_8_moved_and_more(home: Home) -> None:
     (home.path / "mail/b").unlink()
     home.write("mail/y.gz", gzip.compress(letters(2, 3, 4)))
     (home.path / "mail/c").unlink()
-    home.write("mail/z", letters(5, 6, 7, fields=RO))
-    ran = home.done("mail")
+    ran = home.bring_tree(z=letters(5, 6, 7, fields=RO))
     for name, *wanted in (("mail/x", 2, "put-aside"), ("mail/y.gz", 3, "b"), ("mail/z", 2, "c")):
         want_said(ran[name], *wanted)
     home.has(0, 0, 1, 1, 2, 2, 3, 3, 4, 4, 5, 5, 6, 6, 7)
@@ -227,8 +211,7 @@ def rule_8_moved_and_killed(home: Home) -> None:
     """A mailbox of a tree was moved, and the run that brings it to the folder of its new name is killed. The next one
     says that the old folder has its mail too."""
     for event in home.each(range(60, 260, 20), words=JOBS):
-        home.write("mail/x", letters(0, 1, 2))
-        home.done("mail")
+        home.bring_tree(x=letters(0, 1, 2))
         (home.path / "mail/x").rename(home.path / "mail/y")
         home.run("mail", kill=Kill(event=event))
         row = home.done("mail")["mail/y"]
@@ -254,13 +237,17 @@ def rule_8_moved_before_anything_was_placed(home: Home) -> None:
 
 
 def rule_8_a_named_folder_was_renamed(home: Home) -> None:
-    """The same of a folder that was named by --folder."""
-    home.bring(OLD=letters(*FIVE))
-    home.take(2)
-    home.folder().rename(home.folder("Put-aside"))
-    home.done("OLD")
-    home.has(0, 1, 3, 4, name="Put-aside")
-    home.has(0, 1, 3, 4)
+    """The same of a folder that was named by --folder, also if a disk was full when the first line of its ledger was
+    written."""
+    for is_cut in home.each((False, True)):
+        home.bring(OLD=letters(*FIVE))
+        home.take(2)
+        text = home.ledger().read_bytes()
+        home.ledger().write_bytes(text[:20] + b"\t\n" + text if is_cut else text)
+        home.folder().rename(home.folder("Put-aside"))
+        home.bring(OLD=letters(*FIVE, 6))
+        home.has(0, 1, 3, 4, 6, name="Put-aside")
+        home.has(0, 1, 3, 4, 6)
 
 
 def rule_8_two_folders_change_their_names(home: Home) -> None:
@@ -269,9 +256,7 @@ def rule_8_two_folders_change_their_names(home: Home) -> None:
     home.folder("x").rename(home.folder("z"))
     home.folder("y").rename(home.folder("x"))
     home.folder("z").rename(home.folder("y"))
-    home.write("mail/x", letters(*FIVE, 6))
-    home.write("mail/y", letters(10, 11, 12))
-    home.done("mail")
+    home.bring_tree(x=letters(*FIVE, 6), y=letters(10, 11, 12))
     home.has(0, 1, 3, 4, 6, name="y")
     home.has(10, 11, 12, name="x")
 
@@ -292,25 +277,13 @@ def rule_8_another_mailbox_has_its_path(home: Home) -> None:
     """A mailbox of a tree is moved, and another one has its path. No message is in two folders unsaid, whichever of the
     two comes first."""
     for name in home.each(("mail/a", "mail/z"), words=JOBS):
-        home.write("mail/x", letters(*range(6)))
-        home.done("mail")
+        home.bring_tree(x=letters(*range(6)))
         os.rename(home.path / "mail/x", home.path / name)
-        home.write("mail/x", letters(9))
-        ran = home.done("mail")
+        ran = home.bring_tree(x=letters(9))
         home.has(*FIVE, 5, name=name[-1])
         want_said(ran[name], 6, "x")
         if ran[name]["next"]:
             raise Failed(f"nothing can undo what is in x: {ran.text}")
-
-
-def rule_8_a_first_line_that_was_cut(home: Home) -> None:
-    """A disk was full when the first line of a ledger was written. Its folder is renamed: the mailbox goes on there."""
-    home.bring(OLD=letters(*FIVE))
-    text = home.ledger().read_bytes()
-    home.ledger().write_bytes(text[:20] + b"\t\n" + text)
-    home.folder().rename(home.folder("Put-aside"))
-    home.bring(OLD=letters(*FIVE, 6))
-    home.has(*FIVE, 6, name="Put-aside")
 
 
 def rule_8_a_link_leads_elsewhere(home: Home) -> None:
@@ -392,29 +365,21 @@ def rule_4_a_renamed_file(home: Home) -> None:
         home.has(*[5] * (not (is_lost and is_deleted)), 6)
 
 
-def without_ledger(home: Home) -> None:
-    """The ledger was lost."""
-    home.ledger().unlink()
-
-
-def of_no_byte(home: Home) -> None:
-    """The ledger has no byte."""
-    home.ledger().write_bytes(b"")
+# a ledger was lost, or has no byte
+LOSSES: tuple[Callable[[Path], object], ...] = (os.unlink, lambda path: os.truncate(path, 0))
 
 
 def rule_9_a_ledger_was_lost(home: Home) -> None:
     """A ledger is not there any more. An unchanged mailbox gets nothing. One that has changed is left, with --again and
     the number of messages that this brings."""
-    for lose, fields in home.each((without_ledger, of_no_byte), (b"", RO)):
+    for lose, fields in home.each(LOSSES, (b"", RO)):
         home.bring(OLD=letters(*FIVE, fields=fields))
         home.take(2)
-        lose(home)
+        lose(home.ledger())
         home.run("OLD")
         home.has(0, 1, 3, 4)
-        row = home.left("OLD", letters(*FIVE, 5, fields=fields))
-        want_offered(row, "--again")
+        row = home.brings_again("OLD", letters(*FIVE, 5, fields=fields))
         want_said(row, 2)
-        home.done("OLD", words=["--again"])
         home.has(*FIVE, 5)
         home.take(3)
         home.bring(OLD=letters(*FIVE, 5, 6, fields=fields))
@@ -424,9 +389,9 @@ def rule_9_a_ledger_was_lost(home: Home) -> None:
 def rule_9_a_ledger_was_lost_and_nothing_is_nowhere(home: Home) -> None:
     """A mailbox has changed, and all that it has is there: there is nothing to place, or to ask. What its files are is
     not known any more, so an undo keeps them."""
-    for lose in home.each((without_ledger, of_no_byte)):
+    for lose in home.each(LOSSES):
         home.bring(OLD=letters(*FIVE))
-        lose(home)
+        lose(home.ledger())
         row = home.bring(OLD=letters(*FIVE, fields=RO))["OLD"]
         want_said(row, "5 messages there already, by no mailbox")
         home.has(*FIVE)
@@ -445,9 +410,7 @@ def rule_9_an_older_ledger(home: Home) -> None:
     home.ledger().write_bytes(older)
     home.run("OLD")
     home.has(0, 2, 3, 4, 5, 7)
-    row = home.left("OLD", letters(*range(9)))
-    want_offered(row, "--again")
-    home.done("OLD", words=["--again"])
+    home.brings_again("OLD", letters(*range(9)))
     home.has(*range(9))
 
 
@@ -617,10 +580,10 @@ def rule_9_a_newer_ledger(home: Home) -> None:
     kept = home.keep("mail")
     home.bring(OLD=letters(*range(8)))
     ledger = home.ledger().read_bytes()
-    record = (home.maildir / RECORD).read_bytes()
+    record = home.record.read_bytes()
     restore(home, kept, home.maildir)
     home.ledger().write_bytes(ledger)
-    (home.maildir / RECORD).write_bytes(record)
+    home.record.write_bytes(record)
     want_said(home.done("OLD")["OLD"], 3, "gone")
     home.has(*FIVE)
     home.bring(OLD=letters(*range(9)))
@@ -670,10 +633,10 @@ def rule_9_a_folder_from_a_backup(home: Home) -> None:
 def rule_9_a_record_from_a_backup(home: Home) -> None:
     """The record comes from a backup, and the folders do not: nothing is placed twice, or again."""
     home.bring(OTHER=letters(20))
-    record = (home.maildir / RECORD).read_bytes()
+    record = home.record.read_bytes()
     home.bring(OLD=letters(*FIVE))
     home.take(2)
-    (home.maildir / RECORD).write_bytes(record)
+    home.record.write_bytes(record)
     home.done("OLD", "OTHER")
     home.has(0, 1, 3, 4, 20)
     home.bring(OLD=letters(*FIVE, 6, fields=RO))
@@ -687,7 +650,7 @@ def rule_9_a_record_was_lost_and_a_folder_renamed(home: Home) -> None:
         home.begin(*words)
         home.bring(OLD=letters(*FIVE), words=["--folder", "Archive"])
         home.folder().rename(home.folder(name))
-        (home.maildir / RECORD).unlink()
+        home.record.unlink()
         row = home.left("OLD")
         equal(f"{name}: why it is left", row["reason"], "no-folder")
         want_said(row, name)
@@ -697,12 +660,12 @@ def rule_9_a_record_was_lost_and_a_folder_renamed(home: Home) -> None:
         home.has(*FIVE, 6)
     # a copy of a folder has its ledger too
     hand_over(Path(shutil.copytree(str(home.folder(name)), str(home.folder("Copy")))))
-    (home.maildir / RECORD).unlink()
+    home.record.unlink()
     home.done("OLD")
     home.has(*FIVE, 6, name=name)
     a_tree(home)
     home.folder("x").rename(home.folder("put-aside"))
-    (home.maildir / RECORD).unlink()
+    home.record.unlink()
     ran = home.run("mail")
     home.has(0, 1, 3, 4, 10, 11)
     equal("what is left of the tree", [ran[name]["verdict"] for name in ("mail/x", "mail/y")], ["left", "done before"])
@@ -712,9 +675,9 @@ def rule_9_an_older_record_and_a_mailbox_that_is_gone(home: Home) -> None:
     """The record comes from a backup. A mailbox that it lacks gets the bytes of another one, which is deleted, and then
     its own mail again: nothing is there twice."""
     home.bring(OLD=letters(1, 2))
-    record = (home.maildir / RECORD).read_bytes()
+    record = home.record.read_bytes()
     home.bring(OTHER=letters(1, 2, 3, 4))
-    (home.maildir / RECORD).write_bytes(record)
+    home.record.write_bytes(record)
     (home.path / "OLD").unlink()
     for numbers in ([1, 2], [1, 2, 3, 4]):
         home.bring(OTHER=letters(*numbers))
@@ -740,12 +703,10 @@ def rule_9_files_of_this_program(home: Home) -> None:
     was there is nobody's."""
     home.bring(OLD=letters(*FIVE))
     home.take(3, 4)
-    for path in (home.ledger(), home.maildir / RECORD):
+    for path in (home.ledger(), home.record):
         path.unlink()
-    row = home.left("OLD")
-    want_offered(row, "--again")
+    row = home.brings_again("OLD")
     want_said(row, 2)
-    home.done("OLD", words=["--again"])
     home.has(*FIVE)
     home.undo("OLD")
     home.has(0, 1, 2)
@@ -756,7 +717,7 @@ def rule_9_files_in_another_form(home: Home) -> None:
     once more."""
     for more in home.each((range(0), range(6, 7))):
         home.bring(OLD=letters(*FIVE))
-        for path in (home.ledger(), home.maildir / RECORD):
+        for path in (home.ledger(), home.record):
             path.unlink()
         home.write("OLD", letters(*FIVE, *more, fields=RO))
         if more:
@@ -804,7 +765,7 @@ def rule_12_a_record_of_an_earlier_version(home: Home) -> None:
         home.bring(OLD=letters(*FIVE))
         home.take(3)
         home.ledger().unlink()
-        record = home.maildir / RECORD
+        record = home.record
         text = letters(*FIVE)
         fields = {"size": len(text), "digest": digest_of(text), "messages": 5, "path": home.path / "OLD", "more": more}
         lines = [OLD_RECORD.format(word=word, **fields) for word in ("begun", "converted", "done")]

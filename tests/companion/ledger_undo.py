@@ -8,7 +8,6 @@ from pathlib import Path
 
 from tests.support.archives import (
     PROGRAMS,
-    RECORD,
     RO,
     TEN,
     Home,
@@ -27,26 +26,42 @@ from tests.support.running import Kill
 
 
 def rule_6_equal_mailboxes(home: Home) -> None:
-    """Two mailboxes have the same messages, in one command and in two, also if a server has written into one of them. What
-    one has brought stays until the other one is undone too, in any order."""
-    orders = (["OLD"], ["TWIN"], ["OLD", "TWIN"], ["TWIN", "OLD"])
-    for undone, is_one_command, fields in home.each(orders, (True, False), (b"", RO)):
+    """Two mailboxes have the same messages, in one command and in two, also if a server has written into one of them
+    before or after. What one has brought stays until the other one is undone too, in any order, and is that one's: what
+    was deleted of it does not come back."""
+    ways: tuple[tuple[bool, list[str]], ...] = ((True, []), (False, ["--dovecot"]))
+    forms = (b"", b""), (RO, RO), (b"", RO)
+    for names, (is_one_command, words), (fields, then) in home.each((["OLD", "TWIN"], ["TWIN", "OLD"]), ways, forms):
         home.write("OLD", letters(*TEN))
         home.write("TWIN", letters(*TEN, fields=fields))
-        for names in [["OLD", "TWIN"]] if is_one_command else [["OLD"], ["TWIN"]]:
-            home.done(*names)
+        for those in [["OLD", "TWIN"]] if is_one_command else [["OLD"], ["TWIN"]]:
+            home.done(*those, words=words)
         home.has(*TEN)
-        for number, name in enumerate(undone, 1):
-            home.undo(name)
-            home.has(*TEN * (number < 2))
+        home.write(names[1], letters(*TEN, fields=then))
+        want_said(home.undo(names[0])[names[0]], f"kept 10 messages that {names[1]} has too")
+        home.has(*TEN)
+        home.take(3)
+        equal(f"{home.values}: then", home.done(names[1], words=words)[names[1]]["verdict"], "done before")
+        home.has(0, 1, 2, *TEN[4:])
+        home.undo(names[1])
+        home.has()
+
+
+def rule_6_equal_mailboxes_without_mail(home: Home) -> None:
+    """All mail of the two was deleted. Nothing comes back once one of them is undone."""
+    for fields in home.each((b"", RO)):
+        home.bring(OLD=letters(*TEN), TWIN=letters(*TEN, fields=fields))
+        home.take(*TEN)
+        home.undo("TWIN")
+        home.done("OLD")
+        home.has()
 
 
 def rule_6_after_a_killed_run(home: Home) -> None:
     """A run of the first was killed, a twin that has the message twice is done, and then the first in another form.
     Once the twin is undone, the message is there once."""
     for event in home.each(range(40, 280, 12)):
-        home.write("OLD", letter(2))
-        home.run("OLD", kill=Kill(event=event))
+        home.killed(Kill(event=event), OLD=letter(2))
         home.bring(TWIN=letter(2, RO) + letter(2))
         home.bring(OLD=letter(2, b"X-UID: 3\n"))
         home.has(2, 2)
@@ -60,8 +75,7 @@ def rule_6_nothing_is_gone_after_a_killed_run(home: Home) -> None:
     """Whatever a killed run was to bring, the next one has brought it, and an undo says nothing of it, also if a program
     rewrote the mailbox between the two, so that its files have other names."""
     for call, fields in home.each(range(1, 24, 2), (b"", RO)):
-        home.write("OLD", letters(1, 2, 3))
-        home.run("OLD", kill=Kill(call=call))
+        home.killed(Kill(call=call), OLD=letters(1, 2, 3))
         home.bring(OLD=letters(1, 2, 3, fields=fields))
         want_unsaid(home.undo("OLD")["OLD"], "gone")
         home.has()
@@ -189,9 +203,9 @@ def rule_6_what_is_kept(home: Home) -> None:
 def rule_6_by_the_ledger_alone(home: Home) -> None:
     """The record comes from a backup, and does not have the mailbox. The ledger suffices."""
     home.bring(OTHER=letters(20))
-    record = (home.maildir / RECORD).read_bytes()
+    record = home.record.read_bytes()
     home.bring(OLD=letters(1, 2))
-    (home.maildir / RECORD).write_bytes(record)
+    home.record.write_bytes(record)
     equal("how many messages it had", home.undo("OLD")["OLD"]["messages"], 2)
     home.has(20)
 
@@ -370,7 +384,7 @@ def rule_6_done_again_after_a_killed_undo(home: Home) -> None:
     a reader deletes then does not come back by another mailbox."""
     home.bring(OLD=letters(*range(3)))
     home.undo("OLD")
-    record = home.maildir / RECORD
+    record = home.record
     record.write_bytes(b"".join(record.read_bytes().splitlines(True)[:-1]))
     home.bring(OLD=letters(*range(4)))
     home.take(1)
@@ -451,7 +465,7 @@ def rule_6_files_of_odd_names(home: Home) -> None:
             home.place_file(f"{number} copied:2,S", mail)
         home.bring(OLD=letters(*range(5), 1))
         home.done("OLD", words=["--again"])
-        for path in (home.ledger(), home.maildir / RECORD) if is_killed else ():
+        for path in (home.ledger(), home.record) if is_killed else ():
             path.write_bytes(b"".join(path.read_bytes().splitlines(True)[:-1]))
         row = home.undo("OLD")["OLD"]
         want_said(row, 3, "nobody")

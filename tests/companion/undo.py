@@ -231,81 +231,6 @@ def a_second_batch(home: Path) -> None:
     equal("what is there", [len(subjects(home / "M" / name)) for name in (".a", ".b")], [10, 4])
 
 
-# two mailboxes with the same mail: with the same bytes, and with other header fields of mail programs
-READ = (ONE + TWO + THREE).replace(b"\n\n", b"\nStatus: RO\n\n", 1)
-TWINS = {"equal": ONE + TWO + THREE, "read": READ}
-WAYS = [[], ["--dovecot"]]  # type: list[list[str]]
-
-
-def verified(home: Path, name: str) -> None:
-    """Each message of a mailbox is there."""
-    status, out, _ = run(["verify", "M", name], home)
-    equal(f"verify: {out}", status, 0)
-
-
-def twins(home: Path) -> None:
-    """Mail of a mailbox that was done before stays when the mailbox is undone that placed it, and belongs to the other
-    one then: what was deleted of it does not come back, and it can be undone too."""
-    for what, text in TWINS.items():
-        for words in WAYS:
-            shutil.rmtree(str(home / "M"), ignore_errors=True)
-            mailbox(home / "box", ONE + TWO + THREE)
-            mailbox(home / "twin", text)
-            for name in ("box", "twin"):
-                expect(["migrate", *words, "M", name], home, 0, None)
-            expect(UNDO, home, 0, rows("undone", "removed 0 messages; kept 3 messages that .../twin has too"))
-            verified(home, "twin")
-            next(mail_in(home / "M")).unlink()
-            for options in WAYS:
-                status, out, _ = run(["migrate", "--all", *options, "M", "twin"], home)
-                equal(f"{what}: {out}", (status, "1 done before" in out), (0, True))
-            equal(f"{what}: nothing comes back", len(subjects(home / "M")), 2)
-            expect("migrate --undo M twin", home, 0, None)
-            equal(f"{what}: what is left", len(subjects(home / "M")), 0)
-
-
-def deleted_of_a_twin(home: Path) -> None:
-    """All mail was deleted of two equal mailboxes before one of them is undone: no run brings it back for the other."""
-    for text in TWINS.values():
-        shutil.rmtree(str(home / "M"), ignore_errors=True)
-        mailbox(home / "twin", ONE + TWO + THREE)
-        mailbox(home / "box", text)
-        for name in ("twin", "box"):
-            expect(["migrate", "M", name], home, 0, None)
-        for path in list(mail_in(home / "M")):
-            path.unlink()
-        status, out, _ = run(UNDO, home)
-        equal(f"--undo: {out}", status, 0)
-        out = run("migrate --all M twin", home)[1]
-        equal(f"what came back: {out}", (subjects(home / "M"), "1 done before" in out), ([], True))
-
-
-def read_since(home: Path) -> None:
-    """A mail program notes in a mailbox that was done before that its mail was read. Its mail stays all the same."""
-    mailbox(home / "box", ONE + TWO + THREE)
-    mailbox(home / "twin", ONE + TWO + THREE)
-    for name in ("box", "twin"):
-        expect(["migrate", "M", name], home, 0, None)
-    mailbox(home / "twin", READ)
-    expect("migrate M twin", home, 0, None)
-    expect(UNDO, home, 0, rows("undone", "removed 0 messages; kept 3 messages that .../twin has too"))
-    equal("what is there", subjects(home / "M"), ["one", "three", "two"])
-    out = run("migrate --all M twin", home)[1]
-    assert "1 done before" in out, out
-
-
-def of_other_mail(home: Path) -> None:
-    """A mailbox whose messages came from another one is undone by itself, and nothing of the other one goes."""
-    mailbox(home / "box", ONE + TWO + THREE)
-    mailbox(home / "twin", READ)
-    for name in ("box", "twin"):
-        expect(["migrate", "M", name], home, 0, None)
-    says = "twin -> INBOX: messages 3: undone, removed 0 messages; kept 3 messages that .../box has too\n"
-    expect("migrate --all --undo M twin", home, 0, says + "1 mailbox: 1 undone\n")
-    expect(UNDO, home, 0, rows("undone"))
-    equal("what is there", subjects(home / "M"), [])
-
-
 def interrupted(home: Path) -> None:
     """Of two equal mailboxes the undo of one was interrupted. The next command for it names that, and the other one is
     done as before."""
@@ -433,10 +358,6 @@ if __name__ == "__main__":
         only_prepared,
         half_done_by_mb2md,
         a_second_batch,
-        twins,
-        deleted_of_a_twin,
-        read_since,
-        of_other_mail,
         interrupted,
         kills,
     )

@@ -102,7 +102,7 @@ class Home:
     """A home with mailboxes, and a Maildir."""
 
     def __init__(self, path: Path, programs: Path) -> None:
-        self.path, self.maildir = path, path / "M"
+        self.path, self.maildir, self.record = path, path / "M", path / "M" / RECORD
         self.place = Place(path, programs)
         # what each run is told
         self.words = []  # type: list[str]
@@ -137,7 +137,7 @@ class Home:
 
     def wait_for_orphans(self) -> None:
         """Waits until what a killed run has started has ended too, and has given back the lock of the record."""
-        with suppress(FileNotFoundError), open(self.maildir / RECORD, "rb") as record:
+        with suppress(FileNotFoundError), open(self.record, "rb") as record:
             fcntl.flock(record, fcntl.LOCK_EX)
 
     def done(self, *names: str, words: Sequence[str] = ()) -> Outcome:
@@ -157,6 +157,16 @@ class Home:
         """Writes mailboxes, each under its name, and migrates them by one command, without a question."""
         return self.done(*(self.write(name, text) for name, text in texts.items()), words=words)
 
+    def bring_tree(self, **texts: bytes) -> Outcome:
+        """Writes mailboxes of the tree `mail`, each under its name, and migrates the tree without a question."""
+        for name, text in texts.items():
+            self.write(f"mail/{name}", text)
+        return self.done("mail")
+
+    def killed(self, kill: Kill, **texts: bytes) -> Outcome:
+        """Writes mailboxes, and migrates them by a run that is killed, unless it has ended before."""
+        return self.run(*(self.write(name, text) for name, text in texts.items()), kill=kill)
+
     def left(self, name: str, text: Optional[bytes] = None, words: Sequence[str] = ()) -> Row:
         """Migrates a mailbox that is left, with this text if one is given. No mail changes."""
         if text is not None:
@@ -168,6 +178,13 @@ class Home:
         if self.names() != before:
             raise Failed(f"it is left, and mail has changed: {ran.text}")
         return ran[name]
+
+    def brings_again(self, name: str, text: Optional[bytes] = None) -> Row:
+        """Migrates a mailbox that is left, and then brings all of it by --again, as its row offers."""
+        row = self.left(name, text)
+        want_offered(row, "--again")
+        self.done(name, words=["--again"])
+        return row
 
     def folder(self, name: str = "Archive") -> Path:
         """A folder of the Maildir."""
@@ -225,7 +242,7 @@ class Home:
 
     def forget_end(self) -> None:
         """Takes back that the last mailbox is done, as if its run had been killed just before that."""
-        for path in self.ledger(), self.maildir / RECORD:
+        for path in self.ledger(), self.record:
             path.write_bytes(b"".join(path.read_bytes().splitlines(True)[:-1]))
 
     def keep(self, name: str) -> Path:
