@@ -28,6 +28,7 @@ TEXTS = {
     "nulls": (A + b"\nhello\n\n\0\0\0" + B + b"\nyes\n\n", (1, 2)),
     "joined": (A + b"\nhello" + B + b"\nyes\n\n", (1, 2)),
     "mail in a From_ line": (A + b"\n\nFrom x\ry Mon Mar  3 09:12:44 2025\n\n", (2, 1)),
+    "mail in one without a date": (b"From a@b\nS: x\n\nhello\n\nFrom e\0@f\nS: z\n\n", (2, 1)),
     "deleted": (
         A + b"X-Mozilla-Status: 0009\n\nhello\n\n" + B + b"X-Mozilla-Status: 0000\n\nyes\n\n",
         (1, 2),

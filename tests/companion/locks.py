@@ -3,6 +3,7 @@ or leaves it, and what `back` makes of FILE.lock."""
 import errno
 import fcntl
 import os
+import re
 import shutil
 import signal
 import subprocess
@@ -232,6 +233,7 @@ def holes(home: Path) -> None:
     for number, (first, size, is_left) in enumerate(
         (
             (b"", limit, False),
+            (ONE, limit, False),
             (b"", limit + page, True),
             (ONE, 8 << 40, True),
         )
@@ -252,14 +254,6 @@ def holes(home: Path) -> None:
     equal("between data", (row["reason"], row["says"]), ("holes", says))
 
 
-def brought_back(home: Path, name: str) -> list[str]:
-    """New mail comes into the folder of a mailbox, and is brought back. Returns what is beside the mailbox then."""
-    new = home / f"M/.{name}/new/1.h"
-    new.write_bytes(b"Subject: new\n\nhello\n")
-    equal("mail in the mailbox", b"Subject: new" in (home / "old" / name).read_bytes(), False)
-    return sorted(one.name for one in (home / "old").iterdir())
-
-
 def locks_of_back(home: Path) -> None:
     """A lock that another program takes away meanwhile, or makes its own, is not removed; where none can be made, and
     on a disk without locks, mail comes back too."""
@@ -273,13 +267,18 @@ def locks_of_back(home: Path) -> None:
     ):
         mailbox(home / "old" / name, ONE)
         expect("migrate --now M old", home, 0, None)
-        brought_back(home, name)
+        (home / f"M/.{name}/new/1.h").write_bytes(b"Subject: new\n\nhello\n")
         (home / "bin/mbox2maildir").rename(real)
-        script(home / "bin/mbox2maildir", f'cd "{home}" && {deed}\nexec "{real}" "$@"')
+        sees = f'{{ cat "old/{name}.lock" 2>/dev/null; true; }} >>seen'
+        script(home / "bin/mbox2maildir", f'cd "{home}" && {sees} && {deed}\nexec "{real}" "$@"')
         numbers = ["flock"] if "no-flock" in name else []
         ran = Failing(home, numbers, errno.ENOLCK).run(["back", "--json", "--now", "M", "old"], BY_OTHERS)
         equal(f"{deed}: {ran.output}", (ran.status, b"Subject: new" in (home / "old" / name).read_bytes()), (0, True))
         equal(f"{deed}: what is there", sorted(one.name for one in (home / "old").iterdir()), [name, *left])
+        # programs read the number of a process at its start
+        held = re.search(r"(?m)^\d+ mbox2maildir-admin [0-9a-f]{32}$", (home / "seen").read_text(encoding="ascii"))
+        equal(f"{name}: whether it is held meanwhile", held is not None, len(name) < 250)
+        (home / "seen").unlink()
         real.rename(home / "bin/mbox2maildir")
         for folder in ("M", "old"):
             shutil.rmtree(home / folder)
