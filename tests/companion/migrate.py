@@ -816,6 +816,8 @@ def refused(home: Path) -> None:
                 "mbox2maildir-admin: box: it belongs to nobody\n    run this next:\n"
                 f"        runuser -u nobody -- mbox2maildir-admin migrate {options}{home}/N {home}/box\n",
             )
+        os.chown(home / "box", 54321, 65534)
+        expect("migrate N box", home, 1, "", "...: box: it belongs to user 54321\n    run this as that user\n")
         assert not (home / "N").exists(), "N was made"
         # a Maildir that root made in the folder of another user
         (home / "theirs/M").mkdir(parents=True)

@@ -30,6 +30,10 @@ def in_place(script: str) -> list[Step]:
     return [made, ("bin/mbox2maildir", text.encode()), "!chmod +x bin/mbox2maildir"]
 
 
+# the last call of the program fails, which is a sync
+SYNC_FAILS = in_place('"$real" "$@"; echo "mbox2maildir: folder call 9 failed" >&2; exit 1')
+
+
 def killed(words: str) -> list[Step]:
     """Runs a command that is killed once the program has placed everything."""
     return [*in_place('"$real" "$@"; kill -9 $PPID'), words, RESTORED]

@@ -16,6 +16,7 @@ ABOVE = with_length(A, b"hello\n") + b"\n"
 BELOW = with_length(B.split(b"\n", 1)[0] + b"\n", b"yes\n>From y\n") + b"\n"
 LINES = A + b"\n>From x\nFrom the first\nhello\n\n" + B + b"\n"
 QUOTED = A + b"\n>>From x\n\n" + TWO
+OTHER_WORDS = "!sed -i 's/\\tmbox\\(rd\\|cl2\\)\\t/\\tnone\\1\\t/' M/mbox2maildir-messages"
 ASKED = "a: left (unclear): ..."
 GREW = "a: done: as the messages show that it brought; it grew by 1 message"
 
@@ -95,6 +96,10 @@ STORIES: dict[str, list[Step]] = {
             "a: left (another-reading): its conversion was begun with another reading: 2 of 2 ...",
         ),
         "= one two",
+    ],
+    # they say nothing of what is new
+    "it_was_read_by_words_of_another_version": [
+        *(("a", ONE), "migrate M a", OTHER_WORDS, ("a", ONE + TWO), ("migrate M a", "a: done: it grew by 1 message")),
     ],
     "it_was_undone": [
         *(("a", MEASURED), "migrate M a", ("a", MEASURED + NEW), "migrate --undo M a", ("migrate M a", ASKED)),

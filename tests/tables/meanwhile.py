@@ -6,11 +6,10 @@ from tests.support.checks import equal
 from tests.support.homes import by_json, expect, mailbox
 from tests.support.mail import C, ONE, THREE, TWO
 from tests.support.running import Desk, Kill, Run
-from tests.support.stories import RESTORED, Step, in_place, killed, run_stories, steps
+from tests.support.stories import RESTORED, SYNC_FAILS, Step, in_place, killed, run_stories, steps
 
 FIRST, RECORD, LEDGER = "migrate --prepare --unread M a", "M/mbox2maildir-record", "M/mbox2maildir-messages"
 FOUR = C.replace(b"three", b"four") + b"\n"
-SYNC_FAILS = in_place('"$real" "$@"; echo "mbox2maildir: folder call 9 failed" >&2; exit 1')
 BEGIN_ANEW = (
     "a: left (sync-failed): its sync failed: read the system's log and mount the disk again before you believe "
     "anything there, then remove what is prepared, and begin anew"
@@ -18,16 +17,9 @@ BEGIN_ANEW = (
 # leaves room in the record for one more line like the last, and not for two
 FILL = f"""!set -- $(tail -n 1 {RECORD} | wc -c) $(stat -c %s {RECORD})
 head -c $(((1 << 23) - $2 - $1 * 3 / 2)) /dev/zero | tr '\\0' x >>{RECORD}; echo >>{RECORD}"""
+# what is done to a mailbox once it was converted, whose row waits for the sync of the disk
+CHANGES = {"grows": "echo more >>$a", "goes": "rm $a", "is_replaced": "cp -p $a $a.x; mv $a.x $a"}
 STORIES: dict[str, list[Step]] = {
-    # its row waits for the sync of the disk, which comes once both are converted
-    "a_mailbox_changes_before_its_disk_is_synced": [
-        *(("old/a", ONE), ("old/b", TWO)),
-        *in_place('case $PWD in */.b) echo more >>../../old/a;; esac; "$real" "$@"'),
-        (
-            "migrate --jobs 1 M old",
-            "old/a: left (changed): it changed in the meantime: stop the program that ...\nold/b: done",
-        ),
-    ],
     "the_sync_of_a_first_pass_fails": [
         *(("a", ONE), *SYNC_FAILS, (FIRST, BEGIN_ANEW), RESTORED, (FIRST, BEGIN_ANEW), ("migrate M a", BEGIN_ANEW)),
     ],
@@ -96,12 +88,27 @@ STORIES: dict[str, list[Step]] = {
         *(("migrate --dry-run M b", "b: done before"), f"!cat {LEDGER} {RECORD} | cmp - kept"),
         *(("migrate M b", "b: done before"), ("a", TWO), ("migrate M a", "a: done: INBOX has the mail of b too")),
     ],
+    "a_mailbox_was_begun_and_moved": [
+        *steps(("a", ONE), *killed("migrate M a"), "!mv a b", ("migrate --dry-run M b", "b: would be done")),
+        *(("migrate M b", "b: done"), "= one"),
+    ],
     "a_mailbox_was_moved_and_grew": [
         *(("a", ONE), "migrate M a", ("more", TWO), f"!mv a b; cat more >>b; cat {LEDGER} {RECORD} >kept"),
         *(("migrate --dry-run M b", "b: would be done: it grew by 1 message"), f"!cat {LEDGER} {RECORD} | cmp - kept"),
         *(("migrate M b", "b: done: it grew by 1 message"), "= one two"),
     ],
 }
+
+STORIES.update(
+    {
+        f"a_mailbox_{name}_before_its_disk_is_synced": [
+            *(("old/a", ONE), ("old/b", TWO)),
+            *in_place(f'a=../../old/a; case $PWD in */.b) {change};; esac; "$real" "$@"'),
+            ("migrate --jobs 1 M old", "old/a: left (changed): it changed in the meantime: stop the ...\nold/b: done"),
+        ]
+        for name, change in CHANGES.items()
+    }
+)
 
 
 def killed_while_it_is_noted_that_a_mailbox_was_moved(home: Path) -> None:

@@ -1,7 +1,7 @@
 """Mailboxes that are prepared step by step while people use them: what each pass says, where none prepares or finishes
 anything, and what mail is there then."""
 from tests.support.mail import ONE, THREE, TWO
-from tests.support.stories import Step, killed, run_stories, steps
+from tests.support.stories import RESTORED, SYNC_FAILS, Step, killed, run_stories, steps
 
 FIRST, LAST, FIRST_OF_TREE, TREE = (
     "migrate --prepare --unread M a",
@@ -30,7 +30,11 @@ STORIES: dict[str, list[Step]] = {
         ("a", TWO + THREE),
         (FIRST, "a: prepared: 1 prepared before, 1 message removed"),
         "= three two M+",
-        (FIRST, "a: prepared: 2 prepared before"),
+        *(
+            (FIRST, "a: prepared: 2 prepared before"),
+            "!touch -d '3 hours ago' a",
+            (FIRST, "a: prepared: 2 prepared before"),
+        ),
         ("a", THREE + ONE),
         (LAST, "a: done: 1 prepared before, 1 message removed"),
         "= one three",
@@ -177,6 +181,13 @@ STORIES: dict[str, list[Step]] = {
         (LAST, "a: left (prepared): it was prepared with --dovecot"),
         *("migrate --dovecot M a", "= one"),
     ],
+    "equal_messages": [
+        *(("a", ONE + TWO + ONE + ONE), FIRST, (LAST, "a: done: 4 prepared before"), "= one one one two"),
+    ],
+    "the_sync_of_a_last_pass_failed": [
+        *steps(("a", ONE), FIRST, ("a", ONE + TWO), *SYNC_FAILS, (LAST, SYNC_FAILED), RESTORED),
+        *((LAST, SYNC_FAILED), (FIRST, SYNC_FAILED), "migrate --again M a", "= one two"),
+    ],
     # a last pass was killed, and the mailbox may be another one by then
     "killed_and_prepared_again": [
         *steps(("a", ONE), FIRST, ("a", SEEN + TWO + THREE), *KILLED, "= one three two M+"),
@@ -197,6 +208,11 @@ STORIES: dict[str, list[Step]] = {
     "killed_and_dry": [
         *steps(("a", ONE), FIRST, ("a", SEEN + TWO), *KILLED, f"!cp {LIST} kept"),
         *("migrate --dry-run M a", "migrate --dry-run --prepare --unread M a", "= one two M+", f"!cmp {LIST} kept"),
+    ],
+    "killed_and_undone": [
+        *steps(
+            ("a", ONE), FIRST, ("a", ONE + TWO), *KILLED, ("migrate --undo M a", "a: undone: removed 1 message"), "="
+        ),
     ],
     "killed_and_somebody_reads": [
         *steps(("a", ONE), FIRST, ("a", ONE + TWO), *KILLED, LOOKS, ("a", ONE)),
