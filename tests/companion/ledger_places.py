@@ -404,10 +404,9 @@ def rule_9_a_ledger_was_lost_and_nothing_is_nowhere(home: Home) -> None:
 def rule_9_an_older_ledger(home: Home) -> None:
     """A ledger comes from a backup that is older than its folder. A mailbox whose files it does not explain is left."""
     home.bring(OLD=letters(*FIVE))
-    older = home.ledger().read_bytes()
-    home.bring(OLD=letters(*range(8)))
-    home.take(1, 6)
-    home.ledger().write_bytes(older)
+    with home.from_a_backup(home.ledger()):
+        home.bring(OLD=letters(*range(8)))
+        home.take(1, 6)
     home.run("OLD")
     home.has(0, 2, 3, 4, 5, 7)
     home.brings_again("OLD", letters(*range(9)))
@@ -417,10 +416,9 @@ def rule_9_an_older_ledger(home: Home) -> None:
 def rule_9_an_older_ledger_and_another_mailbox(home: Home) -> None:
     """The same where another mailbox of the folder brought them."""
     home.bring(OTHER=letters(20, 21))
-    older = home.ledger().read_bytes()
-    home.bring(OLD=letters(*FIVE))
-    home.take(2)
-    home.ledger().write_bytes(older)
+    with home.from_a_backup(home.ledger()):
+        home.bring(OLD=letters(*FIVE))
+        home.take(2)
     want_offered(home.left("OLD", letters(*FIVE, 6)), "--again")
     home.bring(OTHER=letters(20, 21, 22))
     home.has(0, 1, 3, 4, 20, 21, 22)
@@ -430,9 +428,8 @@ def rule_9_an_older_ledger_with_the_mailbox(home: Home) -> None:
     """The ledger comes from a backup and has the mailbox as it was before it grew. Another mailbox makes it longer than
     it was. What was deleted of what the ledger lacks does not come back unsaid."""
     home.bring(OLD=letters(*FIVE), OTHER=letters(100))
-    older = home.ledger().read_bytes()
-    home.bring(OLD=letters(*range(10)))
-    home.ledger().write_bytes(older)
+    with home.from_a_backup(home.ledger()):
+        home.bring(OLD=letters(*range(10)))
     home.bring(OTHER=letters(*range(100, 140)))
     home.take(*range(5, 10))
     want_offered(home.left("OLD", letters(*range(11))), "--again")
@@ -462,9 +459,9 @@ def rule_9_another_mailbox_after_a_ledger_was_lost(home: Home) -> None:
     home.bring(FIRST=letters(50))
     older = home.ledger().read_bytes()
     home.bring(OLD=letters(*FIVE))
-    kept = home.keep("all")
+    kept = home.keep(home.maildir)
     for ledger in (b"", older, None):
-        restore(home, kept, home.maildir)
+        home.put(kept, home.maildir)
         if ledger is not None:
             home.ledger().write_bytes(ledger)
         home.take(1, 2)
@@ -483,11 +480,10 @@ def rule_9_a_ledger_from_before_an_undo(home: Home) -> None:
     then. What was undone is brought again, and nothing of it is gone for another mailbox."""
     for grows, names in home.each((False, True), (["OLD"], ["NEW", "OLD"], ["NEW"])):
         home.bring(OLD=letters(*FIVE), OTHER=letters(20))
-        older = home.ledger().read_bytes()
-        home.write("OLD", letters(0, 1, 2))
-        home.undo("OLD")
-        home.has(3, 4, 20)
-        home.ledger().write_bytes(older)
+        with home.from_a_backup(home.ledger()):
+            home.write("OLD", letters(0, 1, 2))
+            home.undo("OLD")
+            home.has(3, 4, 20)
         if grows:
             home.bring(OTHER=letters(*range(20, 40)))
         more = range(21, 40) if grows else ()
@@ -510,9 +506,8 @@ def rule_9_an_undo_by_an_older_ledger(home: Home) -> None:
     home.done("OTHER", words=["--again"])
     home.undo("OLD")
     home.has(1, 2)
-    older = home.ledger().read_bytes()
-    home.bring(OTHER=letters(1, 2, 3))
-    home.ledger().write_bytes(older)
+    with home.from_a_backup(home.ledger()):
+        home.bring(OTHER=letters(1, 2, 3))
     want_said(home.left("OTHER", words=["--undo"]), "OTHER", "--again")
 
 
@@ -530,13 +525,10 @@ def rule_9_cut_anywhere(home: Home) -> None:
     """A ledger ends anywhere. All is done, or the mailbox is left and --again does it; nothing is there twice."""
     home.bring(OTHER=letters(3, 4, 20, fields=RO), OLD=letters(*FIVE))
     home.bring(OLD=letters(*FIVE, 5))
-    kept, text = home.keep("whole"), home.ledger().read_bytes()
+    kept, text = home.keep(home.maildir), home.ledger().read_bytes()
     home.write("OLD", letters(*FIVE, 5, 6))
     for end in [*range(0, len(text), max(1, len(text) // 40)), *range(len(text) - 12, len(text))]:
-        shutil.rmtree(home.maildir)
-        shutil.copytree(kept, home.maildir)
-        for path in [home.maildir, *home.maildir.rglob("*")]:
-            home.place.own(path)
+        home.put(kept, home.maildir)
         home.ledger().write_bytes(text[:end])
         ran = home.run("OLD")
         if ran.status:
@@ -577,11 +569,10 @@ def rule_9_other_damage(home: Home) -> None:
 def rule_9_a_newer_ledger(home: Home) -> None:
     """The mail of a Maildir comes from a backup, and the ledger does not. What is gone is said."""
     home.bring(OLD=letters(*FIVE))
-    kept = home.keep("mail")
-    home.bring(OLD=letters(*range(8)))
-    ledger = home.ledger().read_bytes()
-    record = home.record.read_bytes()
-    restore(home, kept, home.maildir)
+    with home.from_a_backup(home.maildir):
+        home.bring(OLD=letters(*range(8)))
+        ledger = home.ledger().read_bytes()
+        record = home.record.read_bytes()
     home.ledger().write_bytes(ledger)
     home.record.write_bytes(record)
     want_said(home.done("OLD")["OLD"], 3, "gone")
@@ -592,20 +583,12 @@ def rule_9_a_newer_ledger(home: Home) -> None:
     home.has(*range(9))
 
 
-def restore(home: Home, kept: Path, what: Path) -> None:
-    """Brings a folder back as it was kept."""
-    shutil.rmtree(what)
-    shutil.copytree(kept, what, copy_function=shutil.copy2)
-    home.place.own(what, *what.rglob("*"))
-
-
 def rule_9_a_maildir_from_a_backup(home: Home) -> None:
     """The whole Maildir comes from a backup: what came later is placed anew."""
     home.bring(OLD=letters(*FIVE))
     home.take(2)
-    kept = home.keep("all")
-    home.bring(OLD=letters(*range(8)))
-    restore(home, kept, home.maildir)
+    with home.from_a_backup(home.maildir):
+        home.bring(OLD=letters(*range(8)))
     home.done("OLD")
     home.has(0, 1, 3, 4, 5, 6, 7)
 
@@ -614,9 +597,8 @@ def rule_9_a_folder_from_a_backup(home: Home) -> None:
     """A folder comes from a backup with its ledger, and the record does not: nothing is there twice, and what is
     missing is said or placed."""
     home.bring(OLD=letters(*FIVE))
-    kept = home.keep("folder")
-    home.bring(OLD=letters(*range(8)))
-    restore(home, kept / ".Archive", home.folder())
+    with home.from_a_backup(home.folder()):
+        home.bring(OLD=letters(*range(8)))
     ran = home.run("OLD")
     missing = Counter(range(8)) - home.numbers()
     if max(home.numbers().values()) > 1 or missing and not ran.status and not says(ran["OLD"], len(missing)):
@@ -633,10 +615,9 @@ def rule_9_a_folder_from_a_backup(home: Home) -> None:
 def rule_9_a_record_from_a_backup(home: Home) -> None:
     """The record comes from a backup, and the folders do not: nothing is placed twice, or again."""
     home.bring(OTHER=letters(20))
-    record = home.record.read_bytes()
-    home.bring(OLD=letters(*FIVE))
-    home.take(2)
-    home.record.write_bytes(record)
+    with home.from_a_backup(home.record):
+        home.bring(OLD=letters(*FIVE))
+        home.take(2)
     home.done("OLD", "OTHER")
     home.has(0, 1, 3, 4, 20)
     home.bring(OLD=letters(*FIVE, 6, fields=RO))
@@ -675,9 +656,8 @@ def rule_9_an_older_record_and_a_mailbox_that_is_gone(home: Home) -> None:
     """The record comes from a backup. A mailbox that it lacks gets the bytes of another one, which is deleted, and then
     its own mail again: nothing is there twice."""
     home.bring(OLD=letters(1, 2))
-    record = home.record.read_bytes()
-    home.bring(OTHER=letters(1, 2, 3, 4))
-    home.record.write_bytes(record)
+    with home.from_a_backup(home.record):
+        home.bring(OTHER=letters(1, 2, 3, 4))
     (home.path / "OLD").unlink()
     for numbers in ([1, 2], [1, 2, 3, 4]):
         home.bring(OTHER=letters(*numbers))

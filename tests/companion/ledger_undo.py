@@ -203,9 +203,8 @@ def rule_6_what_is_kept(home: Home) -> None:
 def rule_6_by_the_ledger_alone(home: Home) -> None:
     """The record comes from a backup, and does not have the mailbox. The ledger suffices."""
     home.bring(OTHER=letters(20))
-    record = home.record.read_bytes()
-    home.bring(OLD=letters(1, 2))
-    home.record.write_bytes(record)
+    with home.from_a_backup(home.record):
+        home.bring(OLD=letters(1, 2))
     equal("how many messages it had", home.undo("OLD")["OLD"]["messages"], 2)
     home.has(20)
 

@@ -245,11 +245,27 @@ class Home:
         for path in self.ledger(), self.record:
             path.write_bytes(b"".join(path.read_bytes().splitlines(True)[:-1]))
 
-    def keep(self, name: str) -> Path:
-        """Keeps the Maildir as it is now, in a copy."""
-        copy = self.path / f"kept-{name}"
-        shutil.copytree(str(self.maildir), str(copy), copy_function=shutil.copy2)
-        return copy
+    @contextmanager
+    def from_a_backup(self, place: Path) -> Iterator[None]:
+        """A file or a folder comes from a backup afterwards: it is as it was before."""
+        kept = self.keep(place)
+        yield
+        self.put(kept, place)
+
+    def keep(self, place: Path) -> Path:
+        """Keeps a file or a folder as it is now, in a copy."""
+        kept = self.path / f"kept-{place.name}"
+        self.put(place, kept)
+        return kept
+
+    def put(self, source: Path, place: Path) -> None:
+        """Puts a copy of a file or a folder in its place."""
+        if source.is_dir():
+            shutil.rmtree(place, ignore_errors=True)
+            shutil.copytree(source, place, copy_function=shutil.copy2)
+        else:
+            shutil.copy2(source, place)
+        self.place.own(place, *place.rglob("*"))
 
 
 class Kept:
