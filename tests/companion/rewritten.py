@@ -240,7 +240,7 @@ def flags_since(story: Story) -> None:
     story.rewrite(story.box, by_dovecot)
     story.done("--dovecot")
     names = [str(path) for _, path in story.oracle.files()]
-    story.server.doveadm("flags", "add", "-u", "mia", r"\Flagged", "mailbox", "INBOX", "2")
+    story.mailbox(story.box).doveadm("flags", "add", r"\Flagged", "mailbox", "INBOX", "2")
     story.rewrite(story.box, by_dovecot)
     row = story.done("--dovecot")
     assert [str(path) for _, path in story.oracle.files()] == names, row

@@ -94,6 +94,11 @@ def read_some(tree: History) -> None:
             read_one(tree, tree.draw.choice(files))
 
 
+def read_flags(tree: History, path: Path, flags: str = "S") -> None:
+    """A file gets these flags."""
+    tree.stage.move(path, path.parent.parent / "cur" / f"{path.name.split(':')[0]}:2,{flags}")
+
+
 def read_one(tree: History, path: Path) -> None:
     """They do so with a file."""
     deed = tree.draw.choice(["read", "take", "take", "file", "copy", "rename"])
@@ -102,7 +107,7 @@ def read_one(tree: History, path: Path) -> None:
     if deed == "take":
         tree.stage.remove(path)
     elif deed == "read":
-        tree.stage.move(path, cur / read)
+        read_flags(tree, path)
     elif deed == "rename":
         tree.stage.move(path, cur / f"1700{tree.draw.randint(0, 9999)}.host:2,S")
     elif deed == "copy":

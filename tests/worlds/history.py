@@ -34,11 +34,16 @@ class Box(NamedTuple):
 class History:
     """A history of a seed. A kind of them says what happens."""
 
+    # whether a Dovecot serves the user
+    IS_SERVED = True
+
     def __init__(self, stage: Stage, seed: int, is_one: bool = False) -> None:
-        self.stage, self.seed, self.server = stage, seed, stage.server()
+        self.stage, self.seed = stage, seed
+        self.server = stage.server() if self.IS_SERVED else None
         self.draw = Random(f"{type(self).__name__} {seed}")
-        self.home = Path(self.server.home(USER))
-        self.place = stage.place = Place(self.home, stage.top / "bin")
+        if self.server:
+            stage.place = Place(Path(self.server.home(USER)), stage.top / "bin")
+        self.place, self.home = stage.place, stage.place.home
         self.maildir = self.home / "Maildir"
         self.boxes: list[Box] = []
         self.letters: list[Letter] = []
@@ -70,8 +75,11 @@ class History:
 
     def begin(self) -> None:
         """Makes a fresh home."""
-        shutil.rmtree(self.home, ignore_errors=True)
-        self.server.make_home(USER)
+        if self.server:
+            shutil.rmtree(self.home, ignore_errors=True)
+            self.server.make_home(USER)
+        else:
+            self.place.clear()
         (self.home / "mail").mkdir()
 
     def mailbox(self, box: Box) -> Mailbox:
@@ -159,12 +167,13 @@ class History:
 
     def run(self, words: Sequence[str], kill: Kill = NEVER, in_shell: str = "") -> tuple[Run, dict[str, Row]]:
         """Runs the companion, and looks at what it did."""
-        for box in self.boxes:
+        boxes = self.boxes_of(words)
+        for box in boxes:
             self.oracle.see(box.number, self.target(box), self.ways(box))
         ran = self.place.in_shell(in_shell) if in_shell else self.place.run_later(words, kill, self.meanwhile)
         rows = {str(row["path"]): row for row in ran.rows}
         # a mailbox may go on in another folder, which people have given another name
-        for box in self.boxes:
+        for box in boxes:
             row = rows.get(box.path)
             if row and row["folder"] and row["folder"] != self.target(box):
                 self.oracle.see(box.number, row["folder"], self.ways(box))
@@ -174,6 +183,11 @@ class History:
             self.check(ran, rows)
         return ran, rows
 
+    def boxes_of(self, words: Sequence[str]) -> list[Box]:
+        """The mailboxes that a run with these words may read."""
+        del words
+        return self.boxes
+
     def check(self, ran: Run, rows: dict[str, Row]) -> None:
         """What is done is there, unless people took it away, which is said."""
         if ran.status not in (0, 1):
@@ -181,7 +195,9 @@ class History:
         for box in self.boxes:
             row = rows.get(box.path)
             if row and row["verdict"] in ENDED:
-                self.wrong += self.oracle.missing(row, [self.best(box)])
+                best = self.best(box)
+                self.wrong += self.oracle.missing(row, [best])
+                self.oracle.brings(box.number, row["folder"] or self.target(box), best.contents)
 
     def commands(self) -> list[list[str]]:
         """The words that migrate everything."""

@@ -50,7 +50,7 @@ KINDS = {
     # mailboxes of five dialects, into which the mail of a Maildir goes back
     "back": Kind(trial.one_world, 15),
     # mailboxes that share messages
-    "shared": Kind(shared.one_world, 13),
+    "shared": Kind(lived(shared.Shared), 13),
     # texts and names of strangers
     "stray": Kind(stray.one_world, 30),
 }

@@ -8,12 +8,13 @@ import collections
 import contextlib
 import copy
 import functools
+import operator
 import re
 import typing
 from collections import Counter
-from collections.abc import Iterable, Iterator, Mapping
+from collections.abc import Callable, Iterable, Iterator, Mapping, Sequence
 from pathlib import Path
-from typing import NamedTuple, TypeVar
+from typing import NamedTuple, Optional, TypeVar
 
 from tests.support.archives import texts_of
 from tests.support.running import Row
@@ -23,6 +24,8 @@ from tests.worlds.letters import INTERNAL, content, id_of, without
 Thing = TypeVar("Thing")
 Counts = typing.Counter[bytes]
 INBOX = "INBOX"
+# the remarks on files that an undo keeps though its mailbox brought them
+KEPT = ("already-gone", "kept-renamed", "kept-edited")
 
 
 def most(several: Iterable[Iterable[Thing]]) -> typing.Counter[Thing]:
@@ -56,16 +59,34 @@ def readings(text: bytes) -> dict[str, Reading]:
     return {word: reading(text, word) for word in WORDS}
 
 
-class Shelf:
-    """What lies in a folder, or in all: how often each message may be there, came from elsewhere, was taken away by
-    people and is not back, with the folder or without it, and is there."""
+def union(several: Iterable[Counts]) -> Counts:
+    """Each message as often as the one has it that has it most often."""
+    return functools.reduce(operator.or_, several, Counter())
 
-    def __init__(self) -> None:
-        self.most: Counts = Counter()
+
+def total(several: Iterable[Counts]) -> Counts:
+    """Each message as often as all have it."""
+    return sum(several, Counter())
+
+
+class Shelf:
+    """What lies in a folder, or in all: how often each message came from elsewhere, was taken away by people and is not
+    back, with the folder or without it, and is there."""
+
+    def __init__(self, of_several: Callable[[Iterable[Counts]], Counts] = union) -> None:
+        self.of_several = of_several
+        # what each mailbox may have brought, and what each surely has
+        self.had: collections.defaultdict[int, Counts] = collections.defaultdict(Counter)
+        self.sure: dict[int, Counts] = {}
         self.foreign: Counts = Counter()
         self.taken: Counts = Counter()
         self.gone: Counts = Counter()
         self.seen: Counts = Counter()
+
+    @property
+    def most(self) -> Counts:
+        """How often each message may be there."""
+        return self.of_several(self.had.values())
 
     def look(self, now: Counts) -> None:
         """People have changed what is there."""
@@ -86,9 +107,9 @@ class Shelf:
 
     def ran(self, now: Counts) -> typing.Counter[str]:
         """A run has changed what is there. Returns how much is there too often, came back, and went away."""
-        told = Counter(gone=sum((self.seen - now).values()))
+        told, most_there = Counter(gone=sum((self.seen - now).values())), self.most
         for what, count in (now - self.seen).items():
-            may_be = self.most[what] + self.foreign[what]
+            may_be = most_there[what] + self.foreign[what]
             over = max(0, min(count, now[what] - may_be))
             never = max(0, may_be - self.seen[what] - self.taken[what])
             back = max(0, min(count - over - never, self.taken[what]))
@@ -103,6 +124,21 @@ class Shelf:
         self.taken.clear()
         self.seen = now
 
+    def undoes(self, now: Counts, mailboxes: Sequence[int], is_over: bool) -> typing.Counter[str]:
+        """Mailboxes are undone. Returns how much of others went away, and how much of these is still there when it is
+        over. What only these had, and people had taken away, may come again then."""
+        others = union([self.foreign, *(its for mailbox, its in self.sure.items() if mailbox not in mailboxes)])
+        told = Counter(gone=sum(((self.seen & others) - now).values()))
+        if is_over:
+            mine = union(self.had.pop(mailbox, Counter()) for mailbox in mailboxes)
+            self.sure = {mailbox: its for mailbox, its in self.sure.items() if mailbox not in mailboxes}
+            kept = (now & mine) - union([self.foreign, self.most])
+            told["kept"] = sum(kept.values())
+            self.foreign += kept
+            self.taken &= self.most
+        self.seen = now
+        return told
+
 
 class Oracle:
     """The folders of a Maildir, by the names that mail programs show."""
@@ -111,9 +147,9 @@ class Oracle:
         # whether only one mailbox goes into it, so that nothing is there too often, whatever is said
         self.maildir, self.is_one = maildir, is_one
         self.shelves: collections.defaultdict[str, Shelf] = collections.defaultdict(Shelf)
-        self.all = Shelf()
-        # how often each mailbox had each message at most, by Message-IDs; and the bytes that a file may have
-        self.had: collections.defaultdict[int, Counts] = collections.defaultdict(Counter)
+        # by Message-IDs, which may be there as often as all mailboxes have them
+        self.all = Shelf(total)
+        # the bytes that a file may have
         self.bytes: set[bytes] = set()
         # what runs that were killed have done, and nobody has said yet, by folders
         self.owed: collections.defaultdict[str, typing.Counter[str]] = collections.defaultdict(Counter)
@@ -201,9 +237,28 @@ class Oracle:
         """A run will see a mailbox, which goes into a folder, and may be read in each of these ways."""
         for one in several:
             self.bytes |= one.bytes
-            self.shelves[folder].most |= one.contents
-            self.had[mailbox] |= one.ids
-        self.all.most = sum(self.had.values(), Counter())
+            self.shelves[folder].had[mailbox] |= one.contents
+            self.all.had[mailbox] |= one.ids
+
+    def brings(self, mailbox: int, folder: str, contents: Counts) -> None:
+        """A mailbox has brought this into a folder."""
+        self.shelves[folder].sure[mailbox] = contents
+
+    def undoes(self, mailboxes: Sequence[int], row: Optional[Row]) -> Iterator[str]:
+        """Mailboxes are undone. When that is over, a row says what is kept."""
+        here, ids = self.counts()
+        told: typing.Counter[str] = Counter()
+        for name in {*here, *self.shelves}:
+            told += self.shelves[name].undoes(here.get(name, Counter()), mailboxes, row is not None)
+        if told["gone"]:
+            yield f"{told['gone']} removed that others have"
+        remarks = row["remarks"] if row else []
+        said = " ".join(one["says"] for one in remarks if one["remark"] in KEPT)
+        if told["kept"] > sum(map(int, re.findall(r"\d+", said))):
+            yield f"{told['kept']} still there of what was undone, unsaid"
+        self.all.undoes(ids, mailboxes, row is not None)
+        if row:
+            self.owed.clear()
 
     def ran(self, rows: Mapping[str, Row], is_killed: bool) -> Iterator[str]:
         """A run has ended, or was killed. Returns what is wrong with it."""

@@ -103,8 +103,8 @@ class Passes(Trees):
     def own_some(self, paths: Iterable[Path]) -> None:
         """Gives to the owner of the mail what is not the owner's. The times of all else stay: by these a pass knows
         files."""
-        account = self.server.account
-        self.place.own(*(path for path in paths if path.lstat().st_uid != account.pw_uid))
+        account = self.place.account
+        self.place.own(*(path for path in paths if account and path.lstat().st_uid != account.pw_uid))
 
     def commands(self) -> list[list[str]]:
         paths = [box.path for box in self.boxes]

@@ -13,7 +13,7 @@ import time
 from collections.abc import Callable, Sequence
 from pathlib import Path
 from random import Random
-from typing import NamedTuple
+from typing import NamedTuple, Optional
 
 from tests.support.checks import PATIENCE
 from tests.support.dovecot.server import Dovecot
@@ -30,7 +30,7 @@ class Mailbox(NamedTuple):
 
     path: Path
     kind: str
-    server: Dovecot
+    server: Optional[Dovecot]
     draw: Random
     letters: list[Letter]
     # its name for the server
@@ -55,6 +55,12 @@ class Mailbox(NamedTuple):
         self.letters.append(letter_of(self.draw, len(self.letters)))
         return self.letters[-1]
 
+    def doveadm(self, *words: str) -> None:
+        """Tells the server to do something with it."""
+        assert self.server, "nobody serves it"
+        verb = words[:2] if words[0] == "flags" else words[:1]
+        self.server.doveadm(*verb, "-u", USER, *words[len(verb) :])
+
 
 Rewriter = Callable[[Mailbox], None]
 
@@ -63,7 +69,7 @@ def by_dovecot(box: Mailbox) -> None:
     """Dovecot looks at it until it has written everything that it writes."""
     seen = b""
     for _ in range(6):
-        box.server.doveadm("fetch", "-u", USER, "uid flags date.received size.physical", "mailbox", box.folder, "all")
+        box.doveadm("fetch", "uid flags date.received size.physical", "mailbox", box.folder, "all")
         if seen == box.path.read_bytes():
             break
         seen = box.path.read_bytes()
@@ -74,20 +80,20 @@ def flags_by_dovecot(box: Mailbox) -> None:
     by_dovecot(box)
     for flags in (r"\Seen", r"\Answered Garden", r"\Flagged later"):
         number = str(box.draw.randint(1, max(1, len(box.pieces()))))
-        box.server.doveadm("flags", "add", "-u", USER, flags, "mailbox", box.folder, number)
+        box.doveadm("flags", "add", flags, "mailbox", box.folder, number)
     by_dovecot(box)
 
 
 def deleted_by_dovecot(box: Mailbox) -> None:
     """A client of Dovecot's deletes a message."""
     number = str(box.draw.randint(1, max(1, len(box.pieces()))))
-    box.server.doveadm("expunge", "-u", USER, "mailbox", box.folder, number)
+    box.doveadm("expunge", "mailbox", box.folder, number)
     by_dovecot(box)
 
 
 def emptied_by_dovecot(box: Mailbox) -> None:
     """A client over POP3 fetches all mail and deletes it. Then mail comes."""
-    box.server.doveadm("expunge", "-u", USER, "mailbox", box.folder, "all")
+    box.doveadm("expunge", "mailbox", box.folder, "all")
     by_dovecot(box)
     if box.draw.random() < 0.7:
         appended(box)
@@ -100,7 +106,7 @@ def saved_by_dovecot(box: Mailbox) -> None:
         file.write(box.new_letter().whole)
         file.flush()
         os.chmod(file.name, 0o644)
-        box.server.doveadm("save", "-u", USER, "-m", box.folder, file.name)
+        box.doveadm("save", "-m", box.folder, file.name)
     if box.draw.random() < 0.5:
         by_dovecot(box)
 

@@ -1,26 +1,19 @@
 """Mailboxes with any of a few messages, some of them several times, with any fields, in any order: they are migrated in
-any order, rewritten, grow, are killed and undone, while readers are at work. Each message is there as often as the
-mailbox brought it that brought it most often, but for what readers have deleted."""
-import re
-import typing
+any order, rewritten, grow, are killed and undone, while readers are at work."""
 from collections import Counter
-from collections.abc import Iterator, Mapping
-from pathlib import Path
-from random import Random
+from collections.abc import Sequence
 from typing import NamedTuple
 
-from tests.support.archives import RO, letter, number_of
-from tests.support.running import NEVER, Kill, Row
-from tests.worlds.oracle import most
+from tests.support.archives import RO, letter, mail_of
 from tests.support.place import ENDED
+from tests.support.running import NEVER, Kill, Row, Run
+from tests.worlds.history import Box, History
+from tests.worlds.letters import content
+from tests.worlds.oracle import Oracle
 from tests.worlds.stage import Stage
 
-Numbers = typing.Counter[int]
 NAMES = ["A", "B", "C", "D", "E"]
 FIELDS = [b"", RO, b"X-UID: 3\n", b"X-Evolution: 00000001-0010\n", b"X-Mozilla-Status: 0001\n"]
-WORDS = ["--folder", "Archive"]
-# what a row says of files that an undo keeps though its mailbox brought them
-KEPT = ("already-gone", "kept-renamed")
 
 
 class Way(NamedTuple):
@@ -47,96 +40,99 @@ WAYS = {
 }
 
 
-class Boxes:
+class Shared(History):
     """Such mailboxes, in a way that a seed draws."""
 
+    IS_SERVED = False
+
     def __init__(self, stage: Stage, seed: int) -> None:
-        self.draw, self.stage, self.place = Random(f"boxes {seed}"), stage, stage.place
+        super().__init__(stage, seed)
         self.name = self.draw.choice(list(WAYS))
         self.way = WAYS[self.name]
-        self.boxes = {name: self.some(0, 9) for name in self.draw.sample(NAMES, self.way.boxes)}
-        # what each has brought, once a run has ended; what killed ones may have brought; and what readers have deleted
-        self.brought: dict[str, list[int]] = {}
-        self.begun: dict[str, Numbers] = {}
-        self.taken: Numbers = Counter()
-        self.place.clear()
+        self.oracle = Oracle(self.maildir, is_one=True)
+        self.folder, self.words = "Archive", ["--folder", "Archive"]
+        # the messages of each, by their numbers; and those of which a killed run has begun something, or a run has
+        # brought all
+        self.holds: dict[Box, list[int]] = {}
+        self.begun: set[Box] = set()
+        self.brought: set[Box] = set()
 
-    def some(self, least: int, most_of_all: int) -> list[int]:
+    def begin(self) -> None:
+        super().begin()
+        self.parts = {content(mail_of(letter(number))[0]) for number in range(self.way.kinds)}
+        for number, name in enumerate(self.draw.sample(NAMES, self.way.boxes)):
+            self.boxes.append(Box(number, name, "mboxrd"))
+            self.holds[self.boxes[-1]] = self.some(0, 9)
+
+    def some(self, least: int, most: int) -> list[int]:
         """Some messages."""
-        return [self.draw.randrange(self.way.kinds) for _ in range(self.draw.randint(least, most_of_all))]
+        return [self.draw.randrange(self.way.kinds) for _ in range(self.draw.randint(least, most))]
 
     def write(self) -> None:
         """Writes each mailbox, in another order, with other fields."""
-        for name, numbers in self.boxes.items():
+        for box, numbers in self.holds.items():
             self.draw.shuffle(numbers)
-            self.place.write(name, b"".join(letter(number, self.draw.choice(FIELDS)) for number in numbers))
-        self.stage.steps.append(f"mailboxes have {({name: sorted(its) for name, its in self.boxes.items()})}")
+            self.place.write(box.path, b"".join(letter(number, self.draw.choice(FIELDS)) for number in numbers))
+            self.steps.append(f"{box.path} has {sorted(numbers)}")
 
-    def run(self, *words: str, kill: Kill = NEVER) -> Mapping[str, Row]:
-        """Runs the companion, which ends well unless it is killed."""
-        ran = self.place.run_later(["migrate", "--json", "--now", *WORDS, *words], kill)
-        self.stage.told(ran, "migrate", *WORDS, *words, kill=kill)
-        rows = {str(row["path"]): row for row in ran.rows}
-        if not ran.is_killed:
-            assert ran.status == 0 and all(row["verdict"] in ENDED for row in rows.values()), "it is not done"
+    def boxes_of(self, words: Sequence[str]) -> list[Box]:
+        return [box for box in self.boxes if box.path in words]
+
+    def check(self, ran: Run, rows: dict[str, Row]) -> None:
+        super().check(ran, rows)
+        if ran.status or any(row["verdict"] not in ENDED for row in rows.values()):
+            self.wrong.append(f"it is not done: {ran.output[-600:]}")
         # among several mailboxes a run may not know which of them brought a file that a killed one placed
-        is_known = len(self.boxes) == 1 and not self.taken
-        assert not is_known or "came back" not in ran.output, "nobody has deleted what came back"
-        return rows
+        is_known = not self.way.killed or len(self.boxes) == 1 and not self.way.deleted
+        if is_known and "came back" in ran.output:
+            self.wrong.append("nobody has deleted what came back, or it should not")
 
-    def migrate(self) -> None:
+    def bring(self, boxes: Sequence[Box], kill: Kill = NEVER) -> None:
+        """Migrates some of them in one command, which may be killed."""
+        paths = [box.path for box in boxes]
+        ran = self.run(["migrate", "--json", "--now", *self.words, "Maildir", *paths], kill)[0]
+        self.begun = self.begun | {*boxes} if ran.is_killed else self.begun - {*boxes}
+        self.brought |= set() if ran.is_killed else {*boxes}
+
+    def migrate_some(self) -> None:
         """Migrates some of them, in one command or in several, or is killed."""
-        names = self.draw.sample(list(self.boxes), self.draw.randint(1, len(self.boxes)))
+        boxes = self.draw.sample(self.boxes, self.draw.randint(1, len(self.boxes)))
         if self.draw.random() < self.way.killed:
             by_event = self.draw.random() < 0.5
-            kill = Kill(event=self.draw.randint(1, 300)) if by_event else Kill(call=self.draw.randint(1, 80))
-            self.run("M", *names, kill=kill)
-            for name in names:
-                self.begun[name] = self.begun.get(name, Counter()) | Counter(self.boxes[name])
+            self.bring(
+                boxes, Kill(event=self.draw.randint(1, 300)) if by_event else Kill(call=self.draw.randint(1, 80))
+            )
+        elif self.draw.random() < 0.5:
+            self.bring(boxes)
         else:
-            for several in [names] if self.draw.random() < 0.5 else [[name] for name in names]:
-                self.run("M", *several)
-            self.brought.update((name, list(self.boxes[name])) for name in names)
-        self.check()
-
-    def migrate_all(self) -> None:
-        """Migrates all of them, in one command: nothing is open any more."""
-        self.run("M", *self.boxes)
-        self.brought = {name: list(numbers) for name, numbers in self.boxes.items()}
-        self.begun.clear()
-        self.check()
-
-    def files(self) -> Iterator[tuple[int, Path]]:
-        """The files of the mail, each with its number."""
-        for path in sorted(path for sub in ("new", "cur") for path in (self.place.home / "M/.Archive" / sub).glob("*")):
-            yield number_of(path.read_bytes()), path
-
-    def check(self) -> None:
-        """What is there is what was brought, and at most what killed runs may have brought besides."""
-        there, least = Counter(number for number, _ in self.files()), most(self.brought.values()) - self.taken
-        much = there - (most([*self.brought.values(), *(its.elements() for its in self.begun.values())]) - self.taken)
-        assert not least - there and not much, f"missing {dict(least - there)}, too many {dict(much)}"
+            for box in boxes:
+                self.bring([box])
 
     def undo(self) -> None:
-        """One of them is undone. Files that another program has renamed may stay, but the row counts them, and people
-        remove them then."""
-        names = [name for name, numbers in self.brought.items() if numbers]
-        if not names or self.begun:
+        """One of them is undone. Files that another program has renamed may stay, and people remove them then."""
+        boxes = [box for box in self.boxes if box in self.brought and self.holds[box]]
+        if not boxes or self.begun:
             return
-        name = self.draw.choice(names)
-        row = self.run("--undo", "M", name)[name]
-        del self.brought[name]
-        more = Counter(number for number, _ in self.files()) - most(self.brought.values())
-        kept = " ".join(remark["says"] for remark in row["remarks"] if remark["remark"] in KEPT)
-        counted = sum(int(number) for number in re.findall(r"\d+", kept))
-        assert sum(more.values()) <= counted * (self.way.renamed > 0), f"undone, and there: {dict(more)}"
-        for number in more.elements():
-            self.stage.remove(next(path for its, path in self.files() if its == number and path.name.startswith("17")))
-        self.check()
+        box = self.draw.choice(boxes)
+        self.brought.remove(box)
+        words = ["migrate", "--json", "--now", *self.words, "--undo", "Maildir", box.path]
+        ran = self.place.run(words)
+        self.stage.told(ran, *words)
+        if ran.status:
+            self.wrong.append(f"it is not undone: {ran.output[-600:]}")
+            return
+        self.wrong += self.oracle.undoes([box.number], ran.row)
+        more = Counter(self.oracle.shelves[self.folder].foreign)
+        for _, path in [*self.oracle.files()]:
+            mail = content(path.read_bytes())
+            if more[mail] and path.name.startswith("17"):
+                self.stage.remove(path)
+                more[mail] -= 1
+        self.oracle.look()
 
     def read(self) -> None:
         """Readers read mail, and perhaps delete some, while other programs may give files names of their own."""
-        for number, path in self.files():
+        for _, path in [*self.oracle.files()]:
             deed, cur = self.draw.random(), path.parent.parent / "cur"
             if deed < self.way.renamed:
                 self.stage.move(path, cur / f"17{self.draw.randint(0, 99999)}.host:2,S")
@@ -144,28 +140,22 @@ class Boxes:
                 self.stage.move(path, cur / (path.name + ":2,S"))
             elif deed > 1 - self.way.deleted:
                 self.stage.remove(path)
-                self.taken[number] += 1
+        self.oracle.look()
 
-    def play(self) -> None:
+    def live(self) -> None:
         """Their life. In the end all are migrated, and undone one after the other, unless people have deleted mail."""
         for _ in range(self.way.rounds):
             self.write()
-            self.migrate()
+            self.migrate_some()
             self.read()
             if self.draw.random() < self.way.undone:
                 self.undo()
-            for numbers in self.boxes.values():
+            for numbers in self.holds.values():
                 if self.draw.random() < self.way.grows:
                     numbers += self.some(1, 3)
         if not self.way.deleted:
             self.write()
-            self.migrate_all()
+            self.bring(self.boxes)
             for _ in self.boxes:
                 self.undo()
-        self.stage.seen[self.name] += 1
-
-
-def one_world(stage: Stage, seed: int) -> list[str]:
-    """Such mailboxes."""
-    Boxes(stage, seed).play()
-    return []
+        self.ended = self.name
