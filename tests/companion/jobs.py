@@ -1,10 +1,6 @@
 """`migrate --jobs`: several folders of a Maildir at the same time become what they become one after the other, whatever
-ends the runs.
-
-The environment's KILLS says how many migrations are killed, and SEED which. A user deletes and flags mail meanwhile.
-"""
+ends the runs. Random ones, which are killed among users, are worlds of tests/companion/worlds.py."""
 import os
-import random
 import re
 import shutil
 import signal
@@ -13,26 +9,19 @@ import sys
 import time
 from collections import Counter
 from collections.abc import Iterator
-from contextlib import contextmanager, suppress
+from contextlib import contextmanager
 from pathlib import Path
-from typing import Optional
 
 from tests.support.checks import PATIENCE, equal
 from tests.support.homes import ADMIN, check_all, mail_in, mailbox, run, script, want_users
 from tests.support.ledgers import LEDGER, RECORD, wait_for_lock, without_chance
 from tests.support.mail import ONE, TWO, bodies_of, digest_of
+from tests.support.mounts import small_disk
 from tests.support.processes import wait_for
 from tests.support.running import Desk
 from tests.support.terminals import Terminal
 
 FOLDERS, MESSAGES = 6, 60
-# the messages, and the lines of the record before the last one
-ALL = FOLDERS * (MESSAGES + 2) - 1
-# how long a message is there before a user does something with it, in seconds
-QUIET = 0.03
-# what a row says of mail that people removed, and that came back
-CAME_BACK = re.compile(r"^(.*?) -> .*\bup to (\d+) messages? that had been deleted or moved came back", re.M)
-
 # runs a file whose children are killed as soon as they are there, but not the programs that it starts
 CHILDLESS = """import os, runpy, sys
 os.register_at_fork(after_in_child=lambda: os.kill(os.getpid(), 9))
@@ -114,46 +103,6 @@ def migrating(home: Path, *words: str) -> Iterator["subprocess.Popen[bytes]"]:
         except ProcessLookupError:
             pass
         child.communicate()
-
-
-@contextmanager
-def small_disk(home: Path) -> Iterator[Path]:
-    """A disk of 6 MB, below a home."""
-    want_users()
-    disk = home / "disk"
-    disk.mkdir()
-    subprocess.run(["mount", "-t", "tmpfs", "-o", "size=6m", "mbox2maildir", str(disk)], check=True)
-    try:
-        yield disk
-    finally:
-        subprocess.run(["umount", "-l", str(disk)], check=True)
-
-
-class Disk:
-    """A disk that somebody fills at times with a file, and empties again; without one nothing happens to it."""
-
-    def __init__(self, filler: Optional[Path] = None) -> None:
-        self.filler = filler
-
-    def change(self, draw: random.Random) -> None:
-        """Fills or empties it, at one moment of three."""
-        if self.filler and draw.random() < 0.3:
-            if self.filler.exists():
-                self.empty()
-            else:
-                self.fill(self.filler)
-
-    def fill(self, filler: Path) -> None:
-        """Fills it up to its last block."""
-        with suppress(OSError), filler.open("wb", buffering=0) as file:
-            while file.write(bytes(4096)):
-                pass
-
-    def empty(self) -> None:
-        """Makes room again."""
-        if self.filler:
-            with suppress(FileNotFoundError):
-                self.filler.unlink()
 
 
 def wait_for_mail(maildir: Path, child: "subprocess.Popen[bytes]", count: int) -> None:
@@ -239,95 +188,11 @@ def bases(folder: Path) -> list[str]:
     return [digest_of(path.read_bytes()) for path in mail_in(folder)]
 
 
-def meddle(draw: random.Random, maildir: Path, deleted: dict[str, set[str]]) -> None:
-    """A user flags a message, or deletes it. If a message is deleted within some ticks of a file system's clock after
-    it was placed, and the run is killed right then, nobody could tell that it was there. So the user is slower."""
-    files = [path for path in maildir.glob(".*/*/*") if path.parent.name in ("new", "cur")]
-    files = [path for path in files if time.time() - path.stat().st_ctime > QUIET]
-    for path in draw.sample(files, min(len(files), 1)):
-        base = path.name.split(":")[0]
-        try:
-            if draw.random() < 0.4:
-                path.unlink()
-                deleted[path.parent.parent.name].add(base)
-            else:
-                path.rename(path.parent.parent / "cur" / f"{base}:2,S")
-        except FileNotFoundError:
-            continue
-
-
-def killed(home: Path) -> None:
-    """Runs are killed while a user deletes and flags mail. Nothing is lost or doubled, and it is said what came back.
-    The record has no step that was not taken."""
-    kill_several(home, home, Disk())
-
-
-def killed_on_a_full_disk(home: Path) -> None:
-    """The same is true on a disk that somebody fills meanwhile, again and again."""
-    with small_disk(home) as folder:
-        kill_several(home, folder, Disk(folder / "filler"))
-
-
-def kill_several(home: Path, folder: Path, disk: Disk) -> None:
-    """Kills migrations into Maildirs below a folder, and looks at what is there once the last run of each has ended."""
-    texts, draw = tree(home), random.Random(os.environ.get("SEED", "75"))
-    for number in range(int(os.environ.get("KILLS", "4"))):
-        maildir = folder / f"M{number}"
-        deleted: dict[str, set[str]] = {folder_of(maildir, name).name: set() for name in texts}
-        said = ""
-        for _ in range(draw.randint(1, 3)):
-            said += kill_one(home, maildir, draw, deleted, disk)
-        disk.empty()
-        status, out, _ = run(["migrate", "--all", "--jobs", "8", maildir, "old"], home)
-        assert status == 1 and out.splitlines()[-1].endswith("1 left; 1 other file: no mail"), out
-        for name, text in texts.items():
-            check_folder(folder_of(maildir, name), name, text, deleted[folder_of(maildir, name).name], said + out)
-        shutil.rmtree(str(maildir))
-
-
-def steps_of(maildir: Path, deleted: dict[str, set[str]]) -> int:
-    """How far a migration is: how many messages it has placed, and how many lines its record has."""
-    placed = sum(1 for _ in maildir.glob(".*/*/*")) + sum(map(len, deleted.values()))
-    return placed + ((maildir / RECORD).read_bytes().count(b"\n") if (maildir / RECORD).exists() else 0)
-
-
-def kill_one(home: Path, maildir: Path, draw: random.Random, deleted: dict[str, set[str]], disk: Disk) -> str:
-    """Kills a run, only its parent or all of it, once it is so far, and returns what it had printed. Processes that are
-    left end by themselves."""
-    with migrating(home, str(maildir), "old") as child:
-        end = steps_of(maildir, deleted) + draw.choice((draw.randint(1, 2 * FOLDERS), draw.randint(1, ALL)))
-        while steps_of(maildir, deleted) < min(end, ALL) and child.poll() is None:
-            time.sleep(0.03)
-            meddle(draw, maildir, deleted)
-            disk.change(draw)
-        if draw.random() < 0.5:
-            child.kill()
-            wait_for_lock(maildir)
-        else:
-            with suppress(ProcessLookupError):
-                os.killpg(child.pid, signal.SIGKILL)
-        out, _ = child.communicate(timeout=PATIENCE)
-    return out.decode()
-
-
-def check_folder(folder: Path, name: str, text: bytes, deleted: set[str], said: str) -> None:
-    """What is there once a migration has ended: each message once, except those that were deleted."""
-    there, wanted = Counter(bases(folder)), {digest_of(body) for body in bodies_of(text)}
-    gone = {base.split(".")[0] for base in deleted}
-    equal(f"{name}: doubles", [digest for digest, count in there.items() if count > 1], [])
-    equal(f"{name}: of nobody", sorted(set(there) - wanted), [])
-    equal(f"{name}: lost", sorted(wanted - set(there) - gone), [])
-    back = gone & set(there)
-    if back:
-        counts = [int(count) for path, count in CAME_BACK.findall(said) if Path(path).name == Path(name).name]
-        rows = [line for line in said.splitlines() if name in line]
-        assert counts and max(counts) >= len(back), f"{name}: {len(back)} came back, and it is said: {rows}"
-
-
 def full_disk(home: Path) -> None:
     """A mailbox for which there is no space is left, and the others are done. Those that fit only one after the other
     wait for each other."""
-    with small_disk(home) as disk:
+    want_users()
+    with small_disk(home / "disk") as disk:
         for number in range(4):
             mailbox(home / f"old/f{number}", text_of(number, 200))
         mailbox(home / "old/large", ONE.rstrip(b"\n") + b"\n" + b"x" * 9000000 + b"\n\n")
@@ -344,7 +209,8 @@ def full_disk(home: Path) -> None:
 def one_of_two_fits(home: Path) -> None:
     """Of two mailboxes, each of which fills more than half of a disk, one is done. The other waits until it is known
     that there is no space for it, and then nothing of it is placed."""
-    with small_disk(home) as disk:
+    want_users()
+    with small_disk(home / "disk") as disk:
         for number in range(2):
             mailbox(home / f"old/f{number}", text_of(number, 850))
         status, out, _ = run(["migrate", "--all", "--jobs", "2", disk / "M", "old"], home)
@@ -362,8 +228,6 @@ if __name__ == "__main__":
         without_their_parent,
         killed_at_once,
         one_at_work,
-        killed,
-        killed_on_a_full_disk,
         full_disk,
         one_of_two_fits,
     )

@@ -29,7 +29,7 @@ from tests.support.archives import (
 from tests.support.cases import Failed
 from tests.support.checks import equal
 from tests.support.homes import hand_over
-from tests.support.ledgers import as_if_killed
+from tests.support.ledgers import RECORD, as_if_killed
 from tests.support.mail import digest_of
 from tests.support.running import Kill, Row
 

@@ -20,6 +20,7 @@ from tests.support.archives import (
     want_unsaid,
     says,
 )
+from tests.support.ledgers import RECORD
 from tests.support.cases import Failed
 from tests.support.checks import equal
 from tests.support.running import Kill

@@ -2,7 +2,6 @@
 
 A message is known by its Message-ID, whatever mail programs have written into its header.
 """
-import fcntl
 import itertools
 import json
 import re
@@ -10,17 +9,17 @@ import shutil
 import typing
 from collections import Counter
 from collections.abc import Callable, Iterable, Iterator, Mapping, Sequence
-from contextlib import contextmanager, suppress
+from contextlib import contextmanager
 from functools import partial
 from pathlib import Path
 from typing import Any, NamedTuple, Optional
 
 from tests.support.cases import Failed, run_cases
 from tests.support.homes import fresh_folder, in_memory, install
+from tests.support.ledgers import LEDGER, RECORD, wait_for_lock
 from tests.support.place import ENDED, Place
 from tests.support.running import NEVER, Kill, Row, Run
 
-RECORD, LEDGER = "mbox2maildir-record", "mbox2maildir-messages"
 ID = re.compile(rb"(?m)^Message-ID: <(\d+)@example.com>")
 RO = b"Status: RO\n"
 GMAIL = b"X-GM-THRID: 1785134556187161\n"
@@ -132,13 +131,8 @@ class Home:
         ran = Outcome(words, self.place.run(words, kill))
         self.printed = ran.text
         if ran.is_killed:
-            self.wait_for_orphans()
+            wait_for_lock(self.maildir)
         return ran
-
-    def wait_for_orphans(self) -> None:
-        """Waits until what a killed run has started has ended too, and has given back the lock of the record."""
-        with suppress(FileNotFoundError), open(self.record, "rb") as record:
-            fcntl.flock(record, fcntl.LOCK_EX)
 
     def done(self, *names: str, words: Sequence[str] = ()) -> Outcome:
         """Does it without a question."""

@@ -1,9 +1,8 @@
 """The ledgers of a Maildir, as tests see and change them."""
+import fcntl
 import re
-import subprocess
+from contextlib import suppress
 from pathlib import Path
-
-from tests.support.checks import PATIENCE
 
 RECORD, LEDGER = "mbox2maildir-record", "mbox2maildir-messages"
 # a line which says that what a batch brought was verified
@@ -28,10 +27,9 @@ def ends_in(maildir: Path) -> int:
 
 
 def wait_for_lock(maildir: Path) -> None:
-    """Waits until nobody has the record of a Maildir locked."""
-    record = maildir / RECORD
-    if record.exists():
-        subprocess.run(["flock", str(record), "true"], check=True, timeout=PATIENCE)
+    """Waits until what a killed run has started has ended too, and nobody has the record of a Maildir locked."""
+    with suppress(FileNotFoundError), open(maildir / RECORD, "rb") as record:
+        fcntl.flock(record, fcntl.LOCK_EX)
 
 
 def as_if_killed(maildir: Path) -> None:

@@ -1,6 +1,10 @@
 """Mounts that are seen by one process and its children alone, by calls of the system that Python lacks."""
 import ctypes
 import os
+import subprocess
+from collections.abc import Iterator
+from contextlib import contextmanager
+from pathlib import Path
 from typing import Optional, Union
 
 LIBRARY = ctypes.CDLL(None, use_errno=True)
@@ -26,3 +30,14 @@ def take_own_mounts() -> None:
     """Makes the mounts of this process visible only to it and its children. They go away with these."""
     call("unshare", NEW_MOUNTS)
     mount("none", "/", flags=PRIVATE_BELOW)
+
+
+@contextmanager
+def small_disk(at: Path, size: str = "6m") -> Iterator[Path]:
+    """A disk in memory of this size, at a place that is made for it."""
+    at.mkdir()
+    mount("none", str(at), "tmpfs", options=f"size={size}")
+    try:
+        yield at
+    finally:
+        subprocess.run(["umount", "-l", str(at)], check=True)

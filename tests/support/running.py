@@ -116,11 +116,13 @@ class Run(NamedTuple):
 
 class Kill(NamedTuple):
     """When a run is killed: at the thing with this number that Python reports; before the call with this number that
-    changes files or syncs them, of those of the programs that it runs; or after this many seconds."""
+    changes files or syncs them, of those of the programs that it runs; or after this many seconds, perhaps its first
+    process alone."""
 
     event: Optional[int] = None
     call: Optional[int] = None
     seconds: Optional[float] = None
+    is_alone: bool = False
 
     @property
     def settings(self) -> dict[str, str]:
@@ -214,7 +216,7 @@ class Desk:
             if kill.call:
                 stack.enter_context(Killer(kill.settings).at(Moment(kill.call)))
             child = self.start(words, out, err, source, kill)
-            wait_for(child, kill.seconds, meanwhile)
+            wait_for(child, kill, meanwhile)
             texts = []
             for file in (out, err):
                 file.seek(0)
@@ -241,14 +243,14 @@ def decoded(output: bytes) -> str:
     return output.decode(errors="surrogateescape")
 
 
-def wait_for(child: "subprocess.Popen[bytes]", seconds: Optional[float], meanwhile: Callable[[], object]) -> None:
-    """Waits until a child has ended, or kills it and what is in its group after this many seconds."""
-    end = time.monotonic() + (PATIENCE if seconds is None else seconds)
+def wait_for(child: "subprocess.Popen[bytes]", kill: Kill, meanwhile: Callable[[], object]) -> None:
+    """Waits until a child has ended, or kills it after the seconds, with what is in its group or alone."""
+    end = time.monotonic() + (PATIENCE if kill.seconds is None else kill.seconds)
     while child.poll() is None and time.monotonic() < end:
         meanwhile()
         time.sleep(0.0005)
     if child.returncode is None:
-        os.killpg(child.pid, signal.SIGKILL)
+        (os.kill if kill.is_alone else os.killpg)(child.pid, signal.SIGKILL)
         child.wait()
 
 

@@ -5,7 +5,7 @@ import shutil
 from pathlib import Path
 from typing import Optional
 
-from tests.support.archives import LEDGER, RECORD
+from tests.support.ledgers import LEDGER, RECORD
 from tests.support.running import Kill
 from tests.worlds.history import INBOX, Box, Deeds, History
 from tests.worlds.letters import content, numbered

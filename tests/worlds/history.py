@@ -1,12 +1,13 @@
 """A history: mailboxes in the home of a user whom a Dovecot serves, over many runs, between which people and programs
 rewrite them, and work in the Maildir. After each run an oracle says what is wrong."""
+import contextlib
 import gzip
 import itertools
 import os
 import shutil
 import subprocess
 import time
-from collections.abc import Callable, Iterator, Mapping, Sequence
+from collections.abc import Callable, Iterable, Iterator, Mapping, Sequence
 from pathlib import Path
 from random import Random
 from typing import NamedTuple, Optional
@@ -14,6 +15,7 @@ from typing import NamedTuple, Optional
 from tests.support.running import COMPANION, NEVER, Kill, Row, Run
 from tests.worlds.letters import KINDS, Letter
 from tests.worlds.oracle import Oracle, Reading, readings
+from tests.support.ledgers import wait_for_lock
 from tests.support.place import ENDED, Place
 from tests.worlds.rewriters import USER, Mailbox, Rewriter
 from tests.worlds.stage import Stage
@@ -59,6 +61,8 @@ class History:
         self.folder, self.numbers = "", itertools.count(1)
         # why the last run left something, and how all ended, if it did
         self.asked, self.ended = "", ""
+        # how likely its owner does something at a moment while a run is at work, and whether a message was taken then
+        self.likely, self.is_disturbed = 0.0, False
 
     def play(self) -> list[str]:
         """Tries it. Returns what is wrong."""
@@ -159,7 +163,27 @@ class History:
         self.oracle.look()
 
     def meanwhile(self) -> None:
-        """What happens while a run is at work."""
+        """What happens while a run is at work: its owner takes a message, or reads it. If a message is taken within
+        some ticks of the disk's clock after it was placed, and the run is killed right then, nobody could tell that it
+        was there. So the owner is slower."""
+        if not self.likely or self.draw.random() >= self.likely or not self.is_quiet():
+            return
+        files = [*self.oracle.files()]
+        name, path = self.draw.choice(files) if files else ("", None)
+        with contextlib.suppress(FileNotFoundError):
+            if not path or time.time() - path.stat().st_ctime < QUIET:
+                return
+            if self.draw.random() < 0.3:
+                # what the run has done so far is its own
+                self.wrong += self.oracle.ran({}, True)
+                mail = path.read_bytes()
+                self.steps.append("(while it is at work:)")
+                self.stage.remove(path)
+                self.seen["taken while a run was at work"] += 1
+                self.oracle.take(name, mail)
+                self.is_disturbed = True
+            elif path.parent.name == "new":
+                path.rename(path.parent.parent / "cur" / (path.name.split(":")[0] + ":2,S"))
 
     def ways(self, box: Box) -> list[Reading]:
         """How a mailbox may be read."""
@@ -178,9 +202,12 @@ class History:
             if row and row["folder"] and row["folder"] != self.target(box):
                 self.oracle.see(box.number, row["folder"], self.ways(box))
         self.stage.told(ran, *words, kill=kill)
+        if ran.is_killed:
+            wait_for_lock(self.maildir)
         self.wrong += self.oracle.ran(rows, ran.is_killed)
         if not ran.is_killed:
             self.check(ran, rows)
+            self.is_disturbed = False
         return ran, rows
 
     def boxes_of(self, words: Sequence[str]) -> list[Box]:
@@ -196,8 +223,12 @@ class History:
             row = rows.get(box.path)
             if row and row["verdict"] in ENDED:
                 best = self.best(box)
-                self.wrong += self.oracle.missing(row, [best])
+                self.note(self.oracle.missing(row, [best]))
                 self.oracle.brings(box.number, row["folder"] or self.target(box), best.contents)
+
+    def note(self, lines: Iterable[str]) -> None:
+        """Notes what is wrong with what is there after a run. What its owner took meanwhile, it does not say."""
+        self.wrong += [line for line in lines if not (self.is_disturbed and line.endswith("unsaid"))]
 
     def commands(self) -> list[list[str]]:
         """The words that migrate everything."""
@@ -229,8 +260,7 @@ class History:
     def is_quiet(self) -> bool:
         """Whether nobody has just changed a name in the Maildir. What happens in that moment is not known from what a
         run did, by the times of the disk."""
-        folders = [self.maildir / sub for sub in ("new", "cur")]
-        return all(folder.is_dir() and folder.stat().st_mtime < time.time() - QUIET for folder in folders)
+        return True
 
     def save(self) -> Path:
         """Keeps the home as it is."""

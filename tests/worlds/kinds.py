@@ -1,9 +1,10 @@
 """The kinds of random worlds, and how many of each the suite tries."""
 from collections.abc import Callable, Iterable
+from functools import partial
 from typing import NamedTuple
 
 from tests.support.cases import Failed
-from tests.worlds import decisions, labels, mutated, passes, rewritten, shared, stray, trees, undone
+from tests.worlds import crowded, decisions, labels, mutated, passes, rewritten, shared, stray, trees, undone
 from tests.worlds.back import trial
 from tests.worlds.fates import drawn
 from tests.worlds.history import History
@@ -30,6 +31,10 @@ KINDS = {
     "rewritten": Kind(lived(rewritten.Rewritten), 12),
     # the same, whose runs are killed again and again
     "killed": Kind(lived(rewritten.Killed), 6),
+    # the same, while its owner is at work
+    "killed_among_users": Kind(lived(partial(rewritten.Killed, is_among_users=True)), 6),
+    # several that go into their folders at the same time, whose runs are killed among users, perhaps on a full disk
+    "crowded": Kind(lived(crowded.Crowded), 6),
     # the same, which is undone beside others
     "undone": Kind(lived(undone.Undone), 10),
     # several, between which mail is moved; folders, ledgers and mailboxes are renamed, deleted, lost or restored

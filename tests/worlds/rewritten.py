@@ -1,6 +1,5 @@
 """A mailbox that `migrate` has seen, that is rewritten, and that it sees again, or whose migration is killed again and
 again. Its owner takes, reads and gets mail meanwhile. Each command that is printed is run."""
-import contextlib
 import re
 import shlex
 import time
@@ -30,8 +29,8 @@ class Rewritten(History):
         super().__init__(stage, seed, is_one=True)
         # how the mailbox is read by an answer that names lines
         self.answered: list[Reading] = []
-        # whether a program has written over mail, and whether its owner took a message while the run was at work
-        self.is_damaged = self.is_disturbed = False
+        # whether a program has written over mail
+        self.is_damaged = False
 
     @property
     def box(self) -> Box:
@@ -62,9 +61,8 @@ class Rewritten(History):
         row, ways = rows.get(INBOX), self.ways(self.box)
         if row and row["verdict"] in ENDED:
             found = [[*self.oracle.missing(row, [one]), *self.oracle.read_otherwise(row, one, ways)] for one in ways]
-            unsaid = [line for line in min(found, key=len) if not (self.is_disturbed and line.endswith("unsaid"))]
-            self.wrong += unsaid
-        self.is_disturbed = False
+            least: list[str] = min(found, key=len)
+            self.note(least)
 
     def killed(self) -> None:
         """A run that is killed at a random moment."""
@@ -220,31 +218,14 @@ class Rewritten(History):
 class Killed(Rewritten):
     """Such a mailbox, whose migration is killed again and again, and that is rewritten between the kills."""
 
-    # whether its owner is at work while a run is; what that run has seen by then is a matter of milliseconds
-    MEANWHILE = False
-
-    def __init__(self, stage: Stage, seed: int) -> None:
+    def __init__(self, stage: Stage, seed: int, is_among_users: bool = False) -> None:
         super().__init__(stage, seed)
-        # how likely its owner does something at a moment
-        self.likely = self.draw.choice([0.0, 0.01, 0.03]) if self.MEANWHILE else 0.0
+        # what a run has seen of what its owner does meanwhile is a matter of milliseconds
+        self.likely = self.draw.choice([0.0, 0.01, 0.03]) if is_among_users else 0.0
 
-    def meanwhile(self) -> None:
-        """Its owner takes a message, or reads it."""
-        if self.draw.random() >= self.likely or not self.is_quiet():
-            return
-        files = [*self.oracle.files()]
-        name, path = self.draw.choice(files) if files else ("", None)
-        with contextlib.suppress(FileNotFoundError):
-            if path and self.draw.random() < 0.3:
-                # what the run has done so far is its own
-                self.wrong += self.oracle.ran({}, True)
-                mail = path.read_bytes()
-                self.steps.append("(while it is at work:)")
-                self.stage.remove(path)
-                self.oracle.take(name, mail)
-                self.is_disturbed = True
-            elif path and path.parent.name == "new":
-                path.rename(path.parent.parent / "cur" / (path.name.split(":")[0] + ":2,S"))
+    def is_quiet(self) -> bool:
+        folders = [self.maildir / sub for sub in ("new", "cur")]
+        return all(folder.is_dir() and folder.stat().st_mtime < time.time() - QUIET for folder in folders)
 
     def live(self) -> None:
         self.words = DOVECOT * (self.draw.random() < 0.4)

@@ -9,7 +9,7 @@ from tests.support.place import ENDED
 from tests.support.running import NEVER, Kill, Row, Run
 from tests.worlds.history import Box, History
 from tests.worlds.letters import content
-from tests.worlds.oracle import Oracle
+from tests.worlds.oracle import Oracle, Shelf
 from tests.worlds.stage import Stage
 
 NAMES = ["A", "B", "C", "D", "E"]
@@ -122,13 +122,18 @@ class Shared(History):
             self.wrong.append(f"it is not undone: {ran.output[-600:]}")
             return
         self.wrong += self.oracle.undoes([box.number], ran.row)
-        more = Counter(self.oracle.shelves[self.folder].foreign)
+        self.clear_up(self.oracle.shelves[self.folder])
+
+    def clear_up(self, shelf: Shelf) -> None:
+        """People remove what an undo has kept. Nobody misses that."""
+        more, taken = Counter(shelf.foreign), Counter(shelf.taken)
         for _, path in [*self.oracle.files()]:
             mail = content(path.read_bytes())
             if more[mail] and path.name.startswith("17"):
                 self.stage.remove(path)
                 more[mail] -= 1
         self.oracle.look()
+        shelf.taken = taken
 
     def read(self) -> None:
         """Readers read mail, and perhaps delete some, while other programs may give files names of their own."""
