@@ -6,7 +6,6 @@ is then printed. Everything is left out if Dovecot is missing.
 """
 import contextlib
 import os
-import random
 import re
 import shutil
 from collections.abc import Callable, Iterator, Sequence
@@ -20,8 +19,7 @@ from tests.support.dovecot.served import Case, differences, mail, served
 from tests.support.dovecot.server import Dovecot, is_there
 from tests.support.dovecot.settings import settings_here
 from tests.support.homes import fresh_home, install
-from tests.support.kills import Killer, Moment, settings_in
-from tests.support.ledgers import LEDGER, RECORD, take_back_ends, wait_for_lock
+from tests.support.ledgers import RECORD, take_back_ends
 from tests.support.printed import commands_in
 
 # what a row says of lines that lost a `>`
@@ -54,40 +52,6 @@ def goes_on(home: Path, server: Dovecot) -> Iterator[str]:
         yield from says(f"broken off before {what}", case.migrate(), 0, "done")
         if (maildir / "dovecot-uidlist").read_bytes() != numbers:
             yield f"dovecot: broken off before {what}: other numbers"
-
-
-def is_killed(home: Path, server: Dovecot) -> Iterator[str]:
-    """A run that is killed at random calls, and run again, leaves the same files as one that is not."""
-    case, draw = Case(home, server, "killed"), random.Random(62)
-    tree(case)
-    case.deliver(*map(mail, range(20, 60)))
-    whole, settings = case.copy("whole"), settings_in(home)
-    killer = Killer(settings)
-    with killer.at() as calls:
-        yield from says("killed never", whole.migrate(**settings), 0, ": 6 done; ")
-    wanted = files_below(whole)
-    for _ in range(10):
-        one, moments = case.copy("once-more"), [draw.randint(1, len(calls)) for _ in range(draw.randint(1, 2))]
-        for moment in moments:
-            with killer.at(Moment(moment)):
-                one.migrate(**settings)
-            wait_for_lock(one.home / "Maildir")
-        yield from says(f"killed at the calls {moments}, and run again", one.migrate(), 0, r"(?m)^\d+ mailboxes: ")
-        if files_below(one) != wanted:
-            got = files_below(one)
-            names = sorted(set(got) ^ set(wanted)) or sorted(name for name in got if got[name] != wanted[name])
-            yield f"dovecot: killed at the calls {moments}, and run again: other files: {names[:5]}"
-    yield from differences(case.before(), one.after(), False)
-
-
-def files_below(case: Case) -> dict[str, bytes]:
-    """The files of a Maildir except its record and its ledgers, with their contents."""
-    top = case.home / "Maildir"
-    return {
-        str(path.relative_to(top)): path.read_bytes()
-        for path in top.rglob("*")
-        if path.is_file() and path.name not in (RECORD, LEDGER)
-    }
 
 
 def comes_before(home: Path, server: Dovecot) -> Iterator[str]:
@@ -453,7 +417,6 @@ def main() -> None:
         check.__name__: check
         for check in (
             goes_on,
-            is_killed,
             comes_before,
             has_others,
             moves,

@@ -83,6 +83,13 @@ def of_a_tree(home: Home) -> None:
     home.write("mail/y", letters(1, 2, fields=RO))
 
 
+def of_a_tree_of_a_server(home: Home) -> None:
+    """The same of a server, by which a user is subscribed to one of them."""
+    home.write("mail/x", letter(0, UIDS % 1) + letter(1, b"X-UID: 4\nX-Keywords: garden\nStatus: O\n"))
+    home.write("mail/y", letter(2, UIDS % 1))
+    home.write("mail/.subscriptions", b"x\n")
+
+
 def unchanged_of_a_server(home: Home) -> None:
     """A server's mailbox is as it was prepared, so that its text is not read again."""
     of_a_server(home)
@@ -95,6 +102,7 @@ DEEDS = {
     "grown": Deed([*FOLDER, "M", "OLD", "READ"], one_grew, ["OLD", "READ"]),
     "dovecot": Deed(["--dovecot", "M", "OLD"], of_a_server, ["OLD"]),
     "tree": Deed(["--jobs", "1", "M", "mail"], of_a_tree, ["mail/x", "mail/y"]),
+    "tree_of_a_server": Deed(["--jobs", "1", "--dovecot", "M", "mail"], of_a_tree_of_a_server, ["mail/x", "mail/y"]),
     "first_pass": Deed([*PREPARE, *FOLDER, "M", "OLD"], prepared, ["OLD"]),
     "last_pass": Deed([*FOLDER, "M", "OLD"], prepared, ["OLD"]),
     "last_pass_of_two": Deed([*FOLDER, "M", "OLD", "READ"], prepared_beside, ["READ", "OLD"]),
@@ -105,15 +113,17 @@ DEEDS = {
     "undo_the_other": Deed([*FOLDER, "--undo", "M", "READ"], both_done, ["OLD"]),
 }
 
-# the folder of each file, the number of its message, and its flags
-Files = typing.Counter[tuple[str, int, str]]
+# the folder of each file, the number of its message, and its flags; or its name and what is in it
+Files = typing.Counter[tuple[str, object, object]]
 
 
 def files_of(home: Home) -> Files:
-    """The files of the mail."""
-    return Counter(
-        (path.parent.parent.name, number_of(path.read_bytes()), path.name.partition(":2,")[2]) for path in home.files()
-    )
+    """The files of the mail, and those that Dovecot reads."""
+    mail = [
+        (path.parents[1].name, number_of(path.read_bytes()), path.name.partition(":2,")[2]) for path in home.files()
+    ]
+    several = [*home.maildir.rglob("dovecot-*"), *home.maildir.glob("subscriptions")]
+    return Counter([*mail, *((path.parent.name, path.name, path.read_bytes()) for path in several)])
 
 
 class Trial(Kept):

@@ -196,19 +196,6 @@ class Desk:
     ) -> Run:
         """Runs a command to its end, or until it is killed with all that is in its group. Meanwhile a function is
         called again and again. The companion must never die of a fault of its own."""
-        ran = self.run_any(words, kill, meanwhile, given)
-        assert kill != NEVER or not ran.is_killed, f"{words}: died of {-ran.status}: {ran.output}"
-        assert ran.is_killed or "Traceback" not in ran.err, f"{words}: status {ran.status}: {ran.err}"
-        return ran
-
-    def run_any(
-        self,
-        words: Sequence[Word],
-        kill: Kill = NEVER,
-        meanwhile: Callable[[], object] = bool,
-        given: bytes = b"",
-    ) -> Run:
-        """The same, whatever it dies of."""
         with ExitStack() as stack:
             out, err, source = (stack.enter_context(tempfile.TemporaryFile()) for _ in range(3))
             source.write(given)
@@ -221,7 +208,10 @@ class Desk:
             for file in (out, err):
                 file.seek(0)
                 texts.append(decoded(file.read()))
-        return Run(child.returncode, *texts)
+        ran = Run(child.returncode, *texts)
+        assert kill != NEVER or not ran.is_killed, f"{words}: died of {-ran.status}: {ran.output}"
+        assert ran.is_killed or "Traceback" not in ran.err, f"{words}: status {ran.status}: {ran.err}"
+        return ran
 
     def run_later(self, words: Sequence[Word], kill: Kill = NEVER, meanwhile: Callable[[], object] = bool) -> Run:
         """Runs a command again as long as it meets what a killed run has left at work."""

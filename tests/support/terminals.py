@@ -1,11 +1,13 @@
 """Programs on a terminal of their own, where keys are typed."""
 import os
 import pty
+import pwd
 import select
 import signal
 import time
 from collections.abc import Sequence
 from pathlib import Path
+from typing import Optional
 
 from tests.support.checks import PATIENCE
 
@@ -16,10 +18,16 @@ REWRITTEN = "\r\x1b[K"
 class Terminal:
     """A program in the foreground of a terminal. What it prints is read as a human sees it in the end."""
 
-    def __init__(self, words: Sequence[str], home: Path, **settings: str) -> None:
+    def __init__(
+        self, words: Sequence[str], home: Path, user: Optional[pwd.struct_passwd] = None, **settings: str
+    ) -> None:
         self.child, self.number = pty.fork()
         if not self.child:
             os.chdir(home)
+            if user:
+                os.setgroups([user.pw_gid])
+                os.setgid(user.pw_gid)
+                os.setuid(user.pw_uid)
             os.execvpe(words[0], [*words], {**os.environ, "TERM": "dumb", "LC_ALL": "C.UTF-8", **settings})
         self.printed = b""
         self.is_waited_for = False

@@ -21,7 +21,7 @@ def migrate(world: World, desk: Desk, options: Sequence[str] = ()) -> Run:
     if isinstance(desk, Place):
         desk.account = None if world.is_for_users else desk.owner
     words = ["migrate", "--all", "--json", *options, *world.options, "--", *map(os.fsdecode, world.words)]
-    return desk.run_any(words, given=world.input)
+    return desk.run(words, given=world.input)
 
 
 class Comparison:

@@ -25,9 +25,9 @@ from tests.worlds.fates.world import INBOX, Branch, Thing, World
 from tests.support.place import Place
 from tests.worlds.stage import Accounts
 
-ERRORS = [errno.EIO, errno.EACCES, errno.ENOMEM, errno.ESTALE]
-# the errors of a world in which each call fails, and how many processes run it
-EACH, JOBS = [errno.ENOMEM, errno.EIO, errno.EACCES], 4
+ERRORS = [errno.ENOMEM, errno.EIO, errno.EACCES, errno.ESTALE]
+# how many processes try a world in which each call fails
+JOBS = 4
 # calls that ask what is there, and for locks: if one fails, something is not known, and status 0 would say that it is
 ASKING = "open stat lstat entry.stat scandir listdir readdir access readlink flock fcntl lockf".split()
 
@@ -159,6 +159,8 @@ class Attempt:
 
     def __init__(self, make: Make, place: Place) -> None:
         self.make, self.place, self.home, self.log = make, place, place.home, place.home.parent / "calls"
+        # what was right though a call failed
+        self.met: set[Right] = set()
 
     def begin(self) -> World:
         """Makes the world anew."""
@@ -176,62 +178,43 @@ class Attempt:
         self.log.chmod(0o666)
         desk = FailingDesk(self.home, self.place.programs)
         desk.log, desk.fault = str(self.log), fault
-        ran = migrate(world, desk)
+        try:
+            ran = migrate(world, desk)
+        except AssertionError as died:
+            raise AssertionError(f"{fault}: {died}") from died
         lines = self.log.read_text(encoding="utf-8", errors="replace").splitlines()
         calls = (line.split("\t") for line in lines)
         return world, ran, [Call(int(number), *words) for number, *words in calls]
 
     def faults(self) -> list[Fault]:
-        """All faults that there may be: each call with each error."""
+        """Each call with one error, and with further ones so that each place in the code meets all of them."""
         _, _, calls = self.run()
-        return [Fault(call.number, error) for call in calls for error in ERRORS]
+        places: collections.defaultdict[tuple[str, str], list[int]] = collections.defaultdict(list)
+        for call in calls:
+            places[call.what, call.callers].append(call.number)
+        return [
+            Fault(numbers[place % len(numbers)], ERRORS[place % len(ERRORS)])
+            for numbers in places.values()
+            for place in range(max(len(numbers), len(ERRORS)))
+        ]
 
     def is_here(self, about: str) -> bool:
         """Whether a call is about a file of the world, or an open one."""
         here = rf"b?['\"](?:(?:{re.escape(str(self.home))}/)?(?:tree|M|spool|homes)(?:/|['\"]))"
         return about.isdigit() or re.match(here, about) is not None
 
-    def wrong(self, fault: Fault) -> list[str]:
-        """What is wrong with a run in which a call fails, and with a run after it in which none fails."""
-        world, run, failed = self.run(fault)
-        wrong = list(wrong_of_fault(world, run))
-        asked = [call for call in failed if call.what in ASKING and self.is_here(call.about)]
-        if run.status == 0 and not all(map(rights_of, asked)):
-            wrong.append(f"status 0: {run.out[-300:]}")
-        if not wrong:
-            wrong = [f"the run after it: {line}" for line in wrong_after(world, migrate(world, self.place))]
-        return told(fault, failed, wrong)
-
-
-class EachCall(Attempt):
-    """A world in which each call fails once."""
-
-    def __init__(self, make: Make, place: Place) -> None:
-        super().__init__(make, place)
-        self.met: set[Right] = set()
-        # else each copy would have to move what is collected
-        gc.freeze()
-
-    def faults(self) -> list[Fault]:
-        """Each call with one error, and with further ones so that each place in the code meets all of three."""
-        _, _, calls = self.run()
-        places: collections.defaultdict[tuple[str, str], list[int]] = collections.defaultdict(list)
-        for call in calls:
-            places[call.what, call.callers].append(call.number)
-        return [
-            Fault(numbers[place % len(numbers)], EACH[place % len(EACH)])
-            for numbers in places.values()
-            for place in range(max(len(numbers), len(EACH)))
-        ]
-
-    def wrong(self, fault: Fault) -> list[str]:
-        """What is wrong with a run in which a call fails: also that all is well, unless that is right."""
+    def wrong(self, fault: Fault, is_each: bool = False) -> list[str]:
+        """What is wrong with a run in which a call fails: also that all is well, unless that is right. If not each call
+        is tried, only those count that ask what is in the world; a run after it is looked at too."""
         world, run, failed = self.run(fault)
         wrong = list(wrong_of_fault(world, run))
         if run.status == 0:
-            rights = [rights_of(call) for call in failed]
+            asked = [call for call in failed if is_each or call.what in ASKING and self.is_here(call.about)]
+            rights = [rights_of(call) for call in asked]
             self.met.update(right for several in rights for right in several)
             wrong += [f"status 0: {run.out[-300:]}"] * (not all(rights))
+        if not wrong and not is_each:
+            wrong = [f"the run after it: {line}" for line in wrong_after(world, migrate(world, self.place))]
         return told(fault, failed, wrong)
 
 
@@ -244,13 +227,15 @@ def told(fault: Fault, failed: Sequence[Call], wrong: Sequence[str]) -> list[str
 def wrong_in_share(make: Make, home: Path, programs: Path, faults: Sequence[Fault]) -> tuple[list[str], set[Right]]:
     """What is wrong with some runs, and what was right in them though a call failed."""
     home.parent.mkdir()
-    attempt = EachCall(make, Place(home, programs))
-    return [line for fault in faults for line in attempt.wrong(fault)], attempt.met
+    # else each copy would have to move what is collected
+    gc.freeze()
+    attempt = Attempt(make, Place(home, programs))
+    return [line for fault in faults for line in attempt.wrong(fault, is_each=True)], attempt.met
 
 
 def wrong_calls(make: Make, top: Path, programs: Path) -> list[str]:
     """What is wrong with runs of a world in each of which another call fails."""
-    faults = EachCall(make, Place(top / "home", programs)).faults()
+    faults = Attempt(make, Place(top / "home", programs)).faults()
     shares = [(make, top / str(share) / "home", programs, faults[share::JOBS]) for share in range(JOBS)]
     with multiprocessing.get_context("fork").Pool(JOBS) as pool:
         found = pool.starmap(wrong_in_share, shares)
@@ -260,9 +245,6 @@ def wrong_calls(make: Make, top: Path, programs: Path) -> list[str]:
 
 def wrong_of_fault(world: World, run: Run) -> Iterator[str]:
     """What is wrong with a run in which a call failed."""
-    if "Traceback" in run.err:
-        yield f"a traceback: {run.err[-300:]}"
-        return
     if run.status not in (0, 1, LATER):
         yield f"status {run.status}: {run.err.strip()[-200:]}"
     comparison = Comparison(world, run)
