@@ -98,7 +98,7 @@ class Story(Rewritten):
         assert ran.is_killed, f"status {ran.status}: {ran.output}"
         self.holds(count)
         self.oracle.see(0, "INBOX", self.ways(self.box))
-        self.wrong += self.oracle.ran({}, True)
+        self.wrong += self.oracle.ran([], True)
 
 
 def looked_at(story: Story) -> None:

@@ -4,12 +4,10 @@ Of a mailbox that a program wrote, what is done without a word is the mail that 
 says otherwise. Each command that is printed is run, and words are forced; the Maildir then has what the splitter has. A
 word that is said of several mailboxes decides only about those that do not contradict it and ask nothing else, and in a
 spool root runs what is printed for each user that is left."""
-import pwd
 import re
 import shlex
 import shutil
 from collections.abc import Iterator, Sequence
-from pathlib import Path
 from random import Random
 from typing import NamedTuple, Optional
 
@@ -25,6 +23,9 @@ from tests.support.splitter import (
     split,
     without_deleted,
 )
+from tests.worlds.fates.texts import done
+from tests.worlds.fates.users import Homes
+from tests.worlds.fates.world import World
 from tests.worlds.letters import letters
 from tests.worlds.stage import Stage
 from tests.worlds.writers import WRITERS, Written
@@ -253,26 +254,22 @@ def is_printed(word: str, row: Row) -> bool:
 
 def in_a_spool(stage: Stage, seed: int) -> Iterator[str]:
     """Users have such mailboxes in a spool."""
-    users, draw, place, boxes = stage.users().names, Random(f"users {seed}"), stage.place, {}
+    draw, place, boxes = Random(f"users {seed}"), stage.place, {}
     place.clear(is_for_users=True)
-    for user in users:
-        account = pwd.getpwnam(user)
-        shutil.rmtree(account.pw_dir, ignore_errors=True)
-        Path(account.pw_dir).mkdir(parents=True)
+    homes = Homes(World(place.home), stage.users())
+    for user in homes.who.names:
         boxes[user] = drawn(draw)[1]
-        path = place.write(f"spool/{user}", boxes[user].text)
-        path.chmod(0o600)
-        for one in (account.pw_dir, str(path)):
-            shutil.chown(one, account.pw_uid, account.pw_gid)
-    (place.home / "spool").chmod(0o711)
-    for row in place.run(["migrate", "--users", "--now", "--json", "spool", *users]).rows:
+        homes.own(bytes(homes.home(user)), user)
+        homes.mailbox(user, done(boxes[user].text))
+    homes.world.finish()
+    for row in place.run(["migrate", "--users", "--now", "--json", "spool", *boxes]).rows:
         yield from wrong_of_user(stage, row, boxes[row["user"]])
 
 
 def wrong_of_user(stage: Stage, row: Row, written: Written) -> Iterator[str]:
     """What is wrong with the mail of a user that is done, or with the commands that are printed for one that is
     left."""
-    maildir, answers = Path(pwd.getpwnam(row["user"]).pw_dir) / "Maildir", answers_in(row)
+    maildir, answers = stage.users().home(row["user"]) / "Maildir", answers_in(row)
     if row["verdict"] == "done":
         count = len(stage.place.mail(str(maildir)))
         if count != len(written.pieces):

@@ -175,7 +175,7 @@ class History:
                 return
             if self.draw.random() < 0.3:
                 # what the run has done so far is its own
-                self.wrong += self.oracle.ran({}, True)
+                self.wrong += self.oracle.ran([], True)
                 mail = path.read_bytes()
                 self.steps.append("(while it is at work:)")
                 self.stage.remove(path)
@@ -193,7 +193,7 @@ class History:
         """Runs the companion, and looks at what it did."""
         boxes = self.boxes_of(words)
         for box in boxes:
-            self.oracle.see(box.number, self.target(box), self.ways(box))
+            self.sees(box)
         ran = self.place.in_shell(in_shell) if in_shell else self.place.run_later(words, kill, self.meanwhile)
         rows = {str(row["path"]): row for row in ran.rows}
         # a mailbox may go on in another folder, which people have given another name
@@ -204,11 +204,15 @@ class History:
         self.stage.told(ran, *words, kill=kill)
         if ran.is_killed:
             wait_for_lock(self.maildir)
-        self.wrong += self.oracle.ran(rows, ran.is_killed)
+        self.wrong += self.oracle.ran(ran.rows, ran.is_killed)
         if not ran.is_killed:
             self.check(ran, rows)
             self.is_disturbed = False
         return ran, rows
+
+    def sees(self, box: Box) -> None:
+        """A run will see a mailbox."""
+        self.oracle.see(box.number, self.target(box), self.ways(box))
 
     def boxes_of(self, words: Sequence[str]) -> list[Box]:
         """The mailboxes that a run with these words may read."""

@@ -51,7 +51,7 @@ KINDS = {
     # texts that no program wrote
     "mutated": Kind(mutated.one_text, 1000),
     # Takeouts, which go into folders by the labels of their messages
-    "labels": Kind(labels.one_world, 16),
+    "labels": Kind(lived(labels.Labels), 16),
     # mailboxes of five dialects, into which the mail of a Maildir goes back
     "back": Kind(trial.one_world, 15),
     # mailboxes that share messages

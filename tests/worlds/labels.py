@@ -4,21 +4,18 @@ moment, a later Takeout in the place of the first or beside it, labels that send
 the undo."""
 import base64
 import collections
-import typing
 from collections import Counter
-from collections.abc import Iterator, Mapping, Sequence
+from collections.abc import Mapping, Sequence
 from dataclasses import dataclass, field
-from pathlib import Path
 from random import Random
 from typing import NamedTuple, Optional
 
-from tests.support.running import NEVER, Kill, Run
-from tests.worlds.letters import id_of
-from tests.worlds.oracle import most
 from tests.support.place import ENDED
+from tests.support.running import NEVER, Kill, Row, Run
+from tests.support.splitter import split
+from tests.worlds.history import Box, History
+from tests.worlds.oracle import INBOX, Oracle, Reading, reading_of, total
 from tests.worlds.stage import Stage
-
-Folders = dict[str, typing.Counter[bytes]]
 
 # what Gmail's own labels give, by the names in a Takeout: a folder, or nothing
 OWN: dict[str, Optional[str]] = {
@@ -146,17 +143,17 @@ class Model:
         own = self.own(counts)
         return [one for one in counts if one not in own and one not in self.said and 2 * counts[one] > len(messages)]
 
-    def folders(self, messages: Sequence[Message]) -> Folders:
-        """The folders of a Takeout."""
+    def folders(self, messages: Sequence[Message]) -> dict[str, list[int]]:
+        """The folders of a Takeout, each with the places of its messages."""
         own = self.own(Counter(label for message in messages for label in message.labels))
-        found: Folders = collections.defaultdict(Counter)
-        for message in messages:
+        found: collections.defaultdict[str, list[int]] = collections.defaultdict(list)
+        for place, message in enumerate(messages):
             labels = [one for one in message.labels if self.said.get(one) != "none"]
             people = [{**PEOPLE, **UNKNOWN}[one] for one in labels if one not in own]
             gmail = [one for one in ORDER if one in [own[label] for label in labels if label in own]]
             wanted = list(dict.fromkeys(people + gmail)) or [".Archive"]
             for name in wanted[:1] if self.option == "one" else wanted:
-                found[name][message.name] += 1
+                found[name[1:].replace(".", "/") or INBOX].append(place)
         return found
 
     def labels(self, draw: Random) -> list[str]:
@@ -187,117 +184,110 @@ class Model:
         return found
 
 
-class World:
-    """A Maildir into which Takeouts go."""
+class Labels(History):
+    """A Maildir, into which a Takeout goes, and a later one."""
+
+    IS_SERVED = False
 
     def __init__(self, stage: Stage, seed: int) -> None:
-        self.draw, self.stage, self.place = Random(seed), stage, stage.place
-        self.place.clear()
-        self.maildir = self.place.home / "M"
+        super().__init__(stage, seed)
+        self.oracle = Oracle(self.maildir, is_one=True, may_come_back=False)
         self.model = Model(self.draw.choice(["", "", "all", "one"]), self.draw.random() < 0.3)
-        # what is to be there, and what each Takeout has brought
-        self.wanted: Folders = {}
-        self.brought: dict[str, Folders] = {}
+        # what each Takeout has for each folder
+        self.parted: dict[Box, dict[str, Reading]] = {}
 
-    def words(self) -> list[str]:
+    def options(self) -> list[str]:
         """The options of a run."""
         words = ["--labels", *filter(None, [self.model.option])]
         return words + [word for label, gives in self.model.said.items() for word in ("--label", f"{label}={gives}")]
 
-    def run(self, name: str, *words: str, kill: Kill = NEVER) -> Run:
-        """Runs the companion."""
-        ran = self.place.run(["migrate", "--json", "--now", *words, "M", name], kill)
-        self.stage.told(ran, "migrate", *words, "M", name, kill=kill)
+    def boxes_of(self, words: Sequence[str]) -> list[Box]:
+        return [box for box in self.boxes if box.path in words]
+
+    def sees(self, box: Box) -> None:
+        for folder, one in self.parted.get(box, {}).items():
+            self.oracle.see(box.number, folder, [one])
+        # a message may be in several folders
+        self.oracle.all.had[box.number] |= total(one.ids for one in self.parted.get(box, {}).values())
+
+    def check(self, ran: Run, rows: dict[str, Row]) -> None:
+        for row in ran.rows if "--undo" not in self.steps[-1] else []:
+            box = next(box for box in self.boxes if box.path == row["path"])
+            if row["verdict"] in ENDED and row["folder"] in self.parted.get(box, {}):
+                self.note(self.oracle.missing(row, [self.parted[box][row["folder"]]]))
+
+    def ends(self, status: int, box: Box, *words: str) -> Run:
+        """Runs it, which ends with this status."""
+        ran = self.run(["migrate", "--json", "--now", *words, "Maildir", box.path])[0]
         is_done = all(row["verdict"] in ENDED for row in ran.rows)
-        assert ran.status != 0 or is_done, "status 0, but something is not done"
+        if ran.status != status or status == 0 and not is_done:
+            self.wrong.append(f"status {ran.status} in place of {status}, or not all is done")
         return ran
 
-    def wants(self, status: int, name: str, *words: str) -> None:
-        """Runs it, which ends with this status."""
-        ran = self.run(name, *words)
-        assert ran.status == status, f"status {ran.status} in place of {status}"
-
-    def killed(self, name: str, *words: str) -> None:
+    def killed(self, box: Box, *words: str) -> None:
         """Kills a run at any moment."""
-        self.run(name, *words, kill=Kill(event=self.draw.randrange(*EVENTS)))
+        kill = Kill(event=self.draw.randrange(*EVENTS))
+        self.run(["migrate", "--json", "--now", *words, "Maildir", box.path], kill)
 
-    def files(self) -> Iterator[tuple[str, Path]]:
-        """The files of all mail, each with its folder."""
-        for sub in ("new", "cur"):
-            for path in sorted([*self.maildir.glob(f"{sub}/*"), *self.maildir.glob(f".*/{sub}/*")]):
-                folder = path.parents[1].name
-                yield "" if path.parents[1] == self.maildir else folder, path
-
-    def check(self, why: str) -> None:
-        """Each folder has what it is to have."""
-        there: Folders = collections.defaultdict(Counter)
-        for folder, path in self.files():
-            there[folder][id_of(path.read_bytes())] += 1
-        wanted = {folder: +counts for folder, counts in self.wanted.items() if +counts}
-        assert there == wanted, f"{why}: there is {dict(there)}, and not {wanted}"
-
-    def bring(self, name: str, messages: list[Message]) -> None:
-        """Migrates a Takeout, after questions and kills, and compares."""
-        self.place.write(name, b"".join(message.text(self.draw) for message in messages))
-        self.stage.steps.append(f"{name} has {[(one.number, one.labels) for one in messages]}")
+    def bring(self, box: Box, messages: list[Message]) -> None:
+        """Migrates a Takeout, after questions and kills, and once more."""
+        texts = [message.text(self.draw) for message in messages]
+        self.place.write(box.path, b"".join(texts))
+        self.steps.append(f"{box.path} has {[(one.number, one.labels) for one in messages]}")
         asked = self.model.asked(messages)
         if asked:
-            self.wants(1, name, *self.words())
-            self.check("a question")
+            self.parted.pop(box, None)
+            self.ends(1, box, *self.options())
             self.model.said.update({label: self.draw.choice(["none", "folder"]) for label in asked})
+        mails = [split(text, "mboxrd")[0] for text in texts]
+        folders = self.model.folders(messages).items()
+        self.parted[box] = {name: reading_of([mails[place] for place in places]) for name, places in folders}
         for _ in range(self.draw.choice([0, 1, 1, 2])):
-            self.killed(name, *self.words())
-        self.wants(0, name, *self.words())
-        before = self.brought.setdefault(name, {})
-        for folder, counts in self.model.folders(messages).items():
-            already = most(had.get(folder, Counter()).elements() for had in self.brought.values())
-            self.wanted[folder] = self.wanted.get(folder, Counter()) + (counts - already)
-            before[folder] = before.get(folder, Counter()) | counts
-        self.check("a Takeout")
-        self.wants(0, name, *self.words())
-        self.check("nothing new")
+            self.killed(box, *self.options())
+        for _ in range(2):
+            self.ends(0, box, *self.options())
 
     def delete(self) -> None:
         """A reader deletes a file."""
-        files = list(self.files())
+        files = [path for _, path in self.oracle.files()]
         if files:
-            folder, path = self.draw.choice(files)
-            self.wanted[folder][id_of(path.read_bytes())] -= 1
-            self.stage.remove(path)
+            self.stage.remove(self.draw.choice(files))
+            self.oracle.look()
 
-    def verify(self, name: str) -> None:
+    def verify(self, box: Box) -> None:
         """Each message must be there, by `verify` too."""
-        ran = self.place.run(["verify", "--json", "M", name])
-        self.stage.told(ran, "verify", "M", name)
-        assert ran.status == 0 and len({one["folder"] for one in ran.rows}) == len(self.wanted), "not verified"
+        ran = self.place.run(["verify", "--json", "Maildir", box.path])
+        self.stage.told(ran, "verify", "Maildir", box.path)
+        if ran.status or {one["folder"] for one in ran.rows} != {*self.parted[box]}:
+            self.wrong.append("not verified")
 
-    def undo(self, names: Sequence[str], messages: list[Message]) -> None:
+    def undo(self) -> None:
         """Undoes all. Of a Takeout that took another one's place, what it no longer has stays."""
-        for name in self.draw.sample(names, len(names)):
-            if self.draw.random() < 0.4:
-                self.killed(name, "--undo")
-            ran = self.run(name, "--undo")
-            assert ran.status == 0 or ran.status == 1 and "no ledger has it" in ran.output, "it is not undone"
-        has = Counter(one.name for one in messages)
-        self.wanted = {folder: counts - has for folder, counts in self.wanted.items()} if len(names) == 1 else {}
-        self.check("the undo")
+        box = self.boxes[-1]
+        has = reading_of(split(self.text_of(box), "mboxrd")).contents
+        stays = {name: its.seen - has for name, its in self.oracle.shelves.items() if len(self.boxes) == 1}
+        for one in self.draw.sample(self.boxes, len(self.boxes)):
+            for kill in [Kill(event=self.draw.randrange(*EVENTS))] * (self.draw.random() < 0.4) + [NEVER]:
+                words = ["migrate", "--json", "--now", "--undo", "Maildir", one.path]
+                ran = self.place.run(words, kill)
+                self.stage.told(ran, *words, kill=kill)
+            if ran.status and not (ran.status == 1 and "no ledger has it" in ran.output):
+                self.wrong.append("it is not undone")
+        here = self.oracle.counts()[0]
+        if here != {name: counts for name, counts in stays.items() if counts}:
+            self.wrong.append(f"after the undo there is {here}, and not {stays}")
 
-    def play(self) -> None:
-        """The life of this Maildir."""
+    def live(self) -> None:
         first = self.model.takeout(self.draw)
-        self.bring("t.mbox", first)
-        self.verify("t.mbox")
+        self.boxes.append(Box(0, "t.mbox", "mboxrd"))
+        self.bring(self.boxes[0], first)
+        self.verify(self.boxes[0])
         if self.draw.random() < 0.2:
-            self.wants(1, "t.mbox")
-            self.check("without --labels")
+            self.ends(1, self.boxes[0])
         if self.draw.random() < 0.4:
             self.delete()
-        second, name = self.model.later(self.draw, first), self.draw.choice(["t.mbox", "later.mbox"])
-        self.bring(name, second)
-        self.undo(list(dict.fromkeys(["t.mbox", name])), second)
-
-
-def one_world(stage: Stage, seed: int) -> list[str]:
-    """A Maildir, into which a Takeout goes, and a later one."""
-    World(stage, seed).play()
-    return []
+        if self.draw.random() < 0.5:
+            self.boxes.append(Box(1, "later.mbox", "mboxrd"))
+        self.bring(self.boxes[-1], self.model.later(self.draw, first))
+        self.undo()
+        self.ended = "undone"

@@ -12,28 +12,19 @@ import operator
 import re
 import typing
 from collections import Counter
-from collections.abc import Callable, Iterable, Iterator, Mapping, Sequence
+from collections.abc import Callable, Iterable, Iterator, Sequence
 from pathlib import Path
-from typing import NamedTuple, Optional, TypeVar
+from typing import NamedTuple, Optional
 
 from tests.support.archives import texts_of
 from tests.support.running import Row
 from tests.support.splitter import WORDS, is_from, split
 from tests.worlds.letters import INTERNAL, content, id_of, without
 
-Thing = TypeVar("Thing")
 Counts = typing.Counter[bytes]
 INBOX = "INBOX"
 # the remarks on files that an undo keeps though its mailbox brought them
 KEPT = ("already-gone", "kept-renamed", "kept-edited")
-
-
-def most(several: Iterable[Iterable[Thing]]) -> typing.Counter[Thing]:
-    """Each thing as often as the one has it that has it most often."""
-    found: typing.Counter[Thing] = Counter()
-    for things in several:
-        found |= Counter(things)
-    return found
 
 
 class Reading(NamedTuple):
@@ -48,7 +39,11 @@ class Reading(NamedTuple):
 @functools.lru_cache(maxsize=256)
 def reading(text: bytes, word: str, lines: frozenset[int] = frozenset()) -> Reading:
     """How a text is read by a word, and with lines that are said to be mail."""
-    several = split(text, word, lines) if text and is_from(text) else ()
+    return reading_of(split(text, word, lines) if text and is_from(text) else ())
+
+
+def reading_of(several: Sequence[bytes]) -> Reading:
+    """These messages."""
     mail = [one for one in several if INTERNAL not in one]
     files = frozenset(one for whole in several for one in (whole, without(whole)))
     return Reading(Counter(map(content, mail)), Counter(map(id_of, mail)), files)
@@ -143,9 +138,10 @@ class Shelf:
 class Oracle:
     """The folders of a Maildir, by the names that mail programs show."""
 
-    def __init__(self, maildir: Path, is_one: bool = False) -> None:
-        # whether only one mailbox goes into it, so that nothing is there too often, whatever is said
-        self.maildir, self.is_one = maildir, is_one
+    def __init__(self, maildir: Path, is_one: bool = False, may_come_back: bool = True) -> None:
+        # whether only one mailbox goes into it, so that nothing is there too often, whatever is said; and whether
+        # something may come back that people have taken away, if that is said
+        self.maildir, self.is_one, self.may_come_back = maildir, is_one, may_come_back
         self.shelves: collections.defaultdict[str, Shelf] = collections.defaultdict(Shelf)
         # by Message-IDs, which may be there as often as all mailboxes have them
         self.all = Shelf(total)
@@ -260,7 +256,7 @@ class Oracle:
         if row:
             self.owed.clear()
 
-    def ran(self, rows: Mapping[str, Row], is_killed: bool) -> Iterator[str]:
+    def ran(self, rows: Sequence[Row], is_killed: bool) -> Iterator[str]:
         """A run has ended, or was killed. Returns what is wrong with it."""
         here, ids = self.counts()
         for name in {*here, *self.shelves}:
@@ -269,6 +265,8 @@ class Oracle:
                 yield f"{told['gone']} went away from {name}"
             if self.is_one and told["doubled"]:
                 yield f"{told['doubled']} too often in {name}"
+            if told["back"] and not self.may_come_back:
+                yield f"{told['back']} came back in {name}"
             self.owed[name].update(doubled=told["doubled"], back=told["back"])
         told = self.all.ran(ids)
         self.owed[""].update(doubled=0 if self.is_misread else told["doubled"])
@@ -278,10 +276,10 @@ class Oracle:
         if not is_killed:
             yield from self.unsaid(rows)
 
-    def unsaid(self, rows: Mapping[str, Row]) -> Iterator[str]:
+    def unsaid(self, rows: Sequence[Row]) -> Iterator[str]:
         """What no row has said that was done. What was left may be said later."""
         for name, owed in self.owed.items():
-            mine = [row for row in rows.values() if not name or (row["folder"] or INBOX) == name]
+            mine = [row for row in rows if not name or (row["folder"] or INBOX) == name]
             said = sum(number for row in mine for number in numbers_in(row))
             # a mailbox that was moved in its tree goes into two folders, and its row says so
             said += sum(owed.values()) * any(re.search(r"\btoo\b", texts_of(row)) for row in mine)

@@ -49,7 +49,7 @@ class Shared(History):
         super().__init__(stage, seed)
         self.name = self.draw.choice(list(WAYS))
         self.way = WAYS[self.name]
-        self.oracle = Oracle(self.maildir, is_one=True)
+        self.oracle = Oracle(self.maildir, is_one=True, may_come_back=self.way.killed > 0)
         self.folder, self.words = "Archive", ["--folder", "Archive"]
         # the messages of each, by their numbers; and those of which a killed run has begun something, or a run has
         # brought all
@@ -83,9 +83,8 @@ class Shared(History):
         if ran.status or any(row["verdict"] not in ENDED for row in rows.values()):
             self.wrong.append(f"it is not done: {ran.output[-600:]}")
         # among several mailboxes a run may not know which of them brought a file that a killed one placed
-        is_known = not self.way.killed or len(self.boxes) == 1 and not self.way.deleted
-        if is_known and "came back" in ran.output:
-            self.wrong.append("nobody has deleted what came back, or it should not")
+        if len(self.boxes) == 1 and not self.way.deleted and "came back" in ran.output:
+            self.wrong.append("nobody has deleted what came back")
 
     def bring(self, boxes: Sequence[Box], kill: Kill = NEVER) -> None:
         """Migrates some of them in one command, which may be killed."""

@@ -246,7 +246,9 @@ class History:
             elif what == "delete":
                 self.file(one).unlink()
             elif what == "edit" and one.number in self.known:
-                keeps = sum(each.number == one.number for each in there) == 1 and one.folder == self.home_of(one.number)
+                keeps = sum(each.number == one.number for each in there) == 1 and one.folder == self.known.get(
+                    one.number
+                )
                 if keeps and re.match(r"[0-9a-f]{64}\.\d+(:|\Z)", one.name):
                     self.file(one).write_bytes(b"X-Scan: yes\n" + one.text)
                     self.edited.add(one.number)
@@ -255,10 +257,6 @@ class History:
                 self.path(".lists.b").rename(self.path(".renamed"))
                 self.boxes[".renamed"] = self.boxes.pop(".lists.b")
                 self.known = {number: ".renamed" if its == ".lists.b" else its for number, its in self.known.items()}
-
-    def home_of(self, number: int) -> Optional[str]:
-        """The folder of a message's mailbox."""
-        return self.known.get(number)
 
     def appended(self, one: File) -> Appended:
         """What is to be appended for a file."""
@@ -281,16 +279,15 @@ class History:
         """The program that keeps flags in the mailbox of a folder, if one does."""
         return KEEPERS.get(self.keepers.get(self.paths()[folder], "")) if folder in self.paths() else None
 
-    def wanted(self) -> "tuple[dict[str, typing.Counter[Appended]], list[File], dict[int, int]]":
-        """By folders, what is to be appended for certain; the files of which all but one are; and what cannot be held,
-        how often."""
+    def wanted(self) -> "tuple[dict[str, typing.Counter[Appended]], list[File]]":
+        """By folders, what is to be appended for certain; and the files of which all but one are."""
         several: collections.defaultdict[int, list[File]] = collections.defaultdict(list)
         for one in self.files():
             several[one.number].append(one)
         sure: collections.defaultdict[str, Counter[Appended]] = collections.defaultdict(Counter)
         any_of: list[File] = []
         for number, files in several.items():
-            home = self.home_of(number)
+            home = self.known.get(number)
             at_home = [one for one in files if one.folder == home]
             if home is None:
                 for one in files:
@@ -300,8 +297,7 @@ class History:
                 for one in away if at_home else []:
                     sure[one.folder][self.appended(one)] += 1
                 any_of += at_home if len(at_home) > 1 else [] if at_home else files
-        refused: dict[int, int] = {}
-        return dict(sure), any_of, refused
+        return dict(sure), any_of
 
 
 def text_at(path: Path) -> bytes:

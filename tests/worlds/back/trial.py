@@ -30,7 +30,7 @@ class Trial:
         self.history, self.home = history, history.home
         self.words = [*BACK, *["--dovecot"] * history.has_uids]
         self.before = self.texts()
-        self.sure, self.any_of, _ = history.wanted()
+        self.sure, self.any_of = history.wanted()
 
     def texts(self) -> dict[str, bytes]:
         """The mailboxes by their folders."""
