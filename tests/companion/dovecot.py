@@ -1,11 +1,8 @@
 """What Dovecot shows of mailboxes before `migrate --dovecot`, and of the Maildir after it, over IMAP and POP3, is the
 same. Other cases show what a further run does, and that clients which have a state from before fetch nothing again.
-
-The environment's RANDOM_MAILBOXES says how many random users are tried, each with one mailbox or six; what was compared
-is then printed. Everything is left out if Dovecot is missing.
+Random mailboxes are worlds of tests/companion/worlds.py. Everything is left out if Dovecot is missing.
 """
 import contextlib
-import os
 import re
 import shutil
 from collections.abc import Callable, Iterator, Sequence
@@ -14,7 +11,7 @@ from pathlib import Path
 
 from tests.support.cases import LeftOut, nothing_wrong, run_cases
 from tests.support.dovecot.clients import IMAP, POP3, Client, missing
-from tests.support.dovecot.mailboxes import CASES, Build, drawn, hole_without_index, kept, never_read, tail, tree
+from tests.support.dovecot.mailboxes import CASES, Build, hole_without_index, kept, never_read, tail, tree
 from tests.support.dovecot.served import Case, differences, mail, served
 from tests.support.dovecot.server import Dovecot, is_there
 from tests.support.dovecot.settings import settings_here
@@ -382,8 +379,6 @@ def looks_as_before(number: int, build: Build, home: Path, server: Dovecot) -> I
         yield f"dovecot: {build.__doc__}: {line}"
     for line in server.complaints()[said:]:
         yield f"dovecot: {build.__doc__}: the log: {line}"
-    if "RANDOM_MAILBOXES" in os.environ:
-        print(f"dovecot: {build.__doc__}:", *(f"{count} {what}" for what, count in case.seen.items()), flush=True)
 
 
 def finds_nothing(check: Callable[[], Iterator[str]]) -> None:
@@ -429,8 +424,7 @@ def main() -> None:
             stays_empty,
         )
     }  # type: dict[str, Callable[[Path, Dovecot], Iterator[str]]]
-    builds = CASES + [drawn(seed) for seed in range(int(os.environ.get("RANDOM_MAILBOXES", "12")))]
-    checks.update((build.__name__, partial(looks_as_before, number, build)) for number, build in enumerate(builds))
+    checks.update((build.__name__, partial(looks_as_before, number, build)) for number, build in enumerate(CASES))
     with contextlib.ExitStack() as stack:
         place = lru_cache(maxsize=None)(lambda: stack.enter_context(served()))
         cases = {name: partial(finds_nothing, partial(at_server, place, check)) for name, check in checks.items()}

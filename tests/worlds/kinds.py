@@ -4,7 +4,7 @@ from functools import partial
 from typing import NamedTuple
 
 from tests.support.cases import Failed
-from tests.worlds import crowded, decisions, labels, mutated, passes, rewritten, shared, stray, trees, undone
+from tests.worlds import crowded, decisions, labels, mutated, passes, rewritten, served, shared, stray, trees, undone
 from tests.worlds.back import trial
 from tests.worlds.fates import drawn
 from tests.worlds.history import History
@@ -50,6 +50,8 @@ KINDS = {
     "said_of_users": Kind(decisions.in_a_spool, 2),
     # texts that no program wrote
     "mutated": Kind(mutated.one_text, 1000),
+    # mailboxes that Dovecot keeps, and shows as before once they are migrated
+    "served": Kind(served.one_world, 12),
     # Takeouts, which go into folders by the labels of their messages
     "labels": Kind(lived(labels.Labels), 16),
     # mailboxes of five dialects, into which the mail of a Maildir goes back

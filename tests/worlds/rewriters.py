@@ -30,8 +30,9 @@ class Mailbox(NamedTuple):
     server: Optional[Dovecot]
     draw: Random
     letters: list[Letter]
-    # its name for the server
+    # its name for the server, and the user to whom it belongs
     folder: str = "INBOX"
+    user: str = USER
 
     def pieces(self) -> list[bytes]:
         """Its messages, each with its From_ line and its blank line."""
@@ -56,7 +57,7 @@ class Mailbox(NamedTuple):
         """Tells the server to do something with it."""
         assert self.server, "nobody serves it"
         verb = words[:2] if words[0] == "flags" else words[:1]
-        self.server.doveadm(*verb, "-u", USER, *words[len(verb) :])
+        self.server.doveadm(*verb, "-u", self.user, *words[len(verb) :])
 
 
 Rewriter = Callable[[Mailbox], None]

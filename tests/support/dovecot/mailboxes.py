@@ -1,11 +1,9 @@
 """Mailboxes that Dovecot kept, that strangers forged, or that nobody has read. Each is built in a case of
 tests.support.dovecot.served."""
-import random
 import re
 import shutil
 from collections.abc import Callable
 
-from tests.support.dovecot.odd import odd
 from tests.support.dovecot.served import FLAGS, INTERNAL, Case, mail
 
 Build = Callable[[Case], None]
@@ -19,7 +17,6 @@ FORGED = {
     "Status": "ROD",
     "X-UID ": "4294967295",
 }
-LATE = ["", "", "X-UID: 3\n", "X-Keywords: Evil\n", "X-IMAPbase: 777 99 Evil\n"]
 
 
 def kept(case: Case) -> None:
@@ -127,61 +124,6 @@ def forged(field: str, value: str, place: str, looked: bool) -> Build:
 
     build.__name__ = "_".join([field.replace(" ", "-and-space"), "in", place, "seen" if looked else "unseen"])
     build.__doc__ = f"{field.strip()}: {value} in the {place} message, {'shown' if looked else 'not shown'} before"
-    return build
-
-
-def beside(case: Case, draw: random.Random) -> None:
-    """Folders of odd mail. Dovecot has seen some of it."""
-    for name in ("one", "two", "three", "four", "five"):
-        path = case.home / "mail" / name
-        path.write_bytes(b"".join(odd(draw, number) for number in range(draw.randint(1, 8))))
-        case.folders.append(name)
-    case.own()
-    case.look()
-    for name in case.folders[1:]:
-        for number in range(1, 1 + draw.randint(0, 3)):
-            flags = " ".join(draw.sample(FLAGS[:3] + FLAGS[4:] + KEYWORDS, draw.randint(1, 2)))
-            case.server.doveadm("flags", "add", "-u", case.name, flags, "mailbox", name, str(number))
-        if draw.random() < 0.3:
-            case.server.doveadm("expunge", "-u", case.name, "mailbox", name, str(draw.randint(1, 3)))
-        if draw.random() < 0.5:
-            with open(str(case.home / "mail" / name), "ab") as file:
-                file.write(odd(draw, 9))
-
-
-def drawn(seed: int) -> Build:
-    """A random mailbox: deliveries, strangers' headers, looks, flags, keywords and deletions."""
-
-    def build(case: Case) -> None:
-        draw = random.Random(seed)
-        number, is_odd = 0, draw.random() < 0.6
-        case.may_be_left = True
-        if is_odd:
-            beside(case, draw)
-        for _ in range(draw.randint(1, 4)):
-            for _ in range(draw.randint(1, 4)):
-                header = "".join(
-                    f"{field.strip()}: {value}\n"
-                    for field, value in FORGED.items()
-                    if not field.startswith("X-IMAP") and draw.random() < 0.08
-                )
-                case.deliver(odd(draw, number) if is_odd else mail(number, header))
-                number += 1
-            case.look()
-            count = len(case.server.by_imap(case.name)[2])
-            for _ in range(draw.randint(0, 3)):
-                if count:
-                    flags = draw.sample(FLAGS[:3] + FLAGS[4:], draw.randint(0, 2))
-                    flags += draw.sample(KEYWORDS, draw.randint(0, 2))
-                    case.store(str(draw.randint(1, count)), " ".join(flags))
-            if count and draw.random() < 0.5:
-                case.expunge("1:*" if draw.random() < 0.2 else str(draw.randint(1, count)))
-        for _ in range(draw.randint(0, 2)):
-            case.deliver(mail(number, draw.choice(LATE)))
-            number += 1
-
-    build.__name__ = f"random_{seed}"
-    build.__doc__ = f"random, by the seed {seed}"
     return build
 
 

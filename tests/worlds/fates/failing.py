@@ -132,35 +132,20 @@ class Raw(io.FileIO):
         self.place = file
         super().__init__(file, mode, closefd, opener)
 
-    def readinto(self, buffer: Any) -> Any:
-        """Reads into a buffer."""
-        counter.call("file.read", self.place)
-        return super().readinto(buffer)
 
-    def read(self, size: Any = -1) -> Any:
-        """Reads bytes."""
-        counter.call("file.read", self.place)
-        return super().read(size)
+def of_file(what: str, method: Callable[..., Any]) -> Callable[..., Any]:
+    """Returns a method of such a file that does the same, and may fail."""
 
-    def readall(self) -> Any:
-        """Reads all."""
-        counter.call("file.read", self.place)
-        return super().readall()
+    def call(self: Raw, *words: Any) -> Any:
+        counter.call(f"file.{what}", self.place)
+        return method(self, *words)
 
-    def write(self, data: Any) -> Any:
-        """Writes bytes."""
-        counter.call("file.write", self.place)
-        return super().write(data)
+    return call
 
-    def seek(self, *words: Any) -> Any:
-        """Moves to a place."""
-        counter.call("file.seek", self.place)
-        return super().seek(*words)
 
-    def truncate(self, *words: Any) -> Any:
-        """Cuts it."""
-        counter.call("file.truncate", self.place)
-        return super().truncate(*words)
+for called in ("readinto", "read", "readall", "write", "seek", "truncate"):
+    word = "read" if called.startswith("read") else called
+    setattr(Raw, called, of_file(word, getattr(io.FileIO, called)))
 
 
 def opened(file: Any, *words: Any, **options: Any) -> Any:
