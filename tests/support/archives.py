@@ -15,7 +15,7 @@ from pathlib import Path
 from typing import Any, NamedTuple, Optional
 
 from tests.support.cases import Failed, run_cases
-from tests.support.homes import fresh_folder, in_memory, install
+from tests.support.homes import fresh_folder, in_memory, install, mail_below
 from tests.support.ledgers import LEDGER, RECORD, wait_for_lock
 from tests.support.place import ENDED, Place
 from tests.support.running import NEVER, Kill, Row, Run
@@ -193,10 +193,7 @@ class Home:
 
     def files(self, name: str = "*") -> list[Path]:
         """The files of the mail in a folder, or in all."""
-        found = [*self.maildir.glob(f".{name}/new/*"), *self.maildir.glob(f".{name}/cur/*")]
-        return sorted(
-            found + (list(self.maildir.glob("new/*")) + list(self.maildir.glob("cur/*")) if name == "*" else [])
-        )
+        return sorted(path for folder, path in mail_below(self.maildir) if name in ("*", folder.name[1:]))
 
     def names(self) -> dict[str, bytes]:
         """All mail by the names of its files."""

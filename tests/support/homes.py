@@ -121,6 +121,14 @@ def mail_in(maildir: Path, subs: Sequence[str] = ("new", "cur")) -> Iterator[Pat
         yield from (maildir / sub).iterdir()
 
 
+def mail_below(maildir: Path) -> Iterator[tuple[Path, Path]]:
+    """The files of the mail of a Maildir and of its folders, as far as they are there, each with its folder."""
+    for folder in [maildir, *sorted(maildir.glob(".*"))]:
+        for sub in ("new", "cur"):
+            for path in sorted((folder / sub).glob("*")):
+                yield folder, path
+
+
 def subjects(maildir: Path) -> list[str]:
     """The subjects of what is there, in order."""
     return sorted(match_in(r"Subject: (.*)", path.read_text())[1] for path in mail_in(maildir))

@@ -17,6 +17,7 @@ from pathlib import Path
 from typing import NamedTuple, Optional
 
 from tests.support.archives import texts_of
+from tests.support.homes import mail_below
 from tests.support.running import Row
 from tests.support.splitter import WORDS, is_from, split
 from tests.worlds.letters import INTERNAL, content, id_of, without
@@ -165,11 +166,8 @@ class Oracle:
 
     def files(self) -> Iterator[tuple[str, Path]]:
         """The files of all mail, each with its folder."""
-        for folder in [self.maildir, *sorted(self.maildir.glob(".*"))]:
-            name = INBOX if folder == self.maildir else folder.name[1:].replace(".", "/")
-            for sub in ("new", "cur"):
-                for path in sorted((folder / sub).glob("*")):
-                    yield name, path
+        for folder, path in mail_below(self.maildir):
+            yield INBOX if folder == self.maildir else folder.name[1:].replace(".", "/"), path
 
     def mail(self) -> Iterator[tuple[str, Path, bytes]]:
         """The same with what is in them. A file that is renamed meanwhile is found in `cur`."""

@@ -12,6 +12,7 @@ from typing import NamedTuple, Optional
 
 from tests.support.archives import Home
 from tests.support.cases import Failed
+from tests.support.homes import mail_below
 from tests.support.running import Run
 from tests.support.splitter import is_from, pieces
 from tests.worlds.back.programs import KEEPERS, Deliveries, Keeper, with_numbers
@@ -89,7 +90,8 @@ class History:
         self.filled: set[str] = set()
         self.keepers: dict[str, str] = {}
         self.has_uids = self.draw.random() < 0.3
-        # what delivers into the Maildir
+        # what people did, and what delivers into the Maildir
+        self.steps: list[str] = []
         self.programs = Deliveries(home.place, home.maildir).programs()
 
     def message(self, is_plain: bool = False) -> bytes:
@@ -202,12 +204,10 @@ class History:
     def files(self, maildir: str = "M") -> Iterator[File]:
         """All mail."""
         root = self.home.path / maildir
-        for folder in [root, *sorted(root.glob(".*"))]:
-            for sub in ("new", "cur"):
-                for path in sorted((folder / sub).glob("*")) if (folder / sub).is_dir() else ():
-                    text = path.read_bytes()
-                    its = "" if folder == root else folder.name
-                    yield File(its, sub, path.name, text, self.number_of(text))
+        for folder, path in mail_below(root):
+            text = path.read_bytes()
+            its = "" if folder == root else folder.name
+            yield File(its, path.parent.name, path.name, text, self.number_of(text))
 
     def file(self, one: File) -> Path:
         """The path of a file."""
@@ -230,6 +230,7 @@ class History:
             there = list(self.files())
             one = self.draw.choice(there) if there else None
             what = self.draw.choice(["deliver"] * 5 + ["flag", "move", "move", "copy", "delete", "edit", "rename"])
+            self.steps.append(f"({what} {one.folder}/{one.name})" if one and what != "deliver" else "(deliver)")
             if what == "deliver" and self.programs and self.draw.random() < 0.4:
                 self.draw.choice(self.programs)(self.draw.choice(FOLDERS), self.message())
             elif what == "deliver" or not one:

@@ -140,5 +140,8 @@ def lived(home: Home, seed: int, dialect: str = "", count: int = 0, programs: Se
 
 def one_world(stage: Stage, seed: int) -> list[str]:
     """The way back after a history."""
-    Trial(lived(Home(stage.place.home, stage.place.programs), seed, DIALECTS[seed % len(DIALECTS)])).run()
+    history = lived(Home(stage.place.home, stage.place.programs), seed, DIALECTS[seed % len(DIALECTS)])
+    stage.steps += history.steps
+    stage.seen[f"ended {history.dialect}"] += 1
+    Trial(history).run()
     return []

@@ -4,6 +4,7 @@ import collections
 import json
 import os
 from collections.abc import Iterator, Sequence
+from pathlib import Path
 from typing import Optional
 
 from tests.support.checks import LATER
@@ -125,13 +126,8 @@ def folder_on_disk(folder: str) -> bytes:
 
 def files_of(folder: bytes) -> collections.Counter[bytes]:
     """The messages in a folder of a Maildir."""
-    found: collections.Counter[bytes] = collections.Counter()
-    for sub in (b"new", b"cur"):
-        place = os.path.join(folder, sub)
-        for file in os.listdir(place) if os.path.isdir(place) else []:
-            with open(os.path.join(place, file), "rb") as opened:
-                found[opened.read()] += 1
-    return found
+    several = (Path(os.fsdecode(folder), sub).glob("*") for sub in ("new", "cur"))
+    return collections.Counter(path.read_bytes() for paths in several for path in paths)
 
 
 def wrong_maildirs(world: World, things: list[Thing]) -> Iterator[str]:
