@@ -517,6 +517,7 @@ def profile_of_one_account(home: Path) -> None:
         ("ImapMail/a.b/Trash", b""),
         ("ImapMail/a.b/Feeds.json", b"{}"),
         ("Mail/c/Inbox", b""),
+        ("Mail/c/z", b"hello\n"),
         ("Mail/e/Inbox/cur/1", ONE),
         ("Mail/e/Inbox/new/1", ONE),
         ("Mail/e/Inbox/tmp/1", ONE),
@@ -525,6 +526,7 @@ def profile_of_one_account(home: Path) -> None:
     ran = by_json("migrate --dry-run --now M old", home)
     found = {row["path"][23:]: row["folder"] for row in ran.rows if row["verdict"] == "would be done"}
     equal(f"folders: {ran.output}", found, {"ImapMail/a.b/INBOX": "INBOX", "ImapMail/a.b/Trash": "Trash"})
+    equal("not known", ran.of("old/Profiles/x.default/Mail/c/z")["reason"], "not-known")
     mailbox(home / "other/Mail/c/Inbox", ONE)
     mailbox(home / "other/notes", TWO)
     rows = by_json("migrate --dry-run --now M other", home).rows

@@ -10,14 +10,8 @@ from tests.support.checks import equal
 from tests.support.homes import check_all, expect, files_of, fresh_folder, in_memory, mailbox
 from tests.support.ledgers import LEDGER
 from tests.support.mail import bodies_of, digest_of
+from tests.worlds.letters import OF_PROGRAMS, content, is_one, parted, without
 
-# the fields that Dovecot hides, and those that programs note besides
-HIDDEN = (b"content-length", b"status", b"x-imap", b"x-imapbase", b"x-keywords", b"x-status", b"x-uid")
-NOTED = (
-    *HIDDEN,
-    *(b"lines", b"x-mozilla-status", b"x-mozilla-status2", b"x-mozilla-keys", b"x-evolution", b"x-gmail-labels"),
-    b"x-gm-thrid",
-)
 FROM_LINE = b"From a@b Mon Mar  3 09:12:44 2025\n"
 # one message, as it was delivered, and as mail programs keep it
 MAIL = b"Subject: hello\nTo: mia\n\nbody\n"
@@ -72,43 +66,32 @@ WORDS = (
     *(b">F", b"From", b" From \n", b"Fro", b"From e\n", b"text\n", b"text", b"x\r\n", b"hello hello hello hello\n"),
 )
 BEGUN = FROM_LINE, b"From a\n", FROM_LINE + b"A: b\n"
-# a header up to an empty line with a CR
-EMPTY_LINE = re.compile(rb"\A((?:[^\r\n][^\n]*\n|\r[^\n]+\n)*)\r\n")
-# how many bytes the companion reads at a time, and what fills a text up to such a place: in a body, in a line, in a
-# field that stays, and in one that goes
+# how many bytes the companion reads at a time, and what fills a text up to such a place, where `@` stands for the rest:
+# in a body, in a line, in a field that stays, and in one that goes
 BLOCK = 1 << 20
-FILLERS = (b"\n", b"y" * 79 + b"\n"), (b"\n", b"z"), (b"X: y\n", b" more of it\n"), (b"X-Keywords:\n", b" k\n")
+FILLERS = (
+    (b"\n@\n", b"y" * 79 + b"\n"),
+    (b"\n@", b"z"),
+    (b"X: @\n", b" " + b"m" * 998 + b"\n"),
+    (b"X-Keywords: @\n", b" " + b"k" * 998 + b"\n"),
+)
 
 
-def lines_of(text: bytes) -> list[bytes]:
-    """The lines of a text, each with its end."""
-    return re.findall(rb"[^\n]*\n|[^\n]+", text)
-
-
-def without(names: tuple[bytes, ...], mail: bytes) -> bytes:
-    """A message without the fields of these names, line by line."""
-    lines, kept, goes = lines_of(mail), bytearray(), False
-    for at, line in enumerate(lines):
-        if line in (b"\n", b"\r\n"):
-            return bytes(kept) + b"".join(lines[at:])
-        if line[:1] not in (b" ", b"\t"):
-            name, colon, _ = line[:8191].partition(b":")
-            goes = colon == b":" and name.rstrip(b" \t").lower() in names
-        kept += b"" if goes else line
-    return bytes(kept)
+def bare_of(mail: bytes) -> bytes:
+    """The bare form of a message."""
+    fields, end, body = parted(mail)
+    return b"".join(field for field in fields if not is_one(field, OF_PROGRAMS)) + end + body
 
 
 def core_of(mail: bytes) -> bytes:
     """The core of a message."""
-    lines = without(NOTED, mail).replace(b"\r\n", b"\n")
-    return re.sub(rb"^>+From ", b"From ", lines, flags=re.MULTILINE).rstrip(b"\n") + b"\n"
+    return content(mail) + b"\n"
 
 
 def hidden(text: bytes) -> bytes:
-    """A text as Dovecot shows it: without some fields, and the empty line after a header has no CR."""
+    """A text as Dovecot shows it."""
     pieces = (piece.partition(b"\n") for piece in re.split(rb"(?m)^(?=From )", text))
-    shown = (b"".join((line, end, without(HIDDEN, mail))) for line, end, mail in pieces)
-    return b"".join(EMPTY_LINE.sub(rb"\1\n", one) for one in shown)
+    return b"".join(line + end + without(mail) for line, end, mail in pieces)
 
 
 def in_ledger(maildir: Path) -> list[tuple[str, str, str]]:
@@ -135,16 +118,16 @@ def random_text(blocks: int) -> bytes:
         text += random_pieces(draw)
     for number in range(1, blocks):
         before, each = FILLERS[number % len(FILLERS)]
-        text += FROM_LINE + b"A: b\n" + before
-        missing = number * BLOCK - len(text) - draw.randrange(60)
-        text += each * (missing // len(each)) + b"\n" * draw.randrange(2)
+        text += FROM_LINE + b"A: b\n"
+        count, rest = divmod(number * BLOCK - len(text) - len(before) - draw.randrange(60), len(each))
+        text += before.replace(b"@", b"x" * rest) + each * count
         text += b"".join(draw.choices(WORDS, k=draw.randint(3, 12))) + b"\n" + random_pieces(draw)
     return bytes(text)
 
 
 def said_of(mail: bytes) -> tuple[str, str, str]:
     """What a ledger must say of a message."""
-    return digest_of(mail), digest_of(core_of(mail))[:32], digest_of(without(NOTED, mail))[:32]
+    return digest_of(mail), digest_of(core_of(mail))[:32], digest_of(bare_of(mail))[:32]
 
 
 def want_digests(home: Path, text: bytes) -> None:
@@ -164,8 +147,8 @@ def want_digests(home: Path, text: bytes) -> None:
 def forms(home: Path) -> None:
     """What programs note is left out of cores and bare forms, and all else counts."""
     equal("the rule itself", ({*map(core_of, SAME)}, len({*map(core_of, OTHER)} | {MAIL})), ({MAIL}, len(OTHER) + 1))
-    fields = tuple(b"%s: 1\n%s" % (name, MAIL) for name in NOTED)
-    equal("the rule of fields", {without(NOTED, one) for one in fields}, {MAIL})
+    fields = tuple(f"{name}: 1\n".encode() + MAIL for name in sorted(OF_PROGRAMS))
+    equal("the rule of fields", {*map(bare_of, fields)}, {MAIL})
     quoted = tuple(b"Subject: a\n\nhi\n" + b">" * count + b"From x\n>Fro\n" for count in range(1, 4))
     mails = (*SAME, *OTHER, *FAR, *fields, *quoted, b"\n", b"\r\n", b"a: b", b"\nStatus: RO\n", b"X-UID: 1", b"")
     rows = b"".join(FROM_LINE + b">" * count + b"From x\n\n" + b">" * count + b" x\n\n" for count in (998, 3000))
@@ -176,12 +159,14 @@ def wherever_blocks_end(home: Path) -> None:
     """The same of random messages, of which many stand at the end of a block."""
     with fresh_folder(in_memory()) as place:
         (place / "bin").symlink_to(home / "bin")
-        want_digests(place, random_text(20))
+        want_digests(place, random_text(14))
 
 
 def at_the_end(home: Path) -> None:
     """A text may end within anything."""
-    for number, mail in enumerate((b"", b"body", b"A: b\nStatus: RO", b"A: b\nStatus: RO\n x", b"A: b\n\n>From", b"A: b\n\n\n", b"A: b\n\nx\r")):
+    for number, mail in enumerate(
+        (b"", b"body", b"A: b\nStatus: RO", b"A: b\nStatus: RO\n x", b"A: b\n\n>From", b"A: b\n\n\n", b"A: b\n\nx\r")
+    ):
         name = f"box{number}"
         mailbox(home / name, FROM_LINE + mail)
         expect(f"migrate --now --as mboxrd M{number} {name}", home, 0, None)

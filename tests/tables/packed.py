@@ -11,9 +11,8 @@ from collections.abc import Callable, Iterator, Mapping
 from functools import partial
 from pathlib import Path
 
-from tests.support.cases import LeftOut
 from tests.support.checks import equal, matches
-from tests.support.homes import by_json, check_all, mail_in, mailbox, run_printed, want_root
+from tests.support.homes import by_json, check_all, mail_in, mailbox, run_printed
 from tests.support.mail import ONE, TWO
 
 Pack = Callable[[bytes], bytes]
@@ -161,18 +160,5 @@ def by_hand(home: Path) -> None:
         equal("what it made", (file.read(len(ONE) - 1), os.fstat(file.fileno()).st_size), (ONE[:-1], len(text)))
 
 
-def no_room(home: Path) -> None:
-    """It is counted first, and nothing is written if the disk has no space for it."""
-    want_root()
-    mailbox(home / "box", gzip.compress(ONE[:-1] + bytes(5 << 20) + b"\n\n"))
-    (home / "full").mkdir()
-    mounted = "mount -t tmpfs -o size=4m none full && mbox2maildir-admin migrate --now full/M box; ls -A full/M"
-    ran = run_printed(f"unshare -m sh -c '{mounted}'", home)
-    if "unshare" in ran.err or "mount" in ran.err:
-        raise LeftOut("no disk can be mounted here")
-    matches("what is said", ran.out.split("\n")[0], "box -> INBOX: ...left (no-room): not enough space in ...")
-    matches("how much", ran.out.split("\n")[0], "...: unpacked it has more than the 4... MB that are free...")
-
-
 if __name__ == "__main__":
-    check_all(whole, cut, each_byte, what_follows, other_reasons, by_hand, no_room)
+    check_all(whole, cut, each_byte, what_follows, other_reasons, by_hand)

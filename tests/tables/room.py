@@ -1,4 +1,5 @@
 """What a mailbox needs on a disk that has too little, and of which disk that is said."""
+import gzip
 import subprocess
 from collections.abc import Iterator
 from contextlib import contextmanager
@@ -13,6 +14,7 @@ from tests.support.stories import in_place, take
 COPIES = " (--dry-run and kind make copies there or where TMPDIR says, other runs on the Maildir's disk)"
 # a text of which a copy is made
 CRLF = (A + b"\n" + b"x" * 74 + b"\n").replace(b"\n", b"\r\n") + b"y\r\n" * 500_000
+PACKED = gzip.compress(A + b"\n" + bytes(5 << 20) + b"\n")
 
 
 class Short(NamedTuple):
@@ -31,6 +33,10 @@ ROWS = [
     Short(CRLF, "migrate --now --dovecot disk/M box", "size=2m", "space in disk: it needs 3.0 MB, and 2.1 MB are free"),
     Short(
         CRLF, "migrate --now --dry-run M box", "size=1m", f"space in disk: it needs 1.5 MB, and 1.0 MB are free{COPIES}"
+    ),
+    # what is packed is counted first
+    Short(
+        PACKED, "migrate --now disk/M box", "size=4m", "space in disk: unpacked it has more than the 4.2 MB that ..."
     ),
     # a file for each message, the ledger, three folders, a mark and the record
     Short(ONE + TWO + THREE, "migrate --now disk/M box", "size=1m,nr_inodes=8", "inodes: it needs 9, and 7 are free"),
