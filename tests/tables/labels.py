@@ -253,8 +253,15 @@ def several_labels_are_asked_about(home: Path) -> None:
 
 
 def mail_that_was_only_prepared(home: Path) -> None:
-    """Its folder would have it beside those of the labels, so it is undone first, by the command that is printed."""
+    """Its folder would have it beside those of the labels, so it is undone first, by the command that is printed. A
+    list of nothing is in nobody's way."""
     takeout(home)
+    expect("migrate --prepare N t.mbox", home, 0, None)
+    for path in (home / "N/new").iterdir():
+        path.unlink()
+    prepared = home / "N/mbox2maildir-prepared"
+    prepared.write_bytes(prepared.read_bytes().splitlines(True)[0])
+    expect("migrate --labels N t.mbox", home, 0, None)
     expect("migrate --prepare M t.mbox", home, 0, None)
     row = by_json("migrate --labels M t.mbox", home).row
     equal("the row", (row["reason"], len(folders_in(home / "M")[""])), ("prepared", 9))
@@ -430,8 +437,8 @@ def some_folders_alone(home: Path) -> None:
     record.chmod(0o600)
     for words, verdict in ([*undo, "--dry-run"], "would be undone"), (undo, "undone"):
         row = by_json(words, home).row
-        wanted = (verdict, ["nothing of it was placed"])
-        equal("of nothing", (row["verdict"], [one["says"] for one in row["remarks"]]), wanted)
+        found = row["verdict"], row["messages"], [one["says"] for one in row["remarks"]]
+        equal("of nothing", found, (verdict, 0, ["nothing of it was placed"]))
 
 
 def room_is_counted_first(home: Path) -> None:
