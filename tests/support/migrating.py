@@ -6,7 +6,6 @@ from collections import Counter
 from collections.abc import Callable, Iterator
 from pathlib import Path
 from typing import Any, Optional
-from unittest import mock
 
 from mbox2maildir_admin.ledger.history import Entry, Key, Step
 from mbox2maildir_admin.ledger.record import VERSION_LINE, Record
@@ -106,13 +105,6 @@ class HomeTest(FolderTest):
         self.home = self.maildir = self.box = Path(os.fsdecode(self.here))
         self.root = self.path = b""
         self.make_home(self.NAME)
-
-    def leave_syncs_out(self) -> None:
-        """Syncs nothing from then on: no power goes."""
-        for name in ("os.fsync", "mbox2maildir_admin.maildir.syncing.sync_disk"):
-            syncs = mock.patch(name)
-            syncs.start()
-            self.addCleanup(syncs.stop)
 
     def make_home(self, name: str) -> None:
         """Makes a folder of this name, which is the home from then on."""

@@ -9,7 +9,6 @@ import time
 import unittest
 from collections.abc import Iterator
 from pathlib import Path
-from typing import Any
 from unittest import mock
 
 from mbox2maildir_admin.mbox.mailbox import Mailbox
@@ -71,16 +70,6 @@ def make(here: bytes, files: dict[str, bytes]) -> None:
 def base_of(body: bytes, count: int = 1) -> str:
     """The name of the file of a body: its SHA-256, and its number among the bodies with the same bytes."""
     return "%s.%d" % (hashlib.sha256(body).hexdigest(), count)
-
-
-# the facts by which a file is known again, and by which a change of it is noticed
-FACTS = "st_dev", "st_ino", "st_size", "st_mtime_ns", "st_ctime_ns"
-
-
-def with_another(fact: str, state: os.stat_result) -> Any:
-    """The facts of a file, but for one, which is another."""
-    facts = {one: getattr(state, one) + (one == fact) for one in FACTS}
-    return mock.Mock(spec_set=FACTS, **facts)
 
 
 class Printed:
