@@ -88,6 +88,10 @@ STORIES: dict[str, list[Step]] = {
         *(("migrate --dry-run M b", "b: done before"), f"!cat {LEDGER} {RECORD} | cmp - kept"),
         *(("migrate M b", "b: done before"), ("a", TWO), ("migrate M a", "a: done: INBOX has the mail of b too")),
     ],
+    "a_mailbox_was_begun_and_lost_mail": [
+        *steps(("a", ONE + TWO), *killed("migrate M a"), ("a", TWO)),
+        *(("migrate M a", "a: done: 1 message gone from it that it had brought"), "= one two"),
+    ],
     "a_mailbox_was_begun_and_moved": [
         *steps(("a", ONE), *killed("migrate M a"), "!mv a b", ("migrate --dry-run M b", "b: would be done")),
         *(("migrate M b", "b: done"), "= one"),

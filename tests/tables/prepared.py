@@ -1,6 +1,6 @@
 """Mailboxes that are prepared step by step while people use them: what each pass says, where none prepares or finishes
 anything, and what mail is there then."""
-from tests.support.mail import ONE, THREE, TWO
+from tests.support.mail import A, ONE, THREE, TWO
 from tests.support.stories import RESTORED, SYNC_FAILS, Step, killed, run_stories, steps
 
 FIRST, LAST, FIRST_OF_TREE, TREE = (
@@ -9,6 +9,7 @@ FIRST, LAST, FIRST_OF_TREE, TREE = (
     "migrate --prepare --unread M old",
     "migrate M old",
 )
+QUOTED = A + b"\n>>From twice\n\n"
 SEEN = ONE.replace(b"\n\n", b"\nX-Mozilla-Status: 0001\n\n", 1)
 # a reader gives each message a flag; a server looks at the folder; a program delivers what the mailbox has too
 READ, LOOKS = "!cd M; for a in new/*; do mv $a cur/${a##*/}:2,S; done", "!echo >M/dovecot.index.log"
@@ -181,6 +182,9 @@ STORIES: dict[str, list[Step]] = {
         (LAST, "a: left (prepared): it was prepared with --dovecot"),
         *("migrate --dovecot M a", "= one"),
     ],
+    "it_is_decided_on_the_day": [
+        *(("a", QUOTED), FIRST, "!grep -q '^>From' M/new/*", "migrate --as mboxo M a", "!grep -q '^>>From' M/new/*"),
+    ],
     "equal_messages": [
         *(("a", ONE + TWO + ONE + ONE), FIRST, (LAST, "a: done: 4 prepared before"), "= one one one two"),
     ],
@@ -213,6 +217,12 @@ STORIES: dict[str, list[Step]] = {
         *steps(
             ("a", ONE), FIRST, ("a", ONE + TWO), *KILLED, ("migrate --undo M a", "a: undone: removed 1 message"), "="
         ),
+    ],
+    # it had begun to write the list of UIDs
+    "killed_and_undone_with_dovecot": [
+        *steps(("old/a", ONE), f"{FIRST_OF_TREE} --dovecot", ("old/a", ONE + TWO)),
+        *killed("migrate --dovecot M old"),
+        *("!echo 3 V1 >M/.a/tmp/mbox2maildir-admin-dovecot-uidlist", "migrate --undo M old/a", "!test ! -e M/.a"),
     ],
     "killed_and_somebody_reads": [
         *steps(("a", ONE), FIRST, ("a", ONE + TWO), *KILLED, LOOKS, ("a", ONE)),
