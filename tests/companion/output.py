@@ -1,13 +1,15 @@
 """Outputs that fail, and which modules a run loads."""
+import os
 import re
 import time
 from collections.abc import Sequence
 from pathlib import Path
 
-from tests.support.checks import equal, match_in
+from tests.support.checks import PATIENCE, equal, match_in
 from tests.support.copies import Copies
 from tests.support.homes import ADMIN, check_all, mailbox, run, run_printed
 from tests.support.mail import A, ONE, numbered
+from tests.support.terminals import REWRITTEN, Terminal
 
 COMMANDS = "kind", "quote", "dates", "migrate", "verify", "back"
 
@@ -53,6 +55,19 @@ def each_minute(home: Path) -> None:
     equal("all that is said", re.findall("(?m)^(?!mbox2maildir-admin: 1/1 box: )(.+)$", ran.err), [])
 
 
+def on_a_terminal(home: Path) -> None:
+    """A line that says how far a run is is never wider than the terminal, and shows the end of a long name."""
+    name = "x" * 200 + "end"
+    mailbox(home / name, ONE)
+    words = [str(home / "bin" / ADMIN.name), "migrate", "--now", "M", name]
+    with Terminal(words, home, PATH=f"{home}/bin:{os.environ['PATH']}") as terminal:
+        while terminal.reads_more(time.monotonic() + PATIENCE):
+            pass
+        lines = [line for line in re.split(f"{re.escape(REWRITTEN)}|\n", terminal.printed.decode()) if "end: " in line]
+        equal("its status", terminal.end()[0], 0)
+    assert lines and all(re.fullmatch(r"1/1 \.\.\.x+end: \w.*", line) and len(line) < 80 for line in lines), lines
+
+
 def loaded(words: Sequence[str], home: Path) -> set[str]:
     """The modules that a run loads: those of the library, and those of the package without its name."""
     alone = ["/usr/bin/env", "python3", "-I", "-S", "-B", "-v", str(home / "bin" / ADMIN.name)]
@@ -85,4 +100,4 @@ def modules(home: Path) -> None:
 
 
 if __name__ == "__main__":
-    check_all(output_fails, each_minute, modules)
+    check_all(output_fails, each_minute, on_a_terminal, modules)

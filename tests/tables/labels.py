@@ -403,12 +403,13 @@ def the_record_knows_the_folders(home: Path) -> None:
     (home / "t.mbox").rename(home / "moved")
     expect("migrate --all --labels M moved", home, 0, "10 mailboxes: 10 done before\n")
     equal("verify", run("verify --all M moved", home)[0], 0)
-    expect("migrate --undo --dry-run M moved", home, 0, None)
+    (home / "moved").rename(home / "again")
+    expect("migrate --undo --dry-run M again", home, 0, None)
     equal("the folders", folders_in(home / "M"), FOLDERS)
-    status, out, _ = run("migrate --all --undo M moved", home)
+    status, out, _ = run("migrate --all --undo M again", home)
     equal("the undo", (status, out.splitlines()[-1]), (0, "10 mailboxes: 10 undone"))
     equal("what is there", folders_in(home / "M"), {})
-    expect("migrate M moved", home, 0, None)
+    expect("migrate M again", home, 0, None)
     equal("without labels", len(folders_in(home / "M")[""]), 9)
 
 
