@@ -1,12 +1,15 @@
 """mbox2maildir-admin migrate of folders of mailboxes: which folder each mailbox becomes, what of a tree is left, what
 stays in the folder that the record has, and what is passed over, then and later."""
+import gzip
 import json
 import os
+import pwd
 import re
 import shutil
 from pathlib import Path
 
 from tests.companion.migrate import grow, steps
+from tests.support import accounts
 from tests.support.checks import equal, matches, text_of
 from tests.support.copies import Copies
 from tests.support.homes import (
@@ -20,12 +23,14 @@ from tests.support.homes import (
     run_printed,
     subjects,
     want_root,
+    want_users,
 )
 from tests.support.ledgers import RECORD
 from tests.support.mail import A, B, MAY, ONE, THREE, TWO, with_length
 from tests.support.printed import rows_in
 from tests.support.running import BY_OTHERS, OWNER
 
+USER = "m93one"
 # the line before a command that is to be run, and what comes before the command itself
 RUN = "    run this next:\n        "
 
@@ -645,6 +650,29 @@ def into_another_folder(home: Path) -> None:
     expect("migrate --all --folder C M box", home, 0, out)
 
 
+def of_a_user(home: Path) -> None:
+    """What others put beside the mailbox of a user, in a spool where anybody may write, keeps it from nothing. A link in
+    place of a folder of the user's Maildir is not followed."""
+    want_users()
+    own = home / "homes" / USER
+    with accounts.users({USER: own}):
+        mailbox(own / "mail/Sent", TWO)
+        for sub in ("new", "cur", "tmp"):
+            (own / "Maildir" / sub).mkdir(parents=True)
+        os.symlink("/etc", own / "Maildir/.Sent")
+        mailbox(home / "spool" / USER, ONE)
+        mailbox(home / f"spool/{USER}.gz", gzip.compress(TWO))
+        for path in (own, *own.rglob("*"), home / "spool" / USER):
+            os.lchown(path, *pwd.getpwnam(USER)[2:4])
+        (home / "spool").chmod(0o1777)
+        ran = by_json(["migrate", "--users", "--tree", "mail", "--now", "spool"], home)
+        box, sent = ran.of("", USER), ran.of("mail/Sent", USER)
+        equal("the mailbox of the spool", box["verdict"], "done")
+        matches(
+            "a link", f"{sent['verdict']}: {sent['says']}", "left: ...: it is a symbolic link, which is not followed"
+        )
+
+
 if __name__ == "__main__":
     check_all(
         trees,
@@ -666,4 +694,5 @@ if __name__ == "__main__":
         exported,
         in_question,
         into_another_folder,
+        of_a_user,
     )
