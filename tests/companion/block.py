@@ -76,6 +76,7 @@ def groups(home: Path) -> None:
     equal("the sum", last, "10 mailboxes: 3 done, 7 left")
     assert "rehearsal" not in out, out
     status, out, _ = run_printed(command, home)
+    equal("what was done before has no row", out.splitlines()[0], "")
     equal(
         "what was passed over is left no more",
         [one.word for one in groups_in(out)],
