@@ -258,13 +258,14 @@ def locks_of_back(home: Path) -> None:
     """A lock that another program takes away meanwhile, or makes its own, is not removed; where none can be made, and
     on a disk without locks, mail comes back too."""
     real = home / "real"
-    for name, deed, left in (
+    rows: list[tuple[str, str, list[str]]] = [
         ("box", "true", []),
         ("box", "rm -f old/box.lock", []),
         ("box", "rm -f old/box.lock; echo 17 >old/box.lock", ["box.lock"]),
         ("box" + "x" * 250, "true", []),
         ("box-no-flock", "true", []),
-    ):
+    ]
+    for name, deed, left in rows:
         mailbox(home / "old" / name, ONE)
         expect("migrate --now M old", home, 0, None)
         (home / f"M/.{name}/new/1.h").write_bytes(b"Subject: new\n\nhello\n")

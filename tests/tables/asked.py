@@ -9,6 +9,7 @@ from typing import Any
 from tests.support.checks import equal
 from tests.support.homes import by_json, check_all
 from tests.support.mail import A, B, C, MAY, ONE, TWO, with_length
+from tests.support.running import Row
 from tests.support.tables import rows_of
 
 BLOCK = 1 << 20
@@ -71,7 +72,7 @@ LONG = [
 ]
 
 
-def said_of(home: Path, texts: Sequence[bytes]) -> list[dict[str, Any]]:
+def said_of(home: Path, texts: Sequence[bytes]) -> list[Row]:
     """What `kind` says of texts."""
     for number, text in enumerate(texts):
         (home / f"{number}.mbox").write_bytes(text)
@@ -136,7 +137,7 @@ def many_lines(home: Path) -> None:
         equal("those shown", [one["line"] for one in row["lines"]], [*range(3, 6 + marked + 3)])
 
 
-def facts_of(one: dict[str, Any], shift: int) -> list[Any]:
+def facts_of(one: Row, shift: int) -> list[Any]:
     """What is said of a text, with lines as if its header were not so long."""
     details = [
         ((line["line"] or 0) - shift * ((line["line"] or 0) > 1), line["text"], re.sub(r"line \d+", "", line["says"]))

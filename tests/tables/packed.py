@@ -30,9 +30,11 @@ def encoded(name: str, text: bytes) -> bytes:
 
 
 STREAMS: dict[str, Pack] = {"gzip": gzip.compress, "bzip2": bz2.compress, "xz": lzma.compress}
-PROGRAMS = {name: partial(by_program, name) for name in ("zstd", "lz4") if shutil.which(name)}
+PROGRAMS: dict[str, Pack] = {name: partial(by_program, name) for name in ("zstd", "lz4") if shutil.which(name)}
 # each encoding, and how many bytes its smallest letters have
-ENCODED = {name: partial(encoded, name) for name in ("utf-16-le", "utf-16-be", "utf-32-le", "utf-32-be")}
+ENCODED: dict[str, Pack] = {
+    name: partial(encoded, name) for name in ("utf-16-le", "utf-16-be", "utf-32-le", "utf-32-be")
+}
 PACK: dict[str, Pack] = {**STREAMS, **PROGRAMS, **ENCODED}
 CUT = "could not read stream {}, which begins at byte {}: it is incomplete"
 # the bytes of a stream that no check covers: when a member of gzip was made, with which effort, and on which system
@@ -47,13 +49,13 @@ def without_byte(data: bytes, place: int) -> bytes:
     return data[:place] + bytes([data[place] ^ 0x21]) + data[place + 1 :]
 
 
-def want_said(home: Path, files: Mapping[str, bytes], says: Callable[[str], str]) -> None:
-    """Each of these files is left, as it says of its name."""
-    for name, data in files.items():
+def want_left(home: Path, files: Mapping[str, tuple[bytes, str]]) -> None:
+    """Each of these files is left, for what stands beside its bytes."""
+    for name, (data, _) in files.items():
         mailbox(home / "old" / name, data)
     found = {os.path.basename(row["path"]): row for row in by_json("migrate --dry-run --now M old", home).rows}
-    for name in files:
-        matches(name, f"{found[name]['reason']}: {found[name]['says']}", says(name))
+    for name, (_, says) in files.items():
+        matches(name, f"{found[name]['reason']}: {found[name]['says']}", f"packed: {says}")
     shutil.rmtree(home / "old")
 
 
@@ -84,68 +86,58 @@ def cut(home: Path) -> None:
     """A stream that is cut anywhere, and one after another that is cut, are left."""
     for name, pack in STREAMS.items():
         one, two = pack(ONE), pack(TWO)
-        files = {f"{name} 1 {end}": one[:end] for end in range(10, len(one))}
-        files.update({f"{name} 2 {end}": one + two[:end] for end in range(1, len(two))})
-        begins = {"1": 1, "2": len(one) + 1}
-        want_said(
-            home, files, lambda its, begins=begins: "packed: " + CUT.format(its.split()[1], begins[its.split()[1]])
-        )
+        files = {f"{end}": (one[:end], CUT.format(1, 1)) for end in range(10, len(one), 3)}
+        second = CUT.format(2, len(one) + 1)
+        want_left(home, {**files, **{f"2 {end}": (one + two[:end], second) for end in range(1, len(two), 3)}})
     for name, pack in PROGRAMS.items():
-        one, two = pack(ONE), pack(TWO)
-        files = {f"{name} {end}": one[:end] for end in range(4, len(one))}
+        one, two, says = pack(ONE), pack(TWO), DAMAGED.format(name, "...")
+        files = {f"{end}": (one[:end], says) for end in range(4, len(one), 3)}
         ends = (b"garbage", b"\0", two[:-1], two[:3], without_byte(two, 0), without_byte(two, len(two) - 1))
-        files.update({f"{name} and {number}": one + end for number, end in enumerate(ends)})
-        want_said(home, files, lambda its, name=name: "packed: " + DAMAGED.format(name, "..."))
+        want_left(home, {**files, **{f"2 {number}": (one + end, says) for number, end in enumerate(ends)}})
     for name, pack in ENCODED.items():
         data = pack(LETTERS)
-        ends = [end for end in range(40, len(data)) if end % (4 if "32" in name else 2)]
-        want_said(home, {f"{name} {end}": data[:end] for end in ends}, lambda _: "packed: could not decode byte ...")
+        want_left(home, {f"{end}": (data[:end], "could not decode byte ...") for end in range(41, len(data), 8)})
 
 
 def each_byte(home: Path) -> None:
     """A stream of which one byte is another is left, also after another stream."""
     for name, pack in STREAMS.items():
         one, two = pack(ONE), pack(TWO)
-        places = [place for place in range(10, len(two)) if place not in UNCHECKED.get(name, ())]
-        files = {f"{place}": without_byte(two, place) for place in places}
-        files.update({f"{place} second": one + without_byte(two, place) for place in (*places, *range(4))})
-        want_said(home, files, lambda _: "packed: ...")
+        places = [place for place in range(10, len(two), 3) if place not in UNCHECKED.get(name, ())]
+        files = {f"{place}": (without_byte(two, place), "...") for place in places}
+        after = {f"2 {place}": (one + without_byte(two, place), "...") for place in (*places, *range(4))}
+        want_left(home, {**files, **after})
 
 
 def what_follows(home: Path) -> None:
     """Only another stream may follow, and in files of gzip and xz NUL bytes."""
     for name, pack in STREAMS.items():
         one, two = pack(ONE), pack(TWO)
-        ends = [b"x", b"garbage", b"\0x", b"\0\0\0\0garbage", ONE, bytes(5) + two, bytes(1 << 21) + b"garbage"]
-        ends += [bytes(count) for count in (1, 2, 4, 511, 512, 2000) if count not in FILLED.get(name, ())]
-        ends = [end for end in ends if name != "gzip" or end.strip(b"\0")]
-        files = {f"{number}": one + end for number, end in enumerate(ends)}
-        want_said(home, files, lambda _: "packed: ...stream ..., ...byte ...")
-        # without another one it begins right behind the first one
-        begins = f"packed: ...stream ..., ...byte {len(one) + 1}..."
-        want_said(home, {"x": one + b"x", "garbage": one + b"garbage"}, lambda _, begins=begins: begins)
+        ends = [b"\0x", b"\0\0\0\0garbage", bytes(5) + two, bytes(1 << 21) + b"garbage"]
+        if name != "gzip":
+            ends += [bytes(count) for count in (1, 2, 4, 511, 512, 2000) if count not in FILLED.get(name, ())]
+        files = {f"{number}": (one + end, "...stream ..., ...byte ...") for number, end in enumerate(ends)}
+        # without NUL bytes another one would begin right behind the first one
+        says = f"...stream ..., ...byte {len(one) + 1}..."
+        want_left(
+            home, {**files, "x": (one + b"x", says), "garbage": (one + b"garbage", says), "one": (one + ONE, says)}
+        )
 
 
 def other_reasons(home: Path) -> None:
     """Letters that are none, wherever they are; what takes too much memory, or has much more bytes than mail would be;
     and a program that is not here."""
-    says = {}
+    files = {"utf-32": (b"\xff\xfe\0\0\0\xd8\0\0", "could not decode byte 5: ...")}
     for order in ("le", "be"):
         pack, lone = PACK[f"utf-16-{order}"], "a\ud83ca".encode(f"utf-16-{order}", "surrogatepass")
-        for number, (data, why) in enumerate(
-            (
-                (pack(b"") + lone, "5: illegal ..."),
-                (pack(b"a" * 700_000) + lone, "1400005: illegal ..."),
-                (pack(b"a") + b"\0", "5: truncated data"),
-            )
-        ):
-            says[f"{order} {number}"] = (data, f"packed: could not decode byte {why}")
-    says["utf-32"] = (b"\xff\xfe\0\0\0\xd8\0\0", "packed: could not decode byte 5: ...")
+        files[order] = (pack(b"") + lone, "could not decode byte 5: illegal ...")
+        files[f"{order} late"] = (pack(b"a" * 700_000) + lone, "could not decode byte 1400005: illegal ...")
+        files[f"{order} cut"] = (pack(b"a") + b"\0", "could not decode byte 5: truncated data")
     large = lzma.compress(ONE, filters=[{"id": lzma.FILTER_LZMA2, "dict_size": 1 << 29}])
-    says["memory"] = (large, "packed: could not read stream 1, which begins at byte 1: Memory usage limit ...")
+    files["memory"] = (large, "could not read stream 1, which begins at byte 1: Memory usage limit ...")
     zeros = gzip.compress(bytes(280_000_000), 1)
-    says["much"] = (zeros, "packed: unpacked it has more than 268.4 MB, and more than 100 times its size")
-    want_said(home, {name: data for name, (data, _) in says.items()}, lambda name: says[name][1])
+    files["much"] = (zeros, "unpacked it has more than 268.4 MB, and more than 100 times its size")
+    want_left(home, files)
     mailbox(home / "box", b"\x28\xb5\x2f\xfd")
     row = by_json("migrate --dry-run --now M box", home, PATH=f"{home}/bin").row
     equal("without zstd", row["says"], "could not find zstd: install it, and run this again")

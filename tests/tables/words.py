@@ -16,7 +16,7 @@ WRONG = b"Content-Length: 99\n\n"
 NAMED, BARE, ODD = b"From me to you\nNote: x\n\n", b"From me on\n", b"From x Mon Mar  3 09:12:44 2025\nsee\n"
 # a mailbox, and the words that decide about it if they are given for several; the words by lengths say nothing of lines
 # outside of these that may be mail, and a line that contradicts a word leaves the mailbox
-OF_SEVERAL = [
+OF_SEVERAL: list[tuple[bytes, set[str]]] = [
     (B + b"\n", WORDS),
     (INSIDE + B + b"\n", BY_LENGTHS),
     (DATED + b"\n" + B + b"\n", set()),
@@ -37,7 +37,7 @@ OF_SEVERAL = [
     (with_length(A, b"hello", 7), set()),
 ]
 # a mailbox, and the words that decide about it if it is the only one
-ALONE = [
+ALONE: list[tuple[bytes, set[str]]] = [
     (B + b"\n" + BARE, {*BY_LINES, "unquoted"}),
     (B + b"\nhi\n\n" + NAMED, WORDS),
     (INSIDE + B + b"\n", WORDS),
