@@ -27,6 +27,7 @@ NUMBERS = [
     ([HEAD, "X-UID: 99\nX-UID: 7\n", "X-UID: 8\n"], 222, 10, [5, 7, 8]),
     ([HEAD, "X-UID: 4\nX-UID: 99\nX-UID: 7\n", "X-UID: 8\n"], 222, 10, [5, 7, 8]),
     ([HEAD, "X-UID: x\nX-UID: 0\nX-UID: 7\n", "X-UID: 8\n"], 222, 10, [5, 7, 8]),
+    ([HEAD, "", "X-UID: x\n"], 222, 12, [5, 10, 11]),
     ([HEAD, f"X-UID: {'9' * 9000}\n"], 222, 11, [5, 10]),
     (["X-IMAPbase:222 9\nX-UID:5\n", "X-UID:\t7\n", "X-UID: 8  \t\n"], 222, 10, [5, 7, 8]),
     (["X-IMAPbase: 222 9\nX-UID: 5 x\nX-UID: 2\n", "X-UID:  6\n"], 222, 11, [2, 10]),
@@ -222,11 +223,11 @@ def keywords_and_flags(home: Path) -> None:
         equal(f"{headers}", (found.keywords, [one[2] for one in found.mail]), (keywords, wanted))
     for (header, letters), (_, _, got) in zip(FLAGS, of_flags.mail):
         equal(f"the flags of {header[:20]!r}", got, letters)
-    text = text_of(["X-IMAPbase: 222 9 Foo\nX-Status: T\nX-Keywords: Foo\n", "", "Status: O\n"])
+    text = text_of(["X-IMAPbase: 222 9 Foo\nX-Status: T\nX-Keywords: Foo\n", "", "Status: O\n", "X-Status: O\n"])
     mailbox(home / "box", text)
     equal("its status", by_json("migrate --dovecot --now --folder Box M box", home).status, 0)
     names = [f"{path.parent.name}/{path.name.partition(':')[2]}" for path in mail_in(home / "M/.Box")]
-    equal("where they are", sorted(names), ["cur/2,", "cur/2,Da", "new/"])
+    equal("where they are", sorted(names), ["cur/2,", "cur/2,Da", "new/", "new/"])
 
 
 def said(home: Path) -> None:
