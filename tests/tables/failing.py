@@ -19,7 +19,7 @@ FAILS = {
     "a_folder_is_gone": (
         "mv new old; ",
         "folder call 3 failed",
-        "folder call 3 failed, which lists cur; could not list it: No such file or directory; 0 of 2 messages are there",
+        "folder call 3 failed, which lists cur; could not list it: No such file or directory; 0 of 2 messages ...",
     ),
     "a_name_is_garbled": (
         ": >$(printf 'cur/caf\\351'); ",
@@ -29,7 +29,7 @@ FAILS = {
     "a_late_call": (
         "",
         "folder call 9 failed",
-        f"folder call 9 failed, which removes a leftover, or writes or places a message; {ONCE}; 1 of 2 messages are there",
+        f"folder call 9 failed, which removes a leftover, or writes or places a message; {ONCE}; 1 of 2 messages ...",
     ),
     "a_late_call_once_all_is_there": (ALL, "folder call 9 failed", SYNC_FAILED),
     "tmp_is_gone": (
