@@ -10,7 +10,7 @@ from collections.abc import Callable, Iterator
 from functools import partial
 from pathlib import Path
 
-from tests.companion.back_users import BACK, NAMES, NEW, WORDS, deliver, migrated, moves, rest_of
+from tests.companion.back_users import BACK, NAMES, NEW, WORDS, another_user, deliver, migrated, moves, rest_of
 from tests.support.cases import LeftOut, run_cases
 from tests.support.checks import equal, match_in, matches
 from tests.support.homes import at_home, expect, fresh_folder, run
@@ -104,10 +104,30 @@ def is_full(disk: Disk, folder: str, home: Path) -> None:
             equal("an inbox that took it", rest_of(TWO, home / "spool/m61two"), BACK)
 
 
+def without_inodes(home: Path) -> None:
+    """No file can be made in the spool, neither a lock nor an inbox. Nothing goes back there, and each row says why."""
+    with migrated(home), another_user(home, "m61new"):
+        deliver(home, NAMES[0])
+        spool = home / "spool"
+        with with_disk(spool) as copy:
+            mount("none", str(spool), "tmpfs", options=f"size=16m,nr_inodes={1 + len(NAMES)}")
+            copy()
+            status, out, err = run([*WORDS, NAMES[0], "m61new"], home)
+            equal("status and standard error", (status, err), (1, ""))
+            says = "INBOX -> {0}: messages 1: left (error): {1}/{0}: No space left on device"
+            rows = sorted(row for row in out.splitlines() if "messages 1" in row)
+            equal("the rows", rows, [says.format(name, spool) for name in ("m61new", NAMES[0])])
+            equal("what is there", sorted(os.listdir(spool)), sorted(NAMES))
+            equal("an inbox", (spool / NAMES[0]).read_bytes(), ONE)
+
+
 CASES: dict[str, Callable[[Path], None]] = {
-    f"{name}_of_{place}": partial(is_full, disk, folder)
-    for name, disk in (("disk", on_full_disk), ("quota", on_full_quota))
-    for place, folder in (("the_spool", "spool"), ("a_home", "homes/m61one"))
+    "no_inode": without_inodes,
+    **{
+        f"{name}_of_{place}": partial(is_full, disk, folder)
+        for name, disk in (("disk", on_full_disk), ("quota", on_full_quota))
+        for place, folder in (("the_spool", "spool"), ("a_home", "homes/m61one"))
+    },
 }
 
 

@@ -160,9 +160,10 @@ def as_objects(home: Path) -> None:
 
 def new_inboxes(home: Path) -> None:
     """An inbox that is not there is made: the user's, of the group of the spool. The group may write to it only if it
-    may write to all others."""
+    may write to all others but root's."""
     with migrated(home):
         spool, group = home / "spool", pwd.getpwnam(GROUP).pw_gid
+        mailbox(spool / "root", ONE).chmod(0o600)
         for mode, wanted in ((0o660, 0o660), (0o600, 0o600)):
             name = f"m61{wanted:o}"
             with another_user(home, name):
@@ -173,7 +174,7 @@ def new_inboxes(home: Path) -> None:
                 equal("the text", rest_of(b"", spool / name), BACK)
                 found = state.st_uid, state.st_gid, state.st_mode & 0o7777
                 equal("a new inbox", found, (pwd.getpwnam(name).pw_uid, group, wanted))
-                equal("what is beside it", sorted(os.listdir(spool)), sorted([*NAMES, name]))
+                equal("what is beside it", sorted(os.listdir(spool)), sorted([*NAMES, name, "root"]))
                 expect([*WORDS, name], home, 0, "2 mailboxes: 2 nothing new; ...\n" + moves(home, name))
             (spool / name).unlink()
 
@@ -208,6 +209,11 @@ def without_mailboxes(home: Path) -> None:
         matches("who waits", next(row for row in rows if row.startswith("m61wait")), says)
         equal("the text", rest_of(b"", home / "spool/m61new"), BACK)
         equal("an old mailbox", (home / "spool/m61wait").read_bytes(), ONE)
+        # without a record, the name of a file shows that something was migrated
+        (home / "homes/m61three/Maildir/mbox2maildir-record").unlink()
+        (home / "spool/m61three").unlink()
+        out = run([*WORDS, "m61three"], home)[1]
+        equal("a record that is lost", ("left (no-maildir)" in out, (home / "spool/m61three").exists()), (True, False))
 
 
 def in_nobodys_way(home: Path) -> None:
@@ -251,19 +257,20 @@ def tree_elsewhere(home: Path) -> None:
 
 
 def second_mailbox(home: Path) -> None:
-    """Both mailboxes of an account get the mail of their folders."""
-    with migrated(home), accounts.users({"m61info": home / "homes/m61one"}, like="m61one"):
-        theirs(mailbox(home / "spool/m61info", TWO), "m61one")
-        words = ["migrate", "--now", "--folder", "Info", f"{home}/homes/m61one/Maildir", f"{home}/spool/m61info"]
-        given = ["/usr/bin/env", "runuser", "-u", "m61one", "--", str(home / "bin/mbox2maildir-admin"), *words]
-        equal("migrate", run(given, home)[0], 0)
+    """Each mailbox of an account gets the mail of its folder."""
+    others = {"m61info": "Info", "m61sales": "Sales"}
+    with migrated(home), accounts.users(dict.fromkeys(others, home / "homes/m61one"), like="m61one"):
+        for number, (name, folder) in enumerate(others.items(), 2):
+            theirs(mailbox(home / "spool" / name, TWO), "m61one")
+            words = ["migrate", "--now", "--folder", folder, f"{home}/homes/m61one/Maildir", f"{home}/spool/{name}"]
+            given = ["/usr/bin/env", "runuser", "-u", "m61one", "--", str(home / "bin/mbox2maildir-admin"), *words]
+            equal("migrate", run(given, home)[0], 0)
+            deliver(home, "m61one", f".{folder}", name=f"1700000000.M{number}.host")
         deliver(home, "m61one")
-        deliver(home, "m61one", ".Info", name="1700000000.M2.host")
-        status, out, err = run([*WORDS, "m61one", "m61info"], home)
+        status, out, err = run([*WORDS, "m61one", *others], home)
         equal("status and standard error", (status, err), (0, ""))
-        rows = [line for line in out.splitlines() if line.endswith(": back")]
-        equal("the rows", len(rows), 2)
-        for name, text in (("m61one", ONE), ("m61info", TWO)):
+        equal("the rows", len([line for line in out.splitlines() if line.endswith(": back")]), 3)
+        for name, text in (("m61one", ONE), ("m61info", TWO), ("m61sales", TWO)):
             equal(name, rest_of(text, home / "spool" / name), BACK)
 
 
@@ -294,6 +301,7 @@ def locked(home: Path) -> None:
         deliver(home, "m61one")
         lock = home / "spool/m61one.lock"
         lock.write_bytes(b"17\n")
+        (home / "spool/m\udce4.lock").write_bytes(b"17\n")
         says = f"INBOX -> m61one: messages 1: left (locked): another program has locked it with {lock}: ...\n"
         expect([*WORDS, "m61one"], home, 75, says + "1 mailbox: 1 left; 1 user: ...\n")
         equal("the inbox", (home / "spool/m61one").read_bytes(), ONE)

@@ -1,7 +1,9 @@
 """mbox2maildir-admin migrate --users: a user has taken over the process that root started with that user's rights. What
 it tells is only printed, and never trusted; whatever it does, root ends in order. It needs root, and is left out
 without it."""
+import ctypes
 import json
+import os
 import pwd
 import resource
 import subprocess
@@ -12,8 +14,9 @@ from pathlib import Path
 from typing import Any, NamedTuple, Optional
 
 from tests.companion.spool import theirs, users
+from tests.support import accounts
 from tests.support.checks import PATIENCE, equal
-from tests.support.homes import ADMIN, check_all, mailbox, run, want_users
+from tests.support.homes import check_all, doing_first, mailbox, run, script, want_users
 from tests.support.mail import ONE
 
 NAME = "m61one"
@@ -31,9 +34,9 @@ def tell(*lines):
 
 def take_over(*words):
     global pipe
-    for number in map(int, os.listdir("/proc/self/fd")):
+    for number in range(3, 64):
         try:
-            if number > 2 and fcntl.fcntl(number, fcntl.F_GETFL) & os.O_ACCMODE == os.O_WRONLY:
+            if fcntl.fcntl(number, fcntl.F_GETFL) & os.O_ACCMODE == os.O_WRONLY:
                 pipe = number
         except OSError:
             pass
@@ -71,6 +74,7 @@ NONSENSE = [
     ["end", -1],
     ["what"],
     ["ask"],
+    ["ask", "make", 0],
     ["then"],
     ["then", [["answer"]]],
     ["row"],
@@ -191,14 +195,14 @@ DEEDS = [
 ]
 
 
-def taken_over(home: Path, does: str, before: str = "") -> list[str]:
-    """The words of a migration of a user whose process does this."""
-    starter = ADMIN.read_text(encoding="utf-8")
-    imports = "from mbox2maildir_admin.cli import main"
-    text = starter.replace(imports, TAKEN_OVER % does.replace("\n", "\n        ") + before + "\n" + imports)
-    (home / "bin/hostile").write_text(text, encoding="utf-8")
-    (home / "bin/hostile").chmod(0o755)
-    return [f"{home}/bin/hostile", "migrate", "--users", "spool", NAME]
+def started(home: Path, before: str, word: str = "migrate") -> list[str]:
+    """The words of a migration, or of the way back, for users, before which this was done in root's process."""
+    return [str(doing_first(before, home / "bin")), word, "--users", "--now", "spool", NAME]
+
+
+def taken_over(home: Path, does: str, before: str = "", word: str = "migrate") -> list[str]:
+    """The words for a user whose process does this."""
+    return started(home, TAKEN_OVER % does.replace("\n", "\n        ") + before, word)
 
 
 def told(*lines: object) -> str:
@@ -297,37 +301,152 @@ def interrupted(home: Path, note: Path, heeds: str) -> list[str]:
 
 
 # tells what it has
-FACTS = """import resource
-numbers = [number for number in range(64) if os.path.exists('/proc/self/fd/%%d' %% number)]
-files = [os.readlink('/proc/self/fd/%%d' %% number).split(':')[0] for number in numbers]
+FACTS = """import resource, stat
+def kind_of(number):
+    try:
+        mode = os.fstat(number).st_mode
+    except OSError:
+        return None
+    return 'pipe' if stat.S_ISFIFO(mode) else 'device' if stat.S_ISCHR(mode) else 'other'
 own = [os.getresuid(), os.getresgid(), os.getgroups(), os.getsid(0) == os.getpid(), os.umask(0), os.getcwd()]
-own += [resource.getrlimit(resource.RLIMIT_CORE), sorted(os.environ), files]
+own += [resource.getrlimit(resource.RLIMIT_CORE), sorted(os.environ), list(filter(None, map(kind_of, range(64))))]
+import ctypes
+own.append(ctypes.CDLL(None).syscall(*map(ctypes.c_long, %s)))
 with open('%s', 'w') as file:
     json.dump(own, file)"""
+# the call that asks for the number of a process's session keyring, by the machine
+KEYRING = {"x86_64": (250, 0, -3, 0), "aarch64": (219, 0, -3, 0)}.get(os.uname().machine, (-1,))
+# how root's process begins, as a line for a shell: with a file open, also where it cannot tell which are
+BEGINS = (
+    'exec 40</etc/shadow; exec "$@"',
+    'exec 40</etc/shadow; ulimit -Sn 30; exec unshare -m sh -c \'mount -t tmpfs none /proc && exec "$@"\' sh "$@"',
+)
 
 
 def rights(home: Path) -> None:
     """A process has the user's rights, none of root's files, groups or settings, and makes no core dump."""
-    with one_user(home), open("/etc/shadow", "rb"):
+    with one_user(home):
         note, account = home / "homes" / NAME / "note", pwd.getpwnam(NAME)
-        facts = FACTS % str(note)
         resource.setrlimit(resource.RLIMIT_CORE, (0, resource.getrlimit(resource.RLIMIT_CORE)[1]))
-        run(taken_over(home, facts), home, SECRET="x", TZ="UTC")
         uid, gid = account.pw_uid, account.pw_gid
-        files = ["/dev/null"] * 3 + ["pipe"] * 2
-        wanted = [
-            [uid] * 3,
-            [gid] * 3,
-            [gid],
-            True,
-            0o077,
-            "/",
-            [0, 0],
-            ["HOME", "LOGNAME", "PATH", "TZ", "USER"],
-            files,
-        ]
-        equal("what it has", json.loads(note.read_text(encoding="utf-8")), wanted)
+        wanted = [[uid] * 3, [gid] * 3, [gid], True, 0o077, "/", [0, 0], ["HOME", "LOGNAME", "PATH", "TZ", "USER"]]
+        for begins in BEGINS:
+            facts = taken_over(home, FACTS % (KEYRING, note))
+            ran = run(["/bin/bash", "-c", begins, "bash", *facts], home, SECRET="x", TZ="UTC")
+            if not ran.err.startswith(("unshare", "mount")):
+                *found, keys = json.loads(note.read_text(encoding="utf-8"))
+                roots = ctypes.CDLL(None).syscall(*map(ctypes.c_long, KEYRING))
+                equal("whether it has root's keys", keys == roots, roots < 0)
+                equal(f"what it has: {begins}", found, [*wanted, ["device"] * 3 + ["pipe"] * 2])
+                note.unlink()
+
+
+# what a process may ask root for beside its own inboxes, of which it has two
+ASKS: list[list[object]] = [
+    [],
+    ["make"],
+    ["make", 2],
+    ["make", -1],
+    ["make", "m61one"],
+    ["remove", 0],
+    [[], 0],
+    ["sync", "0"],
+    ["sync", -1],
+]
+# a delivery makes an inbox while root makes it, and the lock of one cannot be released
+MEANWHILE = """
+import os
+sync, unlink, BOX = os.fsync, os.unlink, '%s'
+def delivers(number):
+    sync(number)
+    if not os.path.exists(BOX):
+        with open(BOX, 'w') as file:
+            file.write('mine')
+def refuses(path, **where):
+    if path == b'm61one.lock':
+        raise OSError(5, 'as of a disk')
+    unlink(path, **where)
+os.fsync, os.unlink = delivers, refuses
+"""
+
+
+def asks(home: Path) -> None:
+    """It gets an answer for its own inboxes alone. What another program delivers there meanwhile is never replaced. In
+    the end no lock is held for it, even if one of them cannot be released."""
+    with one_user(home), accounts.users({"m61info": home / "homes" / NAME}, like=NAME):
+        box = home / "spool" / NAME
+        theirs(mailbox(box.with_name("m61info"), ONE), NAME)
+        does = told(*(["ask", *words] for words in ASKS), ["ask", "lock", 0], ["ask", "lock", 1], ["end", len(ASKS)])
+        words = [*taken_over(home, f"{does}\ntime.sleep(1)", MEANWHILE % box, "back"), "m61info"]
+        equal("rows", [row["says"] for row in rows_of(words, home)], [UNREADABLE] * len(ASKS))
+        equal("what is there", sorted(path.name for path in box.parent.iterdir()), ["m61info", NAME, f"{NAME}.lock"])
+        (box.parent / "m61info").unlink()
+        box.unlink()
+        rows_of(taken_over(home, f"{told(['ask', 'make', 0])}\ntime.sleep(1)", MEANWHILE % box, "back"), home)
+        equal("what another program delivered", box.read_bytes(), b"mine")
+
+
+# the first sync of a disk does this, and ends so
+SYNCING = """
+import ctypes, mmap
+# the counter is that of all processes
+library, synced = ctypes.CDLL, mmap.mmap(-1, 1)
+class Library:
+    def __init__(self, *words, **named):
+        self.real = library(*words, **named)
+    def __getattr__(self, name):
+        return syncs if name == 'syncfs' else getattr(self.real, name)
+def syncs(number):
+    synced[0] += 1
+    if synced[0] > 1:
+        return 0
+    %s
+    return %d
+ctypes.CDLL = Library
+"""
+# it fails, which the system tells once
+FAILING = SYNCING % ("ctypes.set_errno(5)", -1)
+
+
+def a_sync_that_fails(home: Path) -> None:
+    """Nobody's mail is done whose disk lost something, also if that was said to somebody else."""
+    with one_user(home):
+        theirs(mailbox(home / "spool/m61two", ONE), "m61two")
+        rows = rows_of([*started(home, FAILING), "m61two", "--jobs", "1"], home)
+        found = [(row["user"], row["reason"]) for row in rows]
+        equal("who is left", found, [(NAME, "sync-failed"), ("m61two", "sync-failed")])
+
+
+def children_of(number: int) -> list[int]:
+    """The processes that a process has started."""
+    try:
+        return [*map(int, Path(f"/proc/{number}/task/{number}/children").read_text(encoding="utf-8").split())]
+    except OSError:
+        return []
+
+
+def root_is_killed(home: Path) -> None:
+    """A process ends if root does, while it waits for a mailbox and while a program is at work for it. Nothing of the
+    mail comes then."""
+    with one_user(home):
+        (home / "bin/mbox2maildir").rename(home / "bin/real")
+        script(home / "bin/mbox2maildir", f'test "$1" != convert || exec sleep 999; exec {home}/bin/real "$@"')
+        for age in (0, 3600):
+            mailbox(home / "spool" / NAME, ONE, age)
+            words = [word for word in started(home, "") if word != "--now"]
+            with subprocess.Popen(words, cwd=str(home), stdout=subprocess.DEVNULL, stderr=subprocess.DEVNULL) as root:
+                late, found = time.monotonic() + PATIENCE, list[int]()
+                while len(found) < (2 if age else 1):
+                    assert time.monotonic() < late, "nothing is at work"
+                    found = [one for child in children_of(root.pid) for one in (child, *children_of(child))]
+                    time.sleep(0.5)
+                root.kill()
+            for one in found:
+                assert has_ended(one), f"{age}: {one} goes on"
+            # the mailbox is waited for until it was left alone for a minute
+            assert age or time.time() - (home / "spool" / NAME).stat().st_mtime < 55, "it waited on"
+            equal(f"{age}: what came", list((home / "homes" / NAME).glob("Maildir/new/*")), [])
 
 
 if __name__ == "__main__":
-    check_all(ends, nonsense, printed, what_it_started, rights)
+    check_all(ends, nonsense, printed, what_it_started, rights, asks, a_sync_that_fails, root_is_killed)

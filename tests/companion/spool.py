@@ -2,6 +2,7 @@
 is left out without it."""
 import collections
 import contextlib
+import gzip
 import json
 import os
 import pwd
@@ -14,10 +15,11 @@ from pathlib import Path
 
 from tests.support import accounts
 from tests.support.checks import TOP, equal, match_in, matches, text_of
-from tests.support.homes import ADMIN, check_all, expect, mailbox, run, subjects, want_users
+from tests.support.homes import ADMIN, check_all, doing_first, expect, mailbox, run, subjects, want_users
 from tests.support.ledgers import RECORD
 from tests.support.mail import ONE, THREE, TWO, numbered
-from tests.support.printed import row_in, rows_in
+from tests.support.printed import Printed, row_in, rows_in
+from tests.support.running import Word
 from tests.support.schema import wrong
 
 USERS = ["m61one", "m61two", "m61three"]
@@ -57,16 +59,11 @@ def spool(home: Path) -> None:
         for name, text in (("nobody-at-all", ONE), ("root", ONE), ("other.lock", b"")):
             mailbox(home / "spool" / name, text)
         nobody = "nobody-at-all: left (no-user): no such user\n"
-        (home / "spool").chmod(0o700)
-        expect(
-            "migrate --users spool",
-            home,
-            1,
-            "",
-            f"mbox2maildir-admin: users may not enter {home}/spool\n"
-            f"    run this next:\n        chmod 711 {home}/spool\n",
-        )
-        (home / "spool").chmod(0o711)
+        for path, mode in ((home / "spool", 0o700), (home / "spool", 0o710), (home, 0o710)):
+            path.chmod(mode)
+            says = f"users may not enter {path}\n    run this next:\n        chmod 711 {path}\n"
+            expect("migrate --users spool", home, 1, "", f"mbox2maildir-admin: {says}")
+            path.chmod(0o711)
         expect(
             "migrate --all --users --dry-run spool m61one m61gone",
             home,
@@ -226,6 +223,21 @@ def listing(home: Path) -> None:
     matches("a run for the list", out.splitlines()[-1], "...; 3 users: 3 from standard input; 4 names ...")
     with own_settings("UID_MIN 60602"):
         expect([*words, "--list", old], home, 0, wanted.partition("\n")[2])
+    lists_of_names(home, words, old)
+
+
+def lists_of_names(home: Path, words: list[str], old: Path) -> None:
+    """A list may be long, and have names of nobody. A name of an account may be one that no list can hold."""
+    (home / "many").write_bytes(b"".join(b"nobody-%d\n" % number for number in range(1001)) + b"a\0b\nm61one\n")
+    expect([*words, "--list", "--names", "many", old], home, 0, f"m61one\tfrom many\t{len(ONE)}\n")
+    os.truncate(mailbox(home / "long", b"m61one\n"), (1 << 24) + 1)
+    says = "long: it is longer than 16 MB, so it is not a list of names"
+    expect([*words, "--list", "--names", "long", old], home, 1, "", f"mbox2maildir-admin: {says}\n")
+    with accounts.users({"m61\ta": home / "homes/a"}):
+        mailbox(old / "m61\ta", ONE)
+        says = "mbox2maildir-admin: m61\\x09a: a list cannot hold this name\n"
+        expect(["migrate", "--users", "--list", old], home, 1, None, says)
+        (old / "m61\ta").unlink()
 
 
 @contextlib.contextmanager
@@ -275,20 +287,50 @@ def names_of_a_list(home: Path) -> None:
     (home / "disk/m61two").rename(home / "homes/m61two")
 
 
+# notes when processes begin and end
+NOTES = """
+import os
+fork, waits = os.fork, os.waitpid
+def note(word):
+    with open('order', 'a') as file:
+        file.write(word)
+def forks():
+    number = fork()
+    if number:
+        note('(')
+    return number
+def ends(*words):
+    note(')')
+    return waits(*words)
+os.fork, os.waitpid = forks, ends
+"""
+
+
 def second_mailbox(home: Path) -> None:
-    """A second mailbox of an account is left, with the command that migrates it. After that it is done before."""
-    with accounts.users({"m61info": home / "homes/m61one"}, like="m61one"):
-        theirs(mailbox(home / "spool/m61info", TWO), "m61info")
-        words = ["migrate", "--all", "--users", "--jobs", "3", "spool", "m61one", "m61info"]
-        status, out, _ = run(words, home)
-        equal("a second mailbox: status", status, 1)
-        row = row_in(out, "m61info: left (same-user): m61one is the same user, and its mailbox goes into INBOX")
-        given = row.command.replace("--folder NAME", "--folder Info").split()
+    """Further mailboxes of an account are left, each with the command that migrates it. After that it is done before.
+    One process at a time is at work for an account."""
+    with accounts.users({name: home / "homes/m61one" for name in ("m61info", "m61sales")}, like="m61one"):
+        for name in ("m61info", "m61sales"):
+            theirs(mailbox(home / "spool" / name, TWO), name)
+        words = ["migrate", "--all", "--users", "--jobs", "3", "spool", "m61one", "m61info", "m61sales"]
+        status, out, _ = run([doing_first(NOTES, home / "bin"), *words], home)
+        equal("further mailboxes: status, and processes", (status, text_of(home / "order")), (1, "()()()"))
+        says = "left (same-user): m61one is the same user, and its mailbox goes into INBOX"
+        given = row_in(out, f"m61info: {says}").command.replace("--folder NAME", "--folder Info").split()
         equal("who runs its command", given[:4], ["runuser", "-u", "m61info", "--"])
         equal("its command", run(["/usr/bin/env", *given], home)[0], 0)
-        expect(words, home, 0, "2 mailboxes: 2 done before; ...\n")
+        out = run(words, home)[1]
+        matches("the last line", out.splitlines()[-1], "3 mailboxes: 2 done before, 1 left; ...")
         equal("what is there", subjects(home / "homes/m61one/Maildir/.Info"), ["two"])
-    (home / "spool/m61info").unlink()
+        command = row_in(run(["verify", "--all", *words[2:]], home)[1], f"m61sales: {says}").command
+        verify = f"verify {home}/homes/m61one/Maildir/.NAME {home}/spool/m61sales"
+        equal("what checks the other", command, f"runuser -u m61sales -- mbox2maildir-admin {verify}")
+        (home / "spool/m61one").rename(home / "away")
+        rows = {row.name: row.line for row in rows_in(run([*words[:5], "spool", "m61info", "m61sales"], home)[1])}
+        matches("without its own", rows["m61sales"], "m61sales: left (same-user): m61info is the same user, ...")
+        (home / "away").rename(home / "spool/m61one")
+    for name in ("m61info", "m61sales"):
+        (home / "spool" / name).unlink()
 
 
 def as_objects(home: Path) -> None:
@@ -452,6 +494,114 @@ def hostile_homes(home: Path) -> None:
     attempt("a mailbox of root's", r"m61one: left \(other-owner\): it belongs to root")
 
 
+# what is said of a name of a spool, by the number of the first user
+SYSTEM = "left (system-account): a system account"
+WHOSE = {
+    "m61one": "left (copy): {spool}/m61one.gz stands beside it",
+    "m61one {spool}/m61one.gz": "left (copy): {spool}/m61one stands beside it",
+    "m61two": "left (link): it is a symbolic link",
+    "m61two.gz": "left (copy): it may be a copy of m61two, which is left",
+    "m61three": "left (other-owner): it belongs to user 4000000000",
+    "nobody": f"{SYSTEM} without a home of its own",
+    "m61none": "left (no-user): no such user",
+    "m61none.xz": "left (copy): it may be a copy of m61none, which is left",
+}
+OF_SYSTEM = {
+    "m61one": f"{SYSTEM}, which must be named",
+    "m61one.gz": "left (copy): it may be a copy of m61one, which is left",
+    "m61three": f"{SYSTEM} without a home of its own",
+}
+# what migrates their mail
+NAMED = {
+    "m61one": "mbox2maildir-admin migrate --users --dry-run {spool} m61one",
+    "m61three": "runuser -u m61three -- mbox2maildir-admin migrate --dry-run MAILDIR {spool}/m61three",
+}
+
+
+def whose(home: Path) -> None:
+    """Names whose mailboxes are left, and what stands beside them, each with its reason. An account of the system has
+    to be named, and to have a home of its own."""
+    want_users()
+    spool, words = home / "spool", ["migrate", "--all", "--users", "--dry-run", "spool"]
+
+    def rows(settings: str, *names: str) -> dict[str, Printed]:
+        with own_settings(settings):
+            return {row.name: row for row in rows_in(run([*words, *names], home)[1])}
+
+    def lines(of: dict[str, str]) -> dict[str, str]:
+        """Those of a table, without the names."""
+        return {name.format(spool=spool): f"{name}: {says}".format(spool=spool) for name, says in of.items()}
+
+    with users(home):
+        for name in ("m61one", "m61three", "nobody", "m61none", "m61two.gz", "m61none.xz"):
+            mailbox(spool / name, ONE)
+        mailbox(spool / "m61one.gz", gzip.compress(ONE))
+        for name in ("m61one", "m61one.gz"):
+            theirs(spool / name, "m61one")
+        os.symlink("m61one", spool / "m61two")
+        os.chown(spool / "m61three", 4000000000, -1)
+        for settings in ("UID_MIN 1000", "# caf\xe9 UID_MIN 7"):
+            found = {name: row.line for name, row in rows(settings).items() if "mailboxes" not in name}
+            equal(f"{settings}: the rows", found, lines(WHOSE))
+        theirs(spool / "m61three", "m61three")
+        shutil.rmtree(home / "homes/m61three")
+        system = rows("UID_MIN 99999")
+        equal("of the system", {name: system[name].line for name in OF_SYSTEM}, lines(OF_SYSTEM))
+        commands = {name: command.format(spool=spool) for name, command in NAMED.items()}
+        equal("what migrates them", {name: system[name].command for name in NAMED}, commands)
+        (spool / "m61one.gz").unlink()
+        (spool / "m61three").unlink()
+        says = [row.line for row in rows("UID_MIN 99999", "m61one", "nobody").values()][:2]
+        equal("if they are named", sorted(says), [
+            "m61one -> INBOX: mboxrd or mboxo, messages 1: would be done", lines(WHOSE)["nobody"]
+        ])  # fmt: skip
+        with no_settings():
+            equal("without settings", run([*words, "m61one"], home).status, 0)
+
+
+@contextlib.contextmanager
+def no_settings() -> Iterator[None]:
+    """Has no login.defs for a while."""
+    Path("/etc/login.defs").rename("/etc/login.away")
+    try:
+        yield
+    finally:
+        Path("/etc/login.away").rename("/etc/login.defs")
+
+
+# once a process has its user's rights, it can load nothing more of Python
+CLOSED = """
+import os, sys
+rights = os.setuid
+def with_rights(number):
+    rights(number)
+    sys.meta_path.clear()
+os.setuid = with_rights
+"""
+GMAIL = b"X-GM-THRID: 1785134556187161\nX-Gmail-Labels: =?UTF-8?Q?Gr=C3=BC=C3=9Fe?=,Unread\n"
+MANY = {
+    "Gr\u00fc\u00dfe": ONE,
+    "packed.gz": gzip.compress(TWO),
+    "gmail": ONE.replace(b"\n", b"\n" + GMAIL, 1),
+    "no-date": b"From a@b\nDate: Mon, 3 Mar 2025 09:12:44 +0000\nSubject: x\n\nx\n\n",
+}
+
+
+def where_users_read_no_module(home: Path) -> None:
+    """Python's modules may be where only root can read: whatever mail needs is loaded before a process is a user's."""
+    want_users()
+    with users(home):
+        for name, text in MANY.items():
+            theirs(mailbox(home / "homes/m61one/mail" / name, text), "m61one")
+        (home / "spool").mkdir(exist_ok=True)
+        command: list[Word] = [doing_first(CLOSED, home / "bin"), "migrate", "--users", "--tree", "mail", "--jobs", "3"]
+        for more, what in (("--dovecot", "done"), ("", "done before")):
+            status, out, err = run([*command, *more.split(), "spool", "m61one"], home)
+            equal(f"{what}: {out}", (status, err, f"{len(MANY)} mailboxes: {len(MANY)} {what}" in out), (0, "", True))
+        status, out, _ = run([command[0], "verify", *command[2:], "spool", "m61one"], home)
+        equal(f"verify: {out}", (status, f"{len(MANY)} whole" in out), (0, True))
+
+
 def nobodys(home: Path) -> None:
     """A mailbox of nobody, a missing home, and a link that leads nowhere are left by each run. By the page's commands
     nothing is left any more, nor on the way back."""
@@ -512,4 +662,4 @@ def people_of_the_machine(home: Path) -> None:
 
 
 if __name__ == "__main__":
-    check_all(spool, nobodys, people_of_the_machine)
+    check_all(spool, whose, where_users_read_no_module, nobodys, people_of_the_machine)

@@ -92,6 +92,14 @@ def verified(home: Path) -> None:
     )
 
 
+def by_a_decision(home: Path) -> None:
+    """A mailbox is read as it was migrated, whether its folder or the Maildir is named."""
+    mailbox(home / "box", A + b"\n>>From x\n\n")
+    equal("migrate", run("migrate --now --as mboxo --folder Sent M box", home)[0], 0)
+    for folder in ("M", "M/.Sent", "M/.Sent/"):
+        expect(["verify", folder, "box"], home, 0, "1 mailbox: 1 whole\n")
+
+
 def there_twice(home: Path) -> None:
     """What is there twice: by a conversion after a program gave new names, and by a copy."""
     texts, bases = ten_messages(home)
@@ -216,4 +224,4 @@ def read_meanwhile(home: Path) -> None:
 
 
 if __name__ == "__main__":
-    check_all(closed_files, verified, there_twice, of_another_owner, verified_by_others, read_meanwhile)
+    check_all(closed_files, verified, by_a_decision, there_twice, of_another_owner, verified_by_others, read_meanwhile)

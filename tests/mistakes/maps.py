@@ -21,8 +21,6 @@ from tests.support.checks import TOP, text_of
 
 # a case that takes longer, in seconds, sees no mistake within a time that anybody waits
 LONGEST = 120
-# units that look at the layout of sources see no mistake
-LAYOUT = "test_house"
 STARTS = """
 import sys as _sys
 _sys.path.insert(0, %r)
@@ -87,8 +85,7 @@ def cases_there(words: Sequence[str]) -> Iterator[str]:
             command = [sys.executable, "-B", "-m", module_of(name), "--list"]
             told = subprocess.run(command, cwd=str(TOP), check=True, stdout=subprocess.PIPE).stdout.decode().split()
             cases = [f"{name}:{case}" for case in told]
-        if name != LAYOUT:
-            yield from (case for case in cases if not words or any(word in case for word in words))
+        yield from (case for case in cases if not words or any(word in case for word in words))
 
 
 def compiled(folder: Path) -> Path:

@@ -188,7 +188,7 @@ def the_list() -> None:
     for wanted in (
         "pages/runner\n    endless_cases\n",
         "\nprogram/lock\n    ",
-        "\ncompanion/units/test_units\n    UnitsTest.",
+        "\ncompanion/units/test_terminal\n    TerminalTest.",
     ):
         assert wanted in ran.stdout, f"{wanted!r} is not in: {ran.stdout}"
     equal("tests without a case", [name for name in names if f"{name}\n    " not in ran.stdout], [])

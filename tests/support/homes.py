@@ -13,7 +13,7 @@ from typing import Optional, Union
 
 from tests.support import accounts
 from tests.support.cases import LeftOut, run_cases
-from tests.support.checks import TOP, equal, match_in, matches, program, without_progress, without_work
+from tests.support.checks import TOP, equal, match_in, matches, program, text_of, without_progress, without_work
 from tests.support.copies import Copies
 from tests.support.dovecot.settings import settings_here
 from tests.support.running import BY_OTHERS, COMPANION, OWNER, Desk, Run, Word
@@ -166,6 +166,16 @@ def script(path: Path, text: str) -> None:
     """Writes a script for the shell, which others may run too."""
     path.write_text(f"#!/bin/sh\n{text}\n", encoding="utf-8")
     path.chmod(0o755)
+
+
+def doing_first(code: str, programs: Path) -> Path:
+    """The companion among these programs, which does this before its modules are loaded: as where the system has a call
+    fail, or another program does something meanwhile."""
+    text, imports = text_of(ADMIN), "from mbox2maildir_admin.cli import main"
+    path = programs / "does-first"
+    path.write_text(text.replace(imports, f"{code}\n{imports}"), encoding="utf-8")
+    path.chmod(0o755)
+    return path
 
 
 # the settings of a server on the machine may have another separator, or other folders

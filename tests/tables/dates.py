@@ -6,8 +6,9 @@ from datetime import datetime, timedelta, timezone
 from pathlib import Path
 from typing import Optional
 
+from tests.companion.hostile import FAILING, SYNCING
 from tests.support.checks import equal, match_in
-from tests.support.homes import check_all, expect, files_of, mail_in, mailbox, run
+from tests.support.homes import check_all, doing_first, expect, files_of, mail_in, mailbox, run
 from tests.support.mail import A, B
 from tests.support.printed import in_quotes
 
@@ -290,5 +291,18 @@ def many_dates(home: Path) -> None:
     print(f"admin: dates: {MANY} messages of one folder")
 
 
+def what_is_not_kept(home: Path) -> None:
+    """The dates of a mailbox are given once they are on the disk, and if nobody has written to it meanwhile."""
+    box = mailbox(home / "box", A + b"\n")
+    equal("convert", run("mbox2maildir convert M box", home)[0], 0)
+    for code, says in (
+        (FAILING, "its sync failed: read the system's log, mount the disk again, and run this again"),
+        (SYNCING % (f"open('{box}', 'ab').write(b'x')", 0), "it changed in the meantime: stop the program ..."),
+    ):
+        expect(
+            [doing_first(code, home / "bin"), "dates", "M", "box"], home, 1, "", f"mbox2maildir-admin: box: {says}\n"
+        )
+
+
 if __name__ == "__main__":
-    check_all(dates, forms_of_headers, dates_that_stay, many_dates)
+    check_all(dates, forms_of_headers, dates_that_stay, many_dates, what_is_not_kept)

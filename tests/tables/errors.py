@@ -8,10 +8,10 @@ import sys
 from pathlib import Path
 
 from tests.support.checks import equal, matches
-from tests.support.homes import ADMIN, check_all, expect, mailbox, run
+from tests.support.homes import ADMIN, check_all, expect, is_root, mailbox, run, want_root
 from tests.support.mail import ONE
 from tests.support.printed import rows_in
-from tests.support.running import Desk
+from tests.support.running import OWNER, Desk
 
 # a line that may begin a message, which only a human can decide
 UNCLEAR = ONE + b"From Tuesday on we are here\n\nbye\n\n"
@@ -21,6 +21,8 @@ RUN = "    run this next:\n        "
 HELP = "mbox2maildir-admin: run this next: mbox2maildir-admin {}--help\n".format
 COMMANDS = "kind", "quote", "dates", "migrate", "verify", "back", "explain"
 TIED, ONE_FILE = "--text and --begin need --as and --of, ...", "--text and --begin need exactly one MAILBOX, ..."
+UNDO = "--undo goes only with --dry-run, --folder, --now, --json and --report"
+LIST = "--list needs --users, and goes with neither --json nor --report"
 # words that are wrong, or do not go together, and what is said of them; the help of the command is next
 REFUSED = [
     ("", "the command is missing: kind, quote, dates, migrate, verify, back, explain"),
@@ -38,8 +40,10 @@ REFUSED = [
     ("quote -o copy ''", "'': FILE is empty"),
     ("quote -o copy box two", "two: it takes only one FILE"),
     ("quote --as mbox -o copy box", "--as mbox: no such word: it takes mboxrd, ..."),
-    ("quote --as mboxo --text x --of 9-a -o copy box", "..."),
-    ("quote --text 7 --of 9-a -o copy box", "..."),
+    ("quote --as mboxo --text x --of 9-a -o copy box", "--text and --begin take line numbers, separated by commas"),
+    ("quote --text 7 --of 9-a -o copy box", "--text and --begin need --as and --of, ..."),
+    ("quote --of 9-a -o copy box", "--of needs --as or --drop-deleted, ..."),
+    ("quote --as mboxo --text 7 --begin 7 --of 9-a -o copy box", "line 7 is named by --text and by --begin"),
     ("migrate", "MAILDIR and MAILBOX are missing"),
     ("migrate M", "MAILBOX is missing"),
     ("migrate '' box", "'': MAILDIR is empty"),
@@ -53,11 +57,16 @@ REFUSED = [
     ("migrate M box --as mbox", "--as mbox: no such word: it takes mboxrd, ..."),
     ("migrate M box --folder a//b", "--folder a//b: a part of the name is empty: put `/` only between ..."),
     ("migrate M box --tree mail", "--maildir, --tree and --names need --users"),
+    ("migrate M box --jobs 0", "--jobs 0: it takes a number from 1 on"),
+    ("migrate M box -1", "-1: no such option"),
+    ("migrate --folder x M box old", "--folder needs a MAILBOX that is a file"),
+    ("migrate --names - M box", "--maildir, --tree and --names need --users"),
     ("migrate --undo M old", "--undo needs exactly one MAILBOX, which is a file"),
-    ("migrate --as mboxo --text 6 M box", TIED),
-    ("migrate --as mboxo --text 6 --of 1-a M box two", ONE_FILE),
-    ("migrate --as mboxo --text 6 --of 1-a M old", ONE_FILE),
-    ("migrate --users --drop-deleted old", "--drop-deleted needs --of to go with --users"),
+    ("migrate --undo M box two", "--undo needs exactly one MAILBOX, which is a file"),
+    *((f"migrate --undo {word} M box", UNDO) for word in ("--again", "--dovecot", "--no-mail=*", "--as=mboxo")),
+    ("migrate --list M box", LIST),
+    ("migrate --unread M box", "--unread needs --prepare"),
+    ("migrate --prepare --again M box", "--prepare goes with neither --again nor --labels"),
     ("migrate --label x=none M box", "--label needs --labels"),
     (
         "migrate --labels --label x M box",
@@ -66,6 +75,21 @@ REFUSED = [
     ("migrate --labels --folder x M box", "--labels does not go with --folder and --dovecot"),
     ("migrate --labels M old", "--labels needs a MAILBOX that is a file"),
     ("migrate --labels=two M box", "..."),
+    ("migrate --as mboxo --text 6 M box", TIED),
+    ("migrate --as mboxo --text 6 --of 1-a M box two", ONE_FILE),
+    ("migrate --as mboxo --text 6 --of 1-a M old", ONE_FILE),
+]
+# the same, if root gives them
+BY_ROOT = [
+    ("migrate --undo --users old", UNDO),
+    ("migrate --list --users --json old", LIST),
+    ("migrate --list --users --report none old", LIST),
+    ("migrate --users --maildir /etc old", "/etc: --maildir and --tree take a name below each home"),
+    ("migrate --users --tree a/../.. old", "a/../..: --maildir and --tree take a name below each home"),
+    ("migrate --users --folder a old", "--folder does not go with --users"),
+    ("migrate --users --labels old", "--labels does not go with --users"),
+    ("migrate --users --as mboxo --text 6 --of 1-a old", "--text and --begin do not go with --users"),
+    ("migrate --users --drop-deleted old", "--drop-deleted needs --of to go with --users"),
 ]
 # what a command says of what is there, and what is to be done next: a command, a task, or nothing. Each says what
 # happened, to what, and why
@@ -111,7 +135,7 @@ def words_and_files(home: Path) -> None:
         (home / name).mkdir(parents=True)
     os.mkfifo(home / "pipe")
     there = sorted(home.iterdir())
-    for line, says in REFUSED:
+    for line, says in [*REFUSED, *(BY_ROOT if is_root() else ())]:
         command = line.split(" ", 1)[0]
         expect(
             shlex.split(line) or [str(ADMIN)],
@@ -140,6 +164,16 @@ def words_and_files(home: Path) -> None:
     ):
         sums = "" if line.startswith("kind") else "1 mailbox: 1 left\n"
         expect(line.split(), home, 1, says + sums)
+
+
+def not_by_root(home: Path) -> None:
+    """Users' mail is root's to migrate."""
+    want_root()
+    (home / "old").mkdir()
+    ran = Desk(home, user=OWNER).run(["migrate", "--users", "old"])
+    equal(
+        "status and errors", (ran.status, ran.err.splitlines()[0]), (2, "mbox2maildir-admin: only root may use --users")
+    )
 
 
 def interrupted_while_it_waits(home: Path) -> None:
@@ -269,6 +303,7 @@ def on_an_older_python(home: Path) -> None:
 if __name__ == "__main__":
     check_all(
         words_and_files,
+        not_by_root,
         interrupted_while_it_waits,
         no_maildir_without_a_mailbox,
         a_maildir_with_a_mailbox,

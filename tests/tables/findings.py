@@ -1,12 +1,16 @@
 """What `kind` and `verify` print with `--json`: objects that follow the schema, in the words of `migrate --json`."""
 import json
+import os
+import shutil
 from collections.abc import Sequence
 from pathlib import Path
-from typing import Any
+from typing import Any, Union
 
+from tests.companion.spool import users
 from tests.support.checks import equal
-from tests.support.homes import check_all, expect, files_of, mailbox, run
+from tests.support.homes import check_all, expect, files_of, mailbox, run, want_users
 from tests.support.mail import ONE, TWO
+from tests.support.printed import rows_in
 from tests.support.schema import wrong
 
 DOUBTFUL = ONE + b"From Tuesday on\n\nhi\n"
@@ -52,6 +56,50 @@ def what_files_are(home: Path) -> None:
     equal("answers as migrate has them", list(answers), [one["answer"] for one in migrated["old/doubtful"]["next"]])
 
 
+# a letter's folder: whose it is, by the owner and the group, and its mode; and whether the owner of the letter may write
+# there, so that what is made of it takes its place
+FOLDERS: list[tuple[str, Union[str, int], int, bool]] = [
+    ("m61one", "root", 0o700, True),
+    ("m61one", "root", 0o577, False),
+    ("m61two", "root", 0o777, True),
+    ("m61two", "root", 0o775, False),
+    # a group of the owner: by its own number, by its list, and without a name
+    ("m61two", "m61one", 0o770, True),
+    ("m61two", "m61team", 0o770, True),
+    ("m61two", "m61team", 0o707, False),
+    ("m61two", 60999, 0o770, False),
+]
+LETTER = b"Subject: one\nFrom: a@b\n\nhello\n"
+
+
+def by_root(home: Path) -> None:
+    """What is to be done with another user's file, that user does: where it lies, or in the home. A number without a
+    name stands for a user too, and root's own files are root's."""
+    want_users()
+    letter, homes = mailbox(home / "old/x", LETTER), home / "homes"
+    with users(home), open("/etc/group", "a", encoding="utf-8") as file:
+        file.write("m61team:x:60998:m61one\n")
+        file.flush()
+        shutil.chown(letter, "m61one")
+        for owner, group, mode, is_there in FOLDERS:
+            shutil.chown(letter.parent, owner, group)
+            letter.parent.chmod(mode)
+            place = letter if is_there else homes / "m61one/x"
+            made_by(f"{owner}, {group}, {mode:o}", home, "runuser -u m61one -- sh -c ", place)
+        os.chown(letter, 4000000000, -1)
+        made_by("a number", home, "setpriv --clear-groups --reuid 4000000000 sh -c ", Path("/x"))
+        os.chown(letter, 0, -1)
+        made_by("root's own", home, "d=$(", letter)
+
+
+def made_by(what: str, home: Path, before: str, place: Path) -> None:
+    """The command that makes a mailbox of a letter begins so, and makes its folder at this place."""
+    (row, *_) = rows_in(run("kind old/x", home)[1])
+    equal(
+        f"{what}: {row.command}", (row.command.startswith(before), f"mktemp -d {place}." in row.command), (True, True)
+    )
+
+
 def what_is_there(home: Path) -> None:
     """Each mailbox has an object with its counts, and with what is nowhere, has other bytes or is there twice."""
     for name, text in (("a", ONE + TWO), ("b", TWO)):
@@ -86,4 +134,4 @@ def what_is_there(home: Path) -> None:
 
 
 if __name__ == "__main__":
-    check_all(what_files_are, what_is_there)
+    check_all(what_files_are, by_root, what_is_there)

@@ -2,7 +2,7 @@
 import re
 from pathlib import Path
 
-from tests.support.checks import equal
+from tests.support.checks import TOP, equal, text_of
 from tests.support.homes import check_all, expect, mailbox, run
 from tests.support.mail import ONE
 
@@ -42,5 +42,13 @@ def helps(home: Path) -> None:
     equal("groups of `migrate`", groups, wanted)
 
 
+def version(home: Path) -> None:
+    """That of the program. Where its file is missing, that is said."""
+    expect("mbox2maildir-admin --version", home, 0, f"mbox2maildir-admin {text_of(TOP / 'VERSION')}")
+    (home / "bin/VERSION").unlink()
+    says = f"mbox2maildir-admin: {home}/bin/VERSION: it is missing: install the package anew\n"
+    expect("mbox2maildir-admin --version", home, 1, "", says, LC_ALL="C.UTF-8")
+
+
 if __name__ == "__main__":
-    check_all(options_anywhere, helps)
+    check_all(options_anywhere, helps, version)
