@@ -2,7 +2,6 @@
 ends the runs. Random ones, which are killed among users, are worlds of tests/companion/worlds.py."""
 import os
 import re
-import shutil
 import signal
 import subprocess
 import sys

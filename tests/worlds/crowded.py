@@ -4,7 +4,9 @@ from contextlib import ExitStack, suppress
 
 from tests.support.accounts import are_own
 from tests.support.mounts import small_disk
-from tests.support.running import Kill
+from tests.support.running import NEVER, Kill
+from tests.worlds.deeds import read_some
+from tests.worlds.stage import Stage
 from tests.worlds.trees import Trees
 
 FOLDERS, JOBS = 6, "8"
@@ -13,6 +15,10 @@ FILLER = "filler"
 
 class Crowded(Trees):
     """Such mailboxes."""
+
+    def __init__(self, stage: Stage, seed: int) -> None:
+        super().__init__(stage, seed)
+        self.is_filled = are_own() and self.draw.random() < 0.5
 
     def begin(self) -> None:
         super(Trees, self).begin()
@@ -23,14 +29,15 @@ class Crowded(Trees):
 
     def live(self) -> None:
         with ExitStack() as stack:
-            self.is_filled = are_own() and self.draw.random() < 0.5
             if self.is_filled:
                 stack.enter_context(small_disk(self.maildir))
                 self.own_all()
-            for _ in range(self.draw.randint(1, 3)):
-                self.likely = self.draw.choice([0.01, 0.03])
-                self.migrate(kill=self.moment())
-            self.likely = 0.0
+            for _ in range(self.draw.randint(1, 4)):
+                self.likely = self.draw.choice([0.05, 0.2])
+                self.migrate(kill=self.moment() if self.draw.random() < 0.8 else NEVER)
+                self.likely = 0.0
+                if self.draw.random() < 0.5:
+                    self.happens({read_some: 1})
             self.empty()
             self.end()
 
@@ -38,12 +45,12 @@ class Crowded(Trees):
         """A moment of a run, at which all of it is killed, or its first process alone."""
         draw = self.draw
         if draw.random() < 0.6:
-            return Kill(seconds=draw.uniform(0.05, 1), is_alone=draw.random() < 0.6)
+            return Kill(seconds=draw.uniform(0.1, 3), is_alone=draw.random() < 0.6)
         return Kill(event=draw.randint(1, 300)) if draw.random() < 0.5 else Kill(call=draw.randint(1, 300))
 
     def meanwhile(self) -> None:
         super().meanwhile()
-        if self.is_filled and self.draw.random() < self.likely:
+        if self.is_filled and self.draw.random() < self.likely / 10:
             self.fill()
 
     def fill(self) -> None:

@@ -46,13 +46,12 @@ class History:
         if self.server:
             stage.place = Place(Path(self.server.home(USER)), stage.top / "bin")
         self.place, self.home = stage.place, stage.place.home
-        self.maildir = self.home / "Maildir"
         self.boxes: list[Box] = []
         self.letters: list[Letter] = []
         # what a mail program took for a message of a mailbox, and put into another one as such: it may be a part of one
         self.parts: set[bytes] = set()
         self.oracle = Oracle(self.maildir, is_one)
-        self.seen, self.steps = stage.seen, stage.steps
+        self.seen = stage.seen
         self.wrong: list[str] = []
         # the Maildir as it was kept
         self.kept: Optional[Oracle] = None
@@ -63,6 +62,16 @@ class History:
         self.asked, self.ended = "", ""
         # how likely its owner does something at a moment while a run is at work, and whether a message was taken then
         self.likely, self.is_disturbed = 0.0, False
+
+    @property
+    def maildir(self) -> Path:
+        """The Maildir into which it goes."""
+        return self.home / "Maildir"
+
+    @property
+    def steps(self) -> list[str]:
+        """What was done in it."""
+        return self.stage.steps
 
     def play(self) -> list[str]:
         """Tries it. Returns what is wrong."""

@@ -211,7 +211,7 @@ class Labels(History):
         self.oracle.all.had[box.number] |= total(one.ids for one in self.parted.get(box, {}).values())
 
     def check(self, ran: Run, rows: dict[str, Row]) -> None:
-        for row in ran.rows if "--undo" not in self.steps[-1] else []:
+        for row in ran.rows:
             box = next(box for box in self.boxes if box.path == row["path"])
             if row["verdict"] in ENDED and row["folder"] in self.parted.get(box, {}):
                 self.note(self.oracle.missing(row, [self.parted[box][row["folder"]]]))
@@ -219,9 +219,9 @@ class Labels(History):
     def ends(self, status: int, box: Box, *words: str) -> Run:
         """Runs it, which ends with this status."""
         ran = self.run(["migrate", "--json", "--now", *words, "Maildir", box.path])[0]
-        is_done = all(row["verdict"] in ENDED for row in ran.rows)
-        if ran.status != status or status == 0 and not is_done:
-            self.wrong.append(f"status {ran.status} in place of {status}, or not all is done")
+        done = {row["folder"] for row in ran.rows if row["verdict"] in ENDED}
+        if ran.status != status or status == 0 and done != {*self.parted[box]}:
+            self.wrong.append(f"status {ran.status} in place of {status}, or other folders: {done}")
         return ran
 
     def killed(self, box: Box, *words: str) -> None:

@@ -1,5 +1,5 @@
-"""Mailboxes that Dovecot keeps, with mail by strangers that looks like what Dovecot writes, and mail whose header or body
-is odd: what clients are shown of them before `migrate --dovecot`, and of the Maildir after it, is the same."""
+"""Mailboxes that Dovecot keeps, with mail by strangers that looks like what Dovecot writes, and mail whose header or
+body is odd: what clients are shown of them before `migrate --dovecot`, and of the Maildir after it, is the same."""
 from collections.abc import Iterator
 from pathlib import Path
 from random import Random

@@ -143,11 +143,6 @@ def of_file(what: str, method: Callable[..., Any]) -> Callable[..., Any]:
     return call
 
 
-for called in ("readinto", "read", "readall", "write", "seek", "truncate"):
-    word = "read" if called.startswith("read") else called
-    setattr(Raw, called, of_file(word, getattr(io.FileIO, called)))
-
-
 def opened(file: Any, *words: Any, **options: Any) -> Any:
     """Opens a file as `open` does."""
     given = {**dict(zip(("mode", "buffering", "encoding", "errors", "newline", "closefd", "opener"), words)), **options}
@@ -175,5 +170,8 @@ def put_in_place() -> None:
         counter.call("scandir", path)
         return Entries(real_scandir(path), path)
 
+    for name in ("readinto", "read", "readall", "write", "seek", "truncate"):
+        word = "read" if name.startswith("read") else name
+        setattr(Raw, name, of_file(word, getattr(io.FileIO, name)))
     os.scandir = scandir  # type: ignore
     builtins.open = io.open = os.fdopen = opened  # type: ignore

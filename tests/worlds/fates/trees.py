@@ -261,6 +261,5 @@ def one_word(grower: Grower, here: Branch, folder: str) -> bytes:
             # a symbolic link that is named is followed
             os.rename(path, path + b".real")
             os.symlink(one.raw + b".real", path)
-        in_folder = folder if content.fate == Fate.DONE else None
-        here.world.add(Thing(here.shown_of(one), content.fate, content.says, in_folder, content.messages))
+        here.world.add(Thing(here.shown_of(one), content.fate).holding(content, folder))
     return one.raw

@@ -50,8 +50,7 @@ class Homes:
     def mailbox(self, user: str, content: Content) -> Thing:
         """Makes the mailbox of a user in the spool. Whoever it is asked for has a thing."""
         self.own(self.spool.put(name(user), content.data), user)
-        folder = INBOX if content.fate == Fate.DONE else None
-        return Thing(b"", content.fate, content.says, folder, content.messages, user)
+        return Thing(b"", content.fate, user=user).holding(content, INBOX)
 
     def words(self, names: Sequence[str] = (), tree: str = TREE) -> None:
         """The words of the run."""
@@ -142,7 +141,7 @@ class Spool(Homes):
         elif what == "file":
             content = self.grower.mail_of()
             mailbox(path, content.data)
-            self.world.add(Thing(thing.path, Fate.DONE, "", INBOX, content.messages, user))
+            self.world.add(thing).holding(content._replace(says=""), INBOX)
         elif what == "link":
             path.symlink_to("/etc")
             self.world.add(thing).leave("link")

@@ -4,7 +4,6 @@ import os
 import socket
 import stat
 import time
-from collections.abc import Sequence
 from pathlib import Path
 from typing import Optional
 
@@ -23,17 +22,11 @@ INBOX = "INBOX"
 class Thing:
     """A name that was made, by the user and the path that its row has, and what must become of it."""
 
-    def __init__(
-        self,
-        path: bytes,
-        fate: Fate,
-        says: str = "",
-        folder: Optional[str] = None,
-        messages: Sequence[bytes] = (),
-        user: str = "",
-    ) -> None:
-        self.path, self.user, self.fate, self.says, self.folder = path, user, fate, says, folder
-        self.messages = tuple(messages)
+    def __init__(self, path: bytes, fate: Fate, says: str = "", user: str = "") -> None:
+        self.path, self.user, self.fate, self.says = path, user, fate, says
+        # its folder, and the messages that come into it
+        self.folder: Optional[str] = None
+        self.messages: tuple[bytes, ...] = ()
         # whether a pattern of --no-mail makes it no mail, as its row says; whose Maildir it goes into, if that is not
         # the user's; and whether its row may have the user's other name
         self.is_spared = False
@@ -44,6 +37,12 @@ class Thing:
     def keys(self) -> list[tuple[str, bytes]]:
         """The users and the paths that its row may have."""
         return [(user, self.path) for user in (self.user, self.also) if user == self.user or user]
+
+    def holding(self, content: Content, folder: Optional[str]) -> "Thing":
+        """The same with this content, which comes into a folder if it is mail."""
+        self.fate, self.says, self.messages = content.fate, content.says, content.messages
+        self.folder = folder if content.fate == Fate.DONE else None
+        return self
 
     def leave(self, says: str = "") -> None:
         """Leaves the thing, whatever it holds."""
@@ -131,11 +130,11 @@ class Branch:
         path: bytes,
         shown: bytes,
         top: Optional["Branch"] = None,
-        parts: Optional[tuple[str, ...]] = (),
         user: str = "",
     ) -> None:
-        self.world, self.path, self.shown, self.parts = world, path, shown, parts
-        self.top = top or self
+        self.world, self.path, self.shown, self.top = world, path, shown, top or self
+        # the parts of the name that it gives a folder, unless it is not UTF-8
+        self.parts: Optional[tuple[str, ...]] = ()
         # at the top of a tree: whose it is, which names become the same folder, and which folders belong to others
         # already
         self.user = user
@@ -191,7 +190,7 @@ class Branch:
     def thing(self, one: Name, content: Content) -> Thing:
         """What must become of a content under this name."""
         content = content.under(one.raw)
-        thing = Thing(self.shown_of(one), content.fate, content.says, None, content.messages, self.top.user)
+        thing = Thing(self.shown_of(one), content.fate, user=self.top.user).holding(content, None)
         if content.fate == Fate.LEFT and not self.is_sound(one):
             thing.leave()
         elif content.fate == Fate.DONE and not content.data and not self.is_sound(one):
@@ -277,5 +276,6 @@ class Branch:
 
     def folder(self, one: Name) -> "Branch":
         """Makes a folder of mailboxes."""
-        parts = None if self.parts is None or one.part is None else (*self.parts, one.part)
-        return Branch(self.world, self.path_of(one), self.shown_of(one), self.top, parts)
+        made = Branch(self.world, self.path_of(one), self.shown_of(one), self.top)
+        made.parts = None if self.parts is None or one.part is None else (*self.parts, one.part)
+        return made
