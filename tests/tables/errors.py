@@ -41,6 +41,7 @@ REFUSED = [
     ("quote -o copy box two", "two: it takes only one FILE"),
     ("quote --as mbox -o copy box", "--as mbox: no such word: it takes mboxrd, ..."),
     ("quote --as mboxo --text x --of 9-a -o copy box", "--text and --begin take line numbers, separated by commas"),
+    ("quote --as mboxo --text 0 --of 9-a -o copy box", "--text and --begin take line numbers, separated by commas"),
     ("quote --text 7 --of 9-a -o copy box", "--text and --begin need --as and --of, ..."),
     ("quote --of 9-a -o copy box", "--of needs --as or --drop-deleted, ..."),
     ("quote --as mboxo --text 7 --begin 7 --of 9-a -o copy box", "line 7 is named by --text and by --begin"),

@@ -159,7 +159,7 @@ def wherever_blocks_end(home: Path) -> None:
     """The same of random messages, of which many stand at the end of a block."""
     with fresh_folder(in_memory()) as place:
         (place / "bin").symlink_to(home / "bin")
-        want_digests(place, random_text(14))
+        want_digests(place, random_text(9))
 
 
 def at_the_end(home: Path) -> None:

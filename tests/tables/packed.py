@@ -62,7 +62,7 @@ def want_left(home: Path, files: Mapping[str, tuple[bytes, str]]) -> None:
 def whole(home: Path) -> None:
     """What is complete is migrated, also if it holds much, or is followed by another stream."""
     large = ONE[:-1] + b"hello\n" * 400_000 + b"\n"
-    mixed = ONE[:-1] + bytes(random.Random(1).choices(range(32, 127), k=1 << 21)) + b"\n\n"
+    mixed = ONE[:-1] + bytes(random.Random(1).choices(range(32, 127), k=1 << 20)) + b"\n\n"
     texts = {name: pack(LETTERS) for name, pack in PACK.items()}
     for name, pack in {**STREAMS, **PROGRAMS}.items():
         texts[f"{name} two"] = pack(ONE) + pack(b"") + pack(TWO)
@@ -80,6 +80,8 @@ def whole(home: Path) -> None:
         its = [LETTERS] if name in PACK else wanted.get(name.split(" ")[1], [ONE])
         bodies = sorted(one.read_bytes() for one in mail_in(home / f"M/.{name.replace(' ', '-')}"))
         equal(f"{name}: the mail", bodies, sorted(one.split(b"\n", 1)[1][:-1] for one in its))
+    says = by_json("migrate --undo --folder xz-two M old/xz-two", home).row["says"]
+    equal("an undo", (says, [*mail_in(home / "M/.xz-two")]), ("removed 2 messages", []))
 
 
 def cut(home: Path) -> None:
