@@ -18,10 +18,8 @@ from tests.support.archives import (
     mail_of,
     rules_in,
     run_rules,
-    want_offered,
     want_said,
     want_unsaid,
-    says,
 )
 from tests.support.cases import Failed
 from tests.support.checks import equal
@@ -120,7 +118,7 @@ OTHER_BYTES = {
 
 def rule_2_only_the_cores_are_equal(home: Home) -> None:
     """Between mailboxes a message with other bytes is placed, and counted."""
-    for what, (first, then) in home.each(OTHER_BYTES.items()):
+    for first, then in home.each(OTHER_BYTES.values()):
         home.bring(OLD=first + letter(1))
         row = home.bring(OTHER=then + letter(2, RO) + letter(1, RO))["OTHER"]
         home.has(0, 0, 1, 2)
@@ -238,7 +236,7 @@ def never_again(name: str, home: Home) -> None:
 
 def rule_3_then_it_grows_again(home: Home) -> None:
     """A mailbox is changed and looked at, and grows after that."""
-    for what, made in home.each(MADE.items()):
+    for made in home.each(MADE.values()):
         home.bring(OLD=letters(*TEN))
         home.take(2)
         home.bring(OLD=made([]))

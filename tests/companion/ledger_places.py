@@ -29,7 +29,7 @@ from tests.support.archives import (
 from tests.support.cases import Failed
 from tests.support.checks import equal
 from tests.support.homes import hand_over
-from tests.support.ledgers import RECORD, as_if_killed
+from tests.support.ledgers import as_if_killed
 from tests.support.mail import digest_of
 from tests.support.running import Kill, Row
 
@@ -544,7 +544,7 @@ def rule_9_what_a_power_cut_leaves(home: Home) -> None:
     home.bring(OLD=letters(*FIVE))
     lines = home.ledger().read_bytes().splitlines(True)
     tails = [line[: len(line) // 2] for line in lines] + [line[:-1] for line in lines] + [b"\0" * 4, b"\0" * 700]
-    for number, tail in home.each(enumerate(tails)):
+    for tail in home.each(tails):
         home.bring(OLD=letters(*FIVE))
         home.take(2)
         with open(home.ledger(), "ab") as file:

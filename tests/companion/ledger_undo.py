@@ -18,9 +18,7 @@ from tests.support.archives import (
     run_rules,
     want_said,
     want_unsaid,
-    says,
 )
-from tests.support.ledgers import RECORD
 from tests.support.cases import Failed
 from tests.support.checks import equal
 from tests.support.running import Kill
@@ -73,8 +71,8 @@ def rule_6_after_a_killed_run(home: Home) -> None:
 
 
 def rule_6_nothing_is_gone_after_a_killed_run(home: Home) -> None:
-    """Whatever a killed run was to bring, the next one has brought it, and an undo says nothing of it, also if a program
-    rewrote the mailbox between the two, so that its files have other names."""
+    """Whatever a killed run was to bring, the next one has brought it, and an undo says nothing of it. So it is if a
+    program rewrote the mailbox between the two, so that its files have other names."""
     for call, fields in home.each(range(1, 24, 2), (b"", RO)):
         home.killed(Kill(call=call), OLD=letters(1, 2, 3))
         home.bring(OLD=letters(1, 2, 3, fields=fields))
@@ -122,14 +120,13 @@ def rule_6_without_the_other_mailbox(home: Home) -> None:
 
 def rule_6_after_growth_and_a_server(home: Home) -> None:
     """A mailbox that grew, and into which a server wrote, before or after a run saw that, is undone as a whole."""
-    for name, fields in PROGRAMS.items():
-        for is_seen in home.each((False, True)):
-            home.bring(OLD=letters(*TEN, fields=fields.before))
-            home.write("OLD", letters(*TEN, 10, fields=fields.after))
-            if is_seen:
-                home.done("OLD")
-            home.undo("OLD")
-            home.has()
+    for fields, is_seen in home.each(PROGRAMS.values(), (False, True)):
+        home.bring(OLD=letters(*TEN, fields=fields.before))
+        home.write("OLD", letters(*TEN, 10, fields=fields.after))
+        if is_seen:
+            home.done("OLD")
+        home.undo("OLD")
+        home.has()
 
 
 def gets(info: str) -> Callable[[Path], object]:
@@ -197,8 +194,8 @@ def rule_6_what_is_kept(home: Home) -> None:
     home.has(0, 1, 2, 3, 6, 7, 8)
     others = "3 messages that OTHER and 1 more have too"
     for one, keeps in (rehearsed, "would keep"), (row, "kept"):
-        for says in others, "3 messages that it no longer has", "1 message that another mailbox brought too":
-            want_said(one, f"{keeps} {says}", "1 message already gone")
+        for text in others, "3 messages that it no longer has", "1 message that another mailbox brought too":
+            want_said(one, f"{keeps} {text}", "1 message already gone")
 
 
 def rule_6_by_the_ledger_alone(home: Home) -> None:
@@ -415,8 +412,8 @@ def rule_6_a_damaged_ledger(home: Home) -> None:
 
 
 def rule_6_by_a_copy(home: Home) -> None:
-    """The copy of a mailbox that is still there is another one, and so is a file with its number and other mail: neither
-    undoes it. It has another name, and has grown: it does."""
+    """The copy of a mailbox that is still there is another one, and so is its file with other mail: neither undoes it.
+    Under another name, and grown, it is the same."""
     home.bring(OLD=letters(1, 2))
     nothing = "no ledger has it, so nothing shows which files are its own"
     want_said(home.left("COPY", letters(1, 2), ["--undo"]), nothing)

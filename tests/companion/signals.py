@@ -1,5 +1,5 @@
-"""Signals that end a run, whenever they come: what the run has started has ended then, nothing else is said, and the same
-command goes on."""
+"""Signals that end a run, whenever they come: what the run has started has ended then, nothing else is said, and the
+same command goes on."""
 import fcntl
 import os
 import signal
@@ -35,7 +35,10 @@ class Finder:
 sys.meta_path.insert(0, Finder)
 """
 STRUCK = "import atexit, posix, signal\natexit.register(lambda: posix.kill(posix.getpid(), signal.SIGINT))\n"
-RUNS = "sys.argv[1:] = ['kind', 'box']\nexec(compile(open({0!r}).read(), {0!r}, 'exec'), {{'__name__': '__main__', '__file__': {0!r}}})\n"
+RUNS = """
+sys.argv[1:] = ["kind", "box"]
+exec(compile(open({0!r}).read(), {0!r}, "exec"), {{"__name__": "__main__", "__file__": {0!r}}})
+"""
 
 
 class Struck(Copies):

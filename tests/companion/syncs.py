@@ -1,5 +1,6 @@
 """Each sync that a power cut makes necessary, and what comes before and after it, as strace shows what the companion
-calls. What the program itself syncs is not shown. What a cut leaves is in tests/world/powercut.py, which is run by hand."""
+calls. What the program itself syncs is not shown. tests/world/powercut.py, which is run by hand, shows what a cut
+leaves."""
 import os
 import re
 import shutil
@@ -65,8 +66,8 @@ def called(home: Path, words: Sequence[str]) -> list[str]:
 
 
 def named(home: Path, name: str, words: str) -> str:
-    """A call by its name and path; empty if it is of a file that is elsewhere or has no name. All files of messages have
-    one name here."""
+    """A call by its name and path; empty if it is of a file that is elsewhere or has no name. All files of messages
+    have one name here."""
     found = re.findall(r'<([^<>]*)>|"((?:/|M)[^"]*)"', words if name != "write" else words.split(",")[0])
     path = os.path.relpath(os.path.join(home, "".join(found[-1])), home) if found else ".."
     path = re.sub(r"M/(new|cur)/[0-9a-f]{64}\S*", lambda its: its[1].upper(), path)

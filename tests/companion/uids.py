@@ -78,7 +78,7 @@ def uids_given_meanwhile(home: Path) -> None:
 
 
 def who_changes_the_list(home: Path) -> None:
-    """Dovecot has locked the list, or changes it meanwhile. A lock that is older than two minutes counts for nothing."""
+    """Dovecot has locked the list, or changes it meanwhile. A lock of more than two minutes counts for nothing."""
     path, says = home / "M/dovecot-uidlist", "Dovecot is changing M/dovecot-uidlist: stop Dovecot, and run this again"
     migrated(home, text_of(*FIELDS))
     before = path.read_text()
@@ -141,8 +141,8 @@ def another_list(home: Path) -> None:
 
 
 def subscriptions(home: Path) -> None:
-    """In either form, with the names of the new folders, once, also after a kill. A list that is there stays, and the row has the command
-    that adds what it lacks."""
+    """In either form, with the names of the new folders, once, also after a kill. A list that is there stays, and the
+    row has the command that adds what it lacks."""
     old = b"Sent\ncaf\xe9\nlists/garden\n2005.archive\nGr&APwA3w-e\nINBOX\n"
     wanted = b"V\t2\n\nSent\nlists\tgarden\n2005-archive\nGr&APwA3w-e\nINBOX\n"
     mailbox(home / "old/Sent", ONE)

@@ -130,8 +130,8 @@ def put_away(box: Path) -> None:
 NAMES = "names in its folder keep changing: stop mail programs, and run this again"
 CHANGED = "it changed in the meantime: put it back as it was, and run this again"
 FILE = "/(new|cur)/[0-9a-f]{64}"
-# what happens meanwhile, just before a file is opened or removed, and how often; why the mailbox is left, or nothing; and
-# how many messages are there then
+# what happens just before a file is opened or removed, and how often; why the mailbox is left, or nothing; and how many
+# messages are there then
 MEANWHILE: Sequence[tuple[str, Callable[[Path], object], int, str, int]] = (
     ("open", flag, 2, "", 0),
     ("open", flag, 1000, NAMES, 3),
@@ -160,8 +160,8 @@ def meanwhile(home: Path) -> None:
 
 
 def only_prepared(home: Path) -> None:
-    """What a first pass has placed goes without its mailbox, also after a last one that was killed, but not what somebody
-    edited or delivered. A list from a backup counts for nothing: the ledger has what is done."""
+    """What a first pass has placed goes without its mailbox, also after a last one that was killed. What somebody
+    edited or delivered stays. A list from a backup counts for nothing: the ledger has what is done."""
     for event in range(30, 80, 5):
         shutil.rmtree(str(home / "M"), ignore_errors=True)
         mailbox(home / "box", ONE)

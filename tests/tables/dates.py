@@ -104,7 +104,7 @@ FORMS = [
     ("", None),
 ]
 NEW_YORK = "EST5EDT,M3.2.0,M11.1.0"
-# headers Date, which count where a From_ line has no date: without a zone, or with one that is not known, some are in UTC
+# headers Date, which count where a From_ line has no date: without a zone, or with an unknown one, some are in UTC
 HEADERS = [
     ("Mon, 3 Mar 2025 09:12:44", "2025-03-03T09:12:44-05:00"),
     ("Monday, 03-Mar-97 09:12:44 GMT", "1997-03-03T09:12:44+00:00"),

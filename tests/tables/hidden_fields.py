@@ -1,7 +1,6 @@
-"""What `migrate --dovecot` makes of the fields of headers in which Dovecot's mbox driver keeps UIDs, keywords and flags.
-Each row was seen with Dovecot 2.3.19, over IMAP, on a mailbox without an index. Messages come from strangers, and so may
-these fields."""
-import re
+"""What `migrate --dovecot` makes of the fields of headers in which Dovecot's mbox driver keeps UIDs, keywords and
+flags. Each row was seen with Dovecot 2.3.19, over IMAP, on a mailbox without an index. Messages come from strangers,
+and so may these fields."""
 from collections.abc import Iterable, Sequence
 from pathlib import Path
 from typing import NamedTuple

@@ -38,8 +38,7 @@ CASES = {
         CHANGED,
     ),
 }
-# what takes the place of the list of the program, as lines for the shell, where REAL prints that; and why the mailbox is
-# left then
+# what takes the place of the program's list, as a line for the shell, where REAL prints that; and why a mailbox is left
 LISTS = {
     "exit 0": "`mbox2maildir list` gave fewer messages than were read here",
     "REAL | head -n 2": "`mbox2maildir list` gave fewer messages than were read here",
