@@ -12,7 +12,7 @@ import tarfile
 import zipfile
 from pathlib import Path
 
-from tests.tables.kinds import ALONE, LIKE_MAIL, NOT_KNOWN, labelled
+from tests.tables.kinds import ALONE, FROM_LINE, LIKE_MAIL, NOT_KNOWN, labelled
 from tests.support.checks import equal, matches
 from tests.support.homes import by_json, check_all, expect, mail_in, mailbox, run, run_printed
 from tests.support.mail import A, B
@@ -27,7 +27,6 @@ GPG = MAKES % 'gpg -d {} >"$d/copy"'
 TAR = MAKES % 'mkdir "$d/copy" && tar -xC "$d/copy" <{}'
 CPIO = MAKES % 'mkdir "$d/copy" && cpio -id --no-absolute-filenames -D "$d/copy" <{}'
 RAR = MAKES % 'unar -D -o "$d/copy" {}'
-FROM_LINE = "echo 'From MAILER-DAEMON Thu Jan  1 00:00:00 1970'"
 MMDF = (
     r"""LC_ALL=C awk '/^\001\001\001\001$/ {i = !i; if (!i) print ""; n = i; next} """
     r"""n {n = 0; if (/^From /) {print; next}; """
