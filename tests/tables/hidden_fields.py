@@ -17,6 +17,7 @@ MOST, ROOM = (1 << 32) - 1, 1 << 24
 NUMBERS = [
     (["", ""], 0, 3, [1, 2]),
     (["X-UID: 1\n", "X-UID: 5\n"], 0, 3, [1, 2]),
+    (["X-Keywords: 222 9\nX-UID: 222 9\n", ""], 0, 3, [1, 2]),
     (["", "X-IMAPbase: 222 9\n", ""], 0, 4, [1, 2, 3]),
     ([HEAD, "X-UID: 6\n", "X-UID: 9\n"], 222, 10, [5, 6, 9]),
     ([HEAD, "", "X-UID: 8\n", "X-UID: 9\n"], 222, 13, [5, 10, 11, 12]),
@@ -230,10 +231,12 @@ def keywords_and_flags(home: Path) -> None:
 
 
 def said(home: Path) -> None:
-    """Rows say what a client will see changed."""
+    """Rows say what a client will see changed, once."""
     for (row, path), (headers, wanted) in zip(migrated(home, [text_of(row[0]) for row in SAID]), SAID):
         equal(f"{headers}", [one["says"] for one in row["remarks"]], wanted)
         equal(f"{headers}: keywords", len(Folder.of(path).keywords.split()) <= 26, True)
+    rows = by_json("migrate --all --dovecot --now M old", home).rows
+    equal("done before", {(row["verdict"], *row.remarks) for row in rows}, {("done before",)})
 
 
 if __name__ == "__main__":
