@@ -25,8 +25,8 @@ LOCKED = "another program has locked it: wait, or stop that program"
 # what a disk says that has no locks, and why a mailbox is left for what another error says
 WITHOUT_LOCKS = errno.ENOLCK, errno.ENOSYS, errno.EOPNOTSUPP
 OTHER_ERRORS = errno.EIO, errno.EINVAL, errno.ESTALE
-# for how many seconds a mailbox was left alone, when mail is delivered to it, how many messages are migrated, or None if
-# it keeps changing, and how long that takes: the last minute is a quiet one, and all of it is five minutes at most
+# for how many seconds a mailbox was left alone, when mail is delivered to it, how many messages are migrated, or None
+# if it keeps changing, and how long that takes: the last minute is a quiet one, and all of it is five minutes at most
 QUIET: list[tuple[float, Sequence[float], object, tuple[float, float]]] = [
     (60, [], 1, (0, 0)),
     (58, [], 1, (2, 3)),

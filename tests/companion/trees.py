@@ -492,8 +492,8 @@ def profile(home: Path) -> None:
 
 
 def what_cannot_be_read(home: Path) -> None:
-    """Beside the list of profiles a folder that cannot be looked into may be one: it is left. A file that cannot be read
-    is no message of MH, and in a Maildir it is known by its name alone."""
+    """Beside the list of profiles a folder that cannot be looked into may be one: it is left. A file that cannot be
+    read is no message of MH, and in a Maildir it is known by its name alone."""
     want_root()
     make_profile(home / "old/thunderbird/y")
     mailbox(home / "old/thunderbird/x/Mail/a/Inbox", ONE)

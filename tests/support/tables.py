@@ -3,9 +3,9 @@
     - {A}\\nhello\\n\\n
         the first of these lines
 
-A text is written as in Python, and may go on behind a backslash that ends its line. `{A}`, `{B}`, `{INTERNAL}` and `{MAY}`
-stand for those of `mail`, `{D}` for the From_ line of `{B}`, and `{9*x}` for nine `x`. Behind `-crlf` and `-cr` each `\\n` stands for CR LF, or for CR. A line that
-begins with `#` is a comment.
+A text is written as in Python, and may go on behind a backslash that ends its line. `{A}`, `{B}`, `{INTERNAL}` and
+`{MAY}` stand for those of `mail`, `{D}` for the From_ line of `{B}`, and `{9*x}` for nine `x`. Behind `-crlf` and `-cr`
+each `\\n` stands for CR LF, or for CR. A line that begins with `#` is a comment.
 """
 import re
 from collections.abc import Iterator

@@ -140,7 +140,7 @@ def of_a_tree(home: Path) -> None:
 
 
 def of_names(home: Path) -> None:
-    """Names that a shell would read in another way, in a folder and by themselves, and one that is as long as can be."""
+    """Names that a shell would read in another way, in a folder and by themselves, and the longest name."""
     mailbox(home / "own" / LONGEST, MAIL)
     equal("as long as can be", migrate_and_do(["L", f"own/{LONGEST}"], home)[0], 0)
     for name in NAMES:

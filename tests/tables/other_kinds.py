@@ -288,7 +288,7 @@ IN_INDEXES = (
     (b"\0\0\1\7Sheds\n>From a\n\2", "left", "not-known"),
     (b"\0\0\1\7Sheds\n" + MBOX, "left", "unclear"),
 )
-# names with what little is in such files, and whether they hold no mail: empty files of some names, and locks of one line
+# names with what little is in such files, and whether they hold no mail: empty files, and locks of one line
 AUXILIARY = [
     (".x", b"", True),
     ("a.lock", b"", True),
