@@ -9,6 +9,7 @@ from tests.support.running import Desk, Kill, Run
 from tests.support.stories import RESTORED, SYNC_FAILS, Step, in_place, killed, run_stories, steps
 
 FIRST, RECORD, LEDGER = "migrate --prepare --unread M a", "M/mbox2maildir-record", "M/mbox2maildir-messages"
+NUMBERED = ONE.replace(b"\n\n", b"\nX-IMAPbase: 1700000000 0000000009\nX-UID: 3\n\n", 1)
 FOUR = C.replace(b"three", b"four") + b"\n"
 BEGIN_ANEW = (
     "a: left (sync-failed): its sync failed: read the system's log and mount the disk again before you believe "
@@ -88,6 +89,10 @@ STORIES: dict[str, list[Step]] = {
         *(("migrate --dry-run M b", "b: done before"), f"!cat {LEDGER} {RECORD} | cmp - kept"),
         *(("migrate M b", "b: done before"), ("a", TWO), ("migrate M a", "a: done: INBOX has the mail of b too")),
     ],
+    "a_human_chose_the_folder_of_another": [
+        *(("old/a", ONE), ("old/a.mbox", TWO), "migrate --folder a M old/a.mbox"),
+        ("migrate M old", "old/a.mbox: done before\nold/a: left (no-folder): another mailbox goes into a too"),
+    ],
     "a_mailbox_was_begun_and_lost_mail": [
         *steps(("a", ONE + TWO), *killed("migrate M a"), ("a", TWO)),
         *(("migrate M a", "a: done: 1 message gone from it that it had brought"), "= one two"),
@@ -95,6 +100,10 @@ STORIES: dict[str, list[Step]] = {
     "a_mailbox_was_begun_and_moved": [
         *steps(("a", ONE), *killed("migrate M a"), "!mv a b", ("migrate --dry-run M b", "b: would be done")),
         *(("migrate M b", "b: done"), "= one"),
+    ],
+    "a_mailbox_with_uids_was_moved_and_grew": [
+        *(("a", NUMBERED), "migrate --dovecot M a", ("more", TWO), "!mv a b; cat more >>b"),
+        ("migrate --dovecot M b", "b: done: it grew by 1 message; Dovecot gives what is new its UIDs"),
     ],
     "a_mailbox_was_moved_and_grew": [
         *(("a", ONE), "migrate M a", ("more", TWO), f"!mv a b; cat more >>b; cat {LEDGER} {RECORD} >kept"),
