@@ -76,8 +76,8 @@ def named(home: Path, name: str, words: str) -> str:
 
 def runs(home: Path) -> None:
     """Nothing is done to a Maildir before what it needs is on the disk."""
-    if not shutil.which("strace"):
-        raise LeftOut("strace is not here")
+    if not shutil.which("strace") or Desk(home).run(["/usr/bin/env", "strace", "-qq", "true"]).status:
+        raise LeftOut("strace is not here, or may not look")
     for before, first, text, words, wanted in RUNS:
         shutil.rmtree(home / "M", ignore_errors=True)
         if before:

@@ -2,10 +2,11 @@
 delivers, ends well, and then changes a file of the Maildir, or the mailbox."""
 import os
 import shutil
+import sys
 from functools import partial
 from pathlib import Path
 
-from tests.support.cases import run_cases
+from tests.support.cases import LeftOut, run_cases
 from tests.support.checks import LATER, equal, matches
 from tests.support.homes import at_home, expect, mailbox, run, script
 from tests.support.ledgers import ends_in
@@ -67,13 +68,18 @@ def other_lists(home: Path) -> None:
 
 def where_the_program_is(home: Path) -> None:
     """Beside the companion, or else in PATH, or else where a clone builds it."""
+    if os.environ.get("INSTALLED"):
+        raise LeftOut("it is installed, and in no clone")
     mailbox(home / "box", ONE)
     program, clone = home / "bin/mbox2maildir", home / "clone"
     shutil.copytree(home / "bin", clone / "admin")
     for path in program, clone / "admin/mbox2maildir":
         path.rename(path.with_name("other"))
     used = home / "used"
-    names = f"{home}/paths:{clone}/admin:{os.environ['PATH']}"
+    # one may be installed in the folders of the system
+    (home / "tools").mkdir()
+    (home / "tools/python3").symlink_to(sys.executable)
+    names = f"{home}/paths:{clone}/admin:{home}/tools"
     for place in "", "clone/build", "paths", "clone/admin":
         if place:
             (home / place).mkdir(exist_ok=True)
