@@ -12,9 +12,9 @@ from collections.abc import Callable, Sequence
 from pathlib import Path
 from typing import Any
 
-from tests.support.checks import LATER, equal, matches
+from tests.support.checks import LATER, equal
 from tests.support.copies import Copies
-from tests.support.homes import by_json, check_all, expect, mail_in, mailbox, run, script
+from tests.support.homes import by_json, check_all, expect, mailbox, script
 from tests.support.mail import A, B, ONE, TWO
 from tests.support.processes import wait_for
 from tests.support.running import BY_OTHERS, Row, Run

@@ -1,6 +1,5 @@
 """What a ledger and the names of files say of messages: the digests of the mail, of its core and of its bare form, by
 the rules of docs/LEDGER.md, wherever the blocks end in which a text is read."""
-import hashlib
 import random
 import re
 from collections import Counter

@@ -7,14 +7,13 @@ import lzma
 import os
 import re
 import shutil
-import subprocess
 import tarfile
 import zipfile
 from pathlib import Path
 
 from tests.tables.kinds import ALONE, FROM_LINE, LIKE_MAIL, NOT_KNOWN, labelled
 from tests.support.checks import equal, matches
-from tests.support.homes import by_json, check_all, expect, mail_in, mailbox, run, run_printed
+from tests.support.homes import by_json, check_all, expect, mailbox, run, run_printed
 from tests.support.mail import A, B
 from tests.support.printed import rows_in
 
@@ -421,47 +420,6 @@ def first_line_by_hand(home: Path) -> None:
         equal("the commands", len(commands), len(words))
 
 
-def real_files(home: Path) -> None:
-    """Files that programs of Debian make, if they are installed."""
-    programs = {
-        "xz": ["xz", "-k"],
-        "lzma": ["xz", "-k", "--format=lzma"],
-        "zst": ["zstd", "-q"],
-        "lz4": ["lz4", "-qk"],
-        "lz": ["lzip", "-k"],
-        "lzo": ["lzop", "-q"],
-        "bz2": ["bzip2", "-k"],
-        "gz": ["gzip", "-k"],
-    }
-    for ending, words in programs.items():
-        if not shutil.which(words[0]):
-            continue
-        file = home / f"mail.{ending}"
-        (home / "mail").write_bytes(MBOX)
-        subprocess.run([*words, "mail", *([file.name] if ending == "lz4" else [])], cwd=home, check=True)
-        # no copy is beside it
-        (home / "mail").unlink()
-        os.utime(file, (1e9, 1e9))
-        command = by_json(["kind", file.name], home).row.command
-        if command == MIGRATE.replace("{}", file.name):
-            out = run(command.split(), home)[1]
-            matches(
-                command,
-                out,
-                f"{file.name} -> INBOX: mboxrd or mboxo, compressed by ..., messages 1: done\n1 mailbox: ...\n",
-            )
-            equal(
-                f"{command}: the mail",
-                [path.read_bytes() for path in mail_in(home / "MAILDIR")],
-                [MBOX.split(b"\n", 1)[1][:-1]],
-            )
-            shutil.rmtree(home / "MAILDIR")
-            continue
-        assert ending in ("lzma", "lz", "lzo"), f"{ending}: {command}"
-        equal(f"{command}: its status", run_printed(command, home).status, 0)
-        equal(command, file.read_bytes(), MBOX)
-
-
 def indexes(home: Path) -> None:
     """A file with the name of an index holds no mail unless something in it looks like mail. A mailbox stays one."""
     for number, (text, verdict, reason) in enumerate(IN_INDEXES):
@@ -476,4 +434,4 @@ def indexes(home: Path) -> None:
 
 
 if __name__ == "__main__":
-    check_all(table, names, auxiliary, indexes, next_commands, first_line_by_hand, real_files)
+    check_all(table, names, auxiliary, indexes, next_commands, first_line_by_hand)

@@ -7,7 +7,7 @@ import os
 import random
 import shutil
 import subprocess
-from collections.abc import Callable, Iterator, Mapping
+from collections.abc import Callable, Mapping
 from functools import partial
 from pathlib import Path
 
@@ -76,6 +76,9 @@ def whole(home: Path) -> None:
         mailbox(home / "old" / name.replace(" ", "-"), data)
     rows = by_json("migrate --now M old", home).rows
     equal("what is not done", [row for row in rows if row["verdict"] != "done"], [])
+    kinds = {os.path.basename(row["path"]): row["kind"] for row in rows}
+    for name in (*STREAMS, *PROGRAMS):
+        equal("its kind", kinds[name], f"mboxrd or mboxo, compressed by {name}")
     for name in texts:
         its = [LETTERS] if name in PACK else wanted.get(name.split(" ")[1], [ONE])
         bodies = sorted(one.read_bytes() for one in mail_in(home / f"M/.{name.replace(' ', '-')}"))
