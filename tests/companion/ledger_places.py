@@ -599,15 +599,12 @@ def rule_9_a_folder_from_a_backup(home: Home) -> None:
     home.bring(OLD=letters(*FIVE))
     with home.from_a_backup(home.folder()):
         home.bring(OLD=letters(*range(8)))
-    ran = home.run("OLD")
-    missing = Counter(range(8)) - home.numbers()
-    if max(home.numbers().values()) > 1 or missing and not ran.status and not says(ran["OLD"], len(missing)):
-        raise Failed(f"missing {dict(missing)}: {ran.text}")
-    home.write("OLD", letters(*range(9)))
-    ran = home.run("OLD")
-    missing = Counter(range(9)) - home.numbers()
-    if max(home.numbers().values()) > 1 or missing and not ran.status and not says(ran["OLD"], len(missing)):
-        raise Failed(f"missing {dict(missing)}: {ran.text}")
+    for count in (8, 9):
+        home.write("OLD", letters(*range(count)))
+        ran = home.run("OLD")
+        missing = Counter(range(count)) - home.numbers()
+        if max(home.numbers().values()) > 1 or missing and not ran.status and not says(ran["OLD"], len(missing)):
+            raise Failed(f"missing {dict(missing)}: {ran.text}")
     home.done("OLD", words=["--again"])
     home.has(*range(9))
 
