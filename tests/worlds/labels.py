@@ -14,7 +14,7 @@ from tests.support.place import ENDED
 from tests.support.running import NEVER, Kill, Row, Run
 from tests.support.splitter import split
 from tests.worlds.history import Box, History
-from tests.worlds.oracle import INBOX, Oracle, Reading, reading_of, total
+from tests.worlds.oracle import INBOX, Counts, Oracle, Reading, reading_of, total
 from tests.worlds.stage import Stage
 
 # what Gmail's own labels give, by the names in a Takeout: a folder, or nothing
@@ -195,6 +195,8 @@ class Labels(History):
         self.model = Model(self.draw.choice(["", "", "all", "one"]), self.draw.random() < 0.3)
         # what each Takeout has for each folder
         self.parted: dict[Box, dict[str, Reading]] = {}
+        # the Message-IDs that each has ever had for each folder
+        self.ids: collections.defaultdict[tuple[Box, str], Counts] = collections.defaultdict(Counter)
 
     def options(self) -> list[str]:
         """The options of a run."""
@@ -207,14 +209,17 @@ class Labels(History):
     def sees(self, box: Box) -> None:
         for folder, one in self.parted.get(box, {}).items():
             self.oracle.see(box.number, folder, [one])
-        # a message may be in several folders
-        self.oracle.all.had[box.number] |= total(one.ids for one in self.parted.get(box, {}).values())
+            self.ids[box, folder] |= one.ids
+        # a message may be in several folders, also in those into which an earlier Takeout brought it
+        self.oracle.all.had[box.number] = total(ids for (its, _), ids in self.ids.items() if its == box)
 
     def check(self, ran: Run, rows: dict[str, Row]) -> None:
         for row in ran.rows:
             box = next(box for box in self.boxes if box.path == row["path"])
             if row["verdict"] in ENDED and row["folder"] in self.parted.get(box, {}):
-                self.note(self.oracle.missing(row, [self.parted[box][row["folder"]]]))
+                lines = self.oracle.missing(row, [self.parted[box][row["folder"]]])
+                # what a killed run has noted, it may have been about to say
+                self.wrong += [line for line in lines if not line.endswith("unsaid")]
 
     def ends(self, status: int, box: Box, *words: str) -> Run:
         """Runs it, which ends with this status."""
