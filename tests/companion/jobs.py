@@ -12,7 +12,7 @@ from contextlib import contextmanager
 from pathlib import Path
 
 from tests.support.checks import PATIENCE, equal
-from tests.support.homes import ADMIN, check_all, mail_in, mailbox, run, script, want_users
+from tests.support.homes import ADMIN, check_all, expect, mail_in, mailbox, run, script, want_users
 from tests.support.ledgers import LEDGER, RECORD, wait_for_lock, without_chance
 from tests.support.mail import ONE, TWO, bodies_of, digest_of
 from tests.support.mounts import small_disk
@@ -21,10 +21,18 @@ from tests.support.running import Desk
 from tests.support.terminals import Terminal
 
 FOLDERS, MESSAGES = 6, 60
-# runs a file whose children are killed as soon as they are there, but not the programs that it starts
-CHILDLESS = """import os, runpy, sys
-os.register_at_fork(after_in_child=lambda: os.kill(os.getpid(), 9))
+# runs a file in whose children something is done as soon as they are there, but not in the programs that it starts
+IN_CHILDREN = """import os, runpy, sys
+os.register_at_fork(after_in_child=lambda: {})
 runpy.run_path(sys.argv.pop(1), run_name="__main__")"""
+# what ends a worker at once, or has it fail, and what is said of its mailboxes
+FAULTS = {
+    "os.kill(os.getpid(), 9)": "(process): its process was killed by signal 9: run this again",
+    "os.kill(os.getpid(), 15)": "(process): its process was interrupted: run this again",
+    "setattr(os, 'scandir', None)": "(defect): internal error: TypeError(",
+}
+# the first line of a record, and how large one may be
+VERSION_LINE, MOST = b"mbox2maildir-record\t1\n", 1 << 23
 
 
 def text_of(folder: int, count: int = MESSAGES) -> bytes:
@@ -153,17 +161,78 @@ def without_their_parent(home: Path) -> None:
         equal(name, sorted(map(digest_of, bodies_of(text))), sorted(bases(folder_of(home / "M", name))))
 
 
-def killed_at_once(home: Path) -> None:
-    """Workers that are killed before they take a mailbox leave the mailboxes that are theirs, and none is started for
-    these again. The next run goes on."""
+def ended_at_once(home: Path) -> None:
+    """Workers that end before they take a mailbox leave the mailboxes that are theirs, and none is started for these
+    again. The next run goes on."""
     texts, words = tree(home), ["migrate", "--all", "--jobs", "3", "M", "old"]
-    status, out, _ = run([sys.executable, "-I", "-S", "-B", "-c", CHILDLESS, ADMIN, *words], home)
-    rows = [line for line in out.splitlines() if ": left (process): its process was killed by signal 9" in line]
-    equal("status, and how many are left", (status, len(rows)), (1, FOLDERS + 1))
-    equal("the last line", out.splitlines()[-1], "7 mailboxes: 7 left; 1 other file: no mail")
+    for deed, says in FAULTS.items():
+        code = IN_CHILDREN.format(deed)
+        status, out, _ = run([sys.executable, "-I", "-S", "-B", "-c", code, ADMIN, *words], home)
+        rows = [line for line in out.splitlines() if line.startswith("old/f") and f": left {says}" in line]
+        equal(f"status, and how many are left: {out}", (status, len(rows)), (1, FOLDERS))
+        equal("the last line", out.splitlines()[-1], "7 mailboxes: 7 left; 1 other file: no mail")
     equal("the next run", run(words, home)[0], 1)
     for name, text in texts.items():
         equal(name, sorted(map(digest_of, bodies_of(text))), sorted(bases(folder_of(home / "M", name))))
+
+
+def ended_out_of_turn(home: Path) -> None:
+    """A signal comes when the last mailbox is done, which is the largest, and the first one has not begun: the row of
+    what is done is told. Of one that is waited for it is said that it waits."""
+    for name, count, age in (("f0", 1, 60), ("f1", 2, 60), ("f2", 9, 0), ("f3", 99, 60)):
+        mailbox(home / "old" / name, text_of(1, count), age)
+    os.rename(home / "bin/mbox2maildir", home / "real")
+    script(home / "bin/mbox2maildir", f"case $1$PWD in convert*.f1) exec sleep 600;; esac\nexec '{home}/real' \"$@\"")
+    with migrating(home, "--jobs", "2", "M", "old") as child:
+        assert wait_for((home / "M/.f1" / LEDGER).exists, child), "it does not convert"
+        child.send_signal(signal.SIGTERM)
+        out, err = child.communicate(timeout=PATIENCE)
+    says = "left (process): its process was interrupted: run this again"
+    wanted = [f"old/f1 -> f1: {says}", f"old/f2 -> f2: {says}", "old/f3 -> f3: mboxrd or mboxo, messages 99: done"]
+    equal("what is told", out.decode().splitlines()[:-1], wanted)
+    waits = r"mbox2maildir-admin: old/f2: interrupted: waiting \d+ seconds, because it changed a moment ago"
+    assert any(re.fullmatch(waits, line) for line in err.decode().splitlines()), err
+
+
+def full_record(home: Path) -> None:
+    """A record that is full takes no line: each mailbox is left, and nothing is placed. Once it is moved away, what the
+    ledgers say counts."""
+    texts = tree(home)
+    equal("a run before", run("migrate --jobs 1 --folder f0 M old/f0", home)[0], 0)
+    record = home / "M" / RECORD
+    record.write_bytes(VERSION_LINE + b"x" * (MOST - len(VERSION_LINE) - 2) + b"\n")
+    says = f"left (record): M/{RECORD}: it is full: move it away; the ledgers in the folders say what was brought"
+    for jobs in ("1", "2"):
+        status, out, _ = run(["migrate", "--all", "--jobs", jobs, "M", "old"], home)
+        equal(f"status, and how many are left: {out}", (status, out.count(says)), (1, FOLDERS))
+    equal("what is there", [path.parent.parent.name for path in home.glob("M/.f[1-9]/new/*")], [])
+    record.unlink()
+    equal("the next run", run("migrate M old", home)[0], 1)
+    for name, text in texts.items():
+        equal(name, sorted(map(digest_of, bodies_of(text))), sorted(bases(folder_of(home / "M", name))))
+
+
+def little_memory(home: Path) -> None:
+    """If nobody says how many mailboxes are at work, there are no more than memory allows, and it is said if that is
+    few."""
+    want_users()
+    for number in range(3):
+        mailbox(home / f"old/f{number}", ONE)
+    says = "mbox2maildir-admin: only {} of memory are free, so {} at a time; --jobs N sets another number\n".format
+    rows: list[tuple[int, list[str], str]] = [
+        (3 << 18, [], ""),
+        ((3 << 18) - 1, [], says("805.3 MB", 2)),
+        (100, [], says("102.4 kB", 1)),
+        (100, ["--jobs", "3"], ""),
+    ]
+    for free, words, said in rows:
+        (home / "memory").write_text(f"MemTotal: 1 kB\nMemAvailable:    {free} kB\n", encoding="ascii")
+        subprocess.run(["mount", "--bind", home / "memory", "/proc/meminfo"], check=True)
+        try:
+            expect(["migrate", "--dry-run", *words, "M", "old"], home, 0, None, said)
+            expect(["migrate", "--dry-run", *words, "M", "old/f0"], home, 0, None)
+        finally:
+            subprocess.run(["umount", "/proc/meminfo"], check=True)
 
 
 def one_at_work(home: Path) -> None:
@@ -225,7 +294,10 @@ if __name__ == "__main__":
         largest_first,
         ended_by_a_signal,
         without_their_parent,
-        killed_at_once,
+        ended_at_once,
+        ended_out_of_turn,
+        full_record,
+        little_memory,
         one_at_work,
         full_disk,
         one_of_two_fits,

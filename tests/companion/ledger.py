@@ -182,11 +182,11 @@ def want_undeleted(home: Home, *numbers: int) -> None:
 
 
 def rule_2_deleted(home: Home) -> None:
-    """A file that is marked as deleted serves no message that is not. So does one that a reader has marked."""
+    """A file that is marked as deleted serves no message that is not. Nor does one that a reader has marked, which has a keyword of Dovecot's."""
     for mark in home.each((b"Status: ROD\n", b"Status: RO\nX-Status: D\n", b"X-Evolution: 00000001-0012\n", b"")):
         home.bring(OLD=letters(0, 1, 2, fields=mark))
         for path in home.files() if not mark else ():
-            path.rename(path.parents[1] / "cur" / f"{path.name.split(':')[0]}:2,ST")
+            path.rename(path.parents[1] / "cur" / f"{path.name.split(':')[0]}:2,STa")
         home.bring(OTHER=letters(1, 2, 3, fields=RO))
         want_undeleted(home, 1, 2, 3)
 

@@ -5,8 +5,11 @@ records of versions before 0.5.0. Nothing is doubled or lost unsaid. The environ
 worlds are tried.
 """
 import gzip
+import itertools
 import os
+import re
 import shutil
+import time
 from collections import Counter
 from collections.abc import Callable
 from pathlib import Path
@@ -144,6 +147,92 @@ def rule_1_a_file_counts_once(home: Home) -> None:
         home.done("OLD")
         home.bring(OLD=letters(1, 2) + letter(1, RO))
         home.has(1, 1, 2)
+
+
+def kill_while_placing(home: Home, count: int, is_in_tmp: bool) -> None:
+    """A run is killed once it has placed some messages: before the next one has a file, or while that is in `tmp`."""
+    # each message takes four calls
+    for call in range(6 + 4 * count, 12 + 4 * count):
+        home.begin()
+        home.write("OLD", letters(*FIVE))
+        home.run("OLD", kill=Kill(call=call))
+        if len(home.files()) == count and any(home.folder().glob("tmp/*")) == is_in_tmp:
+            return
+    raise Failed(f"no run was killed with {count} messages there")
+
+
+def rights_change(home: Home) -> None:
+    """Somebody changes the rights of the folders."""
+    for sub in ("tmp", "new", "cur"):
+        (home.folder() / sub).chmod(0o750)
+
+
+def one_is_read(home: Home) -> None:
+    """A reader has read the first message."""
+    (path,) = home.those(0)
+    path.rename(home.folder() / f"cur/{path.name}:2,S")
+
+
+def one_is_read_in_secret(home: Home) -> None:
+    """The same, and the folders have the times that they had: only the file has another one."""
+    times = {sub: sub.stat().st_mtime_ns for sub in home.folder().iterdir() if sub.is_dir()}
+    one_is_read(home)
+    for sub, changed in times.items():
+        os.utime(sub, ns=(changed, changed))
+
+
+# what happens after a run was killed that had placed some of five messages, and how many may have come back then: if
+# the next one has no file, and if it has one in `tmp`, which shows that all before it were placed
+SINCE = (
+    (3, lambda home: None, 0, 0),
+    (3, rights_change, 0, 0),
+    (3, one_is_read, 2, 0),
+    (3, one_is_read_in_secret, 2, 0),
+    (3, lambda home: home.take(0), 3, 1),
+    (3, lambda home: home.take(2), 3, 1),
+    (0, lambda home: None, 0, 0),
+    (1, lambda home: home.take(0), 5, 1),
+)  # type: tuple[tuple[int, Callable[[Home], object], int, int], ...]
+
+
+def rule_1_how_far_a_killed_run_came(home: Home) -> None:
+    """What may have come back is counted by what the run left, and by when names were changed."""
+    for (count, happens, *wanted), is_in_tmp in itertools.product(SINCE, (False, True)):
+        kill_while_placing(home, count, is_in_tmp)
+        time.sleep(0.05)
+        happens(home)
+        row = home.done("OLD")["OLD"]
+        home.has(*FIVE)
+        found = re.search(r"up to (\d) messages? that had been deleted", texts_of(row))
+        equal(f"{count}, {is_in_tmp}: {row}", int(found[1]) if found else 0, wanted[is_in_tmp])
+
+
+def rule_1_two_were_killed(home: Home) -> None:
+    """Two mailboxes were done, but for the last step. What another one brings back of both is counted together."""
+    home.write("OLD", letters(0, 1))
+    home.write("TWIN", letters(2, 3))
+    home.done("OLD", "TWIN")
+    as_if_killed(home.maildir)
+    home.take(1, 3)
+    home.write("OTHER", letters(1, 3, 7))
+    row = home.done("OTHER")["OTHER"]
+    home.has(0, 1, 2, 3, 7)
+    want_said(row, "up", "to", 2, "came", "back")
+
+
+def rule_1_killed_grown_and_moved(home: Home) -> None:
+    """A run was killed once it had placed what was new, and the mailbox has another name then: all is known of it."""
+    home.write("OLD", letters(*FIVE))
+    home.done("OLD")
+    home.write("OLD", letters(*range(7)))
+    home.done("OLD")
+    for path in home.ledger(), home.maildir / RECORD:
+        path.write_bytes(b"".join(path.read_bytes().splitlines(True)[:-1]))
+    (home.path / "OLD").rename(home.path / "MOVED")
+    row = home.done("MOVED")["MOVED"]
+    home.has(*range(7), why=row)
+    home.undo("MOVED")
+    home.has(why=row)
 
 
 def rule_3_filed_into_another_folder(home: Home) -> None:
@@ -564,6 +653,42 @@ def rule_9_other_damage(home: Home) -> None:
         home.ledger().write_bytes(b"".join([*lines[:place], b"this is no line\n", *lines[place + 1 :]]))
         row = home.left("OLD", letters(*FIVE, 6))
         want_said(row, place + 1)
+        damaged = home.ledger().read_bytes()
+        home.done("OLD", words=["--again"])
+        home.has(*FIVE, 6)
+        equal("what is kept of it", Path(f"{home.ledger()}.damaged").read_bytes(), damaged)
+
+
+def rule_9_a_line_too_many(home: Home) -> None:
+    """A batch has a line more than it says: it says nothing. The mailbox is left, and its mail stays as it is."""
+    home.write("OLD", letters(*FIVE))
+    home.done("OLD")
+    lines = home.ledger().read_bytes().splitlines(True)
+    home.ledger().write_bytes(b"".join([*lines[:3], *lines[2:]]))
+    home.write("OLD", letters(*FIVE, 6))
+    want_offered(home.left("OLD"), "--again")
+
+
+def rule_9_a_ledger_of_others(home: Home) -> None:
+    """Others may have written a ledger, or it is no file of its own: it is neither read nor written. It explains no
+    mail in another folder either."""
+    spoils: list[Callable[[Path], object]] = [
+        lambda path: path.chmod(0o620),
+        lambda path: path.chmod(0o602),
+        lambda path: os.link(path, f"{path}.other"),
+        lambda path: os.symlink(path.rename(f"{path}.other"), path),
+    ]
+    for spoil in spoils:
+        home.begin()
+        home.write("OLD", letters(*FIVE))
+        home.done("OLD")
+        spoil(home.ledger())
+        home.write("OLD", letters(*FIVE, 6))
+        equal("why it is left", home.left("OLD")["reason"], "ledger")
+        home.write("OTHER", letters(0, 8))
+        home.folder().joinpath("new").rename(home.maildir / "new")
+        home.words = ["--folder", "INBOX"]
+        want_offered(home.left("OTHER"), "--again")
 
 
 def rule_9_a_newer_ledger(home: Home) -> None:

@@ -12,6 +12,7 @@ import signal
 import subprocess
 import time
 from collections.abc import Callable, Iterator, Sequence
+from functools import partial
 from pathlib import Path
 
 from tests.support.checks import (
@@ -38,7 +39,7 @@ from tests.support.homes import (
     subjects,
 )
 from tests.support.ledgers import LEDGER, RECORD
-from tests.support.mail import A, B, C, MAY, ONE, THREE, TWO, numbered, with_length
+from tests.support.mail import A, B, C, MAY, ONE, THREE, TWO, digest_of, numbered, with_length
 from tests.support.printed import commands_in, row_in
 from tests.support.processes import wait_for
 from tests.support.running import Desk
@@ -690,16 +691,19 @@ def records_of_others(home: Path) -> None:
     (home / "M/cur").mkdir()
     record = home / "M" / RECORD
 
-    def open_to_all() -> None:
+    def open_to(mode: int) -> None:
         record.touch()
-        record.chmod(0o666)
+        record.chmod(mode)
 
     makes = [
         (lambda: os.symlink(home / "box", record), "it is a symbolic link"),
         (lambda: os.mkfifo(record), "it does not belong to you, ..."),
         (lambda: os.link(home / "box", record), "it does not belong to you, ..."),
         (record.mkdir, "Is a directory"),
-        (open_to_all, "it does not belong to you, or others may write to it: ..."),
+        *(
+            (partial(open_to, mode), "it does not belong to you, or others may write to it: ...")
+            for mode in (0o620, 0o602)
+        ),
         (lambda: subprocess.run(["truncate", "-s", "1T", record], check=True), "it is too large for a record: ..."),
     ]  # type: list[tuple[Callable[[], object], str]]
     for make, why in makes:
@@ -754,7 +758,7 @@ def of_another_version(home: Path) -> None:
 
 
 def links(home: Path) -> None:
-    """A symbolic link in a Maildir is no mail: what it leads to is not read."""
+    """A symbolic link in a Maildir is no mail: what it leads to is not read, also if it has the name of a message."""
     mailbox(home / "box", ONE + TWO)
     for sub in ("new", "cur", "tmp"):
         (home / "M" / sub).mkdir(parents=True)
@@ -762,6 +766,9 @@ def links(home: Path) -> None:
     os.symlink("../../outside", home / "M/cur/17.host:2,S")
     done(home, "messages 2: done")
     expect("verify --all M box", home, 0, "box -> INBOX: messages 2: whole\n1 mailbox: 1 whole\n")
+    (home / "N/new").mkdir(parents=True)
+    os.symlink("../../outside", home / f"N/new/{digest_of((home / 'outside').read_bytes())}.1")
+    done(home, "messages 2: done, placed 2 messages", words=["--again", "N", "box"])
 
 
 # the last line of what is said of wrong words
@@ -812,6 +819,14 @@ def refused(home: Path) -> None:
         os.chown(home / "box", 54321, 65534)
         expect("migrate N box", home, 1, "", "...: box: it belongs to user 54321\n    run this as that user\n")
         assert not (home / "N").exists(), "N was made"
+        os.chown(home / "box", 54321, 0)
+        expect(
+            "migrate N box",
+            home,
+            1,
+            "",
+            "mbox2maildir-admin: box: it belongs to user 54321\n    run this as that user\n",
+        )
         # a Maildir that root made in the folder of another user
         (home / "theirs/M").mkdir(parents=True)
         os.chown(home / "theirs", 65534, 65534)
@@ -821,6 +836,35 @@ def refused(home: Path) -> None:
         )
         equal("what is in it", list((home / "theirs/M").iterdir()), [])
         roots_alone(home)
+
+
+def begun_meanwhile(home: Path) -> None:
+    """While a mailbox is read, another run makes the Maildir, or brings mail into the folder by the name that it has in
+    another Maildir: nothing is done, and the next run goes on. Nor does root write into what another user has made. An
+    older ledger may take the place of the one that was read."""
+    for name, text in (("box", ONE), ("two", TWO), ("three", THREE)):
+        mailbox(home / name, text)
+    made = "box -> X: ...: left (locked): another migrate has made M meanwhile: run the same command again\n...\n"
+    says = "box -> X: ...: left (locked): another migrate is at work in .../.X: wait until it has ended, ...\n...\n"
+    theirs = f"...{home}/M: its owner, who is not root, could replace the Maildir by a symbolic link\n...\n...\n"
+    started = f"'{home}/bin/mbox2maildir-admin' migrate --now --folder X"
+    for deed, status, wanted in (
+        *([("install -d -o nobody M", 1, theirs)] * (os.getuid() == 0)),
+        (f"{started} M two", LATER, made),
+        (f"mkdir -p N/new; ln -s ../M/.X N/.X; {started} N three", LATER, says),
+        ("cp older M/.X/mbox2maildir-messages", 0, "box -> X: ...: done...\n...\n"),
+    ):
+        fake(home, "")
+        meanwhile = f"if test $1 = list && mkdir '{home}/once'; then (cd '{home}' && {deed}); fi >&2"
+        (home / "bin/mbox2maildir").write_text(f"#!/bin/sh\n{meanwhile}\nexec '{home}/real' \"$@\"\n")
+        ran = Desk(home).run("migrate --all --now --folder X M box".split())
+        matches(deed, ran.output, wanted)
+        equal(f"{deed}: its status: {ran.output}", ran.status, status)
+        (home / "once").rmdir()
+        if "install" in deed:
+            (home / "M").rmdir()
+        if (home / "M/.X" / LEDGER).exists():
+            shutil.copy(home / "M/.X" / LEDGER, home / "older")
 
 
 def roots_alone(home: Path) -> None:
@@ -837,6 +881,14 @@ def roots_alone(home: Path) -> None:
     ):
         expect(["migrate", maildir, "box"], home, 1, "", f"mbox2maildir-admin: {home}/{says}\n")
     equal("what is there", [*(home / "theirs/a/b").iterdir(), *(home / "open/a/b").iterdir()], [])
+    (home / "theirs").chmod(0o1777)
+    expect(
+        "migrate theirs/a/b/M box",
+        home,
+        1,
+        "",
+        f"mbox2maildir-admin: {home}/theirs: its owner, who is not root, ...\n...\n",
+    )
     # in a sticky folder nobody can replace what belongs to root
     (home / "open").chmod(0o1777)
     expect("migrate open/a/b/M box", home, 0, None)
@@ -917,6 +969,7 @@ if __name__ == "__main__":
         grown,
         begun,
         begun_otherwise,
+        begun_meanwhile,
         converted,
         programs_that_fail,
         locks,

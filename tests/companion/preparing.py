@@ -8,7 +8,7 @@ import re
 import shutil
 import subprocess
 import time
-from collections.abc import Sequence
+from collections.abc import Callable, Sequence
 from pathlib import Path
 
 from tests.support import accounts
@@ -238,6 +238,66 @@ def started_again(home: Path) -> None:
     equal("the mail", subjects(home / "M/.a"), ["new", "one"])
 
 
+# what a pass says of a list that is spoilt in the midst, of one that is open to others, and of mail that is read
+LIST = "mbox2maildir-prepared"
+SPOILT = (
+    (lambda path: path.write_bytes(path.read_bytes() + b"?\n"), "... line 7 of it is damaged: nothing shows what ..."),
+    (lambda path: path.chmod(0o620), f"...M/{LIST}: it does not belong to you, or others may write to it: ..."),
+    (lambda path: path.chmod(0o602), f"...M/{LIST}: it does not belong to you, or others may write to it: ..."),
+    (
+        lambda path: shutil.copy2(one := max(path.parent.glob("new/*")), f"{path.parent}/cur/{one.name}:2,S"),
+        "... left (prepared): somebody reads in its folder already: M/cur/...:2,S\n...",
+    ),
+)  # type: tuple[tuple[Callable[[Path], object], str], ...]
+
+
+def spoilt(home: Path) -> None:
+    """A list that is damaged, or that others may have written, shows nothing, and mail that somebody reads is prepared
+    no more: each pass says so, and changes no mail. An undo keeps what somebody has edited."""
+    doveconf(home, MBOX)
+    mailbox(home / "box", ONE)
+    for spoil, says in SPOILT:
+        expect("migrate --prepare M box", home, 0, None)
+        spoil(home / "M" / LIST)
+        before = sorted(mail_in(home / "M"))
+        for option in ("--prepare", "--now"):
+            status, out, err = run(["migrate", "--all", option, "M", "box"], home)
+            matches(f"{option}", out + err, says)
+            equal("its status, and the mail", (status, sorted(mail_in(home / "M"))), (1, before))
+        shutil.rmtree(home / "M")
+    mailbox(home / "box", ONE + TWO)
+    expect("migrate --prepare M box", home, 0, None)
+    one, _ = mail_in(home / "M")
+    one.write_bytes(one.read_bytes().upper())
+    says = "box -> INBOX: messages 2: undone, removed 1 message; kept 1 message that somebody edited\n...\n"
+    expect("migrate --all --undo M box", home, 0, says)
+    equal("what is there", list(mail_in(home / "M")), [one])
+
+
+def unchanged(home: Path) -> None:
+    """A mailbox with equal messages is as it was prepared: it is not read again, and each is there once."""
+    doveconf(home, MBOX)
+    mailbox(home / "box", ONE + ONE + TWO + ONE)
+    expect("migrate --prepare M box", home, 0, None)
+    expect("migrate --all --now M box", home, 0, "box -> INBOX: ..., messages 4: done, 4 prepared before\n...\n")
+    equal("the mail", subjects(home / "M"), ["one", "one", "one", "two"])
+    expect("verify --all M box", home, 0, None)
+
+
+def a_sync_failed(home: Path) -> None:
+    """A sync fails in a first pass. Each later pass says so, until what is prepared is removed."""
+    doveconf(home, MBOX)
+    mailbox(home / "box", ONE)
+    (home / "bin/mbox2maildir").rename(home / "bin/converter")
+    fails = "[ $1 != convert ] || { echo 'mbox2maildir: folder call 9 failed'; exit 1; } >&2"
+    for program, option in ((f"{fails}; exit $s", "--prepare"), ("exit $s", "--prepare"), ("exit $s", "--now")):
+        script(home / "bin/mbox2maildir", f'{home}/bin/converter "$@"; s=$?; {program}')
+        says = "left (sync-failed): its sync failed: ...then remove what is prepared, and begin anew\n...\n"
+        expect(["migrate", "--all", option, "M", "box"], home, 1, f"box -> INBOX: ...messages 1: {says}")
+    expect("migrate --all --undo M box", home, 0, "box -> INBOX: messages 1: undone, removed 1 message\n...\n")
+    expect("migrate --all --now M box", home, 0, "box -> INBOX: ...messages 1: done\n...\n")
+
+
 # a mailbox that words read differently, and new mail of that kind
 QUOTED, NEW = A + b"\n>>From twice\n>From once\n\n", B + b"\n>>From twice\n>From once\n\n"
 BY_MBOXO = [part.replace(b"\n>From", b"\nFrom").split(b"\n", 1)[1][:-1] for part in (QUOTED, NEW)]
@@ -356,6 +416,9 @@ if __name__ == "__main__":
         refused,
         found_by_settings,
         one_at_work,
+        spoilt,
+        unchanged,
+        a_sync_failed,
         left_over,
         started_again,
         words_hold,

@@ -1,11 +1,13 @@
 """What `verify` says of a Maildir: what other programs and people do to it, files of another owner, and faults."""
 import os
 import random
+import re
 import threading
+from functools import partial
 from pathlib import Path
 
 from tests.support.checks import equal, matches
-from tests.support.homes import check_all, expect, mailbox, run, want_root
+from tests.support.homes import check_all, expect, hand_over, mailbox, run, want_root
 from tests.support.mail import A, ONE
 from tests.support.running import OWNER, Desk
 
@@ -135,6 +137,28 @@ def there_twice(home: Path) -> None:
     print("admin: verify: messages with new names, other bytes, and none")
 
 
+def large_files(home: Path) -> None:
+    """Files of much mail, which several threads read: what is wrong is said in the order of the messages, and what
+    cannot be read ends it."""
+    want_root()
+    texts = [f"Subject: {number}\n\n" + "%d\n" % number * 9000 for number in range(100, 180)]
+    (home / "box").write_text("".join(f"From a@b Mon Mar  3 09:12:44 2025\n{text}\n" for text in texts))
+    hand_over(home)
+    verify = partial(Desk(home, user=OWNER).run, "verify --all M box".split())
+    equal("a conversion", Desk(home, user=OWNER).run("mbox2maildir convert M box".split()).status, 0)
+    matches("the last line", verify().out.splitlines()[-1], "1 mailbox: 1 whole; ...")
+    paths = sorted((home / "M/new").iterdir(), key=lambda path: path.read_text())
+    for path in paths[3], paths[70]:
+        path.write_text(path.read_text().upper())
+    paths[79].unlink()
+    said = re.findall(r"\n    message (\d+) \(line \d+\): (other bytes|nowhere)", verify().out)
+    equal("what is said", said, [("4", "other bytes"), ("71", "other bytes"), ("80", "nowhere")])
+    paths[40].chmod(0)
+    equal(
+        "what cannot be read", (verify().status, f"{paths[40].name}: Permission denied" in verify().output), (1, True)
+    )
+
+
 def of_another_owner(home: Path) -> None:
     """Files of another owner than the Maildir's are reported, since their user may not be able to read them."""
     want_root()
@@ -224,4 +248,4 @@ def read_meanwhile(home: Path) -> None:
 
 
 if __name__ == "__main__":
-    check_all(closed_files, verified, by_a_decision, there_twice, of_another_owner, verified_by_others, read_meanwhile)
+    check_all(closed_files, verified, by_a_decision, there_twice, large_files, of_another_owner, verified_by_others, read_meanwhile)

@@ -57,6 +57,10 @@ REFUSED = [
     ("migrate M box --jobs x", "--jobs x: it takes a number from 1 on"),
     ("migrate M box --as mbox", "--as mbox: no such word: it takes mboxrd, ..."),
     ("migrate M box --folder a//b", "--folder a//b: a part of the name is empty: put `/` only between ..."),
+    (
+        "migrate M box --folder a.b/c",
+        "--folder a.b/c: the name has a dot: give a/b/c for folders in one another, or a-b/c",
+    ),
     ("migrate M box --tree mail", "--maildir, --tree and --names need --users"),
     ("migrate M box --jobs 0", "--jobs 0: it takes a number from 1 on"),
     ("migrate M box -1", "-1: no such option"),

@@ -1,0 +1,114 @@
+#!/usr/bin/env -S python3 -B
+"""Disks that fail, are full, or lack a call: what `migrate` says of a mailbox then, and what the next run does. strace
+has calls of the system fail, in a run and in what it starts."""
+import os
+import shutil
+from functools import partial
+from pathlib import Path
+from typing import NamedTuple
+
+from tests.companion.jobs import small_disk
+from tests.support.cases import LeftOut, run_cases
+from tests.support.checks import equal, matches
+from tests.support.homes import at_home, expect, hand_over, mailbox, script, subjects
+from tests.support.ledgers import RECORD
+from tests.support.mail import A, ONE, TWO, numbered
+from tests.support.running import OWNER, Desk
+
+FAILS = "mbox2maildir: folder call ... failed, which %s; "
+LISTS, WRITES = FAILS % "lists new", FAILS % "removes a leftover, or writes or places a message"
+SYNC_FAILED = "left (sync-failed): its sync failed: read the system's log and mount the disk again ..."
+
+
+class Failing(NamedTuple):
+    """A call that fails, and with what path; what is said then, and by the next run."""
+
+    call: str
+    path: str
+    says: str
+    then: str = "done..."
+
+
+CALLS = {
+    "a_sync": Failing("syncfs:error=EIO", "", SYNC_FAILED, SYNC_FAILED),
+    "a_sync_of_new": Failing("fsync:error=EIO", "M/new", SYNC_FAILED, SYNC_FAILED),
+    "no_such_sync": Failing("syncfs:error=ENOSYS", "", "done...", "done before"),
+    "no_sync_of_folders": Failing(
+        "fsync:error=EINVAL",
+        "M/new",
+        f"left (convert-failed): {LISTS}its disk cannot sync folders: Invalid argument; ...",
+    ),
+    "no_locks": Failing(
+        "flock:error=ENOLCK", "", f"left (record): M/{RECORD}: it cannot be locked: No locks available"
+    ),
+    "a_rename": Failing(
+        "rename:error=EIO",
+        "",
+        f"left (convert-failed): {WRITES}could not rename a file in tmp: Input/output error; ...",
+    ),
+}
+
+
+def made(home: Path) -> Path:
+    """A Maildir that is there."""
+    for sub in ("new", "cur", "tmp"):
+        (home / "M" / sub).mkdir(parents=True)
+    return home / "M"
+
+
+def attempt(home: Path, one: Failing) -> None:
+    """Migrates two mailboxes while a call fails, and again. What failed once stays so until --again."""
+    if not shutil.which("strace"):
+        raise LeftOut("strace is not here")
+    made(home)
+    for name, text in (("box", ONE), ("two", TWO)):
+        mailbox(home / name, text)
+    place = ["-P", str(home / one.path)] if one.path else ["-e", f"trace={one.call.split(':')[0]}"]
+    strace = ["/usr/bin/env", "strace", "-f", "-qq", "-o", "/dev/null", *place, "-e", f"inject={one.call}"]
+    words = ["migrate", "--all", "--now", "M", "box", "two"]
+    ran = Desk(home).run([*strace, home / "bin/mbox2maildir-admin", *words])
+    for ran, says in ((ran, one.says), (Desk(home).run(words), one.then)):
+        for line in ran.out.splitlines()[:-1]:
+            matches(f"{one.call}: {ran.output}", line, f"... -> INBOX: mboxrd or mboxo, messages 1: {says}")
+    for name in ("box", "two"):
+        expect(["migrate", "--now", "--again", "M", name], home, 0, None)
+    equal("what is there", subjects(home / "M"), ["one", "two"])
+
+
+NEW = "done\n1 mailbox: 1 done\n"
+# what is done to a Maildir while the program lists it, or before, and what is said of a mailbox whose mail is read
+SPOILT = {
+    "mkdir M/new/$(printf '\\377')": f"{LISTS}a name is not UTF-8: M/new/\\xff; 0 of 1 messages are there",
+    "chmod 500 M/cur": f"{WRITES}could not write in cur: Permission denied; 0 of 1 messages are there",
+    "chmod 500 M/tmp": f"{WRITES}could not make a file in tmp: Permission denied; ...",
+    "(for n in $(seq 99); do touch M/new/$n; sleep 0.1; done) >&- 2>&- &": f"{LISTS}names in it keep changing; ...",
+}
+
+
+def spoilt(home: Path) -> None:
+    """The program fails, and the row says what is wrong with the Maildir."""
+    os.rename(home / "bin/mbox2maildir", home / "real")
+    for deed, says in SPOILT.items():
+        hand_over(made(home), mailbox(home / "box", A + b"Status: RO\n\nhello\n\n"), home)
+        fails = (
+            "echo 'mbox2maildir: folder call 2 failed' >&2; exit 1" if "sleep" in deed else f"exec '{home}/real' \"$@\""
+        )
+        first = f"test $1 = convert || exec '{home}/real' \"$@\"\n(cd '{home}'; {deed}\n)"
+        script(home / "bin/mbox2maildir", f"{first}\n{fails}")
+        ran = Desk(home, user=OWNER).run("migrate --all --now M box".split())
+        matches(deed, ran.output, f"box -> INBOX: mboxrd or mboxo, messages 1: left (convert-failed): {says}\n...\n")
+        shutil.rmtree(home / "M")
+
+
+def few_inodes(home: Path) -> None:
+    """A mailbox for whose files a disk has no inodes is left, and nothing of it is placed."""
+    with small_disk(home, "nr_inodes=14"):
+        mailbox(home / "box", numbered("x", 9))
+        says = "box -> INBOX: ...left (no-room): not enough inodes: it needs 15, and ... are free\n...\n"
+        expect("migrate --all disk/M box", home, 1, says)
+        equal("what was made", list((home / "disk").iterdir()), [])
+
+
+if __name__ == "__main__":
+    cases = {name: partial(at_home, partial(attempt, one=one)) for name, one in CALLS.items()}
+    run_cases({**cases, "spoilt": partial(at_home, spoilt), "few_inodes": partial(at_home, few_inodes)})
