@@ -182,13 +182,15 @@ def want_undeleted(home: Home, *numbers: int) -> None:
 
 
 def rule_2_deleted(home: Home) -> None:
-    """A file that is marked as deleted serves no message that is not. Nor does one that a reader has marked, which has a keyword of Dovecot's."""
+    """A file that is marked as deleted serves no message that is not. Nor does one that a reader has marked, which has a
+    keyword of Dovecot's too."""
     for mark in home.each((b"Status: ROD\n", b"Status: RO\nX-Status: D\n", b"X-Evolution: 00000001-0012\n", b"")):
-        home.bring(OLD=letters(0, 1, 2, fields=mark))
+        home.bring(OLD=letters(0, 1, 1, 2, fields=mark))
         for path in home.files() if not mark else ():
             path.rename(path.parents[1] / "cur" / f"{path.name.split(':')[0]}:2,STa")
-        home.bring(OTHER=letters(1, 2, 3, fields=RO))
+        row = home.bring(OTHER=letters(1, 2, 3, fields=RO))["OTHER"]
         want_undeleted(home, 1, 2, 3)
+        want_said(row, "2 messages placed beside files that are marked as deleted")
 
 
 def rule_2_flags(home: Home) -> None:
@@ -374,6 +376,18 @@ def rule_5_one_more(home: Home) -> None:
         home.has(5, 5, 5, 6)
         home.done("OLD")
         home.has(5, 5, 5, 6)
+
+
+def rule_5_two_mailboxes_have_one_each(home: Home) -> None:
+    """Two mailboxes have a message once each, in files of their own, of which a reader has deleted one. What one of them
+    has once more is placed, and what a third one has once more than either."""
+    home.bring(OLD=letters(5))
+    home.take(5)
+    home.bring(["--again"], OTHER=letters(5))
+    home.bring(OLD=letters(5, 5))
+    home.has(5, 5)
+    home.bring(THIRD=letters(5, 5, 5))
+    home.has(5, 5, 5)
 
 
 def rule_5_renamed(home: Home) -> None:

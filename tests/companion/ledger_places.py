@@ -152,10 +152,8 @@ def rule_1_a_file_counts_once(home: Home) -> None:
 def kill_while_placing(home: Home, count: int, is_in_tmp: bool) -> None:
     """A run is killed once it has placed some messages: before the next one has a file, or while that is in `tmp`."""
     # each message takes four calls
-    for call in range(6 + 4 * count, 12 + 4 * count):
-        home.begin()
-        home.write("OLD", letters(*FIVE))
-        home.run("OLD", kill=Kill(call=call))
+    for call in home.each(range(6 + 4 * count, 12 + 4 * count)):
+        home.killed(Kill(call=call), OLD=letters(*FIVE))
         if len(home.files()) == count and any(home.folder().glob("tmp/*")) == is_in_tmp:
             return
     raise Failed(f"no run was killed with {count} messages there")
@@ -207,27 +205,32 @@ def rule_1_how_far_a_killed_run_came(home: Home) -> None:
         equal(f"{count}, {is_in_tmp}: {row}", int(found[1]) if found else 0, wanted[is_in_tmp])
 
 
+def rule_1_killed_beside_mail_of_others(home: Home) -> None:
+    """A run is killed that had found mail of another program, which has read it, in place of a message. The next one
+    finds it too."""
+    for call in home.each(range(6, 10)):
+        home.bring(FIRST=letters(20))
+        home.place_file("17000.1.host:2,S", mail_of(letters(0, fields=RO))[0])
+        home.killed(Kill(call=call), OLD=letters(0, 1))
+        home.done("OLD")
+        home.has(0, 1, 20)
+
+
 def rule_1_two_were_killed(home: Home) -> None:
     """Two mailboxes were done, but for the last step. What another one brings back of both is counted together."""
-    home.write("OLD", letters(0, 1))
-    home.write("TWIN", letters(2, 3))
-    home.done("OLD", "TWIN")
+    home.bring(OLD=letters(0, 1), TWIN=letters(2, 3))
     as_if_killed(home.maildir)
     home.take(1, 3)
-    home.write("OTHER", letters(1, 3, 7))
-    row = home.done("OTHER")["OTHER"]
+    row = home.bring(OTHER=letters(1, 3, 7))["OTHER"]
     home.has(0, 1, 2, 3, 7)
     want_said(row, "up", "to", 2, "came", "back")
 
 
 def rule_1_killed_grown_and_moved(home: Home) -> None:
     """A run was killed once it had placed what was new, and the mailbox has another name then: all is known of it."""
-    home.write("OLD", letters(*FIVE))
-    home.done("OLD")
-    home.write("OLD", letters(*range(7)))
-    home.done("OLD")
-    for path in home.ledger(), home.maildir / RECORD:
-        path.write_bytes(b"".join(path.read_bytes().splitlines(True)[:-1]))
+    home.bring(OLD=letters(*FIVE))
+    home.bring(OLD=letters(*range(7)))
+    home.forget_end()
     (home.path / "OLD").rename(home.path / "MOVED")
     row = home.done("MOVED")["MOVED"]
     home.has(*range(7), why=row)
@@ -661,12 +664,10 @@ def rule_9_other_damage(home: Home) -> None:
 
 def rule_9_a_line_too_many(home: Home) -> None:
     """A batch has a line more than it says: it says nothing. The mailbox is left, and its mail stays as it is."""
-    home.write("OLD", letters(*FIVE))
-    home.done("OLD")
+    home.bring(OLD=letters(*FIVE))
     lines = home.ledger().read_bytes().splitlines(True)
     home.ledger().write_bytes(b"".join([*lines[:3], *lines[2:]]))
-    home.write("OLD", letters(*FIVE, 6))
-    want_offered(home.left("OLD"), "--again")
+    want_offered(home.left("OLD", letters(*FIVE, 6)), "--again")
 
 
 def rule_9_a_ledger_of_others(home: Home) -> None:
@@ -678,17 +679,13 @@ def rule_9_a_ledger_of_others(home: Home) -> None:
         lambda path: os.link(path, f"{path}.other"),
         lambda path: os.symlink(path.rename(f"{path}.other"), path),
     ]
-    for spoil in spoils:
-        home.begin()
-        home.write("OLD", letters(*FIVE))
-        home.done("OLD")
+    for spoil in home.each(spoils):
+        home.bring(OLD=letters(*FIVE))
         spoil(home.ledger())
-        home.write("OLD", letters(*FIVE, 6))
-        equal("why it is left", home.left("OLD")["reason"], "ledger")
-        home.write("OTHER", letters(0, 8))
+        equal("why it is left", home.left("OLD", letters(*FIVE, 6))["reason"], "ledger")
         home.folder().joinpath("new").rename(home.maildir / "new")
         home.words = ["--folder", "INBOX"]
-        want_offered(home.left("OTHER"), "--again")
+        want_offered(home.left("OTHER", letters(0, 8)), "--again")
 
 
 def rule_9_a_newer_ledger(home: Home) -> None:
@@ -796,8 +793,11 @@ def rule_9_mail_of_other_programs(home: Home) -> None:
     row = home.bring(OLD=letters(*FIVE))["OLD"]
     home.has(*FIVE, 20)
     want_said(row, 3)
+    home.place_file("17001.host:2,S", mail_of(letters(7))[0])
+    home.bring(OLD=letters(*FIVE, 7))
+    home.has(*FIVE, 7, 20)
     home.undo("OLD")
-    home.has(0, 1, 2, 20)
+    home.has(0, 1, 2, 7, 20)
 
 
 def rule_9_files_of_this_program(home: Home) -> None:

@@ -349,8 +349,9 @@ def rule_6_again_after_an_undo(home: Home) -> None:
 
 def rule_6_back_after_an_undo(home: Home) -> None:
     """A mailbox is undone by another name that it had meanwhile, and has its old name again; or one that has all of its
-    mail took its place while it was away, and is undone. Its mail is brought again: nothing says that it is done."""
-    for instead, more in home.each((range(5), range(8)), (range(0), range(9, 10))):
+    mail took its place while it was away, and is undone. Its mail is brought again: nothing says that it is done. One
+    that has but one of its messages is another mailbox."""
+    for instead, more in home.each((range(5), range(8), range(4, 10)), (range(0), range(9, 10))):
         home.bring(OLD=letters(*range(5)))
         (home.path / "OLD").rename(home.path / "AWAY")
         home.write("OTHER", letters(*instead))

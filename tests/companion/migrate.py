@@ -4,7 +4,6 @@ out without it."""
 import contextlib
 import fcntl
 import gzip
-import hashlib
 import os
 import shlex
 import shutil
@@ -529,6 +528,13 @@ def converted(home: Path) -> None:
     done(home, "messages 2: done, 2 messages there already, by no mailbox", words=("N", "box"))
     equal("its date", file_of(home / "N", "two").stat().st_mtime % 60, 2)
     equal("its lines", steps(home / "N"), ["begun", "done"])
+    # also if a run was killed that found it
+    run("mbox2maildir convert P box", home)
+    fake(home, "kill -9 $PPID")
+    equal("a run that is killed", run("migrate P box", home)[0], -signal.SIGKILL)
+    fake(home, f"exec '{home}/real' \"$@\"")
+    done(home, "messages 2: done, 2 messages there already, by no mailbox", words=("P", "box"))
+    equal("its date after a kill", file_of(home / "P", "two").stat().st_mtime % 60, 2)
     run("mbox2maildir convert O box", home)
     file_of(home / "O", "one").unlink()
     left(home, f"1 of its messages are there, and no ledger says why: ...\n{DOUBLES} O box", ("O", "box"))
@@ -715,12 +721,13 @@ def records_of_others(home: Path) -> None:
         else:
             record.unlink()
     equal("the mailbox", (home / "box").read_bytes(), ONE)
-    digest = hashlib.sha256(ONE).hexdigest()
-    line = f"done\t.\t{len(ONE)}\t{digest}\t1\t2025-03-03T10:00:00Z\tbo".encode()
+    two = mailbox(home / "two", TWO)
+    line = f"done\t.\t{len(TWO)}\t{digest_of(TWO)}\t1\t2025-03-03T10:00:00Z\t{two}\tmboxrd".encode()
     record.write_bytes(VERSION_LINE + b"\xff\n\ndone\t.\nfroot\tloops\n" + line)
     record.chmod(0o600)
     done(home, "messages 1: done")
     equal("the torn line is ended", record.read_text(errors="replace").split("\n")[6].split("\t")[0], "begun")
+    expect("migrate --all M two", home, 0, "two -> INBOX: ...messages 1: done, INBOX has the mail of ...\n...\n")
 
 
 def of_another_version(home: Path) -> None:
@@ -863,7 +870,7 @@ def begun_meanwhile(home: Path) -> None:
         (home / "once").rmdir()
         if "install" in deed:
             (home / "M").rmdir()
-        if (home / "M/.X" / LEDGER).exists():
+        if (home / "M/.X").exists() and not (home / "older").exists():
             shutil.copy(home / "M/.X" / LEDGER, home / "older")
 
 

@@ -7,8 +7,7 @@ from mbox2maildir_admin.ledger.assign import Offer, by_form, files_of, offers
 from mbox2maildir_admin.ledger.batches import Line, State
 from mbox2maildir_admin.ledger.lines import NAMELESS, PLACED, SHARED, Brought
 
-from tests.support.brought import BOX, OTHER, THIRD
-
+BOX, OTHER, THIRD = "/box", "/other", "/third"
 C, D = b"c" * 16, b"d" * 16
 A, B = b"a", b"b"
 
