@@ -7,12 +7,12 @@ from functools import partial
 from pathlib import Path
 from typing import NamedTuple
 
-from tests.companion.jobs import small_disk
 from tests.support.cases import LeftOut, run_cases
 from tests.support.checks import equal, matches
-from tests.support.homes import at_home, expect, hand_over, mailbox, script, subjects
+from tests.support.homes import at_home, expect, hand_over, mailbox, script, subjects, want_users
 from tests.support.ledgers import RECORD
 from tests.support.mail import A, ONE, TWO, numbered
+from tests.support.mounts import small_disk
 from tests.support.running import OWNER, Desk
 
 FAILS = "mbox2maildir: folder call ... failed, which %s; "
@@ -102,7 +102,8 @@ def spoilt(home: Path) -> None:
 
 def few_inodes(home: Path) -> None:
     """A mailbox for whose files a disk has no inodes is left, and nothing of it is placed."""
-    with small_disk(home, "nr_inodes=14"):
+    want_users()
+    with small_disk(home / "disk", "6m,nr_inodes=14"):
         mailbox(home / "box", numbered("x", 9))
         says = "box -> INBOX: ...left (no-room): not enough inodes: it needs 15, and ... are free\n...\n"
         expect("migrate --all disk/M box", home, 1, says)

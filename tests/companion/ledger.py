@@ -182,8 +182,8 @@ def want_undeleted(home: Home, *numbers: int) -> None:
 
 
 def rule_2_deleted(home: Home) -> None:
-    """A file that is marked as deleted serves no message that is not. Nor does one that a reader has marked, which has a
-    keyword of Dovecot's too."""
+    """A file that is marked as deleted serves no message that is not. Nor does one that a reader has marked, and that
+    has a keyword of Dovecot's."""
     for mark in home.each((b"Status: ROD\n", b"Status: RO\nX-Status: D\n", b"X-Evolution: 00000001-0012\n", b"")):
         home.bring(OLD=letters(0, 1, 1, 2, fields=mark))
         for path in home.files() if not mark else ():
@@ -379,8 +379,8 @@ def rule_5_one_more(home: Home) -> None:
 
 
 def rule_5_two_mailboxes_have_one_each(home: Home) -> None:
-    """Two mailboxes have a message once each, in files of their own, of which a reader has deleted one. What one of them
-    has once more is placed, and what a third one has once more than either."""
+    """Two mailboxes have a message once each, in files of their own, of which a reader has deleted one. What one of
+    them has once more is placed, and what a third one has once more than either."""
     home.bring(OLD=letters(5))
     home.take(5)
     home.bring(["--again"], OTHER=letters(5))

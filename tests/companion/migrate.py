@@ -278,7 +278,7 @@ def kinds(home: Path) -> None:
         equal(
             f"{name}: its size and digest in the record",
             (home / f"M-{name}" / RECORD).read_text().splitlines()[1].split("\t")[2:4],
-            [str(len(text)), hashlib.sha256(text).hexdigest()],
+            [str(len(text)), digest_of(text)],
         )
     assert "From the first of May" in file_of(home / "M-cl2", "one").read_text(), "a quoted line lost its message"
     assert b"\r" not in file_of(home / "M-crlf", "one").read_bytes(), "a CR was kept"

@@ -240,13 +240,17 @@ def started_again(home: Path) -> None:
 
 # what a pass says of a list that is spoilt in the midst, of one that is open to others, and of mail that is read
 LIST = "mbox2maildir-prepared"
+OPEN = "it does not belong to you, or others may write to it: look at it, and move it away"
 SPOILT = (
-    (lambda path: path.write_bytes(path.read_bytes() + b"?\n"), "... line 7 of it is damaged: nothing shows what ..."),
-    (lambda path: path.chmod(0o620), f"...M/{LIST}: it does not belong to you, or others may write to it: ..."),
-    (lambda path: path.chmod(0o602), f"...M/{LIST}: it does not belong to you, or others may write to it: ..."),
+    (
+        lambda path: path.write_bytes(path.read_bytes() + b"?\n"),
+        "line 7 of it is damaged: nothing shows what was prepared",
+    ),
+    (lambda path: path.chmod(0o620), OPEN),
+    (lambda path: path.chmod(0o602), OPEN),
     (
         lambda path: shutil.copy2(one := max(path.parent.glob("new/*")), f"{path.parent}/cur/{one.name}:2,S"),
-        "... left (prepared): somebody reads in its folder already: M/cur/...:2,S\n...",
+        "somebody reads in its folder already: M/cur/",
     ),
 )  # type: tuple[tuple[Callable[[Path], object], str], ...]
 
@@ -262,8 +266,8 @@ def spoilt(home: Path) -> None:
         before = sorted(mail_in(home / "M"))
         for option in ("--prepare", "--now"):
             status, out, err = run(["migrate", "--all", option, "M", "box"], home)
-            matches(f"{option}", out + err, says)
-            equal("its status, and the mail", (status, sorted(mail_in(home / "M"))), (1, before))
+            got = status, says in out + err, sorted(mail_in(home / "M"))
+            equal(f"{option}: its status, what is said, and the mail: {out}{err}", got, (1, True, before))
         shutil.rmtree(home / "M")
     mailbox(home / "box", ONE + TWO)
     expect("migrate --prepare M box", home, 0, None)
