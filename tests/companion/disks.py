@@ -7,9 +7,9 @@ from functools import partial
 from pathlib import Path
 from typing import NamedTuple
 
-from tests.support.cases import LeftOut, run_cases
+from tests.support.cases import run_cases
 from tests.support.checks import equal, matches
-from tests.support.homes import at_home, expect, hand_over, mailbox, script, subjects, want_users
+from tests.support.homes import at_home, expect, hand_over, mailbox, script, subjects, want_strace, want_users
 from tests.support.ledgers import RECORD
 from tests.support.mail import A, ONE, TWO, numbered
 from tests.support.mounts import small_disk
@@ -58,8 +58,7 @@ def made(home: Path) -> Path:
 
 def attempt(home: Path, one: Failing) -> None:
     """Migrates two mailboxes while a call fails, and again. What failed once stays so until --again."""
-    if not shutil.which("strace"):
-        raise LeftOut("strace is not here")
+    want_strace()
     made(home)
     for name, text in (("box", ONE), ("two", TWO)):
         mailbox(home / name, text)

@@ -13,7 +13,8 @@ from pathlib import Path
 
 from tests.companion.every_call import DEEDS, FOLDER, PREPARE, Deed, prepared, two_archives
 from tests.support.archives import Home, fresh
-from tests.support.cases import Failed, LeftOut, run_cases
+from tests.support.cases import Failed, run_cases
+from tests.support.homes import want_strace
 
 CALLS = (
     "execve,openat,mkdir,mkdirat,rename,renameat,renameat2,link,linkat,unlink,unlinkat,rmdir,write,pwrite64,pread64,"
@@ -190,8 +191,7 @@ def in_order(home: Home, name: str) -> None:
 
 def case(name: str) -> None:
     """One deed, in a home of its own."""
-    if not shutil.which("strace"):
-        raise LeftOut("strace is not here")
+    want_strace()
     with fresh() as home:
         home.begin()
         in_order(home, name)

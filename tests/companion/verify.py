@@ -248,4 +248,13 @@ def read_meanwhile(home: Path) -> None:
 
 
 if __name__ == "__main__":
-    check_all(closed_files, verified, by_a_decision, there_twice, large_files, of_another_owner, verified_by_others, read_meanwhile)
+    check_all(
+        closed_files,
+        verified,
+        by_a_decision,
+        there_twice,
+        large_files,
+        of_another_owner,
+        verified_by_others,
+        read_meanwhile,
+    )

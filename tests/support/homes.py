@@ -3,6 +3,7 @@ import os
 import pwd
 import shlex
 import shutil
+import subprocess
 import tempfile
 import time
 from collections.abc import Callable, Iterator, Sequence
@@ -42,6 +43,15 @@ def want_users() -> None:
     want_root()
     if not accounts.are_own():
         raise LeftOut("it wants mounts of its own, which the system does not let root have")
+
+
+def want_strace() -> None:
+    """Leaves a case out in which strace looks at the calls of a run, if it is not here, or may not look."""
+    if (
+        not shutil.which("strace")
+        or subprocess.run(["strace", "-qq", "-o", "/dev/null", "true"], check=False).returncode
+    ):
+        raise LeftOut("strace is not here, or may not look")
 
 
 def meets_people(words: Sequence[Word]) -> bool:
