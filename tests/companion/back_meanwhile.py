@@ -180,8 +180,9 @@ def left(home: Home) -> None:
         text = box.read_bytes()
         edited = edit(OLD, text[len(OLD) :])
         box.write_bytes(edited)
-        dry = home.place.run([*BACK, "--dry-run", "mail"])
-        equal(f"{what}: what a rehearsal writes: {dry.output}", box.read_bytes(), edited)
+        if what == "a part":
+            home.place.run([*BACK, "--dry-run", "mail"])
+            equal("what a rehearsal writes", box.read_bytes(), edited)
         ran = home.place.run([*BACK, "mail"])
         torn = [row["says"] for row in ran.rows if row["reason"] == "torn"]
         wanted = [f"the message that begins in line {line} is cut: "] * (line is not None)
@@ -381,6 +382,14 @@ def standing(home: Home) -> None:
     changed = "1 message that was changed in the Maildir is there as before"
     equal("what is said", says, {"x": [deleted, changed], "y": [deleted]})
     equal("the sums", ran.sums["still_there"], {"deleted": 2, "changed": 1})
+    for sub in ("tmp", "new", "cur"):
+        (home.folder("b") / sub).mkdir(parents=True)
+    home.place.own(home.folder("b"), *home.folder("b").iterdir())
+    (moved,) = home.those(3, name="a")
+    moved.rename(home.folder("b") / "new" / moved.name)
+    remarks = [one["says"] for row in home.place.run([*BACK, "x", "y"]).rows for one in row["remarks"]]
+    says = "1 message that people moved here from a stays in the mailbox of that"
+    equal(f"what was moved: {remarks}", remarks.count(says), 1)
     home.write("x", letters(1, 2))
     ran = home.place.run([*BACK, "x", "y"])
     (row,) = (row for row in ran.rows if row["path"] == "x")

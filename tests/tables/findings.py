@@ -1,4 +1,5 @@
 """What `kind` and `verify` print with `--json`: objects that follow the schema, in the words of `migrate --json`."""
+import gzip
 import json
 import os
 import shutil
@@ -9,7 +10,7 @@ from typing import Any, Union
 from tests.companion.spool import users
 from tests.support.checks import equal
 from tests.support.homes import check_all, expect, files_of, mailbox, run, want_users
-from tests.support.mail import ONE, TWO
+from tests.support.mail import ONE, TWO, bodies_of
 from tests.support.printed import rows_in
 from tests.support.schema import wrong
 
@@ -28,7 +29,12 @@ def objects(words: Sequence[str], home: Path) -> list[dict[str, Any]]:
 
 def what_files_are(home: Path) -> None:
     """Each file has an object, and one that is left out or not there has that of a row."""
-    for name, text in (("a", ONE + TWO), ("doubtful", DOUBTFUL), ("note", b"%PDF-1.4\n")):
+    for name, text in (
+        ("a", ONE + TWO),
+        ("doubtful", DOUBTFUL),
+        ("note", b"%PDF-1.4\n"),
+        ("packed", gzip.compress(DOUBTFUL)),
+    ):
         mailbox(home / "old" / name, text)
     (home / "old/link").symlink_to("a")
     found = {one["path"]: one for one in objects(["kind", "old", "none"], home)}
@@ -38,13 +44,17 @@ def what_files_are(home: Path) -> None:
         {
             "old/a": "mboxrd or mboxo",
             "old/doubtful": "not quoted",
+            "old/packed": "not quoted, compressed by gzip",
             "old": "a folder of mailboxes",
         },
     )
     equal("messages", [found["old/a"][name] for name in ("messages", "most", "next")], [2, 2, []])
     rows = {path: (one["verdict"], one["reason"]) for path, one in found.items() if one["verdict"] != "found"}
     equal("rows", rows, {"old/note": ("no mail", None), "old/link": ("left", "link"), "none": ("left", "missing")})
-    question = found["old/doubtful"]
+    question, packed = found["old/doubtful"], found["old/packed"]
+    equal("a question about what is packed", packed["lines"], question["lines"])
+    answers = [[(one["answer"], one["messages"]) for one in row["next"]] for row in (packed, question)]
+    equal("its answers", *answers)
     equal("the lines", [one["text"] for one in question["lines"] if not one["around"]], ["From Tuesday on"])
     answers = {one["answer"]: (one["argv"][:2], one["messages"]) for one in question["next"]}
     migrate = ["mbox2maildir-admin", "migrate"]
@@ -85,19 +95,21 @@ def by_root(home: Path) -> None:
             shutil.chown(letter.parent, owner, group)
             letter.parent.chmod(mode)
             place = letter if is_there else homes / "m61one/x"
-            made_by(f"{owner}, {group}, {mode:o}", home, "runuser -u m61one -- sh -c ", place)
+            command = made_by(f"{owner}, {group}, {mode:o}", home, "runuser -u m61one -- sh -c ", place)
+            equal(f"{command}: what migrates it", "migrate MAILDIR" in command, not is_there)
         os.chown(letter, 4000000000, -1)
         made_by("a number", home, "setpriv --clear-groups --reuid 4000000000 sh -c ", Path("/x"))
         os.chown(letter, 0, -1)
         made_by("root's own", home, "d=$(", letter)
 
 
-def made_by(what: str, home: Path, before: str, place: Path) -> None:
+def made_by(what: str, home: Path, before: str, place: Path) -> str:
     """The command that makes a mailbox of a letter begins so, and makes its folder at this place."""
     (row, *_) = rows_in(run("kind old/x", home)[1])
     equal(
         f"{what}: {row.command}", (row.command.startswith(before), f"mktemp -d {place}." in row.command), (True, True)
     )
+    return row.command
 
 
 def what_is_there(home: Path) -> None:
@@ -108,10 +120,10 @@ def what_is_there(home: Path) -> None:
     *whole, _ = objects(["verify", "M", "old"], home)
     equal(
         "if all is there",
-        [(one["path"], one["folder"], one["verdict"], one["messages"]) for one in whole],
+        [(one["path"], one["folder"], one["verdict"], one["messages"], one["bytes"]) for one in whole],
         [
-            ("old/a", "a", "whole", 2),
-            ("old/b", "b", "whole", 1),
+            ("old/a", "a", "whole", 2, sum(map(len, bodies_of(ONE + TWO)))),
+            ("old/b", "b", "whole", 1, *map(len, bodies_of(TWO))),
         ],
     )
     first, second = sorted(files_of(home / "M/.a").values())

@@ -296,6 +296,10 @@ def keywords_of_another_folder(home: Home) -> None:
         home.write(f"mail/{name}", NARROW)
     home.done("mail")
     path = home.place_file("1.a:2,", b"Subject: new\n\nnew\n", "a")
+    # nor does what came from the mailbox get one that people gave it since
+    old = home.files("a")[-1]
+    old.rename(home.folder("a") / "cur" / f"{old.name.partition(':')[0]}:2,b")
+    home.place_file("../dovecot-keywords", b"1 other\n", "a")
     for folder in ("a", "b"):
         home.place_file("../dovecot-uidlist", listed(9), folder)
     words = ["back", "--json", "--now", *DOVECOT, "M", "mail"]

@@ -29,6 +29,9 @@ def helps(home: Path) -> None:
         status, out, err = run(words, home, COLUMNS="200")
         equal(f"{words}: status, errors, and lines that are too long", (status, err), (0, ""))
         equal(f"{words}: lines that are too long", [line for line in out.splitlines() if len(line) > 80], [])
+        equal(f"{words}: what it does", bool(re.search(r"\n\n[A-Z][a-z]", out)), True)
+        bare = re.findall(r"(?m)^  -(?:(?!   ?\S).)*\n(?! {8})", out)
+        equal(f"{words}: options of which nothing is said", bare, [])
         equal(f"{words}: examples", len(re.findall(r"(?m)^  (?:# )?mbox2maildir-admin ", out)), examples)
     groups = re.findall(r"(?m)^(\w.*):$", run("migrate --help", home)[1])
     wanted = [
