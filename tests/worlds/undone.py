@@ -1,10 +1,11 @@
 """A mailbox whose migration is undone, and whose undoing is killed. It may have grown. Beside it are others that have
 some of its messages, are missing or were changed, in a folder that had mail before."""
 from collections.abc import Sequence
+from typing import Optional
 
 from tests.support.ledgers import LEDGER, RECORD
 from tests.support.place import ENDED
-from tests.support.running import NEVER, Kill, Run
+from tests.support.running import NEVER, Kill, Row, Run
 from tests.support.splitter import split
 from tests.worlds.deeds import read_flags
 from tests.worlds.history import INBOX, Box, History
@@ -122,12 +123,11 @@ class Undone(Rewritten):
     def undo(self) -> None:
         """Undoes it, with kills at random moments, until it ends. Then it can be done again."""
         words, kills = ["migrate", "--json", "--now", "--undo", "Maildir", INBOX], self.draw.randint(0, 4)
-        numbers = [box.number for box in [self.box, *self.missing]]
         for number in range(kills + RUNS):
             kill = self.moment() if number < kills else NEVER
             ran = self.place.run(words, kill)
             self.stage.told(ran, *words, kill=kill)
-            wrong = self.oracle.undoes(numbers, ran.row if ran.status == 0 else None)
+            wrong = self.wrong_with(ran.row if ran.status == 0 else None)
             # of a mailbox that was looked at, a run may not know what it brought
             self.wrong += [line for line in wrong if self.hindrance != "was looked at" or "still there" not in line]
             if ran.status == 0 or kill == NEVER:
@@ -137,3 +137,10 @@ class Undone(Rewritten):
         self.seen[f"hindered by {self.hindrance}: status {ran.status}"] += 1
         if ran.status == 0:
             self.seen[f"undone, and done again: status {self.one(self.box).status}"] += 1
+
+    def wrong_with(self, row: Optional[Row]) -> list[str]:
+        """What is wrong with an undo, whose row this is when it is over. A missing mailbox may be the one that is
+        undone, or another one, for which mail stays."""
+        ways = [[box.number for box in boxes] for boxes in ([self.box, *self.missing], [self.box])]
+        numbers = min(ways, key=lambda one: len([*self.oracle.kept().undoes(one, row)]))
+        return [*self.oracle.undoes(numbers, row)]
