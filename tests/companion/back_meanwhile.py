@@ -2,15 +2,13 @@
 was killed has left in a mailbox, in which others have written since. No byte of others is ever cut, and what is not
 back goes back by the next run."""
 import gzip
-import os
 import shutil
 import signal
 from collections.abc import Callable
-from functools import partial
 from pathlib import Path
 from typing import NamedTuple, Optional
 
-from tests.support.archives import LEDGER, Home, letters, run_rules
+from tests.support.archives import Home, letters, run_rules
 from tests.support.checks import LATER, equal
 from tests.support.homes import doing_first, script
 from tests.support.running import BY_OTHERS, Run
@@ -74,7 +72,7 @@ MEANWHILE = {
     "a full disk": Case({"write": f"{PART}; fails(errno.ENOSPC)"}, 1, "no-room"),
     "a quota that is used up": Case({"write": f"{PART}; fails(errno.EDQUOT)"}, 1, "no-room"),
     "a disk that fails": Case({"write": f"{PART}; fails(errno.EIO)"}, 1, "error"),
-    "a full disk that cuts nothing either": Case({"write": f"{PART}; fails(errno.EDQUOT)", "keeps": "True"}, 1, "no-room"),
+    "a full disk that cuts nothing": Case({"write": f"{PART}; fails(errno.EDQUOT)", "keeps": "True"}, 1, "no-room"),
     "a sync that fails": Case({"fsync": "fails(errno.EIO)"}, 1, "error"),
     "a signal": Case({"fsync": "os.kill(os.getpid(), signal.SIGINT)"}, 130, None),
     "a few bytes at a time": Case({"write": "return calls['write'](number, piece[:3])"}, 0, None),
@@ -341,8 +339,8 @@ os.fsync = syncs
 
 
 def a_power_cut(home: Home) -> None:
-    """The name of a new mailbox is on the disk before its mail, also if a run that was killed has made it; and mail that
-    is there already, before the ledger says that it is back."""
+    """The name of a new mailbox is on the disk before its mail, also if a run that was killed has made it; and mail
+    that is there already, before the ledger says that it is back."""
     begun(home)
     for sub in ("tmp", "new", "cur"):
         (home.folder("b") / sub).mkdir(parents=True)
@@ -367,8 +365,8 @@ def a_power_cut(home: Home) -> None:
 
 
 def standing(home: Home) -> None:
-    """A row says which messages of its mailbox were deleted or changed in the Maildir, and the sums say how many. If the
-    mailbox has changed since, they may not be there any more. A further mailbox of the folder has a row for that."""
+    """A row says which messages of its mailbox were deleted or changed in the Maildir, and the sums say how many. If
+    the mailbox has changed since, they may not be there any more. A further mailbox of the folder has a row for it."""
     home.begin("--jobs", "1", "--folder", "a")
     for name, numbers in (("x", (1, 2, 3)), ("y", (4,))):
         home.write(name, letters(*numbers))
@@ -388,8 +386,8 @@ def standing(home: Home) -> None:
     (moved,) = home.those(3, name="a")
     moved.rename(home.folder("b") / "new" / moved.name)
     remarks = [one["says"] for row in home.place.run([*BACK, "x", "y"]).rows for one in row["remarks"]]
-    says = "1 message that people moved here from a stays in the mailbox of that"
-    equal(f"what was moved: {remarks}", remarks.count(says), 1)
+    wanted = "1 message that people moved here from a stays in the mailbox of that"
+    equal(f"what was moved: {remarks}", remarks.count(wanted), 1)
     home.write("x", letters(1, 2))
     ran = home.place.run([*BACK, "x", "y"])
     (row,) = (row for row in ran.rows if row["path"] == "x")

@@ -522,7 +522,7 @@ def whose(home: Path) -> None:
     """Names whose mailboxes are left, and what stands beside them, each with its reason. An account of the system has
     to be named, and to have a home of its own."""
     want_users()
-    spool, words = home / "spool", ["migrate", "--all", "--users", "--dry-run", "spool"]
+    here, words = home / "spool", ["migrate", "--all", "--users", "--dry-run", "spool"]
 
     def rows(settings: str, *names: str) -> dict[str, Printed]:
         with own_settings(settings):
@@ -530,27 +530,27 @@ def whose(home: Path) -> None:
 
     def lines(of: dict[str, str]) -> dict[str, str]:
         """Those of a table, without the names."""
-        return {name.format(spool=spool): f"{name}: {says}".format(spool=spool) for name, says in of.items()}
+        return {name.format(spool=here): f"{name}: {says}".format(spool=here) for name, says in of.items()}
 
     with users(home):
         for name in ("m61one", "m61three", "nobody", "m61none", "m61two.gz", "m61none.xz"):
-            mailbox(spool / name, ONE)
-        mailbox(spool / "m61one.gz", gzip.compress(ONE))
+            mailbox(here / name, ONE)
+        mailbox(here / "m61one.gz", gzip.compress(ONE))
         for name in ("m61one", "m61one.gz"):
-            theirs(spool / name, "m61one")
-        os.symlink("m61one", spool / "m61two")
-        os.chown(spool / "m61three", 4000000000, -1)
+            theirs(here / name, "m61one")
+        os.symlink("m61one", here / "m61two")
+        os.chown(here / "m61three", 4000000000, -1)
         for settings in ("UID_MIN 1000", "# caf\xe9 UID_MIN 7"):
             found = {name: row.line for name, row in rows(settings).items() if "mailboxes" not in name}
             equal(f"{settings}: the rows", found, lines(WHOSE))
-        theirs(spool / "m61three", "m61three")
+        theirs(here / "m61three", "m61three")
         shutil.rmtree(home / "homes/m61three")
         system = rows("UID_MIN 99999")
         equal("of the system", {name: system[name].line for name in OF_SYSTEM}, lines(OF_SYSTEM))
-        commands = {name: command.format(spool=spool) for name, command in NAMED.items()}
+        commands = {name: command.format(spool=here) for name, command in NAMED.items()}
         equal("what migrates them", {name: system[name].command for name in NAMED}, commands)
-        (spool / "m61one.gz").unlink()
-        (spool / "m61three").unlink()
+        (here / "m61one.gz").unlink()
+        (here / "m61three").unlink()
         says = [row.line for row in rows("UID_MIN 99999", "m61one", "nobody").values()][:2]
         equal("if they are named", sorted(says), [
             "m61one -> INBOX: mboxrd or mboxo, messages 1: would be done", lines(WHOSE)["nobody"]

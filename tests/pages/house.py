@@ -11,7 +11,7 @@ from tests.support.checks import TOP, match_in, text_of
 
 PACKAGE = TOP / "admin/mbox2maildir_admin"
 TABLE = re.compile(r"\n\| Room \| What it knows \|\n\|---\|---\|\n((?:\|.*\n)+)")
-# the lowest room and the highest, which the table leaves out: the name of the companion, and what begins with all others
+# the lowest room and the highest, which the table leaves out: the name of the companion, and what begins a run
 FIRST, LAST = "", "cli"
 # what looks for a pattern in a text, and what says no where nothing is known
 SEARCHES = ("search", "match", "fullmatch", "findall", "finditer", "split", "sub")

@@ -53,8 +53,8 @@ def what_files_are(home: Path) -> None:
     equal("rows", rows, {"old/note": ("no mail", None), "old/link": ("left", "link"), "none": ("left", "missing")})
     question, packed = found["old/doubtful"], found["old/packed"]
     equal("a question about what is packed", packed["lines"], question["lines"])
-    answers = [[(one["answer"], one["messages"]) for one in row["next"]] for row in (packed, question)]
-    equal("its answers", *answers)
+    of_both = [[(one["answer"], one["messages"]) for one in row["next"]] for row in (packed, question)]
+    equal("its answers", *of_both)
     equal("the lines", [one["text"] for one in question["lines"] if not one["around"]], ["From Tuesday on"])
     answers = {one["answer"]: (one["argv"][:2], one["messages"]) for one in question["next"]}
     migrate = ["mbox2maildir-admin", "migrate"]
@@ -66,7 +66,7 @@ def what_files_are(home: Path) -> None:
     equal("answers as migrate has them", list(answers), [one["answer"] for one in migrated["old/doubtful"]["next"]])
 
 
-# a letter's folder: whose it is, by the owner and the group, and its mode; and whether the owner of the letter may write
+# a letter's folder: whose it is, by the owner and the group, and its mode; and whether the letter's owner may write
 # there, so that what is made of it takes its place
 FOLDERS: list[tuple[str, Union[str, int], int, bool]] = [
     ("m61one", "root", 0o700, True),

@@ -312,11 +312,15 @@ def keywords_of_another_folder(home: Home) -> None:
 
 # the list of the tree, and that of the Maildir then: what the first one is after the way back, and how many it has
 LISTS = [
-    (b"V\t2\n\na\nelsewhere\n", b"V\t2\n\nINBOX\nmoved\nlists\tsheds\nnone\n", b"V\t2\n\nelsewhere\nINBOX\nlists\tb\nlists\tsheds\n"),
+    (
+        b"V\t2\n\na\nelsewhere\n",
+        b"V\t2\n\nINBOX\nmoved\nlists\tsheds\nnone\n",
+        b"V\t2\n\nelsewhere\nINBOX\nlists\tb\nlists\tsheds\n",
+    ),
     (b"a\nlists/b\n", b"a\nlists.sheds\nmoved\n", b"a\nlists/b\nlists/sheds\n"),
     # nothing is new
     (b"a\n", b"a\n", b"a\n"),
-]  # fmt: skip
+]
 
 
 def subscriptions(home: Home) -> None:
@@ -344,7 +348,7 @@ def subscriptions(home: Home) -> None:
 
 
 def no_list_that_can_be_written(home: Home) -> None:
-    """Its row says so, and all else goes back. A list that `migrate` has not taken does not say who was unsubscribed."""
+    """Its row says so, and all else goes back. A list that `migrate` has not taken says nothing of who went."""
     home.begin("--jobs", "1", *DOVECOT)
     home.write("mail/a", KEPT)
     home.done("mail")
