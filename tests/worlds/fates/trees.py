@@ -8,7 +8,7 @@ from typing import Optional
 
 from tests.worlds.fates import stores, texts
 from tests.worlds.fates.names import MUTE, SOUND, Stems, name
-from tests.worlds.fates.texts import Content, Fate
+from tests.worlds.fates.texts import Content
 from tests.worlds.fates.world import FRESH, INBOX, OLD, Branch, Thing, World
 
 DEEPEST = 4
