@@ -557,6 +557,10 @@ def whose(home: Path) -> None:
         ])  # fmt: skip
         with no_settings():
             equal("without settings", run([*words, "m61one"], home).status, 0)
+        os.symlink("/etc", home / "homes/m61one/link")
+        link = f"left (link): {home}/homes/m61one/link is a symbolic link, which is not followed"
+        out = run([*words[:3], "--tree", "link/mail", "spool", "m61one"], home).out
+        equal(f"a link on the way to a tree: {out}", f"m61one link/mail: {link}" in out.splitlines(), True)
 
 
 @contextlib.contextmanager
