@@ -161,8 +161,8 @@ def found_by_settings(home: Path) -> None:
         path.unlink()
     # without a server a human says so
     (home / "bin/doveconf").unlink()
-    for more, status in ((["--unread"], 0), ([], 1)):
-        equal(f"{more}", run([*words[:3], *more, *words[3:]], home, PATH=str(home / "bin"), **own)[0], status)
+    for option, status in (("--unread", 0), ("--now", 1)):
+        equal(option, run([*words[:3], option, *words[3:]], home, PATH=str(home / "bin"), **own)[0], status)
 
 
 def one_at_work(home: Path) -> None:
