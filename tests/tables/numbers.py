@@ -306,6 +306,8 @@ def keywords_of_another_folder(home: Home) -> None:
     equal("it goes back", home.place.run(words).of("mail/a")["messages"], 1)
     path.rename(home.folder("b") / "cur/1.a:2,a")
     home.place_file("../dovecot-keywords", b"0 later\n", "b")
+    dry = home.place.run([*words, "--dry-run"]).rows
+    equal("a rehearsal", [one for row in dry for one in words_of(row) if one == "keywords-added"], [])
     rows = home.place.run(words).rows
     equal("what is next", [(row["path"], row["next"]) for row in rows], [("mail/a", []), ("mail/b", [])])
 
