@@ -1,33 +1,46 @@
-"""Removes what a mailbox brought into a folder.
+"""Removes what a mailbox brought into a folder, or what is only prepared there.
 
-The ledger of the folder has the file of each message. A file is removed if this mailbox, or one that was undone before,
-placed it, its bytes are right, the mailbox still has the message, and no other mailbox has the file. Before the first
-file is removed, the record has `undoing`, and once everything is synced, the ledger and the record note that nothing is
-known of the mailbox any more. The same words go on with a run that was killed.
+A plan says first what becomes of each message. Its file goes if this mailbox, or one that was undone before, placed it,
+its bytes are right, the mailbox still has the message, and no other mailbox has the file, had it, or lacks its own file
+of that message. Before the first file is removed, the record has `undoing`, and once everything is synced, the ledger
+and the record note that nothing is known of the mailbox any more. The same words go on with a run that was killed.
 """
 import collections
+import contextlib
+import enum
+import fcntl
 import functools
 import os
-from collections.abc import Callable, Iterator
+from collections.abc import Container, Iterator, Mapping, Sequence
 from typing import NamedTuple, Optional
 
 from ..faults import Fault, Left, PlaceFault, Reason
 from ..flags.renaming import sync_names
+from ..ledger.assign import File, Unnamed, by_form, files_of
+from ..ledger.batches import Line, State
+from ..ledger.files import forms_in
 from ..ledger.history import Entry, Step, names_of
 from ..ledger.ledger import Ledger
-from ..ledger.lines import LOST, Brought, Head, note_end
+from ..ledger.lines import LOST, NOBODYS, Brought, Head, note_end
 from ..ledger.match import cores_of
+from ..ledger.prepared import Prepared
+from ..ledger.prepared_lines import has_list
 from ..ledger.record import Record, is_gone, unspelled
+from ..ledger.strangers import folders_in
 from ..looks import is_there
-from ..maildir.folders import INBOX, folder_named, name_given
+from ..maildir.files import digest_of
+from ..maildir.files import names_of as mail_in
+from ..maildir.folders import INBOX, folder_named, folder_path, name_given
 from ..maildir.making import RECORD
 from ..maildir.roots import real_place
-from ..mbox.locks import open_mailbox
+from ..mbox.bases import DIGEST, base_in, before_info, is_own
+from ..mbox.locks import WITHOUT_LOCKS, open_mailbox
 from ..mbox.mailbox import Mailbox
 from ..migration.dovecot import Dovecot, remove_lists
 from ..migration.known import Known
 from ..migration.outcomes import Fate, Observer, Row, row_left
 from ..migration.places import where_it_is
+from ..migration.replica import empty, is_prepared, take_back
 from ..migration.several import refuse
 from ..migration.steps import Extra, Opened, Options
 from ..nexts import Remark, Todo, task
@@ -36,9 +49,6 @@ from ..readings.reading import Reading, with_deleted
 from ..readings.texts import content_of, disk_of
 from ..terminal import named, text_of
 from ..units import Say, counted, silent
-from .files import Counts, Removal, alone_in, keep
-from .prepared import undo_prepared
-from .shares import Shares
 
 NOT_RECORDED = "no ledger has it, so nothing shows which files are its own"
 UNREADABLE = "it can no longer be read as it was read when it was migrated (%s)"
@@ -49,6 +59,16 @@ OLDER = (
 )
 IN_SEVERAL = "the record has it in several folders: %s"
 CHANGED = "it changed in the meantime: put it back as it was, and run this again"
+NAMES_CHANGE = "names in its folder keep changing: stop mail programs, and run this again"
+CONVERTER = "another converter is at work in %s: wait until it has ended"
+# how often a folder is listed while names in it change
+PASSES = 20
+# the facts that show that a path still belongs to the file that was read
+SIGNS = "st_dev", "st_ino", "st_size", "st_mtime_ns", "st_ctime_ns"
+# the states of lines whose mailbox has the message, or may have it; and of those whose mailbox has it
+MAY_HAVE, HAVE = (State.HELD, State.OPEN), (State.HELD,)
+# how often there is each core
+Cores = collections.Counter[bytes]
 
 
 class How(NamedTuple):
@@ -58,6 +78,33 @@ class How(NamedTuple):
     dry: bool = False
     now: bool = False
     folder: Optional[bytes] = None
+
+
+class Why(enum.Enum):
+    """What becomes of a message, in the word of the remark on it: it goes, stays for a reason, or was gone before."""
+
+    REMOVED = "removed"
+    SHARED = "kept-shared"
+    FORMER = "kept-former"
+    FOREIGN = "kept-foreign"
+    LOST = "kept-lost"
+    EDITED = "kept-edited"
+    RENAMED = "kept-renamed"
+    GONE = "already-gone"
+
+
+# how many messages have each fate
+Counts = collections.Counter[Why]
+
+
+class Planned(NamedTuple):
+    """What becomes of a message that the mailbox brought, with its line. If its file stays for another mailbox, it has
+    the path of that; and if mailboxes get it in place of a file of theirs that is gone, that file."""
+
+    why: Why
+    line: Line
+    keeper: str = ""
+    lacked: Optional[File] = None
 
 
 class Undo:
@@ -93,44 +140,38 @@ class Undo:
 
     def undo(self, opened: Opened) -> Row:
         """Undoes an open mailbox."""
-        mailbox, ledger = opened.mailbox, Ledger(opened.folder)
+        mailbox, ledger, dry = opened.mailbox, Ledger(opened.folder), self.how.dry
         if ledger.damage:
             raise Left(DAMAGED % ledger.damage, Reason.UNDO)
         known = Known(self.record, ledger, opened)
         path = self.path_in(ledger, opened)
         line = known.line_of(path) if path else known.line_of(*known.names)
-        if not path and not (line and line.what is Step.UNDOING):
+        is_resumed = line is not None and line.what is Step.UNDOING
+        if not path and not is_resumed:
             raise Left(NOT_RECORDED, Reason.UNDO)
         want_whole(known)
-        is_resumed = line is not None and line.what is Step.UNDOING
-        shares = Shares(ledger, path, self.cores_now(opened, ledger, path), is_resumed)
-        removal = Removal(opened.folder, shares.bases, keep if self.how.dry else unlinker(mailbox), mailbox.say)
-        messages = self.messages_of(ledger, path, line)
-        if self.how.dry:
-            removal.run()
-        else:
-            self.remove(opened, line, shares, removal)
-        fate = Fate.WOULD_UNDO if self.how.dry else Fate.UNDONE
-        remarks = tuple(remarks_on(removal.counts(), shares, self.how.dry))
+        plan = plan_of(ledger, path, self.cores_now(opened, ledger, path), is_resumed)
+        messages = messages_of(ledger, path, line)
+        counts = remove(opened, plan, dry) if dry else self.carry_out(opened, ledger, path, line, plan)
+        keepers = collections.Counter(one.keeper for one in plan if one.keeper)
+        fate = Fate.WOULD_UNDO if dry else Fate.UNDONE
+        remarks = tuple(remarks_on(counts, keepers, dry))
         return Row(mailbox.path, opened.name, "", messages, fate, size=mailbox.size, remarks=remarks)
 
     def path_in(self, ledger: Ledger, opened: Opened) -> str:
-        """The path of a mailbox as a ledger spells it; empty if it does not have it. A mailbox that was moved is known
-        by what it has."""
-        names, paths = names_of(opened.mailbox.path), ledger.paths()
-        found = next((name for name in names if name in paths), "")
-        moved = (path for path in paths if self.is_moved(ledger, path, opened))
-        return found or next(filter(is_gone, moved), "")
+        """The path of a mailbox as a ledger spells it; empty if it does not have it. A mailbox that was moved has the
+        bytes of one that is gone, or is the same file, and has all that was brought from there."""
+        mailbox, paths = opened.mailbox, ledger.paths()
+        for path in names_of(mailbox.path):
+            if path in paths:
+                return path
+        for path in filter(is_gone, paths):
+            is_same = ledger.is_of(path, mailbox.key(), mailbox.state.st_ino)
+            if is_same and ledger.is_in(path, self.cores_now(opened, ledger, path)):
+                return path
+        return ""
 
-    def is_moved(self, ledger: Ledger, path: str, opened: Opened) -> bool:
-        """Whether a mailbox is the one that was at a path: it has the same bytes, or is the same file and has all that
-        was brought from there."""
-        mailbox = opened.mailbox
-        if not ledger.is_of(path, mailbox.key(), mailbox.state.st_ino):
-            return False
-        return ledger.is_in(path, self.cores_now(opened, ledger, path))
-
-    def cores_now(self, opened: Opened, ledger: Ledger, path: str) -> collections.Counter[bytes]:
+    def cores_now(self, opened: Opened, ledger: Ledger, path: str) -> Cores:
         """How often the mailbox has each core now, as it was read when it was migrated."""
         words = ledger.words_of(path) if path else ""
         if not words:
@@ -145,22 +186,16 @@ class Undo:
                 raise Left(UNREADABLE % words, Reason.UNDO)
             return cores_of(messages_then(text, plan, disk, extra.start_of))
 
-    def messages_of(self, ledger: Ledger, path: str, line: Optional[Entry]) -> Optional[int]:
-        """How many messages the mailbox had, if that is known."""
-        if line:
-            return line.messages
-        return ledger.sources[path].count() if path in ledger.sources else None
-
-    def remove(self, opened: Opened, line: Optional[Entry], shares: Shares, removal: Removal) -> None:
-        """Removes the files, and notes that first, and in the end."""
-        ledger, path = shares.ledger, shares.path
+    def carry_out(
+        self, opened: Opened, ledger: Ledger, path: str, line: Optional[Entry], plan: Sequence[Planned]
+    ) -> Counts:
+        """Removes the files that go, and notes that before and afterwards. Returns what became of the messages."""
         with alone_in(opened.folder):
             want_same(opened.mailbox)
             if line and line.what is not Step.UNDOING:
                 self.record.add_after(line, Step.UNDOING, unspelled(line.path))
-            for holder, lines in shares.handed.items():
-                hand_over(ledger, holder, lines)
-            removal.run()
+            hand_over(ledger, plan)
+            counts = remove(opened, plan)
             remove_lists(self.record, opened)
             sync_names(opened.folder)
             size = ledger.undo(path) if path else 0
@@ -171,22 +206,7 @@ class Undo:
                 # the folder may have had another name once
                 if ledger.number and entry.ledger == ledger.number:
                     self.record.add_after(entry, Step.UNDONE, unspelled(entry.path))
-
-
-def want_whole(known: Known) -> None:
-    """Raises Left if the ledger lacks what the record has of a mailbox, or of another one of its folder."""
-    lines = [known.last] if known.last and known.is_older else known.lacked()
-    if lines:
-        raise Left(OLDER % named(unspelled(lines[0].path)), Reason.UNDO)
-
-
-def hand_over(ledger: Ledger, path: str, lines: list[tuple[Brought, Brought]]) -> None:
-    """Notes that a mailbox has files in place of those of it that are gone."""
-    several = [one for old, new in lines for one in (old._replace(word=LOST), new)]
-    head = Head(len(several), 0, 0, (), ledger.key_of(path), ledger.words_of(path), path)
-    number = ledger.begin(head, sorted(several, key=lambda one: one.word != LOST))
-    note_end(ledger.folder, number)
-    ledger.end(number)
+            return counts
 
 
 def undo_own(root: bytes, path: bytes, how: How, observer: Observer) -> None:
@@ -206,14 +226,148 @@ def undo_own(root: bytes, path: bytes, how: How, observer: Observer) -> None:
         observer.row(row or Undo(root, record, how).run(path, say))
 
 
-def unlinker(mailbox: Mailbox) -> Callable[[bytes], None]:
-    """Returns a function that removes files as long as the mailbox still has what they hold."""
+def want_whole(known: Known) -> None:
+    """Raises Left if the ledger lacks what the record has of a mailbox, or of another one of its folder."""
+    lines = [known.last] if known.last and known.is_older else known.lacked()
+    if lines:
+        raise Left(OLDER % named(unspelled(lines[0].path)), Reason.UNDO)
 
-    def unlink(path: bytes) -> None:
-        want_same(mailbox)
-        os.unlink(path)
 
-    return unlink
+def messages_of(ledger: Ledger, path: str, line: Optional[Entry]) -> Optional[int]:
+    """How many messages a mailbox had, if that is known."""
+    if line:
+        return line.messages
+    return ledger.sources[path].count() if path in ledger.sources else None
+
+
+def plan_of(ledger: Ledger, path: str, has: Cores, is_resumed: bool) -> list[Planned]:
+    """What becomes of the messages that the mailbox of a path brought. It has each core so often now, and a killed undo
+    may have removed what is gone."""
+    there = {before_info(name) for name, _ in mail_in(ledger.folder)}
+    files = files_of((line for line in ledger.entries(None) if line.state is not State.UNDONE), there)
+    lacking = lacked_by_others(ledger.folder, files, path, has)
+
+    def order(one: tuple[Line, File]) -> tuple[bool, bool, bool]:
+        """What stays for others comes first; and what the mailbox had once may have other bytes than what it has."""
+        line, file = one
+        return not others_of(file, path, MAY_HAVE), line.state is State.FORMER, (file.name is None) != is_resumed
+
+    own = sorted(((line, file) for file in files for line in [file.line_of(path)] if line), key=order)
+    plan = [planned(line, file, has, lacking) for line, file in own]
+    # of what the mailbox no longer has, or a killed run was to bring, nothing is said once it is gone
+    return [one for one in plan if one.why is not Why.GONE or one.line.state in MAY_HAVE]
+
+
+def planned(line: Line, file: File, has: Cores, lacking: Mapping[bytes, list[File]]) -> Planned:
+    """What becomes of a message, by the line of the mailbox about its file. What goes, or stays in place of what others
+    lack, is taken from what the mailbox has, and from what others lack."""
+    message, has_file = line.message, file.name is not None
+    holders, lacked = others_of(file, line.path, MAY_HAVE), lacking.get(message.core, [])
+    if file.is_renamed:
+        return Planned(Why.RENAMED, line)
+    if not has_file and (message.word in NOBODYS or holders or not has[message.core] or not file.is_newest):
+        return Planned(Why.GONE, line)
+    if message.word in NOBODYS:
+        return Planned(Why.FOREIGN, line)
+    if holders:
+        # those that lack theirs have this one too
+        is_theirs = lacked and not any(lacked[-1].line_of(other.path) for other in holders)
+        return Planned(Why.SHARED, line, holders[-1].path, lacked.pop() if is_theirs else None)
+    if not has[message.core]:
+        return Planned(Why.LOST, line)
+    has[message.core] -= 1
+    if lacked and has_file:
+        theirs = lacked.pop()
+        return Planned(Why.SHARED, line, others_of(theirs, line.path, HAVE)[-1].path, theirs)
+    # if it went, nothing would bring it again
+    is_former = has_file and others_of(file, line.path, (State.FORMER,))
+    return Planned(Why.FORMER if is_former else Why.REMOVED, line)
+
+
+def others_of(file: File, path: str, states: Container[State]) -> list[Line]:
+    """The lines of other mailboxes than that of a path about a file, in these states."""
+    return [line for line in file.lines if line.path != path and line.state in states]
+
+
+def lacked_by_others(folder: bytes, files: Sequence[File], path: str, has: Cores) -> dict[bytes, list[File]]:
+    """The files of other mailboxes that are gone, by the cores of their messages, as far as the mailbox of a path has
+    these. What programs have renamed is not gone, and gets its name."""
+    missing = [file for file in files if file.name is None and any(line.state in MAY_HAVE for line in file.lines)]
+    unnamed = unnamed_in(folder, {line.message.name for file in files for line in file.lines}) if missing else {}
+    lacked: collections.defaultdict[bytes, list[File]] = collections.defaultdict(list)
+    # what stands for a file of another mailbox stays whether it is that one or not
+    for file in sorted(missing, key=lambda one: not others_of(one, path, HAVE)):
+        core = file.lines[0].message.core
+        if not file.find(unnamed, file.bare) and has[core] and others_of(file, path, HAVE):
+            lacked[core].append(file)
+    return lacked
+
+
+def unnamed_in(folder: bytes, names: Container[bytes]) -> Unnamed:
+    """The files of other programs but those with these names, by their bare forms."""
+    several = ((before_info(name), path) for name, path in mail_in(folder))
+    read = ((forms_in(path), name) for name, path in several if not is_own(name) and name not in names)
+    return by_form((forms[1], name) for forms, name in read if forms)
+
+
+def hand_over(ledger: Ledger, plan: Sequence[Planned]) -> None:
+    """Notes which mailboxes have files in place of those of them that are gone. Of one of which a run was killed, this
+    is not noted: a batch that ends would hide what that run may have placed."""
+    handed: collections.defaultdict[str, list[Brought]] = collections.defaultdict(list)
+    for one in plan:
+        for other in others_of(one.lacked, one.line.path, HAVE) if one.lacked else ():
+            handed[other.path] += other.message._replace(word=LOST), one.line.message
+    for path, several in handed.items():
+        if ledger.pending(path) is None:
+            head = Head(len(several), 0, 0, (), ledger.key_of(path), ledger.words_of(path), path)
+            number = ledger.begin(head, sorted(several, key=lambda one: one.word != LOST))
+            note_end(ledger.folder, number)
+            ledger.end(number)
+
+
+def remove(opened: Opened, plan: Sequence[Planned], dry: bool = False) -> Counts:
+    """Removes the files that go, whatever their flags, until a listing shows none: mail programs may rename them
+    meanwhile. Returns what became of all messages of the plan."""
+    counts: Counts = collections.Counter(one.why for one in plan if one.why is not Why.REMOVED)
+    bases = {base for one in plan if one.why is Why.REMOVED for base in [base_in(one.line.message.name)] if base}
+    removed: set[bytes] = set()
+    for _ in range(PASSES):
+        before, is_stale = len(removed), False
+        stays: dict[bytes, Why] = {}
+        listed = ((base_in(name), name, path) for name, path in mail_in(opened.folder))
+        for base, name, path in [(base, name, path) for base, name, path in listed if base and base in bases]:
+            if not is_own(before_info(name)):
+                stays.setdefault(base, Why.RENAMED)
+                continue
+            is_right = remove_file(opened.mailbox, path, base[:DIGEST], dry)
+            if is_right is None:
+                is_stale = True
+            elif is_right:
+                removed.add(base)
+                opened.mailbox.say("removing", len(removed))
+            else:
+                stays[base] = Why.EDITED
+        if len(removed) == before and not is_stale:
+            counts.update(why for base, why in stays.items() if base not in removed)
+            counts[Why.REMOVED] = len(removed)
+            counts[Why.GONE] += len(bases - removed - stays.keys())
+            return counts
+    raise Left(NAMES_CHANGE, Reason.CHANGED)
+
+
+def remove_file(mailbox: Mailbox, path: bytes, digest: bytes, dry: bool) -> Optional[bool]:
+    """Removes a file if it has this digest, as long as the mailbox still has what it holds, and returns whether it has.
+    None if it is gone, or changes meanwhile. A symbolic link has no digest."""
+    try:
+        before, found, now = os.lstat(path), digest_of(path)[0], os.lstat(path)
+        if any(getattr(now, sign) != getattr(before, sign) for sign in SIGNS):
+            return None
+        if found == digest and not dry:
+            want_same(mailbox)
+            os.unlink(path)
+    except FileNotFoundError:
+        return None
+    return found == digest
 
 
 def want_same(mailbox: Mailbox) -> None:
@@ -226,23 +380,76 @@ def want_same(mailbox: Mailbox) -> None:
         raise Left(CHANGED, Reason.CHANGED)
 
 
-def remarks_on(counts: Counts, shares: Shares, dry: bool) -> Iterator[Remark]:
-    """What is said of the messages that the mailbox brought."""
-    removed, left = ("would remove %s", "would keep %s ") if dry else ("removed %s", "kept %s ")
-    yield Remark("removed", removed % counted(counts.removed, "message"))
+@contextlib.contextmanager
+def alone_in(folder: bytes) -> Iterator[None]:
+    """Locks a folder, so that no converter is at work in it meanwhile. On a disk without locks there is no lock. Raises
+    Left if a converter is at work."""
+    number = os.open(folder, os.O_RDONLY | os.O_DIRECTORY | os.O_CLOEXEC)
+    try:
+        try:
+            fcntl.flock(number, fcntl.LOCK_EX | fcntl.LOCK_NB)
+        except BlockingIOError as fault:
+            raise Left(CONVERTER % named(folder), Reason.LOCKED) from fault
+        except OSError as fault:
+            if fault.errno not in WITHOUT_LOCKS:
+                raise
+        yield
+    finally:
+        os.close(number)
+
+
+def undo_prepared(
+    root: bytes, record: Record, path: bytes, folder: Optional[bytes], dry: bool, say: Say
+) -> Optional[Row]:
+    """Removes what was prepared from the mailbox of a path, which need not be there, or in a folder, and returns its
+    row; None if nothing is prepared there, or a list that is there does not count."""
+    try:
+        name = folder if folder is not None else prepared_from(root, path)
+        place = folder_path(root, name) if name is not None else b""
+        if name is None or not has_list(place):
+            return None
+        ledger, prepared = Ledger(place), Prepared.read(place)
+        if not is_prepared(record, name, ledger, prepared):
+            return None
+        if prepared.batch:
+            take_back(record, name, ledger, prepared, dry)
+        prepared.look(say)
+        counts: Counts = collections.Counter({Why.REMOVED: prepared.unwanted()})
+        if not dry:
+            empty(record, name, ledger, prepared)
+        counts[Why.EDITED] = len(prepared.edited)
+        fate, remarks = Fate.WOULD_UNDO if dry else Fate.UNDONE, tuple(remarks_on(counts, collections.Counter(), dry))
+        return Row(path, name, "", prepared.origin.messages if prepared.origin else None, fate, remarks=remarks)
+    except (Fault, OSError) as fault:
+        return row_left(path, folder or b"", fault)
+
+
+def prepared_from(root: bytes, path: bytes) -> Optional[bytes]:
+    """The name of the folder that is prepared from the mailbox of a path."""
+    spelled = names_of(path)
+    for folder in folders_in(root):
+        origin = Prepared.read(folder).origin if has_list(folder) else None
+        if origin and origin.path in spelled:
+            return INBOX if folder == root else os.path.basename(folder)
+    return None
+
+
+def remarks_on(counts: Counts, keepers: collections.Counter[str], dry: bool) -> Iterator[Remark]:
+    """What is said of the messages that the mailbox brought, by how many of them each other mailbox keeps."""
+    removed, kept = ("would remove %s", "would keep %s ") if dry else ("removed %s", "kept %s ")
+    yield Remark(Why.REMOVED.value, removed % counted(counts[Why.REMOVED], "message"))
     # a run that was killed may have changed the order in which mailboxes were begun
-    paths = [named(unspelled(path)) for path in sorted(shares.kept, key=lambda one: (-shares.kept[one], one))]
+    paths = [named(unspelled(path)) for path in sorted(keepers, key=lambda one: (-keepers[one], one))]
     others = "".join(paths[:1]) + (" and %d more" % (len(paths) - 1) if len(paths) > 1 else "")
-    for word, count, says in (
-        ("kept-shared", sum(shares.kept.values()), "that %s %s too" % (others, "have" if len(paths) > 1 else "has")),
-        ("kept-former", shares.former, "that another mailbox brought too"),
-        ("kept-foreign", shares.foreign, "that %s nobody's" % ("was" if shares.foreign == 1 else "were")),
-        ("kept-lost", shares.lost, "that it no longer has"),
-        ("kept-edited", counts.edited, "that somebody edited"),
-        ("kept-renamed", counts.renamed + shares.renamed, "that another program renamed"),
+    for why, says in (
+        (Why.SHARED, "that %s %s too" % (others, "have" if len(paths) > 1 else "has")),
+        (Why.FORMER, "that another mailbox brought too"),
+        (Why.FOREIGN, "that %s nobody's" % ("was" if counts[Why.FOREIGN] == 1 else "were")),
+        (Why.LOST, "that it no longer has"),
+        (Why.EDITED, "that somebody edited"),
+        (Why.RENAMED, "that another program renamed"),
     ):
-        if count:
-            yield Remark(word, left % counted(count, "message") + says)
-    gone = counts.gone + shares.gone
-    if gone:
-        yield Remark("already-gone", "%s already gone" % counted(gone, "message"))
+        if counts[why]:
+            yield Remark(why.value, kept % counted(counts[why], "message") + says)
+    if counts[Why.GONE]:
+        yield Remark(Why.GONE.value, "%s already gone" % counted(counts[Why.GONE], "message"))
