@@ -1,5 +1,7 @@
 #!/usr/bin/env -S python3 -B
 """mbox2maildir-admin back, in stories. Random histories are worlds of tests/companion/worlds.py."""
+from collections.abc import Callable
+
 from tests.support.archives import Home, letters, mail_of, number_of, run_rules
 from tests.support.cases import Failed
 
@@ -43,5 +45,35 @@ def names_that_no_line_can_have(home: Home) -> None:
     goes_back(home, "one more", 0, 1)
 
 
+def a_mailbox_that_has_more(home: Home) -> None:
+    """A mailbox grew, and no run saw that before mail went back into it. By the bytes that it has then it is not done:
+    its new message comes, also if the record is lost, or the mailbox or its folder has another name meanwhile."""
+    old, moved = home.path / "OLD", home.path / "MOVED"
+
+    def to_another_disk() -> None:
+        """It is moved there."""
+        moved.write_bytes(old.read_bytes())
+        old.unlink()
+
+    meanwhile: dict[str, Callable[[], object]] = {
+        "nothing": lambda: None,
+        "the record is lost": home.record.unlink,
+        "it is moved": lambda: old.rename(moved),
+        "it is moved to another disk": to_another_disk,
+        "its folder is renamed": lambda: home.folder().rename(home.folder("New")),
+    }
+    for why in home.each(meanwhile):
+        home.write("OLD", letters(0))
+        home.done("OLD")
+        home.place_file("17000.1.host:2,S", mail_of(letters(1))[0])
+        home.write("OLD", letters(0, 2))
+        goes_back(home, why, 0, 2, 1)
+        meanwhile[why]()
+        home.done("OLD" if old.exists() else "MOVED")
+        home.has(0, 1, 2)
+
+
+RULES = a_name_that_was_placed_again, names_that_no_line_can_have, a_mailbox_that_has_more
+
 if __name__ == "__main__":
-    run_rules({rule.__name__: rule for rule in (a_name_that_was_placed_again, names_that_no_line_can_have)})
+    run_rules({rule.__name__: rule for rule in RULES})
