@@ -56,6 +56,8 @@ DOUBLES = (
 )
 # the first line of a record
 VERSION_LINE = b"mbox2maildir-record\t1\n"
+# a larger file is no record
+MOST_OF_A_RECORD = 1 << 23
 
 
 def grow(path: Path, text: bytes) -> None:
@@ -730,6 +732,30 @@ def records_of_others(home: Path) -> None:
     expect("migrate --all M two", home, 0, "two -> INBOX: ...messages 1: done, INBOX has the mail of ...\n...\n")
 
 
+def a_record_that_is_full(home: Path) -> None:
+    """What one sync has served is noted at once: if the record has no room for the lines of all, each mailbox is left.
+    Nothing of them is placed again once there is room."""
+    words = "migrate --all --jobs 1 M tree"
+    for name, text in (("a", ONE), ("b", TWO)):
+        mailbox(home / "tree" / name, text)
+    expect(words, home, 0, None)
+    record = home / "M" / RECORD
+    sizes = {line.split(b"\t")[0]: len(line) for line in record.read_bytes().splitlines(True)}
+    shutil.rmtree(str(home / "M"))
+    for sub in ("new", "cur"):
+        (home / "M" / sub).mkdir(parents=True)
+    # two mailboxes are begun, and one of them could be done
+    room = 2 * sizes[b"begun"] + sizes[b"done"]
+    record.write_bytes(VERSION_LINE + b"#" * (MOST_OF_A_RECORD - len(VERSION_LINE) - room - 1) + b"\n")
+    record.chmod(0o600)
+    full = "M/mbox2maildir-record: it is full: move it away; the ledgers in the folders say what was brought"
+    rows = "".join(f"tree/{name} -> {name}: mboxrd or mboxo, messages 1: left (record): {full}\n" for name in "ab")
+    expect(words, home, 1, rows + "2 mailboxes: 2 left\n")
+    record.unlink()
+    expect(words, home, 0, "...2 mailboxes: 2 done before\n")
+    equal("each once", [subjects(home / "M" / name) for name in (".a", ".b")], [["one"], ["two"]])
+
+
 def of_another_version(home: Path) -> None:
     """A record or a ledger whose first line says that another version wrote it is refused with one sentence. Nothing is
     written into it, and nothing else is done. Once it is moved away, what is there is not stored again."""
@@ -981,6 +1007,7 @@ if __name__ == "__main__":
         programs_that_fail,
         locks,
         records_of_others,
+        a_record_that_is_full,
         links,
         refused,
         broken_off,

@@ -1,7 +1,7 @@
 """The command `dates`: it gives converted files the dates of their From_ lines."""
 import argparse
-import functools
 import os
+from collections.abc import Sequence
 from typing import Optional
 
 from ..faults import Status
@@ -34,7 +34,8 @@ class Dates:
     """Gives the files of mailboxes their dates. The line of a mailbox is printed once its dates are on the disk."""
 
     def __init__(self, headers: bool) -> None:
-        self.headers, self.syncs, self.are_kept = headers, Syncs(), True
+        self.headers, self.are_kept = headers, True
+        self.syncs = Syncs(self.tell)
 
     def give(self, maildir: bytes, file: bytes) -> bool:
         """Gives the files of one mailbox their dates, and names those that have none. Returns whether all have one."""
@@ -51,13 +52,14 @@ class Dates:
                 complain("%s: %s" % (named(file), undone))
         by_header = ", by header %d" % dating.by_header if dating.by_header else ""
         line = "messages %d, dated %d%s" % (dating.messages, dating.dated, by_header)
-        self.syncs.add([maildir], functools.partial(self.tell, file, before, line))
+        self.syncs.add([maildir], (file, before, line))
         return dating.dated == dating.messages
 
-    def tell(self, file: bytes, before: os.stat_result, line: str, fault: Optional[OSError]) -> None:
-        """Prints the line of a mailbox, unless a sync failed or the mailbox changed meanwhile."""
-        if not fault and is_still(file, before):
-            put("%s: %s" % (named(file), line))
-            return
-        complain("%s: %s" % (named(file), SYNC_FAILED if fault else CHANGED))
-        self.are_kept = False
+    def tell(self, several: Sequence[tuple[tuple[bytes, os.stat_result, str], Optional[OSError]]]) -> None:
+        """Prints the lines of mailboxes, unless a sync failed or a mailbox changed meanwhile."""
+        for (file, before, line), fault in several:
+            if not fault and is_still(file, before):
+                put("%s: %s" % (named(file), line))
+            else:
+                complain("%s: %s" % (named(file), SYNC_FAILED if fault else CHANGED))
+                self.are_kept = False

@@ -203,9 +203,12 @@ class Record(History):
 
     def add_step(self, step: Step, one: Verified, size: int = 0) -> None:
         """The same for a step of a mailbox, whose folder's ledger has this size."""
+        self.add_entry(self.line_of(step, one, size))
+
+    def line_of(self, step: Step, one: Verified, size: int) -> Entry:
+        """The line of a step of a mailbox, whose folder's ledger has this size."""
         when = time.strftime(TIME, time.gmtime())
-        ledger = one.ledger, size
-        self.add_entry(Entry(step, one.key, one.messages, when, spelled(one.path), one.plan, *ledger))
+        return Entry(step, one.key, one.messages, when, spelled(one.path), one.plan, one.ledger, size)
 
     def add_after(self, entry: Entry, step: Step, *paths: bytes) -> None:
         """The same for a further step of what a line is about, at once for each of some paths."""

@@ -1,51 +1,45 @@
 """Syncs the disks of Maildirs, so that a power cut keeps the dates and the renames there too."""
-import collections
 import errno
 import functools
 import importlib
 import os
 import time
 from collections.abc import Callable, Iterable, Sequence
-from typing import NamedTuple, Optional
+from typing import Generic, Optional, TypeVar
 
 from ..signals import INTERRUPTS
 
 # for how many seconds a sync is put off at most, so that it may serve others too
 MOST_WAITED = 60
 
-# takes the error of a sync that failed, or None
-Then = Callable[[Optional[OSError]], object]
+One = TypeVar("One")
+# takes what has waited for a sync, each with the error of that if it failed
+Settle = Callable[[Sequence[tuple[One, Optional[OSError]]]], object]
 # syncs the disk of a folder; raises OSError if that fails
 SyncOne = Callable[[bytes], None]
 
 
-class Waiting(NamedTuple):
-    """What is done once the disks of some Maildirs are synced."""
+class Syncs(Generic[One]):
+    """Syncs the disks of Maildirs once for everything that waits. What waits is then settled at once, in its order."""
 
-    maildirs: Sequence[bytes]
-    then: Then
-
-
-class Syncs:
-    """Syncs the disks of Maildirs once for everything that waits. What waits is then done in its order."""
-
-    def __init__(self, sync_one: Optional[SyncOne] = None) -> None:
+    def __init__(self, settle: Settle[One], sync_one: Optional[SyncOne] = None) -> None:
         """Takes what syncs the disk of a folder, if this process does not do that itself."""
-        self.sync_one = sync_one
-        self.waiting: collections.deque[Waiting] = collections.deque()
+        self.settle, self.sync_one = settle, sync_one
+        # what waits, each with its Maildirs
+        self.waiting: list[tuple[One, Sequence[bytes]]] = []
         self.latest = 0.0
         # the disks of which a sync failed, with the errors: the system reports each only once
         self.failed: dict[int, OSError] = {}
 
-    def add(self, maildirs: Sequence[bytes], then: Then) -> None:
-        """Has something done after a sync of these Maildirs or, if there are none, after everything that waits
+    def add(self, maildirs: Sequence[bytes], one: One) -> None:
+        """Has something settled after a sync of these Maildirs or, if there are none, after everything that waits
         already."""
         if not maildirs and not self.waiting:
-            then(None)
+            self.settle([(one, None)])
             return
         if not self.waiting:
             self.latest = time.monotonic() + MOST_WAITED
-        self.waiting.append(Waiting(maildirs, then))
+        self.waiting.append((one, maildirs))
         self.sync_in_time()
 
     def sync_in_time(self) -> None:
@@ -59,13 +53,11 @@ class Syncs:
         with INTERRUPTS.held():
             fault: Optional[OSError] = None
             try:
-                maildirs = (maildir for one in self.waiting for maildir in one.maildirs)
-                sync_disks(maildirs, self.failed, self.sync_one)
+                sync_disks((maildir for _, several in self.waiting for maildir in several), self.failed, self.sync_one)
             except OSError as error:
                 fault = error
-            while self.waiting:
-                one = self.waiting.popleft()
-                one.then(fault if one.maildirs else None)
+            waited, self.waiting = self.waiting, []
+            self.settle([(one, fault if maildirs else None) for one, maildirs in waited])
 
 
 def sync_disks(maildirs: Iterable[bytes], failed: dict[int, OSError], sync_one: Optional[SyncOne] = None) -> None:

@@ -1,13 +1,15 @@
 """The conversion of those messages of a mailbox that have no file, why one fails, and what is noted once a mailbox was
 verified."""
+import contextlib
 import os
 import re
+from collections.abc import Iterator, Sequence
 from dataclasses import replace
 from typing import Optional
 
 from ..faults import Fault, Left, Reason, reason_of_fault, why_left
 from ..ledger.files import Files
-from ..ledger.history import Note, Step
+from ..ledger.history import Entry, Note, Step
 from ..ledger.lines import note_all_placed, note_end
 from ..ledger.placing import Placing
 from ..ledger.prepared_lines import drop_list, finish_list, note_failed
@@ -110,31 +112,36 @@ class Conversion:
         says = [with_call(str(failed)), cause, "%d of %d messages are there" % (sum(there), len(whole))]
         return Left("; ".join(filter(None, says)), Reason.CONVERT_FAILED)
 
-    def settled(self, ended: Ended, fault: Optional[OSError]) -> Row:
-        """The row of a mailbox, once its disk was synced and that is noted if it was verified, or with what failed."""
-        row, verified = ended
-        if verified is None:
-            return row
-        try:
-            self.note_done(verified, fault)
-        except (Fault, OSError) as left:
-            reason = reason_of_fault(left, row.path)
-            return replace(row, fate=Fate.LEFT, why=why_left(left, row.path), reason=reason, remarks=())
-        return row
+    def settled(self, several: Sequence[tuple[Ended, Optional[OSError]]]) -> list[Row]:
+        """The rows of mailboxes, once their disks were synced, or failed, and that is noted of those that were
+        verified: in their ledgers, and in the record of all at once. What fails leaves those that it is about."""
+        rows, done = [ended.row for ended, _ in several], dict[int, Verified]()
+        lines: list[Entry] = []
+        for place, ((_, verified), fault) in enumerate(several):
+            with leaving(rows, place):
+                if verified and self.is_ended(verified, fault):
+                    size = note_end(verified.folder, verified.batch)
+                    lines.append(self.record.line_of(Step.DONE, verified, size))
+                    done[place] = verified
+        if lines:
+            with leaving(rows, *done):
+                self.record.add_entry(*lines)
+                for place in [place for place, verified in done.items() if verified.is_prepared]:
+                    with leaving(rows, place):
+                        drop_list(done[place].folder)
+        return rows
 
-    def note_done(self, verified: Verified, fault: Optional[OSError]) -> None:
-        """Notes in the ledger and in the record that the disk of a mailbox was synced, or that the sync failed. Raises
-        Left if that failed, or if the mailbox was written to meanwhile."""
+    def is_ended(self, verified: Verified, fault: Optional[OSError]) -> bool:
+        """Whether the batch of a mailbox has ended now that its disk was synced. If it is only prepared, this is noted.
+        Raises Left if the sync failed, or if the mailbox was written to meanwhile."""
         if fault:
             raise self.sync_failed(verified)
         if not verified.batch:
             self.note_prepared(verified)
-            return
+            return False
         if verified.has_changed():
             raise Left(CHANGED_MEANWHILE, Reason.CHANGED)
-        self.record.add_step(Step.DONE, verified, note_end(verified.folder, verified.batch))
-        if verified.is_prepared:
-            drop_list(verified.folder)
+        return True
 
     def note_prepared(self, one: Verified) -> None:
         """Notes that a mailbox is prepared in its folder."""
@@ -154,6 +161,18 @@ class Conversion:
             noted = "%s; note this yourself, because the record could not be written: %s" % (SYNC_FAILED, fault)
             return Left(noted, Reason.SYNC_FAILED)
         return Left(SYNC_FAILED, Reason.SYNC_FAILED)
+
+
+@contextlib.contextmanager
+def leaving(rows: list[Row], *places: int) -> Iterator[None]:
+    """Leaves the mailboxes whose rows are at these places if what is in here fails."""
+    try:
+        yield
+    except (Fault, OSError) as fault:
+        for place in places:
+            path = rows[place].path
+            why, reason = why_left(fault, path), reason_of_fault(fault, path)
+            rows[place] = replace(rows[place], fate=Fate.LEFT, why=why, reason=reason, remarks=())
 
 
 def is_swept(folder: bytes) -> bool:

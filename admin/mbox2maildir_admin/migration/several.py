@@ -35,6 +35,9 @@ from .servers import Place, locations, want_unread
 from .steps import Extra, How, Options
 from .trees import NamesMet, Tree, also_named, identity, link_left, other_names
 
+# tells a row
+Tell = Callable[[Row], object]
+
 
 def migrate_own(root: bytes, names: Sequence[bytes], options: Options, observer: Observer) -> None:
     """Migrates into a Maildir of the user who runs this."""
@@ -120,7 +123,7 @@ class Several:
     ) -> None:
         self.migration, self.names, self.observer, self.own = migration, names, observer, home is not None
         self.jobs = options.jobs
-        self.tell, self.syncs = observer.progress, Syncs(home.sync_one if home else None)
+        self.tell, self.syncs = observer.progress, Syncs(self.settle, home.sync_one if home else None)
         # an Inbox of a user's tree is not the user's inbox, if that is or was another mailbox
         is_taken = home and (home.has_inbox or migration.record.last_steps(INBOX))
         self.taken: set[bytes] = {INBOX} if is_taken else set()
@@ -192,7 +195,7 @@ class Several:
 
     def work(self, plan: Sequence[Planned], parent: Parent) -> None:
         """Does the work of a worker. Its parent syncs and reports."""
-        self.syncs, self.tell = Syncs(), parent.progress
+        self.syncs, self.tell = Syncs(self.settle), parent.progress
         self.migration.work_for(parent)
         for places in parent.groups():
             for place in places:
@@ -205,10 +208,15 @@ class Several:
         if ended.row.fate == Fate.NO_MAIL:
             self.found[ended.row.path] = ended.row
         if ended.row.path not in self.subscriptions or ended.row.fate != Fate.NO_MAIL:
-            settled, tell = functools.partial(self.migration.conversion.settled, ended), take or self.observer.row
-            self.syncs.add(ended.maildirs, lambda fault: tell(settled(fault)))
+            self.syncs.add(ended.maildirs, (ended, take or self.observer.row))
         elif take:
             take(None)
+
+    def settle(self, several: Sequence[tuple[tuple[Ended, Tell], Optional[OSError]]]) -> None:
+        """Notes what became of mailboxes whose disks were synced, and tells their rows."""
+        rows = self.migration.conversion.settled([(ended, fault) for (ended, _), fault in several])
+        for row, ((_, tell), _) in zip(rows, several):
+            tell(row)
 
     def progress(self, who: str, doing: str, place: Optional[int] = None, size: Optional[int] = None) -> None:
         """Passes on how far a mailbox is. Syncs if others have waited for long enough meanwhile."""

@@ -71,7 +71,8 @@ class Takeout:
 
     def __init__(self, migration: Migration, choosing: Optional[Choosing], observer: Observer) -> None:
         self.migration, self.choosing, self.observer = migration, choosing, observer
-        self.how, self.record, self.root, self.syncs = migration.how, migration.record, migration.root, Syncs()
+        self.how, self.record, self.root = migration.how, migration.record, migration.root
+        self.syncs = Syncs(self.settle)
 
     @property
     def disk(self) -> bytes:
@@ -222,4 +223,9 @@ class Takeout:
 
     def report(self, ended: Ended) -> None:
         """Reports what became of a folder, and of all after it, once that is on the disk."""
-        self.syncs.add(ended.maildirs, lambda fault: self.observer.row(self.migration.conversion.settled(ended, fault)))
+        self.syncs.add(ended.maildirs, ended)
+
+    def settle(self, several: Sequence[tuple[Ended, Optional[OSError]]]) -> None:
+        """Notes what became of folders whose disks were synced, and tells their rows."""
+        for row in self.migration.conversion.settled(several):
+            self.observer.row(row)
