@@ -73,7 +73,8 @@ TO_DO = {
     ),
     Reason.LEDGER: (
         "Restore the newest `mbox2maildir-messages`; if others may write to it, look at it and `chmod 600` it; if "
-        "another version wrote it, finish with that version. Otherwise its command, which brings back deleted mail"
+        "another version wrote it, finish with that version; for an undo, migrate the folder's other mailboxes first. "
+        "Otherwise its command, which brings back deleted mail"
     ),
     Reason.ANOTHER_READING: (
         "Its command. It either goes on as before, or undoes the mailbox. After an undo, migrate the mailbox as you "

@@ -603,6 +603,29 @@ def rule_9_an_undo_by_an_older_ledger(home: Home) -> None:
     want_said(home.left("OTHER", words=["--undo"]), "OTHER", "--again")
 
 
+def rule_9_an_undo_by_an_older_ledger_and_record(home: Home) -> None:
+    """Both come from a backup, and know nothing of a mailbox that came since: only its files show it. An undo, or its
+    rehearsal, could take what it shares, so it is left, until that mailbox was migrated again; but files that people
+    moved from another folder are explained there."""
+    home.bring(OLD=letters(0, 1))
+    with home.from_a_backup(home.ledger()), home.from_a_backup(home.record):
+        home.bring(OTHER=letters(1, 2, 3))
+    for words in (["--undo"], ["--undo", "--dry-run"]):
+        row = home.left("OLD", words=words)
+        want_said(row, "older than the folder", 2)
+        equal("the reason", row["reason"], "ledger")
+    home.done("OTHER")
+    home.undo("OLD")
+    home.has(1, 2, 3)
+    home.begin()
+    home.bring(OLD=letters(0, 1))
+    home.bring(["--folder", "Other"], OTHER=letters(2))
+    path = home.those(2)[0]
+    path.rename(home.folder() / "cur" / path.name)
+    home.undo("OLD")
+    home.has(2)
+
+
 def rule_9_times_before_1970(home: Home) -> None:
     """Names in a folder changed before 1970, by a wrong clock. The ledger is not damaged."""
     home.bring(OLD=letters(*FIVE))

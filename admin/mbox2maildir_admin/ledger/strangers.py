@@ -4,10 +4,11 @@ import contextlib
 import os
 
 from ..faults import Fault
+from ..maildir.files import names_of
 from ..maildir.folders import INBOX
-from ..mbox.bases import BASE
+from ..mbox.bases import BASE, before_info, is_own
 from .ledger import Ledger
-from .lines import number_in
+from .lines import number_in, pieces_in
 from .match import Match
 from .record import Record
 
@@ -33,6 +34,18 @@ def unexplained(root: bytes, match: Match) -> set[bytes]:
         except (Fault, OSError):
             # what cannot be read explains nothing
             continue
+    return names
+
+
+def without_line(root: bytes, folder: bytes) -> set[bytes]:
+    """The names of this program's that files of a folder have, and no line of a ledger of the Maildir, whatever became
+    of its batch. So the ledger of the folder is older than these files."""
+    names = set(filter(is_own, (before_info(name) for name, _ in names_of(folder))))
+    for place in (folder, *folders_in(root)):
+        # what cannot be read explains nothing
+        with contextlib.suppress(Fault, OSError):
+            for _, several in pieces_in(place) if names else ():
+                names.difference_update(several.names if several else ())
     return names
 
 

@@ -26,7 +26,7 @@ from ..ledger.match import cores_of
 from ..ledger.prepared import Prepared
 from ..ledger.prepared_lines import has_list
 from ..ledger.record import Record, is_gone, unspelled
-from ..ledger.strangers import folders_in
+from ..ledger.strangers import folders_in, without_line
 from ..looks import is_there
 from ..maildir.files import digest_of
 from ..maildir.files import names_of as mail_in
@@ -56,6 +56,10 @@ DAMAGED = "the ledger of its folder is damaged in line %d"
 OLDER = (
     "the ledger of its folder is older than its record, and nothing shows which files are those of %s: migrate that "
     "with --again first"
+)
+WITHOUT_LINE = (
+    "the ledger of its folder is older than the folder, where this program has placed %s of which no ledger has a "
+    "line: restore the newest one, or first migrate the other mailboxes that went there"
 )
 IN_SEVERAL = "the record has it in several folders: %s"
 CHANGED = "it changed in the meantime: put it back as it was, and run this again"
@@ -151,6 +155,8 @@ class Undo:
             raise Left(NOT_RECORDED, Reason.UNDO)
         want_whole(known)
         plan = plan_of(ledger, path, self.cores_now(opened, ledger, path), is_resumed)
+        if any(one.why is Why.REMOVED for one in plan):
+            want_explained(self.root, opened.folder)
         messages = messages_of(ledger, path, line)
         counts = remove(opened, plan, dry) if dry else self.carry_out(opened, ledger, path, line, plan)
         keepers = collections.Counter(one.keeper for one in plan if one.keeper)
@@ -231,6 +237,14 @@ def want_whole(known: Known) -> None:
     lines = [known.last] if known.last and known.is_older else known.lacked()
     if lines:
         raise Left(OLDER % named(unspelled(lines[0].path)), Reason.UNDO)
+
+
+def want_explained(root: bytes, folder: bytes) -> None:
+    """Raises Left if a folder has files of this program that no ledger explains: the record is as old as the ledger
+    then, and another mailbox may have what would be removed."""
+    names = without_line(root, folder)
+    if names:
+        raise Left(WITHOUT_LINE % counted(len(names), "message"), Reason.LEDGER)
 
 
 def messages_of(ledger: Ledger, path: str, line: Optional[Entry]) -> Optional[int]:
