@@ -21,6 +21,7 @@ from tests.support.archives import (
 )
 from tests.support.cases import Failed
 from tests.support.checks import equal
+from tests.support.mail import digest_of
 from tests.support.running import Kill
 
 
@@ -246,6 +247,49 @@ def rule_6_a_foreign_file_was_deleted(home: Home) -> None:
     home.has(20)
 
 
+def rule_6_what_was_nobodys(home: Home) -> None:
+    """What was nobody's stays, also under a name that this program gives. What a reader has deleted of it is gone."""
+    home.bring(FIRST=letters(20))
+    several = [home.place_file(f"170{number}.M1.host:2,S", mail_of(letter(number))[0]) for number in (1, 2)]
+    mail = mail_of(letter(3))[0]
+    home.place_file(f"{digest_of(mail)}.1:2,S", mail)
+    home.bring(OLD=letters(0, 1, 2, 3), words=["--again"])
+    several[0].unlink()
+    row = home.undo("OLD")["OLD"]
+    home.has(2, 3, 20)
+    want_said(row, "removed 1 message", "kept 2 messages that were nobody's", "1 message already gone")
+
+
+def rule_6_both_files_are_gone(home: Home) -> None:
+    """A reader deletes a message of two mailboxes, of which each has placed its own file. The undo of one has no file
+    that it could leave to the other."""
+    for name, quoted in ("OLD", b">"), ("OTHER", b">>"):
+        home.done(home.write(name, letter(50, body=b"hello\n%sFrom the shed.\n" % quoted)))
+    home.take(50)
+    home.take(50)
+    row = home.undo("OLD")["OLD"]
+    want_said(row, "removed 0 messages", "1 message already gone")
+    want_unsaid(row, "kept")
+
+
+def rule_6_the_file_that_stays_anyhow(home: Home) -> None:
+    """A mailbox lacks its file, and another one has the message twice, of which a third one shares the second file.
+    That one is left to the first too, and the other file goes."""
+    old, other = (letter(50, body=b"hello\n%sFrom the shed.\n" % quoted) for quoted in (b">", b">>"))
+    home.bring(OLD=old)
+    home.take(50)
+    home.bring(OTHER=other * 2)
+    marked = next(path for path in home.those(50) if path.name.endswith(".1"))
+    marked.rename(home.folder() / "cur" / f"{marked.name}:2,T")
+    home.bring(THIRD=other)
+    home.undo("OTHER")
+    home.has(50)
+    home.undo("THIRD")
+    home.has(50)
+    home.undo("OLD")
+    home.has()
+
+
 def rule_6_a_renamed_file_of_equal_messages(home: Home) -> None:
     """One mailbox has a message twice, and another program gave a file of it another name. Another mailbox has the
     message three times. Its undo removes what it placed, under that name anew: the first still has both of its files.
@@ -309,6 +353,17 @@ def rule_6_a_file_for_two_mailboxes(home: Home) -> None:
     home.has(5)
     home.undo("THIRD")
     home.has()
+
+
+def rule_6_placed_again_by_another_mailbox(home: Home) -> None:
+    """A reader deletes a message of a mailbox, and another one brings it again, under the name that it had. The undo of
+    the first leaves that file."""
+    home.bring(OLD=letters(5, 6))
+    home.take(5)
+    home.bring(OTHER=letters(5), words=["--again"])
+    row = home.undo("OLD")["OLD"]
+    home.has(5)
+    want_said(row, "removed 1 message", "1 message already gone")
 
 
 def rule_6_a_renamed_file_and_a_third_mailbox(home: Home) -> None:
