@@ -42,7 +42,8 @@ class Dates:
         before = os.stat(file)
         with open_text(file, maildir, say_of(file), Recorded(maildir).recorded) as text:
             either = Either.of(maildir, text.messages(with_cores=False), text.mailbox, text.start)
-            dating = Dating.give(maildir, text.mailbox, either.inventory, self.headers)
+            dating = Dating(text.mailbox, either.inventory, self.headers)
+            dating.give_all(maildir)
             if dating.one_date is not None:
                 complain("%s: all From_ lines have the same date: %s" % (named(file), named(dating.one_date.rstrip())))
             for count, undone in enumerate(dating.undone(maildir)):

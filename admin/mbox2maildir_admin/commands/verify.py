@@ -15,7 +15,7 @@ from ..maildir.checking import Check, State
 from ..maildir.either import Either
 from ..maildir.files import paths_of
 from ..maildir.folders import INBOX
-from ..mbox.inventory import Inventory
+from ..mbox.inventory import IN_MEMORY, Inventory
 from ..mbox.lines import Lines
 from ..migration.outcomes import Detail, Fate, Observer, Row
 from ..migration.rows import Reporter, Shows
@@ -136,7 +136,11 @@ def check_of(program: bytes, maildir: bytes, text: Text, say: Say) -> tuple[Chec
     """What a look into a Maildir shows of the messages of a text, and how many of them are there without fields, or
     with other ones."""
     either = Either.of(maildir, inventory_of(text, program), text.mailbox, text.start)
-    check = Check.of(maildir, either.inventory, say=say, others=either.others())
+    check = Check(either.inventory, say, either.others())
+    if not either.chosen and text.mailbox.size <= IN_MEMORY:
+        # all files have what is in the text
+        check.look_first = functools.partial(either.inventory.digest_by, text.mailbox)
+    check.look(maildir)
     bare = sum(either.are_bare(check.digests()))
     return check, bare + take_alike(maildir, text, check)
 

@@ -16,6 +16,10 @@ from .either import Others
 from .files import digest_of, listings_of, paths_of
 
 
+# looks at the open file of a message, whose state this is, and gives its digest if that is known without hashing it
+LookFirst = Callable[[Place, int, os.stat_result], Optional[bytes]]
+
+
 class State(enum.IntEnum):
     """How a message is found in a Maildir."""
 
@@ -41,10 +45,8 @@ class Check:
         # the digests of the messages whose files have another name
         self.renamed: dict[Place, bytes] = {}
         self.owner: Optional[int] = None
-        # whether a message's file was verified before, and is not read again
-        self.is_verified: Callable[[Place], bool] = lambda place: False
-        # gives the digest of a message if it has these bytes; None where files are hashed
-        self.digest_by: Optional[Callable[[Place, bytes], Optional[bytes]]] = None
+        # looks at the open file of a message first; None where each file is hashed
+        self.look_first: Optional[LookFirst] = None
         # by message: how it is found, and the path of its file if that has another name
         self.states = bytearray(len(inventory))
         self.paths: dict[Place, bytes] = {}
@@ -58,18 +60,11 @@ class Check:
         self.doubles: list[bytes] = []
         self.strangers: dict[bytes, bytes] = {}
 
-    @classmethod
-    def of(cls, maildir: bytes, inventory: Inventory, say: Say = silent, others: Others = Others()) -> "Check":
-        """Looks into a Maildir, also for the other forms that the messages may have."""
-        self = cls(inventory, say, others)
-        self.look(maildir)
-        return self
-
     def look(self, maildir: bytes) -> None:
         """Looks for the messages in the files of a Maildir, which other programs may have renamed."""
         self.owner = os.stat(maildir).st_uid
         # bytes are compared faster than they are handed over
-        threads = 1 if self.digest_by else threads_for(len(self.inventory), sum(self.inventory.sizes))
+        threads = 1 if self.look_first else threads_for(len(self.inventory), sum(self.inventory.sizes))
         for again, paths in enumerate(listings_of(maildir)):
             is_home = functools.partial(self.is_home, bool(again))
             for number, (name, path, read) in enumerate(readable(paths, is_home, threads), 1):
@@ -119,9 +114,7 @@ class Check:
         """Whether the file of this name is read as a message's. In a listing after the first one, this holds only if
         the message has no file so far."""
         place = self.inventory.place(name)
-        if place is None or self.is_verified(place):
-            return False
-        return not again or self.states[place] == State.NOWHERE
+        return place is not None and (not again or self.states[place] == State.NOWHERE)
 
     def look_at(self, name: bytes, path: bytes, read: Read, again: bool) -> None:
         """Looks at a file that has a message's base, or at any other file, which may have a message's bytes."""
@@ -152,9 +145,9 @@ class Check:
 
     def look_at_home(self, place: Place, path: bytes, wanted: bytes, read: Read) -> None:
         """Looks at the file that has a message's base."""
-        if self.digest_by:
-            read = functools.partial(digest_of, path, known=functools.partial(self.digest_by, place))
-        digest, owner = (wanted, None) if self.is_verified(place) else read()
+        if self.look_first:
+            read = functools.partial(digest_of, path, look=functools.partial(self.look_first, place))
+        digest, owner = read()
         if self.states[place]:
             self.met_again.add(place)
         if digest == wanted:

@@ -13,13 +13,10 @@ from ..mbox.files import BLOCK, REGULAR
 PASSES = 5
 CLOCK_TICK = 0.1
 
-# larger files are hashed, since it would take much memory to compare them
-MOST_COMPARED = 8 * BLOCK
-
 # the name of a file, and its path
 Named = tuple[bytes, bytes]
-# gives the digest of bytes if it is known
-Known = Callable[[bytes], Optional[bytes]]
+# looks at an open file, whose state this is, and gives its digest if that is known without hashing it
+Look = Callable[[int, os.stat_result], Optional[bytes]]
 
 
 def paths_of(maildir: bytes) -> Iterator[Named]:
@@ -55,21 +52,21 @@ def changed_at(maildir: bytes) -> list[float]:
     return [os.stat(os.path.join(maildir, sub)).st_mtime for sub in (b"new", b"cur")]
 
 
-def knows_none(_: bytes) -> Optional[bytes]:
+def knows_none(_: int, __: os.stat_result) -> Optional[bytes]:
     """Knows no digest."""
     return None
 
 
 def digest_of(
-    path: bytes, sizes: Optional[Container[int]] = None, known: Known = knows_none
+    path: bytes, sizes: Optional[Container[int]] = None, look: Look = knows_none
 ) -> tuple[Optional[bytes], Optional[int]]:
     """The digest of a file of one of these sizes, or of any size, and its owner. There is no digest if the size is
-    another one, or if it is no file. A symbolic link may lead anywhere, and is no mail. A file whose digest is known by
-    its bytes is not hashed."""
+    another one, or if it is no file. A symbolic link may lead anywhere, and is no mail. What `look` knows is not
+    hashed."""
     try:
         number = os.open(path, REGULAR | os.O_NOFOLLOW)
         try:
-            return digest_of_open(number, sizes, known)
+            return digest_of_open(number, sizes, look)
         finally:
             os.close(number)
     except OSError as error:
@@ -79,21 +76,17 @@ def digest_of(
         raise OSError(error.errno, error.strerror, path) from error
 
 
-def digest_of_open(
-    number: int, sizes: Optional[Container[int]], known: Known = knows_none
-) -> tuple[Optional[bytes], Optional[int]]:
+def digest_of_open(number: int, sizes: Optional[Container[int]], look: Look) -> tuple[Optional[bytes], Optional[int]]:
     """The same of an open file."""
     state = os.fstat(number)
     if not stat.S_ISREG(state.st_mode):
         return None, None
-    if sizes is not None and state.st_size not in sizes:
-        return None, state.st_uid
-    # allocating a whole block would take longer than reading most mail
-    count = min(BLOCK if known is knows_none else MOST_COMPARED, state.st_size + 1)
-    block = os.read(number, count)
-    found = known(block) if len(block) == state.st_size < count else None
-    if found:
+    found = look(number, state)
+    if found or sizes is not None and state.st_size not in sizes:
         return found, state.st_uid
+    # allocating a whole block would take longer than reading most mail
+    count = min(BLOCK, state.st_size + 1)
+    block = os.read(number, count)
     digest = hashlib.sha256(block)
     # most mail has ended by then: it was asked for a byte more than it has
     while block and (len(block) == count or len(block) < state.st_size):

@@ -1,6 +1,7 @@
 """The messages of a text, in their order."""
 import array
 import functools
+import os
 import re
 from collections.abc import Callable, Iterable, Iterator
 from typing import NamedTuple, Optional
@@ -23,6 +24,9 @@ from .plain import Marked, Plain, marked
 
 # stands for no date, since no text has a date so long ago
 NO_DATE = -1 << 62
+# a larger text may not be in memory any more: the order of files is not that of the messages on the disk, which takes
+# longer to find them than a processor takes to hash the files
+IN_MEMORY = 1 << 30
 FIRST_QUOTE = re.compile(rb"\n>(?=>*From )")
 DIFFERS = "line %%d: message %%d differs from what `%s list` gave" % PROGRAM
 
@@ -199,6 +203,15 @@ class Inventory:
     def bare(self, place: int) -> bytes:
         """The first bytes of the digest of its bare form."""
         return bytes(self.bares[place * SHORT : (place + 1) * SHORT])
+
+    def digest_by(self, mailbox: Mailbox, place: int, number: int, state: os.stat_result) -> Optional[bytes]:
+        """The digest of the message at a place of a text if an open file of this state has the bytes that the text has
+        there, which did not change; None if that is not known: a line of the message may have lost a `>`."""
+        if mailbox.size > IN_MEMORY or state.st_size != self.sizes[place] or self.unquoted[place]:
+            return None
+        begin = self.offsets[place] + len(mailbox.from_line_at(self.offsets[place])) + 1
+        is_so = mailbox.has(begin, number, state.st_size) and not mailbox.has_changed()
+        return self.table.digest(place) if is_so else None
 
     def place(self, name: bytes) -> Optional[Place]:
         """The place of the message to which a file of this name belongs; None if it belongs to none, or was renamed."""

@@ -99,6 +99,15 @@ class Mailbox:
             return self.file.block[place : place + count]
         return os.pread(self.number, count, offset)
 
+    def has(self, offset: int, number: int, size: int) -> bool:
+        """Whether the text has at an offset all that an open file has, which is this many bytes."""
+        for here in range(0, size + 1, BLOCK):
+            text = os.pread(self.number, min(BLOCK, size - here), offset + here)
+            # the file is asked for a byte more than it has
+            if os.pread(number, min(BLOCK, size - here + 1), here) != text:
+                return False
+        return True
+
     def from_line_at(self, offset: int) -> bytes:
         """The From_ line that begins at an offset, as far as anything reads it, without its end."""
         return self.at(offset, LONG + 1).split(b"\n")[0]

@@ -1,12 +1,14 @@
 """What is done once the messages of a mailbox are placed: they get their dates and flags, and are verified."""
 import os
+from typing import Optional
 
 from ..faults import Left, Reason
 from ..maildir.checking import Check
-from ..maildir.dating import date_from
+from ..maildir.dating import Dating
 from ..mbox.bases import before_info, is_own
 from ..mbox.lines import Lines
 from ..nexts import Remark
+from ..units import Place
 from .converting import CHANGED_MEANWHILE
 from .steps import Bringing, Extra
 
@@ -14,10 +16,15 @@ from .steps import Bringing, Extra
 def finish(one: Bringing, extra: Extra) -> list[Remark]:
     """Takes the steps after the conversion, and returns what is to be said of them. Raises Left unless each message
     that was brought is there once."""
-    folder, text, say = one.opened.folder, one.contents.text, one.opened.mailbox.say
-    remarks = [*date_from(folder, text, one.part, say, one.is_placed).remarks(), *extra.run(one)]
-    check = Check(one.part, say=say)
-    check.is_verified, check.digest_by = one.is_verified, one.digest_by
+    folder, text, remarks = one.opened.folder, one.contents.text, extra.run(one)
+    check, dating = Check(one.part, say=one.opened.mailbox.say), Dating(text, one.part)
+
+    def look_first(place: Place, number: int, state: os.stat_result) -> Optional[bytes]:
+        """Gives a file its date, and finds its digest by its text."""
+        dating.give(place, number, state)
+        return one.digest_by(place, number, state)
+
+    check.look_first = look_first
     check.look(folder)
     # it was decided what From_ lines hold, or they hold no mail: otherwise nothing would have been converted
     check.doubts = Lines()
@@ -27,4 +34,4 @@ def finish(one: Bringing, extra: Extra) -> list[Remark]:
         raise Left(check.report(), Reason.NOT_VERIFIED)
     if one.opened.has_changed(text):
         raise Left(CHANGED_MEANWHILE, Reason.CHANGED)
-    return remarks
+    return [*dating.remarks(), *remarks]

@@ -14,7 +14,6 @@ from ..labels.choosing import Choosing
 from ..maildir.folders import INBOX, folder_path, words_of
 from ..maildir.making import SyncNames, make_maildir, sync_folder
 from ..mbox.fields import Header
-from ..mbox.files import LONG
 from ..mbox.inventory import Inventory
 from ..mbox.mailbox import Mailbox
 from ..nexts import Command, Remark
@@ -22,10 +21,6 @@ from ..readings.reading import PLAIN, UNDECIDED, Reading
 from ..readings.texts import Full, Text
 from ..terminal import operand, option
 from ..units import Offset, Place
-
-# a larger text may not be in memory any more: the order of files is not that of the messages on the disk, which takes
-# longer to find them than a processor takes to hash the files
-IN_MEMORY = 1 << 30
 
 
 class Opened(NamedTuple):
@@ -87,16 +82,6 @@ class Contents:
         header = self.header(place)
         return "T" in flags_of(marks_of(fields_of(header), {}), True) + (letters_of_evolution(header) or "")
 
-    def digest_by(self, place: int, found: bytes) -> Optional[bytes]:
-        """The digest of a message that has these bytes, by the text that was read; None if they are not known to be
-        those of the message: a line of it may have lost a `>`."""
-        messages, size = self.inventory, self.inventory.sizes[place]
-        if self.text.size > IN_MEMORY or len(found) != size or messages.unquoted[place]:
-            return None
-        text = os.pread(self.text.number, LONG + 1 + size, messages.offsets[place])
-        begins = text.find(b"\n") + 1
-        return messages.table.digest(place) if begins and text.startswith(found, begins) else None
-
     def unquoted(self, places: Sequence[int]) -> int:
         """How many lines of messages at some places lose a `>`."""
         quoted = self.copy.quoted_before if self.copy else ()
@@ -138,9 +123,11 @@ class Bringing:
         """Whether nobody but this program has given the file of a message its name."""
         return self.is_placed(place) or self.is_prepared(place)
 
-    def digest_by(self, place: Place, found: bytes) -> Optional[bytes]:
-        """The digest of one of its messages that has these bytes, if that is known."""
-        return self.contents.digest_by(self.places[place], found)
+    def digest_by(self, place: Place, number: int, state: os.stat_result) -> Optional[bytes]:
+        """The digest of an open file of this state, if it is known that it has the bytes of one of its messages."""
+        if self.is_verified(place):
+            return self.part.table.digest(place)
+        return self.contents.inventory.digest_by(self.contents.text, self.places[place], number, state)
 
 
 class Extra:
