@@ -16,7 +16,6 @@ from ..maildir.either import Either
 from ..maildir.files import paths_of
 from ..maildir.folders import INBOX
 from ..mbox.inventory import IN_MEMORY, Inventory
-from ..mbox.lines import Lines
 from ..migration.outcomes import Detail, Fate, Observer, Row
 from ..migration.rows import Reporter, Shows
 from ..nexts import Remark
@@ -88,7 +87,7 @@ def verify_file(maildir: bytes, file: bytes, program: bytes, tell: Observer, fol
         check, bare = check_of(program, maildir, text, say)
         if plans.plan:
             # it was decided then that no mail is in its From_ lines
-            check.doubts = Lines()
+            check.doubts = ()
         tell.row(row_of(file, folder, check, bare))
     return check.is_right()
 
@@ -112,7 +111,7 @@ def row_of(path: bytes, folder: bytes, check: Check, bare: int) -> Row:
         **{word: check.count(state) for word, state in STATES.items()},
         "double": len(check.doubles),
         "other-owner": len(check.strangers),
-        "doubtful-line": check.doubts.count,
+        "doubtful-line": len(check.doubts),
         "without-fields": bare,
     }
     sizes, fate = check.inventory.sizes, Fate.WHOLE if check.is_right() else Fate.NOT_WHOLE
@@ -128,8 +127,8 @@ def details_of(check: Check) -> Iterator[Detail]:
             yield Detail(SORTS[word][1], word, check.inventory.lines[place], place + 1, path)
     for word, paths in (("double", check.doubles), ("other-owner", sorted(check.strangers.values()))):
         yield from (Detail(SORTS[word][1], word, path=path) for path in paths[:NAMED])
-    for line, *_ in check.doubts.first:
-        yield Detail(SORTS["doubtful-line"][1], "doubtful-line", line)
+    for doubt in check.doubts[:NAMED]:
+        yield Detail(SORTS["doubtful-line"][1], "doubtful-line", check.inventory.lines[doubt])
 
 
 def check_of(program: bytes, maildir: bytes, text: Text, say: Say) -> tuple[Check, int]:

@@ -1,7 +1,8 @@
 """What a look at an mbox text shows: how many messages it has, and which of its lines are odd."""
 import collections
+import functools
 import re
-from collections.abc import Callable, Iterator
+from collections.abc import Callable, Iterator, Mapping
 from typing import Optional
 
 from ..flags.clients import is_deleted
@@ -10,7 +11,7 @@ from ..mbox.dates import is_dated
 from ..mbox.fields import LENGTH, Header
 from ..mbox.files import LONG
 from ..mbox.inventory import may_hold_mail
-from ..mbox.lines import Lines, Reasons, Said, number_lines
+from ..mbox.lines import Lines, Reasons, Said, numbers_of
 from ..mbox.mailbox import Mailbox
 from ..mbox.pieces import FROM, Piece, header_of
 from ..mbox.plain import NOTE, Marked, Plain, marked
@@ -60,7 +61,6 @@ class Look:
         """Looks at the whole text, or only at its beginning if that is enough."""
         for _ in self.passed():
             if enough and enough(self):
-                number_lines(self.mailbox, self.seen.values())
                 break
         return self
 
@@ -84,7 +84,6 @@ class Look:
         self.doubts.end(self.mailbox, have_dates, self.are_deleted())
         self.seen["doubtful" if have_dates else "undated"].take(self.seen.pop("like the first", Lines()))
         self.ending = None if have_dates else self.ending
-        number_lines(self.mailbox, self.seen.values())
         self.mailbox.check()
         self.is_whole = True
 
@@ -226,12 +225,18 @@ class Look:
 
     def numbers(self, *sorts: str) -> Optional[set[Line]]:
         """The numbers of the lines of these sorts; None if there are too many of them."""
-        numbers = {line for sort in sorts if sort in self.seen for line in self.seen[sort].numbers}
+        numbers = {self.lines[offset] for sort in sorts if sort in self.seen for offset in self.seen[sort].offsets}
         return numbers if len(numbers) == self.count(*sorts) else None
 
     def first(self, sort: str) -> list[tuple[Line, str, Line]]:
         """The first lines of a sort, and what is said of each."""
-        return self.seen[sort].first if sort in self.seen else []
+        begun = self.seen[sort].begun if sort in self.seen else []
+        return [(self.lines[offset], text, self.lines[other]) for offset, text, other in begun]
+
+    @functools.cached_property
+    def lines(self) -> Mapping[Optional[int], Line]:
+        """The numbers of the lines that were seen, by their offsets. Most mail has none of which anything is said."""
+        return numbers_of(self.mailbox, self.seen.values())
 
     def fewest(self) -> int:
         """The least number of messages: without the lines `From ` that may be text."""

@@ -3,7 +3,6 @@ from collections.abc import Callable, Iterator
 
 from ..maildir.checking import Check
 from ..maildir.folders import folder_path
-from ..mbox.lines import Lines
 from ..readings.texts import PlanOf, Text, disk_of, open_text
 from ..units import Say
 from .fields import headers_in
@@ -26,5 +25,5 @@ def checks_of(
             with part_of(text, inventory, places, disk_of(maildir)) as part:
                 check, bare = look(folder_path(maildir, folder), part, say)
             # it was decided then that no mail is in its From_ lines
-            check.doubts = Lines()
+            check.doubts = ()
             yield folder, check, bare

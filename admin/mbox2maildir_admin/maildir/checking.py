@@ -40,7 +40,8 @@ class Check:
     """The messages of a text, and which of them are found in a Maildir."""
 
     def __init__(self, inventory: Inventory, say: Say = silent, others: Others = Others()) -> None:
-        self.inventory, self.doubts = inventory, inventory.doubts
+        # the messages whose From_ lines may hold mail are in doubt
+        self.inventory, self.doubts = inventory, tuple(inventory.doubts)
         self.others, self.say = others, say
         # the digests of the messages whose files have another name
         self.renamed: dict[Place, bytes] = {}
@@ -180,7 +181,7 @@ class Check:
     def is_right(self) -> bool:
         """Whether each message is there exactly once, in a file of its owner."""
         is_wrong = self.count(State.NOWHERE) or self.count(State.OTHER)
-        return not (is_wrong or self.doubles or self.strangers or self.doubts.count)
+        return not (is_wrong or self.doubles or self.strangers or self.doubts)
 
     def report(self) -> str:
         """What is said unless each message is there exactly once."""
@@ -196,8 +197,8 @@ class Check:
         ):
             if paths:
                 counts += "; %s: %s" % (says, first_of(paths))
-        if self.doubts.count:
-            counts += "; %s may contain mail" % counted(self.doubts.count, "From_ line")
+        if self.doubts:
+            counts += "; %s may contain mail" % counted(len(self.doubts), "From_ line")
         return counts
 
 

@@ -77,16 +77,6 @@ class Digests:
         return self.core.digest()[:SHORT], self.bare.digest()[:SHORT]
 
 
-def digests_of(mail: bytes, bare: bytes, core: bytes) -> tuple[bytes, bytes, bytes]:
-    """The digest of a whole message, and the first bytes of those of its core and of its bare form, by their texts. The
-    line ends at the end of the core are not looked at."""
-    whole = hashlib.sha256(mail).digest()
-    of_bare = whole if len(bare) == len(mail) else hashlib.sha256(bare).digest()
-    is_bare = len(core) == len(bare) and core.endswith(b"\n") and not core.endswith(b"\n\n")
-    of_core = of_bare if is_bare else hashlib.sha256(core.rstrip(b"\n") + b"\n").digest()
-    return whole, of_core[:SHORT], of_bare[:SHORT]
-
-
 def forms_of(read: Read, is_ended: bool = False) -> tuple[bytes, bytes]:
     """The first bytes of the digests of the core and of the bare form of a message that is read. Its last line may
     count as ended, as a mailbox would have it."""

@@ -1,6 +1,7 @@
 """The messages of a text, in their order."""
 import array
 import functools
+import hashlib
 import os
 import re
 from collections.abc import Callable, Iterable, Iterator
@@ -13,11 +14,10 @@ from ..program import Listing
 from ..terminal import operand
 from ..units import Offset, Place
 from .bases import Table
-from .core import SHORT, Digests, core_of, digests_of
+from .core import SHORT, Digests
 from .dates import seconds_of
 from .fields import bare_pieces
 from .files import LONG, Reader
-from .lines import Lines, number_lines
 from .mailbox import Mailbox, lines_at
 from .pieces import Piece, pieces_of
 from .plain import Marked, Plain, marked
@@ -55,13 +55,19 @@ def may_hold_mail(from_line: bytes) -> bool:
 
 
 def of_plain(piece: Piece, plain: Plain, with_cores: bool) -> Message:
-    """The message that a piece is, of which this is known."""
-    mail, count = piece.data[plain.body : plain.last], 0
-    if piece.has_quote:
-        mail, count = FIRST_QUOTE.subn(b"\n", mail)
-    bare = plain.bare[1:] + mail[plain.end - plain.body :] if with_cores else mail
-    of_mail = digests_of(mail, bare, core_of(bare) if piece.has_quote else bare)
-    return Message(piece.offset, len(mail), *of_mail, plain.date, False, count, len(piece.data))
+    """The message that a piece is, of which this is known. What several forms of it begin with is hashed once, and
+    nothing is copied."""
+    data, (body, end, last, date, bare) = memoryview(piece.data), plain
+    of_core = of_bare = b""
+    if with_cores:
+        form = hashlib.sha256(data[body:end] if bare is None else bare)
+        core_end = len(piece.data[:last].rstrip(b"\n")) + 1 if piece.data.endswith(b"\n\n", 0, last) else last
+        form.update(data[end:core_end])
+        of_core = form.digest()
+        form.update(data[core_end:last])
+        of_bare = form.digest()
+    digest = of_bare if with_cores and bare is None else hashlib.sha256(data[body:last]).digest()
+    return Message(piece.offset, last - body, digest, of_core[:SHORT], of_bare[:SHORT], date, False, 0, len(data))
 
 
 class Begun:
@@ -98,7 +104,7 @@ def messages_in(path: bytes, pieces: Iterable[Marked], with_cores: bool = False)
     """The messages that consist of these pieces of a file at a path."""
     begun = None
     for piece, plain in pieces:
-        if plain:
+        if plain and not piece.has_quote:
             yield of_plain(piece, plain, with_cores)
             continue
         if piece.begins:
@@ -122,8 +128,10 @@ class Inventory:
     of its lines lose a `>`."""
 
     def __init__(self) -> None:
-        self.table, self.doubts = Table(), Lines()
+        self.table = Table()
         self.sizes, self.offsets, self.unquoted = array.array("Q"), array.array("Q"), array.array("Q")
+        # the places of the messages whose From_ lines may hold mail
+        self.doubts = array.array("Q")
         # the first bytes of the digests of their cores, and of their bare forms
         self.cores, self.bares = bytearray(), bytearray()
         # in seconds since 1970
@@ -162,7 +170,6 @@ class Inventory:
         finally:
             # a difference may come from a change of the text
             mailbox.check()
-        number_lines(mailbox, [self.doubts])
         # what the mailbox has read last is not kept for that
         offsets, number, size = self.offsets, mailbox.number, mailbox.size
         self.count_lines = lambda: lines_at(Reader(number, end=size), offsets[:-1])
@@ -181,7 +188,7 @@ class Inventory:
             self.bares += message.bare
         self.dates.append(message.date)
         if message.holds_mail:
-            self.doubts.add(message.offset)
+            self.doubts.append(len(self.sizes) - 1)
 
     def __len__(self) -> int:
         return len(self.sizes)

@@ -72,8 +72,7 @@ def lines_around(mailbox: Mailbox, reasons: Reasons) -> list[Quote]:
 
 
 class Lines:
-    """Lines of one sort: how many there are, the offsets of many of them, and what is said of the first ones. Once they
-    are numbered, also their numbers, and that with the first ones."""
+    """Lines of one sort: how many there are, the offsets of many of them, and what is said of the first ones."""
 
     MANY = 200
 
@@ -82,8 +81,6 @@ class Lines:
         self.offsets: list[int] = []
         # its offset, the line as it is printed, and the offset of another line that it is about
         self.begun: list[tuple[int, str, Optional[int]]] = []
-        self.numbers: list[Line] = []
-        self.first: list[tuple[Line, str, Line]] = []
 
     def add(self, offset: int, text: bytes = b"", other: Optional[int] = None) -> None:
         """Adds the line that has an offset, with its text, and the offset of another line that it is about."""
@@ -100,11 +97,11 @@ class Lines:
         self.begun = sorted(self.begun + others.begun)[:NAMED]
 
 
-def number_lines(mailbox: Mailbox, several: Collection[Lines]) -> None:
-    """Gives the lines of several sorts their numbers. Reads the text up to the last one."""
+def numbers_of(mailbox: Mailbox, several: Collection[Lines]) -> dict[Optional[int], Line]:
+    """The numbers of the lines of several sorts, and of those that they are about, by their offsets. Reads the text up
+    to the last one."""
     others = [other for lines in several for *_, other in lines.begun if other is not None]
     offsets = sorted({*others, *itertools.chain(*(lines.offsets for lines in several))})
     at: dict[Optional[int], Line] = {None: Line(0), **dict(zip(offsets, mailbox.lines_at(offsets)))}
-    for lines in several:
-        lines.numbers = [at[offset] for offset in lines.offsets]
-        lines.first = [(at[offset], text, at[other]) for offset, text, other in lines.begun]
+    mailbox.check()
+    return at

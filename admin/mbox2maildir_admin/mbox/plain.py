@@ -18,14 +18,14 @@ GIT, NOTE = (b"Mon Sep 17", b"00", b"00", b"00", b"2001"), b"DON'T DELETE THIS M
 
 
 class Plain(NamedTuple):
-    """Where the header of a plain message begins, where that and the message end, its date, and the end of its From_
-    line with its header without what programs note."""
+    """Where the header of a plain message begins, where that and the message end, its date, and its header without what
+    programs note, if they noted anything."""
 
     body: int
     end: int
     last: int
     date: int
-    bare: bytes
+    bare: Optional[bytes]
 
 
 # a piece of a text, and what is known of it if it is a plain message
@@ -50,9 +50,9 @@ def plain_of(piece: Piece) -> Optional[Plain]:
     is_odd = parts == GIT or NOTE in header or piece.has_word and FROM in header
     if date is None or not end or is_odd:
         return None
-    bare = NOTED_FIELD.sub(b"", header)
-    if len(bare) < len(header):
-        lower = header.lower()
-        if b"content-length" in lower or b"x-mozilla-status" in lower or b"x-gm-thrid" in lower:
-            return None
-    return Plain(body, end, len(data) - data.endswith(b"\n\n"), date, bare)
+    bare, count = NOTED_FIELD.subn(b"", header)
+    lower = header.lower() if count else b""
+    has_marks = b"content-length" in lower or b"x-mozilla-status" in lower or b"x-gm-thrid" in lower
+    if has_marks or count and len(bare) < 2:
+        return None
+    return Plain(body, end, len(data) - data.endswith(b"\n\n"), date, bare[1:] if count else None)

@@ -6,7 +6,6 @@ from ..faults import Left, Reason
 from ..maildir.checking import Check
 from ..maildir.dating import Dating
 from ..mbox.bases import before_info, is_own
-from ..mbox.lines import Lines
 from ..nexts import Remark
 from ..units import Place
 from .converting import CHANGED_MEANWHILE
@@ -27,7 +26,7 @@ def finish(one: Bringing, extra: Extra) -> list[Remark]:
     check.look_first = look_first
     check.look(folder)
     # it was decided what From_ lines hold, or they hold no mail: otherwise nothing would have been converted
-    check.doubts = Lines()
+    check.doubts = ()
     # what other programs have there is no second copy of this one
     check.doubles = [path for path in check.doubles if is_own(before_info(os.path.basename(path)))]
     if not check.is_right():
