@@ -10,8 +10,8 @@ from ..mbox.pieces import FROM, Piece, header_of
 from ..units import Offset
 from .starts import FIELD, HEAD
 
-# the end of a line that has a word `From `
-WORD_IN_LINE = re.compile(rb"From [^\n]*\n")
+# the end of a line that has a word `From `, which a piece may have without its end
+WORD_IN_LINE = re.compile(rb"From [^\n]*\n?")
 # the beginning of a line that is quoted or escaped, by replies, by format=flowed or by OpenPGP
 REPLY = re.compile(rb"(?:- )?[> \t]*\Z")
 # what the header has that follows what may be the end of a sentence, wherever
@@ -34,6 +34,8 @@ def joins_in(mailbox: Mailbox, piece: Piece, body: int) -> Iterator[Join]:
     body of the message begins."""
     data = piece.data
     for found in WORD_IN_LINE.finditer(data, piece.body):
+        if not found[0].endswith(b"\n"):
+            return
         end = found.end() - 1
         start = max(data.rfind(b"\n", 0, found.start()) + 1, end - LONG - 1)
         before, _, rest = data[start:end].rpartition(FROM)

@@ -7,10 +7,10 @@ from ..units import Line, Offset
 from .files import BLOCK, LONG
 
 FROM = b"From "
-# each From_ line has it, and no search is faster
-WORD, NEVER, LINE_END, QUOTE = re.compile(FROM), re.compile(rb"(?!)"), ord(b"\n"), ord(b">")
+# each From_ line has the word, and no search is faster; what follows it in its line is passed over
+WORD, NEVER, LINE_END, QUOTE = re.compile(rb"From [^\n]*"), re.compile(rb"(?!)"), ord(b"\n"), ord(b">")
 # up to how many bytes a header is kept in one piece, and a line
-LONGEST_HEADER, LONGEST_LINE = 1 << 22, 1 << 20
+LONGEST_HEADER, LONGEST_LINE = 1 << 20, 1 << 19
 # the end of a longer line, before a byte that begins nothing
 WITHIN_LINE = re.compile(rb".*[^>F\r\n\t ](?=[^>F\r\n\t ])", re.DOTALL)
 
@@ -77,10 +77,11 @@ def place_to_cut(data: bytes, has_header: bool) -> int:
     cut = data.rfind(b"\n", 0, -1) + 1
     if FROM.startswith(data[cut:]):
         cut = data.rfind(b"\n", 0, max(0, cut - 1)) + 1
-    if has_header and len(data) < LONGEST_HEADER:
-        return cut if header_of(data, data.find(b"\n") + 1)[1] <= cut else 0
-    found = WITHIN_LINE.match(data) if not cut and len(data) >= LONGEST_LINE else None
-    return found.end() if found else cut
+    found = WITHIN_LINE.match(data, cut) if len(data) - cut >= LONGEST_LINE else None
+    if found:
+        return found.end()
+    is_in_header = has_header and len(data) < LONGEST_HEADER and header_of(data, data.find(b"\n") + 1)[1] > cut
+    return 0 if is_in_header else cut
 
 
 def header_of(data: bytes, begin: int) -> tuple[int, int]:
