@@ -238,6 +238,10 @@ class Look:
         """The numbers of the lines that were seen, by their offsets. Most mail has none of which anything is said."""
         return numbers_of(self.mailbox, self.seen.values())
 
+    def said(self, sort: str) -> list[Said]:
+        """What is said of the first lines of a sort."""
+        return [Said(line, SAID[sort].format(other), text) for line, text, other in self.first(sort)]
+
     def fewest(self) -> int:
         """The least number of messages: without the lines `From ` that may be text."""
         return self.messages - self.count("odd", "doubtful")
@@ -255,11 +259,8 @@ class Look:
             yield Said(Line(1), "a byte order mark or blank lines stand before the text")
         is_by_lengths = self.have_lengths() or self.shows_lengths()
         unsaid = [*["undated"] * bool(self.ending), *["quoted twice", "quoted, by length"] * is_by_lengths]
-        for sort, says in SAID:
-            if sort in unsaid:
-                continue
-            for line, text, other in self.first(sort):
-                yield Said(line, says.format(other), text)
+        for sort in (one for one in SAID if one not in unsaid):
+            yield from self.said(sort)
             if self.count(sort) > NAMED:
                 yield Said(Line(0), "and %d more lines like the last one" % (self.count(sort) - NAMED))
 
@@ -274,11 +275,7 @@ class Look:
     def keeping(self) -> Reasons:
         """The lines because of which the text cannot be read without a decision, and what is said of the first ones."""
         for sorts in KEEPING:
-            found = [
-                Said(line, dict(SAID)[sort].format(other), text)
-                for sort in sorts
-                for line, text, other in self.first(sort)
-            ]
+            found = [one for sort in sorts for one in self.said(sort)]
             if found and (sorts != ("deleted",) or self.are_deleted()):
                 return Reasons(sorted(found), self.count(*sorts))
         return Reasons()
