@@ -9,8 +9,8 @@ from .files import BLOCK, LONG
 FROM = b"From "
 # each From_ line has the word, and no search is faster; what follows it in its line is passed over
 WORD, NEVER, LINE_END, QUOTE = re.compile(rb"From [^\n]*"), re.compile(rb"(?!)"), ord(b"\n"), ord(b">")
-# up to how many bytes a header is kept in one piece, and a line
-LONGEST_HEADER, LONGEST_LINE = 1 << 20, 1 << 19
+# up to how many bytes a line `From ` is kept in one piece, its header, and another line
+LONGEST_FROM, LONGEST_HEADER, LONGEST_LINE = 1 << 24, 1 << 20, 1 << 19
 # the end of a longer line, before a byte that begins nothing
 WITHIN_LINE = re.compile(rb".*[^>F\r\n\t ](?=[^>F\r\n\t ])", re.DOTALL)
 
@@ -77,6 +77,8 @@ def place_to_cut(data: bytes, has_header: bool) -> int:
     cut = data.rfind(b"\n", 0, -1) + 1
     if FROM.startswith(data[cut:]):
         cut = data.rfind(b"\n", 0, max(0, cut - 1)) + 1
+    if has_header and not cut and len(data) < LONGEST_FROM:
+        return 0
     found = WITHIN_LINE.match(data, cut) if len(data) - cut >= LONGEST_LINE else None
     if found:
         return found.end()
