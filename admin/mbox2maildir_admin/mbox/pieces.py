@@ -10,7 +10,7 @@ FROM = b"From "
 # each From_ line has the word, and no search is faster; what follows it in its line is passed over
 WORD, NEVER, LINE_END, QUOTE = re.compile(rb"From [^\n]*"), re.compile(rb"(?!)"), ord(b"\n"), ord(b">")
 # up to how many bytes a line `From ` is kept in one piece, its header, and another line
-LONGEST_FROM, LONGEST_HEADER, LONGEST_LINE = 1 << 24, 1 << 20, 1 << 19
+LONGEST_FROM, LONGEST_HEADER, LONGEST_LINE = 1 << 24, 1 << 22, 1 << 19
 # the end of a longer line, before a byte that begins nothing
 WITHIN_LINE = re.compile(rb".*[^>F\r\n\t ](?=[^>F\r\n\t ])", re.DOTALL)
 
