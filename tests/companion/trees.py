@@ -651,8 +651,8 @@ def into_another_folder(home: Path) -> None:
 
 
 def of_a_user(home: Path) -> None:
-    """What others put beside a mailbox, in a spool where anybody may write, keeps its user from nothing. A link in place
-    of a folder of the user's Maildir is not followed."""
+    """What others put beside a mailbox, in a spool where anybody may write, keeps its user from nothing. A link in
+    place of a folder of the user's Maildir is not followed."""
     want_users()
     own = home / "homes" / USER
     with accounts.users({USER: own}):

@@ -1,5 +1,6 @@
 """Copies of the repository in which tests run, each with another mistake, without seeing each other."""
 import compileall
+import functools
 import os
 import re
 import shutil
@@ -36,6 +37,13 @@ def module_of(name: str) -> str:
         if (TOP / "tests" / folder / f"{name}.py").exists():
             return ".".join(["tests", *folder.split("/"), name])
     return ""
+
+
+@functools.lru_cache(maxsize=None)
+def cases_of(name: str) -> list[str]:
+    """The cases of a test."""
+    command = [sys.executable, "-B", "-m", module_of(name), "--list"]
+    return subprocess.run(command, cwd=str(TOP), check=True, stdout=subprocess.PIPE).stdout.decode().split()
 
 
 class Copy:

@@ -16,7 +16,7 @@ from concurrent.futures import ThreadPoolExecutor
 from pathlib import Path
 from queue import Queue
 
-from tests.mistakes.copies import FOLDERS, PACKAGE, Copy, module_of
+from tests.mistakes.copies import FOLDERS, PACKAGE, Copy, cases_of, module_of
 from tests.support.checks import TOP, text_of
 
 # a case that takes longer, in seconds, sees no mistake within a time that anybody waits
@@ -79,12 +79,7 @@ def first_lines() -> dict[str, int]:
 def cases_there(words: Sequence[str]) -> Iterator[str]:
     """The cases of the companion's tests, and the modules of its units; or those whose name has one of the words."""
     for name in [path.stem for folder in FOLDERS for path in sorted((TOP / "tests" / folder).glob("[a-z]*.py"))]:
-        if name.startswith("test_"):
-            cases = [name]
-        else:
-            command = [sys.executable, "-B", "-m", module_of(name), "--list"]
-            told = subprocess.run(command, cwd=str(TOP), check=True, stdout=subprocess.PIPE).stdout.decode().split()
-            cases = [f"{name}:{case}" for case in told]
+        cases = [name] if name.startswith("test_") else [f"{name}:{case}" for case in cases_of(name)]
         yield from (case for case in cases if not words or any(word in case for word in words))
 
 

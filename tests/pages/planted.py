@@ -5,7 +5,7 @@ from collections.abc import Callable, Iterator
 from functools import partial
 
 from tests.mistakes.__main__ import LIST, place_of, places
-from tests.mistakes.copies import module_of
+from tests.mistakes.copies import cases_of, module_of
 from tests.mistakes.lists import Planted, listed
 from tests.program import mutants as program
 from tests.support.cases import find_nothing
@@ -41,10 +41,12 @@ def wrong_companion() -> Iterator[str]:
     for one in listed(LIST, Planted)[0]:
         yield from said_by(partial(place_of, one, there))
         name, _, case = one.seen.partition(":")
-        if name:
-            yield from said_by(partial(module_of, name))
-            if case and not re.search(rf"\b{case}\b", text_of(TOP / f"{module_of(name).replace('.', '/')}.py")):
-                yield f"no case: {one.seen}"
+        path = TOP / f"{module_of(name).replace('.', '/')}.py"
+        if name and not path.is_file():
+            yield f"no test: {one.seen}"
+        # a test may have cases of another one
+        elif case and not re.search(rf"\b{case}\b", text_of(path)) and case not in cases_of(name):
+            yield f"no case: {one.seen}"
 
 
 if __name__ == "__main__":
