@@ -82,7 +82,9 @@ class Program:
             assert child.stdout is not None, "it is a pipe"
             line = os.read(child.stdout.fileno(), MOST_SAID)
         if child.returncode:
-            raise Failed(said or "convert was killed by signal %d" % -child.returncode)
+            is_killed = child.returncode < 0
+            ended = "was killed by signal %d" if is_killed else "said nothing, and ended with status %d"
+            raise Failed(said or "convert %s" % ended % abs(child.returncode))
         placed = PLACED.search(line)
         return Converted(Offset(os.lseek(number, 0, os.SEEK_CUR)), int(placed[1]) if placed else 0)
 

@@ -122,14 +122,6 @@ def put(line: str) -> None:
     write(line.encode("utf-8", "surrogateescape") + b"\n")
 
 
-def put_some(lines: Iterable[str], count: int) -> None:
-    """Prints the first of this many lines, indented, and how many more there are."""
-    for line, _ in zip(lines, range(NAMED)):
-        put("    " + line.rstrip())
-    if count > NAMED:
-        put("    and %d more" % (count - NAMED))
-
-
 def complain(line: str, below: Iterable[str] = ()) -> None:
     """Prints what is wrong, with what stands below it, after everything that was printed before."""
     flush()

@@ -257,7 +257,7 @@ SPOILT = (
 
 def spoilt(home: Path) -> None:
     """A list that is damaged, or that others may have written, shows nothing, and mail that somebody reads is prepared
-    no more: each pass says so, and changes no mail. An undo keeps what somebody has edited."""
+    no more: each pass says so, and changes no mail. An undo keeps what somebody has edited, and a second copy."""
     doveconf(home, MBOX)
     mailbox(home / "box", ONE)
     for spoil, says in SPOILT:
@@ -271,11 +271,12 @@ def spoilt(home: Path) -> None:
         shutil.rmtree(home / "M")
     mailbox(home / "box", ONE + TWO)
     expect("migrate --prepare M box", home, 0, None)
-    one, _ = mail_in(home / "M")
+    one, two = mail_in(home / "M")
     one.write_bytes(one.read_bytes().upper())
-    says = "box -> INBOX: messages 2: undone, removed 1 message; kept 1 message that somebody edited\n...\n"
+    shutil.copy(two, home / "M/cur" / f"{two.name}:2,S")
+    says = "box -> INBOX: messages 2: undone, removed 1 message; kept 2 messages that somebody edited\n...\n"
     expect("migrate --all --undo M box", home, 0, says)
-    equal("what is there", list(mail_in(home / "M")), [one])
+    equal("what is there", len([*mail_in(home / "M")]), 2)
 
 
 def unchanged(home: Path) -> None:

@@ -586,6 +586,7 @@ GMAIL = b"X-GM-THRID: 1785134556187161\nX-Gmail-Labels: =?UTF-8?Q?Gr=C3=BC=C3=9F
 MANY = {
     "Gr\u00fc\u00dfe": ONE,
     "packed.gz": gzip.compress(TWO),
+    "wide": THREE.decode().encode("utf-16"),
     "gmail": ONE.replace(b"\n", b"\n" + GMAIL, 1),
     "no-date": b"From a@b\nDate: Mon, 3 Mar 2025 09:12:44 +0000\nSubject: x\n\nx\n\n",
 }

@@ -6,6 +6,7 @@ ONCE = "the system reported an error, but the same works now: read the system's 
 SYNC_FAILED = "a: left (sync-failed): its sync failed: read the system's log and mount the disk again before you ..."
 SECOND_IS_THERE: list[Step] = [("a", TWO), "!mbox2maildir convert M a", ("a", ONE + TWO)]
 ALL_IS_THERE: list[Step] = [("a", TWO), *killed("migrate M a")]
+SILENT = "a: left (convert-failed): convert said nothing, and ended with status 3; 1 of 2 messages are there"
 ALL = '"$real" "$@"; '
 # what it does, what it says, and what is said of a mailbox of two messages, of which one is there already
 FAILS = {
@@ -66,6 +67,7 @@ SWEEPS = {
 if __name__ == "__main__":
     run_stories(
         {
+            "it_says_nothing": [*SECOND_IS_THERE, *in_place("exit 3"), ("migrate --again M a", SILENT)],
             **{name: story(SECOND_IS_THERE, "migrate --again M a", *row) for name, row in FAILS.items()},
             **{name: story(ALL_IS_THERE, "migrate M a", *row) for name, row in SWEEPS.items()},
         }

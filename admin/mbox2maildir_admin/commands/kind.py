@@ -1,5 +1,6 @@
 """The command `kind`: what a file is, and what to do first."""
 import argparse
+import contextlib
 import grp
 import os
 import pwd
@@ -160,9 +161,10 @@ def may_write(folder: bytes, owner: int) -> bool:
 
 
 def members_of(group: int) -> set[int]:
-    """The numbers of the users in a group."""
-    try:
-        members = {pwd.getpwnam(name).pw_uid for name in grp.getgrgid(group).gr_mem}
-    except KeyError:
-        members = set()
-    return members | {user.pw_uid for user in pwd.getpwall() if user.pw_gid == group}
+    """The numbers of the users in a group. Some that its list names may have no account any more."""
+    members = {user.pw_uid for user in pwd.getpwall() if user.pw_gid == group}
+    with contextlib.suppress(KeyError):
+        for name in grp.getgrgid(group).gr_mem:
+            with contextlib.suppress(KeyError):
+                members.add(pwd.getpwnam(name).pw_uid)
+    return members

@@ -88,12 +88,8 @@ class Several(NamedTuple):
         bares = [bare or core for core, bare in zip(cores, others)]
         return cls(b"".join(words), names, *(binascii.unhexlify(b"".join(several)) for several in (cores, bares)))
 
-    def messages(self, wanted: Optional[Container[bytes]] = None) -> Iterator[Brought]:
-        """Each of them, or each that has one of these cores."""
-        return (one for _, one in self.counted(wanted))
-
     def counted(self, wanted: Optional[Container[bytes]] = None) -> Iterator[tuple[int, Brought]]:
-        """The same, each with how many are before it."""
+        """Each of them, or each that has one of these cores, with how many are before it."""
         for at, name in enumerate(self.names):
             core = digest_at(self.cores, at)
             if wanted is None or core in wanted:

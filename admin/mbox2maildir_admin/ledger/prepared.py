@@ -70,7 +70,7 @@ class Prepared:
         # message wants it
         self.files, self.verified, self.wanted = bytearray(), bytearray(), bytearray()
         # the files of these names that are not what was prepared
-        self.edited: list[bytes] = []
+        self.edited: set[bytes] = set()
 
     @classmethod
     def read(cls, folder: bytes) -> "Prepared":
@@ -140,7 +140,7 @@ class Prepared:
     def look(self, say: Say = silent) -> None:
         """Looks which files are there and are ours: those with the facts of the list, and others with the bytes of
         their bases."""
-        self.files, self.edited, began = bytearray(len(self.table)), [], time.monotonic()
+        self.files, self.edited, began = bytearray(len(self.table)), set(), time.monotonic()
         owner = os.stat(self.folder).st_uid if self.is_there else 0
         for number, (name, path) in enumerate(names_of(self.folder) if self.is_there else (), 1):
             say("looking at file %d of the folder" % number)
@@ -149,9 +149,9 @@ class Prepared:
                 continue
             state = os.lstat(path)
             if facts_of(state) != self.facts_at(place) and digest_of(path)[0] != self.table.digest(place):
-                self.edited.append(path)
+                self.edited.add(path)
             elif state.st_uid != owner or self.files[place]:
-                self.edited.append(path)
+                self.edited.add(path)
             else:
                 self.files[place] = OURS
                 self.set_facts(place, facts_of(state))
@@ -191,7 +191,7 @@ class Prepared:
             if facts_of(os.lstat(path)) == self.facts_at(place):
                 os.unlink(path)
             else:
-                self.edited.append(path)
+                self.edited.add(path)
         for sub in (b"new", b"cur"):
             sync_folder(os.path.join(self.folder, sub))
 

@@ -33,10 +33,6 @@ class Digest:
         self.hash.update(piece)
         self.place += len(piece)
 
-    def digest(self) -> bytes:
-        """The digest of all bytes that were taken."""
-        return self.hash.digest()
-
     def hexdigest(self) -> str:
-        """The same in hexadecimal digits."""
+        """The digest of all bytes that were taken, in hexadecimal digits."""
         return self.hash.hexdigest()

@@ -223,8 +223,3 @@ class Inventory:
     def place(self, name: bytes) -> Optional[Place]:
         """The place of the message to which a file of this name belongs; None if it belongs to none, or was renamed."""
         return self.table.own_place(name)
-
-    def equal(self) -> dict[bytes, list[Place]]:
-        """The places of equal messages by their digest, for each digest that several messages have."""
-        digests = map(self.table.digest, self.table.repeats)
-        return {digest: list(self.table.places_of(digest)) for digest in digests}

@@ -11,6 +11,8 @@ OF_PYTHON = (
     "concurrent.futures.thread",
     "csv",
     "email.header",
+    "encodings.utf_16",
+    "encodings.utf_32",
     "pathlib",
     "shutil",
     "tempfile",
