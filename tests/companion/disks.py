@@ -69,8 +69,7 @@ def attempt(home: Path, one: Failing) -> None:
     for ran, says in ((ran, one.says), (Desk(home).run(words), one.then)):
         for line in ran.out.splitlines()[:-1]:
             matches(f"{one.call}: {ran.output}", line, f"... -> INBOX: mboxrd or mboxo, messages 1: {says}")
-    for name in ("box", "two"):
-        expect(["migrate", "--now", "--again", "M", name], home, 0, None)
+    expect([*words, "--again"], home, 0, None)
     equal("what is there", subjects(home / "M"), ["one", "two"])
 
 

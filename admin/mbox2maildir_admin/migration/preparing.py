@@ -79,6 +79,10 @@ class LastPass(Transfer):
             self.clear()
         return super().bring_any(choice)
 
+    def has_failed(self) -> bool:
+        """Whether a sync of an earlier run failed, or of a pass."""
+        return super().has_failed() or self.prepared.has_failed or has_failed(self.record, self.opened.name)
+
     def want_usable(self) -> None:
         """Raises Left if what is prepared cannot be finished."""
         prepared, again = self.prepared, self.stores_all()

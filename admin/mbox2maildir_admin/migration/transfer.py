@@ -162,6 +162,7 @@ class Transfer:
     def bring(self, choice: Choice) -> Row:
         """Brings what is new, once it is chosen which text stands for the mailbox."""
         mailbox, plan, before = self.opened.mailbox, choice.plan, self.remarks[:]
+        self.again = self.again or self.how.again_rewritten and self.has_failed()
         try:
             try:
                 return self.bring_any(choice)
@@ -215,12 +216,16 @@ class Transfer:
         row = Row(mailbox.path, self.opened.name, plan.kind, plan.messages, fate, size=mailbox.size)
         return replace(row, remarks=(*plan.remarks, *self.remarks), next=then)
 
+    def has_failed(self) -> bool:
+        """Whether a sync of an earlier run failed."""
+        return self.known.last is not None and self.known.last.what is Step.FAILED
+
     def want_ended(self) -> None:
         """Raises Left if an undo was interrupted, or if a sync failed."""
         last = self.known.last
         if last and last.what is Step.UNDOING:
             raise Left("its undo was interrupted", Reason.UNDO, (Answer(self.how.undo(self.root, self.opened)),))
-        if last and last.what is Step.FAILED and not self.again:
+        if self.has_failed() and not self.again:
             raise Left(SYNC_FAILED, Reason.SYNC_FAILED)
 
     def want_ledger(self, contents: Contents) -> None:
