@@ -1,7 +1,7 @@
 """How progress is spelled: sizes, times, and the line of a terminal of any width."""
 import unittest
 from collections.abc import Callable, Sequence
-from typing import Any
+from typing import Any, Optional
 
 from mbox2maildir_admin.progress import (
     AtWork,
@@ -47,7 +47,7 @@ LINES = (
 )
 # what a first pass spent on mailboxes, how long it took and how many were at work at once, and the estimate: they share
 # the time, the longest is done by none sooner, and what was spent on no mailbox is spent again
-ESTIMATES = (
+ESTIMATES: Sequence[tuple[Sequence[Optional[Spent]], float, int, float]] = (
     ([Spent(4000, 1500)], 5.0, 1, 2.5),
     ([Spent(4000, 1500), None, Spent(2000, 500)], 5.0, 2, 3.5),
     ([Spent(1000, 500)] * 8, 2.0, 8, 1.5),
