@@ -176,8 +176,8 @@ class LineTest(unittest.TestCase):
             self.assertEqual([several is not None for _, several in pieces], have_messages)
         together = Several.parse(one + other)
         assert together
-        self.assertEqual(list(together.messages()), [Brought(PLACED, NAME, A, A), Brought(SHARED, NAME, B, A)])
-        self.assertEqual(list(together.messages({B})), [Brought(SHARED, NAME, B, A)])
+        several = [(0, Brought(PLACED, NAME, A, A)), (1, Brought(SHARED, NAME, B, A))]
+        self.assertEqual([list(together.counted(wanted)) for wanted in (None, {B})], [several, several[1:]])
 
 
 if __name__ == "__main__":
