@@ -49,7 +49,7 @@ FILE = b"p\t" + NAME + b"\t18446744073709551615\t9\t1\tcur:2,S\t=\t" + HEXB + b"
 def message_of(line: bytes) -> Optional[Brought]:
     """The message of a line of a ledger; None if it has none."""
     several = Several.parse(line + b"\n")
-    return next(several.messages()) if several else None
+    return next(one for _, one in several.counted()) if several else None
 
 
 def by(pattern: Any, read: Callable[[Any], object]) -> Callable[[bytes], object]:
