@@ -1,7 +1,6 @@
 #!/usr/bin/env -S python3 -B
 """Disks that fail, are full, or lack a call: what `migrate` says of a mailbox then, and what the next run does. strace
 has calls of the system fail, in a run and in what it starts."""
-import os
 import shutil
 from functools import partial
 from pathlib import Path
@@ -9,7 +8,7 @@ from typing import NamedTuple
 
 from tests.support.cases import run_cases
 from tests.support.checks import equal, matches
-from tests.support.homes import at_home, expect, hand_over, mailbox, script, subjects, want_strace, want_users
+from tests.support.homes import at_home, expect, fake, hand_over, mailbox, subjects, want_strace, want_users
 from tests.support.ledgers import RECORD
 from tests.support.mail import A, ONE, TWO, numbered
 from tests.support.mounts import small_disk
@@ -85,14 +84,12 @@ SPOILT = {
 
 def spoilt(home: Path) -> None:
     """The program fails, and the row says what is wrong with the Maildir."""
-    os.rename(home / "bin/mbox2maildir", home / "real")
     for deed, says in SPOILT.items():
         hand_over(made(home), mailbox(home / "box", A + b"Status: RO\n\nhello\n\n"), home)
         fails = (
             "echo 'mbox2maildir: folder call 2 failed' >&2; exit 1" if "sleep" in deed else f"exec '{home}/real' \"$@\""
         )
-        first = f"test $1 = convert || exec '{home}/real' \"$@\"\n(cd '{home}'; {deed}\n)"
-        script(home / "bin/mbox2maildir", f"{first}\n{fails}")
+        fake(home, f"(cd '{home}'; {deed}\n)\n{fails}")
         ran = Desk(home, user=OWNER).run("migrate --all --now M box".split())
         matches(deed, ran.output, f"box -> INBOX: mboxrd or mboxo, messages 1: left (convert-failed): {says}\n...\n")
         shutil.rmtree(home / "M")

@@ -26,9 +26,9 @@ from tests.support.checks import (
     without_work,
 )
 from tests.support.homes import (
-    ADMIN,
     check_all,
     expect,
+    fake,
     files_of,
     mail_in,
     mailbox,
@@ -543,20 +543,6 @@ def converted(home: Path) -> None:
     equal("no line", steps(home / "O"), [])
 
 
-FAKE = """#!/bin/sh
-test "$1" = convert || exec "{home}/real" "$@"
-{script}
-"""
-
-
-def fake(home: Path, script: str) -> None:
-    """A program that converts in another way."""
-    if not (home / "real").exists():
-        os.rename(home / "bin/mbox2maildir", home / "real")
-    (home / "bin/mbox2maildir").write_text(FAKE.format(home=home, script=script))
-    (home / "bin/mbox2maildir").chmod(0o755)
-
-
 def programs_that_fail(home: Path) -> None:
     """A failure of the program is explained, and a sync that failed is noted."""
     mailbox(home / "box", ONE + TWO)
@@ -935,60 +921,6 @@ def roots_alone(home: Path) -> None:
     )
 
 
-def at_work(home: Path, *command: str) -> "subprocess.Popen[bytes]":
-    """A migration in a session of its own, whose program has made the file `at-work`."""
-    child = Desk(home).start(command)
-    assert wait_for((home / "at-work").exists, child), "it does not convert"
-    return child
-
-
-def session_ends(home: Path) -> None:
-    """With `nohup` before it, a migration goes on when the session of its user ends, which tells all its processes."""
-    for name, text in (("one", ONE), ("two", TWO)):
-        mailbox(home / "old" / name, text)
-    fake(home, f": >'{home}/at-work'; until test -e '{home}/ended'; do sleep 0.1; done; exec '{home}/real' \"$@\"")
-    child = at_work(home, "/usr/bin/nohup", str(ADMIN), "migrate", "--jobs", "2", "M", "old")
-    os.killpg(child.pid, signal.SIGHUP)
-    (home / "ended").touch()
-    out, _ = child.communicate(timeout=PATIENCE)
-    equal("its end", (child.returncode, without_work(out.decode()).splitlines()[-1]), (0, "2 mailboxes: 2 done"))
-
-
-def broken_off(home: Path) -> None:
-    """A signal ends everything, with the sum so far, and the next run goes on. An output that fails is reported."""
-    mailbox(home / "box", ONE)
-    mailbox(home / "two", TWO)
-    # the shell itself makes these files, since a program for that would also have the record's lock
-    fake(
-        home,
-        f"test -e '{home}/begun' && {{ : >'{home}/at-work'; exec sleep 600; }}; "
-        f": >'{home}/begun'; exec '{home}/real' \"$@\"",
-    )
-    for number in (signal.SIGTERM, signal.SIGINT, signal.SIGHUP):
-        child = at_work(home, "migrate", "M", "box", "two")
-        child.send_signal(number)
-        out, err = child.communicate(timeout=PATIENCE)
-        equal(
-            f"{number!r}",
-            (child.returncode, without_work(out.decode()).splitlines()[-1], without_progress(err.decode())),
-            (130, "1 mailbox: 1 done" + " before" * (number != 15) + "; interrupted: run the same command again", ""),
-        )
-        (home / "at-work").unlink()
-    fake(home, f"exec '{home}/real' \"$@\"")
-    ran = run_printed("mbox2maildir-admin migrate M two >/dev/full", home)
-    equal(
-        "an output that is full",
-        (ran.status, ran.err),
-        (
-            1,
-            "mbox2maildir-admin: the output could not be written: No space "
-            "left on device; what was done is in the record: run the same command again\n",
-        ),
-    )
-    expect("migrate --all M box two", home, 0, "2 mailboxes: 2 done before\n")
-    equal("what is there", subjects(home / "M"), ["one", "two"])
-
-
 if __name__ == "__main__":
     check_all(
         once_and_never_again,
@@ -1010,7 +942,5 @@ if __name__ == "__main__":
         a_record_that_is_full,
         links,
         refused,
-        broken_off,
-        session_ends,
         of_another_version,
     )

@@ -8,12 +8,13 @@ import sys
 from pathlib import Path
 from typing import Any
 
-from tests.support.checks import PATIENCE, equal
+from tests.support.checks import PATIENCE, equal, without_progress, without_work
 from tests.support.copies import Copies
-from tests.support.homes import ADMIN, check_all, expect, mailbox, subjects
+from tests.support.homes import ADMIN, check_all, expect, fake, mailbox, run_printed, subjects
 from tests.support.ledgers import RECORD
 from tests.support.mail import ONE, TWO
-from tests.support.running import BY_OTHERS
+from tests.support.processes import wait_for
+from tests.support.running import BY_OTHERS, Desk
 
 # what a run does after it has begun to handle signals, and before it has ended
 FIRST, STEP = 12, 5
@@ -109,5 +110,59 @@ def as_it_starts(home: Path) -> None:
     equal("after its end", (ran.returncode, ran.stderr), (0, b""))
 
 
+def at_work(home: Path, *command: str) -> "subprocess.Popen[bytes]":
+    """A migration in a session of its own, whose program has made the file `at-work`."""
+    child = Desk(home).start(command)
+    assert wait_for((home / "at-work").exists, child), "it does not convert"
+    return child
+
+
+def session_ends(home: Path) -> None:
+    """With `nohup` before it, a migration goes on when the session of its user ends, which tells all its processes."""
+    for name, text in (("one", ONE), ("two", TWO)):
+        mailbox(home / "old" / name, text)
+    fake(home, f": >'{home}/at-work'; until test -e '{home}/ended'; do sleep 0.1; done; exec '{home}/real' \"$@\"")
+    child = at_work(home, "/usr/bin/nohup", str(ADMIN), "migrate", "--jobs", "2", "M", "old")
+    os.killpg(child.pid, signal.SIGHUP)
+    (home / "ended").touch()
+    out, _ = child.communicate(timeout=PATIENCE)
+    equal("its end", (child.returncode, without_work(out.decode()).splitlines()[-1]), (0, "2 mailboxes: 2 done"))
+
+
+def broken_off(home: Path) -> None:
+    """A signal ends everything, with the sum so far, and the next run goes on. An output that fails is reported."""
+    mailbox(home / "box", ONE)
+    mailbox(home / "two", TWO)
+    # the shell itself makes these files, since a program for that would also have the record's lock
+    fake(
+        home,
+        f"test -e '{home}/begun' && {{ : >'{home}/at-work'; exec sleep 600; }}; "
+        f": >'{home}/begun'; exec '{home}/real' \"$@\"",
+    )
+    for number in (signal.SIGTERM, signal.SIGINT, signal.SIGHUP):
+        child = at_work(home, "migrate", "M", "box", "two")
+        child.send_signal(number)
+        out, err = child.communicate(timeout=PATIENCE)
+        equal(
+            f"{number!r}",
+            (child.returncode, without_work(out.decode()).splitlines()[-1], without_progress(err.decode())),
+            (130, "1 mailbox: 1 done" + " before" * (number != 15) + "; interrupted: run the same command again", ""),
+        )
+        (home / "at-work").unlink()
+    fake(home, f"exec '{home}/real' \"$@\"")
+    ran = run_printed("mbox2maildir-admin migrate M two >/dev/full", home)
+    equal(
+        "an output that is full",
+        (ran.status, ran.err),
+        (
+            1,
+            "mbox2maildir-admin: the output could not be written: No space "
+            "left on device; what was done is in the record: run the same command again\n",
+        ),
+    )
+    expect("migrate --all M box two", home, 0, "2 mailboxes: 2 done before\n")
+    equal("what is there", subjects(home / "M"), ["one", "two"])
+
+
 if __name__ == "__main__":
-    check_all(at_anything, as_it_starts)
+    check_all(at_anything, as_it_starts, broken_off, session_ends)

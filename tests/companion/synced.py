@@ -9,7 +9,6 @@ import re
 import shutil
 from collections.abc import Iterator
 from functools import partial
-from pathlib import Path
 
 from tests.companion.every_call import DEEDS, FOLDER, PREPARE, Deed, prepared, two_archives
 from tests.support.archives import Home, fresh

@@ -178,6 +178,13 @@ def script(path: Path, text: str) -> None:
     path.chmod(0o755)
 
 
+def fake(home: Path, converts: str) -> None:
+    """A program that converts by this script, and does all else as the real one."""
+    if not (home / "real").exists():
+        os.rename(home / "bin/mbox2maildir", home / "real")
+    script(home / "bin/mbox2maildir", f'test "$1" = convert || exec "{home}/real" "$@"\n{converts}')
+
+
 def doing_first(code: str, programs: Path) -> Path:
     """The companion among these programs, which does this before its modules are loaded: as where the system has a call
     fail, or another program does something meanwhile."""

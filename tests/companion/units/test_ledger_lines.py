@@ -131,7 +131,7 @@ def is_listed(line: bytes) -> bool:
 class LineTest(unittest.TestCase):
     def test_what_is_written_is_read(self) -> None:
         for read, one, line in ROWS:
-            written = one.line(12) + b"\n" if isinstance(one, Head) else one.line()
+            written = Head.line(one, 12) + b"\n" if isinstance(one, Head) else one.line()
             self.assertEqual((written, read(line)), (line + b"\n", one))
 
     def test_what_says_nothing(self) -> None:
