@@ -115,8 +115,8 @@ def brief(row: Row) -> str:
 
 
 def texts_of(row: Row) -> str:
-    """All that a row says."""
-    return brief(row) + json.dumps(row["next"])
+    """All that a row says, also as its line has it."""
+    return f"{brief(row)} {row['kind']}: {row['says']} {json.dumps(row['next'])}"
 
 
 def folder_on_disk(folder: str) -> bytes:

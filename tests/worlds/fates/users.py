@@ -58,6 +58,12 @@ class Homes:
         self.world.words = [b"spool", *map(str.encode, names)]
 
 
+def printed(name_of_nobody: bytes) -> str:
+    """The name of no user, as rows have it: without what a terminal would obey."""
+    letters = name_of_nobody.decode(errors="backslashreplace")
+    return "".join(one if one.isprintable() else f"\\x{ord(one):02x}" for one in letters)
+
+
 class Spool(Homes):
     """A spool and homes that are drawn."""
 
@@ -158,7 +164,7 @@ class Spool(Homes):
         made: list[Thing] = []
         for what in draw.sample(["nobody's", "root", lock, ".x", ".old", "second"], draw.randint(0, 4)):
             one = self.grower.stems.file(SOUND + ["latin"]) if what == "nobody's" else name(what)
-            thing = Thing(b"", Fate.LEFT, user=one.raw.decode(errors="backslashreplace"))
+            thing = Thing(b"", Fate.LEFT, user=printed(one.raw))
             if what == "second":
                 self.second()
                 continue
