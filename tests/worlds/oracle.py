@@ -75,6 +75,8 @@ class Shelf:
         self.had: collections.defaultdict[int, Counts] = collections.defaultdict(Counter)
         self.sure: dict[int, Counts] = {}
         self.foreign: Counts = Counter()
+        # what files held that people have edited since: an undo leaves these, and they count as there
+        self.edited: Counts = Counter()
         self.taken: Counts = Counter()
         self.gone: Counts = Counter()
         self.seen: Counts = Counter()
@@ -124,14 +126,14 @@ class Shelf:
         """Mailboxes are undone. Returns how much of others went away, and how much of these is still there when it is
         over. What only these had, and people had taken away, may come again then."""
         others = union([self.foreign, *(its for mailbox, its in self.sure.items() if mailbox not in mailboxes)])
-        told = Counter(gone=sum(((self.seen & others) - now).values()))
+        told = Counter(gone=sum(((self.seen & others) - now - self.edited).values()))
         if is_over:
             mine = union(self.had.pop(mailbox, Counter()) for mailbox in mailboxes)
             self.sure = {mailbox: its for mailbox, its in self.sure.items() if mailbox not in mailboxes}
             kept = (now & mine) - union([self.foreign, self.most])
             told["kept"] = sum(kept.values())
             self.foreign += kept
-            self.taken &= self.most
+            self.taken &= union(self.sure.values())
         self.seen = now
         return told
 

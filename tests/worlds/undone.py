@@ -9,6 +9,7 @@ from tests.support.running import NEVER, Kill, Row, Run
 from tests.support.splitter import split
 from tests.worlds.deeds import read_flags
 from tests.worlds.history import INBOX, Box, History
+from tests.worlds.letters import content
 from tests.worlds.oracle import Oracle
 from tests.worlds.rewriters import by_dovecot
 from tests.worlds.rewritten import DOVECOT, Rewritten
@@ -114,6 +115,7 @@ class Undone(Rewritten):
             elif deed < 0.3 and path.parent.name == "new":
                 read_flags(self, path, "FS")
             elif deed < 0.35:
+                self.oracle.shelves["INBOX"].edited[content(path.read_bytes())] += 1
                 with open(path, "ab") as file:
                     file.write(b"more\n")
                 self.oracle.bytes.add(path.read_bytes())
@@ -140,7 +142,9 @@ class Undone(Rewritten):
 
     def wrong_with(self, row: Optional[Row]) -> list[str]:
         """What is wrong with an undo, whose row this is when it is over. A missing mailbox may be the one that is
-        undone, or another one, for which mail stays."""
+        undone, or another one, for which mail stays, as the row says then."""
         ways = [[box.number for box in boxes] for boxes in ([self.box, *self.missing], [self.box])]
+        if row and "kept-shared" in row.remarks:
+            ways.reverse()
         numbers = min(ways, key=lambda one: len([*self.oracle.kept().undoes(one, row)]))
         return [*self.oracle.undoes(numbers, row)]

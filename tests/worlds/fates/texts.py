@@ -140,8 +140,10 @@ def wrong_lengths(draw: Random) -> Content:
 def of_table() -> Iterator[tuple[str, Content]]:
     """The rows of the table, by their kinds."""
     for number, (data, kind, then) in enumerate(KINDS):
-        if kind.startswith("no mail"):
+        if "no mail" in kind:
             yield f"{kind} {number}", no_mail(data)
+        elif kind.startswith("not known, compressed"):
+            yield f"{kind} {number}", not_known(data)._replace(says=kind)
         elif kind == "not known" and then in (NOT_KNOWN, LIKE_MAIL):
             yield f"{kind} {number}", not_known(data, then == LIKE_MAIL)
         elif "messages" not in kind:
@@ -184,7 +186,7 @@ OF_ANOTHER_KIND: Makers = {
     "cut gzip": cut(lambda text: gzip.compress(text)[:-1], "it is incomplete"),
     "bzip2 and more": cut(lambda text: bz2.compress(text) + b"BZh8", "stream 2"),
     "MMDF of letters": cut(lambda text: b"\1\1\1\1\n" + text + b"\1\1\1\1\n", "MMDF"),
-    **{kind: always(one) for kind, one in TABLE.items() if one.fate == Fate.LEFT and one.says != "not known"},
+    **{kind: always(one) for kind, one in TABLE.items() if one.fate == Fate.LEFT and not one.is_unknown},
 }
 UNKNOWN: Makers = {
     "text": lambda draw: not_known(b"hello\nthis is no mail %d\n" % draw.randrange(1000) * draw.randint(1, 20)),
@@ -192,7 +194,7 @@ UNKNOWN: Makers = {
     "bytes": lambda draw: not_known(b"\xf7\x13\n" + draw.getrandbits(800).to_bytes(100, "big") + b"\n"),
     "ELF": always(not_known(b"\x7fELF\2\1\1" + bytes(9) + b"\2\0\x3e\0" + bytes(300))),
     "script": always(not_known(b"#!/bin/sh\necho From here on\n")),
-    **{kind: always(one) for kind, one in TABLE.items() if one.says == "not known"},
+    **{kind: always(one) for kind, one in TABLE.items() if one.is_unknown},
 }
 SUBSCRIPTIONS = next(one for kind, one in TABLE.items() if "subscriptions" in kind)
 EVERYTHING = {**MAIL, **DOUBTFUL, **NO_MAIL, **OF_ANOTHER_KIND, **UNKNOWN}
