@@ -66,7 +66,7 @@ UPDATE = f"doveadm mailbox update {USER} "
 CASES = {
     "UIDs and keywords of the folder, which goes on with those of its mailbox": Case(
         KEPT,
-        listed(9, b"7 :1.a:2,\n4 W26 :1.b\n2 :1.old\n"),
+        listed(9, b"7 :1.a:2,\n4 W2600 :1.b\n2 :1.old\n"),
         b"0 garden\n1 Other\n26 late\n2 a(b\n",
         ["1.new:2,", "1.a:2,Sb", "1.b:2,ac", "1.old:2,"],
         WITH_OTHER,
