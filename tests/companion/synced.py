@@ -146,8 +146,8 @@ class Disk:
 
     def dirty(self, path: str) -> set[str]:
         """All that is not on the disk but for a file that is written to. A power cut may bring back the list of a
-        folder that is done, as its ledger shows, and an empty folder that no server shows."""
-        gone = {one for one in self.names - self.there if "/mbox2maildir-aside" in one}
+        folder that is done, as its ledger shows, an empty folder that no server shows, and what was in `tmp`."""
+        gone = {one for one in self.names - self.there if "/mbox2maildir-aside" in one or "/tmp/" in one}
         gone.update(one for one in self.names - self.there if one.replace(LIST, LEDGER) in self.there)
         lost = {one for one in self.names if os.path.dirname(one) not in {self.top, *self.there}}
         return (self.files | self.names) - gone - lost - {path}
