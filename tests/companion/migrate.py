@@ -33,14 +33,12 @@ from tests.support.homes import (
     mail_in,
     mailbox,
     run,
-    run_printed,
     run_whole,
     subjects,
 )
 from tests.support.ledgers import LEDGER, RECORD
 from tests.support.mail import A, B, C, MAY, ONE, THREE, TWO, digest_of, numbered, with_length
 from tests.support.printed import commands_in, row_in
-from tests.support.processes import wait_for
 from tests.support.running import Desk
 
 AGAIN = ("--again", "M", "box")

@@ -157,8 +157,8 @@ def add_answers(add: Add) -> None:
     add(
         "--again",
         action="store_true",
-        help="store the messages of one mailbox that are nowhere; of several, of those left as `rewritten`, `ledger` or "
-        "`sync-failed`",
+        help="store the messages of one mailbox that are nowhere; of several, of those left as `rewritten`, `ledger` "
+        "or `sync-failed`",
     )
     add("--undo", action="store_true", help="remove the messages that one mailbox placed")
     add("--any-disk", action="store_true", help="migrate even onto a disk on which a power cut could take mail away")
