@@ -26,7 +26,7 @@ take_of_take (suc n) [] = refl
 take_of_take zero (text ∷ texts) = refl
 take_of_take (suc n) (text ∷ texts) = ap (λ ts. text ∷ ts) (take_of_take n texts)
 
-some_safely : {spared : Spared} {old new : HeldMaildir} {texts : List Mailbox} {was is : Bytes} → PrintsSome spared old new texts was is
+pub some_safely : {spared : Spared} {old new : HeldMaildir} {texts : List Mailbox} {was is : Bytes} → PrintsSome spared old new texts was is
     → PrintedSafely spared texts was is new
 some_safely {spared} {new = new} {texts} some =
     let count : length some.reports ≡ length (take some.n texts) = as_many spared _ _ some.reports (take some.n texts) some.true_of in

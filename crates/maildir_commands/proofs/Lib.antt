@@ -40,3 +40,5 @@ pub mod Fitting
 pub mod Fewer
 -- Which files a conversion touched.
 pub mod Touching
+-- A process that is killed: calls that are not made, and what it leaves.
+pub mod Killing

@@ -28,9 +28,8 @@ IsToDeliver path texts these words old rest =
     (into : List ℕ) × (files : List (List ℕ)) × (words ≡ convert_words into files) × old.machine.same into path
     × GivesTexts old.machine.text_of old.input rest files these × All (Contains texts) these
 
--- A command. One that was killed is one whose calls all failed from some moment on; of the call in which it was killed any part was done. For commands this
--- is a premise; for a run over one text the law `killed_runs` says what it owes. If the power is cut while a command is at work, it was killed, and then
--- comes the cut.
+-- A command. One that was killed has status 1 here: some of its calls were made, of the last one any part, and then no more. If the power is cut while a
+-- command is at work, it was killed, and then comes the cut.
 pub record Commanded {M : Type 0} (spared : Spared) (at : M → SeenMachine) (Asks : List (List ℕ) → SeenProgram → Option (List ℕ) → Type 0)
     (status : ℕ) (before after : Option (List ℕ)) (old new : M) : Type 0 where
   -- It may have any words that ask for this. `input` is standard input as it begins, and `rest` is what it leaves of that.
@@ -38,7 +37,7 @@ pub record Commanded {M : Type 0} (spared : Spared) (at : M → SeenMachine) (As
   pub input : Option (List ℕ)
   pub rest : Option (List ℕ)
   pub asked : Asks words (seen_with (at old) input before) rest
-  -- It does what the contract of `run` is proved to say.
+  -- It does what the contract of `run` is proved to say, and that of `run_killed` of one that was killed.
   pub did : ChangesMaildirs words status (seen_with (at old) input before) (seen_with (at new) rest after)
   -- This is a premise: after status 1 the machine does as assumed again, whether a call failed, also a sync, or the command was killed.
   pub again : status ≡ 1 → (at new).honest spared

@@ -24,5 +24,7 @@ pub mod Episodes
 pub mod Promise
 -- What a run of the program does.
 pub mod Program
+-- A command that is killed.
+pub mod Killed
 -- Definitions for private functions and proofs. No public contract uses them, and no reader need believe them.
 pub mod Private

@@ -3,7 +3,8 @@
 //!
 //! [`start`] takes what a program is started with: its words, its streams and a [`Machine`]. [`run`]
 //! does what the words after its own name say, and returns the status: 0 if it is done, 1 after a
-//! [`Fault`], 2 if the words are wrong. [`deliver`] delivers one source into a folder and syncs it.
+//! [`Fault`], 2 if the words are wrong. [`run_killed`] is a run in a process that is killed.
+//! [`deliver`] delivers one source into a folder and syncs it.
 //!
 //! Proved: the words alone decide which command runs; with status 0 every message of every named
 //! source is delivered, synced and reported, or every message is written to the output; each fault
@@ -25,6 +26,7 @@
 
 mod command;
 mod fault;
+mod killed;
 pub mod laws;
 mod line;
 mod machine;
@@ -32,6 +34,7 @@ mod program;
 mod sources;
 
 pub use fault::Fault;
+pub use killed::{Killed, run_killed};
 pub use machine::Machine;
 pub use program::{refuse, run, start};
 pub use sources::deliver;

@@ -6,9 +6,10 @@ use crate::rows::same;
 use crate::sources::Cut;
 use crate::texts::{ABC_LINE, HELLO_LINE, TWO_LINES};
 use crate::writers::Narrow;
-use maildir_commands::{Machine, run};
+use maildir_commands::{Killed, Machine, run, run_killed};
 use maildir_memory::{MemMachine, MemSystem, NamedText};
 use maildir_run::Sub;
+use std::cell::Cell;
 use std::io::BufWriter;
 use std::test::Fail;
 
@@ -129,6 +130,47 @@ fn commands_and_power_cuts(rt: HostRuntime) -> Result<(), Fail> {
         }
     }
     same(&"done, and stopped", &ended, &(true, true))
+}
+
+// How many of the messages are there after a command was killed that had made this many calls, also
+// of its streams. Then the words are given again, to the end.
+fn after_a_kill(rt: HostRuntime, calls: u64) -> Result<(Option<usize>, u8, Option<usize>), Fail> {
+    let alloc = rt.alloc();
+    let words = names(alloc, &["convert", "M", "one", "two"])?;
+    let left = Cell::new(calls);
+    let mut machine = MemMachine::new(alloc, TEXTS);
+    machine.make_of(losing(rt, &[], 1)?);
+    let mut machine = Killed::new(machine, &left);
+    let out = Killed::new(Narrow::new(alloc, 1000, 64, true), &left);
+    run_killed(
+        &mut machine,
+        alloc,
+        words.as_slice(),
+        &mut Killed::new(Cut::pieces(b"", 4), &left),
+        &mut BufWriter::with_capacity(alloc, 16, out)?,
+        &mut Killed::new(Narrow::new(alloc, 1000, 64, true), &left),
+    );
+    let mut machine = machine.into_inner();
+    let killed = match machine.maildir("M") {
+        Some(system) => at_home(system),
+        None => None,
+    };
+    let (status, _, found) = command(rt, &mut machine, u64::MAX, CASES)?;
+    Ok((killed, status, found))
+}
+
+#[test]
+fn killed_commands(rt: HostRuntime) -> Result<(), Fail> {
+    same(&"at once", &after_a_kill(rt, 0)?, &(None, 0, Some(3)))?;
+    for calls in 1u64..200 {
+        let (_, status, found) = after_a_kill(rt, calls)?;
+        same(&calls, &(status, found), &(0, Some(3)))?;
+    }
+    same(
+        &"not killed",
+        &after_a_kill(rt, 1000)?,
+        &(Some(3), 0, Some(3)),
+    )
 }
 
 // What a command leaves after another program deleted the first message: the status, whether the
