@@ -41,8 +41,6 @@ class Source:
 
     def __init__(self) -> None:
         self.words, self.key, self.inode = "", (0, ""), 0
-        # the sizes and the SHA-256s that it had
-        self.keys: set[tuple[int, str]] = set()
         self.cores, self.bares = bytearray(), bytearray()
         # how often each core is no longer in the mailbox; and how many messages may have come back
         self.lost: collections.Counter[bytes] = collections.Counter()
@@ -51,7 +49,6 @@ class Source:
     def take(self, batch: Batch) -> None:
         """Takes a batch that has ended."""
         self.words, self.key, self.inode = batch.head.words, batch.head.key, batch.head.inode
-        self.keys.add(self.key)
         self.back += batch.head.back
         if not self.lost and LOST not in batch.letters:
             self.cores += batch.cores

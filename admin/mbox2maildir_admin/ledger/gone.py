@@ -2,11 +2,11 @@
 too. So this is only said."""
 import array
 import collections
-from collections.abc import Mapping
 
 from ..maildir.files import names_of
 from ..maildir.traces import Traces, times_of
 from ..mbox.bases import Table, base_in, before_info
+from ..mbox.core import SHORT
 from ..nexts import Remark
 from ..units import counted
 from .ledger import Ledger
@@ -31,9 +31,9 @@ def gone_from(ledger: Ledger) -> list[Remark]:
 
 
 def back_in(ledger: Ledger) -> list[Remark]:
-    """What came back into a folder before its mailboxes were done. Each later run says it again, since one that was
-    killed may have noted them as done and not said it."""
-    back = sum(source.back for source in ledger.sources.values())
+    """What came back into a folder before its mailboxes were done, though a message that came back in several runs is
+    one. Each later run says it again, since one that was killed may have noted them as done and not said it."""
+    back = sum(min(source.back, len(source.cores) // SHORT) for source in ledger.sources.values())
     return [Remark("came-back", "when its mail was placed, " + BACK % counted(back, "message"))] * (back > 0)
 
 
@@ -48,14 +48,13 @@ def left_by_killed(match: Match) -> int:
     return len(match.files.present(placed))
 
 
-def gone_before(ledger: Ledger, begun_at: Mapping[str, int]) -> collections.Counter[bytes]:
-    """The cores of messages that runs which were killed may have placed, of any mailbox, and that have no file. Some
-    mailboxes were begun at times in seconds since 1970, by their paths."""
+def gone_before(ledger: Ledger) -> collections.Counter[bytes]:
+    """The cores of messages that runs which were killed may have placed, of any mailbox, and that have no file."""
     gone: collections.Counter[bytes] = collections.Counter()
     for path in ledger.paths():
         number = ledger.pending(path)
         if number is not None:
-            gone += gone_of(ledger, number, begun_at.get(path, 0))
+            gone += gone_of(ledger, number, ledger.begun.get(path, 0))
     return gone
 
 

@@ -1,39 +1,36 @@
-"""What the lines of a record say: what was done with which mailbox.
+"""What the lines of a record say: what is noted of mailboxes, and the index of the ledgers that have them.
 
 A line has, between tabs: the step or what else it notes, the folder, the mailbox's size and SHA-256, how many messages
 it has, when, and from which path. The line of a step also has the words by which the mailbox is read, and the number of
-its folder's ledger with the ledger's size.
+its folder's ledger, with the ledger's size and the number of the mailbox's last batch there, or of its undo.
 """
-import calendar
 import collections
 import enum
+import functools
 import os
-import re
 from collections.abc import Container, Iterable, Iterator
 from typing import NamedTuple, Optional, Union
 
 from ..looks import real_path
 from ..maildir.folders import INBOX
+from ..patterns import pattern
 from ..terminal import shown, spelled
 from ..units import Size
 
 TIME = "%Y-%m-%dT%H:%M:%SZ"
-LINE = re.compile(
+LINE = pattern(
     rb"([a-z-]+)\t([^\t]+)\t(\d{1,19})\t([0-9a-f]{64})\t(\d{1,19})\t"
     rb"([12]\d{3}-(?:0[1-9]|1[0-2])-\d\dT\d\d:\d\d:\d\dZ)\t([^\t]+)"
-    rb"(?:\t([!-~][ -~]*)(?:\t([0-9a-f]{32})-(\d{1,18}))?)?\Z"
+    rb"(?:\t([!-~][ -~]*)(?:\t([0-9a-f]{32})-(\d{1,18})-(\d{1,18}))?)?\Z"
 )
 
 
 class Step(enum.Enum):
-    """How far a mailbox is, in the word of its line."""
+    """How far a mailbox is by the ledger of its folder, in the word of its line."""
 
     BEGUN = "begun"
     DONE = "done"
-    # a sync failed while it was migrated
-    FAILED = "failed"
-    # what it placed is being removed; and it was removed, so that nothing is known of it any more
-    UNDOING = "undoing"
+    # it is not in that ledger any more
     UNDONE = "undone"
 
 
@@ -51,6 +48,8 @@ class Note(enum.Enum):
     EMPTY = "empty"
     # which folders a mailbox has by its labels
     LABELS = "labels"
+    # a mailbox that a ledger has which no line named: its folder may have had another name
+    FOUND = "found"
     # a mailbox that was prepared in a folder; and that nothing is prepared there any more, or done without mail
     PREPARED = "prepared"
     UNPREPARED = "unprepared"
@@ -77,9 +76,10 @@ class Entry(NamedTuple):
     when: str
     path: str
     plan: Optional[str] = None
-    # the number of the ledger, and how many bytes that had
+    # the number of the ledger, how many bytes that had, and the last number of the mailbox in it
     ledger: str = ""
     size: int = 0
+    number: int = 0
 
     @classmethod
     def parse(cls, line: bytes) -> Optional["Entry"]:
@@ -88,7 +88,7 @@ class Entry(NamedTuple):
         what = BY_WORD.get(found.group(1).decode()) if found else None
         if not found or not what:
             return None
-        folder, size, digest, messages, when, path, plan, ledger, length = found.groups()[1:]
+        folder, size, digest, messages, when, path, plan, ledger, length, number = found.groups()[1:]
         self = cls(
             what,
             Key(folder, Size(int(size)), digest.decode()),
@@ -97,38 +97,44 @@ class Entry(NamedTuple):
             path.decode("utf-8", "replace"),
         )
         self = self._replace(plan=plan.decode()) if plan else self
-        return self._replace(ledger=ledger.decode(), size=int(length)) if ledger else self
+        return self._replace(ledger=ledger.decode(), size=int(length), number=int(number)) if ledger else self
 
     def line(self) -> bytes:
         """The line as bytes."""
         folder, size, digest = self.key
         words = [self.what.value, shown(folder), str(size), digest, str(self.messages), self.when, self.path]
         words += [] if self.plan is None else [self.plan]
-        words += ["%s-%d" % (self.ledger, self.size)] if self.ledger else []
+        words += ["%s-%d-%d" % (self.ledger, self.size, self.number)] if self.ledger else []
         return "\t".join(words).encode() + b"\n"
 
-    def seconds(self) -> int:
-        """When the line was written, in seconds since 1970."""
-        return calendar.timegm(tuple(map(int, re.findall(r"\d+", self.when))))
+    def says(self) -> tuple[object, ...]:
+        """What it says of a mailbox, whenever it was written."""
+        return self.what, self.key, self.messages, self.path, self.plan, self.ledger, self.number
 
 
 class History:
     """What was done with which mailbox. A folder is asked for by its name on the disk, a path as it is."""
 
     def __init__(self) -> None:
+        # the numbers of the ledgers that folders have, and the folder that has each
+        self.numbers: dict[bytes, str] = {}
+        self.folders: dict[str, bytes] = {}
+        # how many bytes each ledger had that a line names, and its last number
+        self.seen: dict[str, int] = {}
+        self.last_numbers: dict[str, int] = {}
         # by folders: the last line with a step of each text at each path, the last of all at the end
         self._steps: collections.defaultdict[bytes, dict[tuple[Key, str], Entry]] = collections.defaultdict(dict)
-        # when a mailbox was begun first, by its folder and its path; and the folders that a path had
-        self._begun: dict[tuple[bytes, str], int] = {}
+        # the folders that a path had; and the names that such folders have now, by those that they had for a path
         self._folders: collections.defaultdict[str, dict[bytes, None]] = collections.defaultdict(dict)
+        self._names: dict[tuple[bytes, str], bytes] = {}
         # the sizes of the texts that have a step: a mailbox of another size is not read to find out whether it has one
         self.sizes: set[int] = set()
         # the last lines with a step, by the size and the SHA-256 of the text
         self._texts: collections.defaultdict[tuple[int, str], dict[tuple[Key, str], Entry]] = collections.defaultdict(
             dict
         )
-        # the sizes that ledgers had when mailboxes were undone that have brought nothing since, by numbers and paths
-        self._undone: collections.defaultdict[str, dict[str, int]] = collections.defaultdict(dict)
+        # the lines of mailboxes that were undone and have brought nothing since, by the numbers of ledgers and by paths
+        self._undone: collections.defaultdict[str, dict[str, Entry]] = collections.defaultdict(dict)
         # the mailbox that a folder was prepared from last, until something of the folder is done
         self._prepared: dict[bytes, Entry] = {}
         # whether anything was ever prepared
@@ -138,13 +144,11 @@ class History:
 
     def take(self, entry: Entry) -> None:
         """Takes the next line."""
+        entry = self.where_it_is_now(entry)
         folder = entry.key.folder
         if entry.what is Step.UNDONE:
-            last = self.last_of(folder, (entry.path,))
-            # others were moved
-            if last and last.what is Step.UNDOING:
-                self._undone[entry.ledger][entry.path] = entry.size
             self.forget(folder, entry.path)
+            self._undone[entry.ledger][entry.path] = entry
         elif isinstance(entry.what, Step):
             steps = self._steps[folder]
             self.sizes.add(entry.key.size)
@@ -153,9 +157,7 @@ class History:
             self._undone[entry.ledger].pop(entry.path, None)
             self._folders[entry.path].pop(folder, None)
             self._folders[entry.path][folder] = None
-            if entry.what is Step.BEGUN:
-                self._begun.setdefault((folder, entry.path), entry.seconds())
-                self.forget_notes(folder, entry.path, Note.EMPTY)
+            self.forget_notes(folder, entry.path, Note.FOUND, *([Note.EMPTY] if entry.messages else []))
         else:
             self._notes[entry.what, folder].append(entry)
         if entry.what is Note.PREPARED:
@@ -166,6 +168,17 @@ class History:
             self._notes.pop((Note.EMPTY, folder), None)
         if entry.what is Note.UNPREPARED:
             self.forget_notes(folder, entry.path, Note.ANSWERED)
+
+    def where_it_is_now(self, entry: Entry) -> Entry:
+        """A line with the name that its folder has now, which people may have renamed."""
+        folder = entry.key.folder
+        if entry.ledger:
+            self.seen[entry.ledger] = entry.size
+            self.last_numbers[entry.ledger] = max(entry.number, self.last_numbers.get(entry.ledger, 0))
+            if self.numbers.get(folder) != entry.ledger:
+                folder = self.folders.get(entry.ledger, folder)
+                self._names[entry.key.folder, entry.path] = folder
+        return entry._replace(key=entry.key._replace(folder=folder))
 
     def prepared(self, folder: bytes) -> Optional[Entry]:
         """The mailbox that a folder was prepared from last, if nothing of the folder is done since."""
@@ -181,9 +194,8 @@ class History:
         self._steps[folder] = {one: entry for one, entry in steps.items() if one[1] != path}
         for key, _ in steps:
             self._texts[key[1:]].pop((key, path), None)
-        self._begun.pop((folder, path), None)
         self._folders[path].pop(folder, None)
-        self.forget_notes(folder, path, Note.NUMBERED, Note.ANSWERED)
+        self.forget_notes(folder, path, Note.NUMBERED, Note.ANSWERED, Note.FOUND)
 
     def forget_notes(self, folder: bytes, path: str, *several: Note) -> None:
         """Forgets what is noted of a mailbox in a folder."""
@@ -194,6 +206,20 @@ class History:
     def last_steps(self, folder: bytes) -> list[Entry]:
         """The last line with a step of each text of a folder, in their order."""
         return list(self._steps[folder].values()) if folder in self._steps else []
+
+    def name_now(self, folder: bytes, path: bytes) -> bytes:
+        """The name that a folder has now which was named for the mailbox of a path. Raises OSError if the path can't be
+        looked at."""
+        names = names_of(path)
+        several = (folder, *(self._names[folder, name] for name in names if (folder, name) in self._names))
+        return next((one for one in several if self.last_of(one, names)), folder)
+
+    def found_of(self, path: bytes) -> list[bytes]:
+        """The folders whose ledgers have a mailbox, if no other line names them. Raises OSError if the path can't be
+        looked at."""
+        folders = self.folders_of(path)
+        found = [one for one in folders if any(self.noted_at(Note.FOUND, one, name) for name in names_of(path))]
+        return found if len(found) == len(folders) else []
 
     def last_at(self, folder: bytes, path: bytes) -> Optional[Entry]:
         """The last line with a step of a path, or of the path that it leads to, in a folder. Raises OSError if the path
@@ -226,21 +252,9 @@ class History:
         lines = [one for one in self.lines_of(size, digest) if one.what is Step.DONE]
         return lines[-1] if lines else None
 
-    def has_done(self, key: tuple[int, str], count: int) -> bool:
-        """Whether a text of this size and SHA-256 is done that has so many messages."""
-        return any(one.what is Step.DONE and one.messages == count for one in self.lines_of(*key))
-
     def sizes_done(self) -> set[int]:
         """The sizes of the texts that are done."""
         return {entry.key.size for entry in self.lines() if entry.what is Step.DONE}
-
-    def begun_at(self, folder: bytes, path: bytes) -> Optional[int]:
-        """When a mailbox was begun first in a folder, in seconds since 1970; None if it was not begun."""
-        return next((self._begun[folder, name] for name in names_of(path) if (folder, name) in self._begun), None)
-
-    def undone_since(self, ledger: str, size: int) -> list[str]:
-        """The paths of mailboxes that were undone after the ledger with a number had a size."""
-        return [path for path, then in self._undone.get(ledger, {}).items() if then > size]
 
     def numbered(self, folder: bytes) -> Optional[Entry]:
         """The line of the mailbox whose numbers a folder has, if it has any."""
@@ -263,7 +277,11 @@ class History:
 
     def noting(self, note: Note, folder: bytes, path: bytes) -> list[Entry]:
         """The lines that note this with a path, in their order."""
-        return [entry for entry in self._notes.get((note, folder), []) if entry.path == spelled(path)]
+        return self.noted_at(note, folder, spelled(path))
+
+    def noted_at(self, note: Note, folder: bytes, path: str) -> list[Entry]:
+        """The same for a path as lines have it."""
+        return [entry for entry in self._notes.get((note, folder), []) if entry.path == path]
 
     def noted(self, note: Note, folder: bytes, path: bytes) -> set[Key]:
         """The texts about which lines note this with a path."""
@@ -282,7 +300,8 @@ class History:
         return any(note.key.digest == key.digest for note in self._notes[Note.SUBSCRIBED, key.folder])
 
 
-def names_of(path: bytes) -> list[str]:
-    """A path, and the path that it leads to, as lines of a record have them. Raises OSError if it can't be looked
-    at."""
-    return list(dict.fromkeys([spelled(path), spelled(real_path(path))]))
+@functools.lru_cache(maxsize=1 << 10)
+def names_of(path: bytes) -> tuple[str, ...]:
+    """A path, and the path that it leads to, as lines of a record have them. They stay the same while a mailbox is at
+    work. Raises OSError if it can't be looked at."""
+    return tuple(dict.fromkeys([spelled(path), spelled(real_path(path))]))

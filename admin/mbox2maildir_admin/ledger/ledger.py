@@ -2,15 +2,16 @@
 
 Its first line has a number of its own, by which it is known wherever its folder is. A batch begins with a line `@`: its
 number, how many lines it has, how many of these, at the end, are of messages that are placed in their order, how many
-messages may come back that were deleted, when names in the folder were last changed, the mailbox's size and SHA-256,
-the words by which it is read, and its path. Each message has a line: how it came to its file, the name of that, the
-digest of its core and, if that is another one, of its bare form. These lines are an intention. A line `+` says that all
-of them have a file now. They count once a line `=` says that everything of the batch was verified, and is on the disk,
-with the sum of the names in the folder then. A line `>` says that a mailbox was moved, and a line `-` that all of it
-was undone.
+messages may come back that were deleted, when it was begun, when names in the folder were last changed, the mailbox's
+size and SHA-256, the words by which it is read, and its path. Each message has a line: how it came to its file, the
+name of that, the digest of its core and, if that is another one, of its bare form. These lines are an intention. A line
+`+` says that all of them have a file now, and a line `!` that a sync failed. They count once a line `=` says that
+everything of the batch was verified, and is on the disk. A line `>` says that a mailbox was moved, a line `<` that its
+files are being removed, and a line `-` that all of it was undone.
 """
 import collections
 import copy
+import itertools
 import os
 from collections.abc import Container, Iterable, Iterator
 from typing import Optional
@@ -27,31 +28,37 @@ from .lines import (
     BEGINS,
     CUT,
     END,
+    END_LINE,
+    FAILED,
     HEAD,
     LOST,
     MOVED,
     NAMELESS,
     PLACED,
     SHARED,
+    UNDOING,
     UNDONE,
     Brought,
     Head,
     Several,
     append,
     counted_in,
-    note_end,
     pieces_in,
+    pieces_of,
 )
 
 
 class Ledger:
     """What mailboxes brought into a folder, by their paths as the record spells them."""
 
-    def __init__(self, folder: bytes, verified: Iterable[int] = ()) -> None:
+    def __init__(self, folder: bytes, verified: Iterable[int] = (), dry: bool = False) -> None:
         """Reads the ledger of a folder, which need not exist. Batches with these numbers count as ended: this run has
-        verified them, and their disk is not synced yet. Raises Fault if others may have written to it."""
-        self.folder, self.is_made = folder, False
+        verified them, and their disk is not synced yet. Lines that a dry run appends stay in memory. Raises Fault if
+        others may have written to it."""
+        self.folder, self.is_made, self.is_dry, self.in_memory = folder, False, dry, b""
         self.number, self.size, self.last = "", 0, 0
+        # the last number of each mailbox: of a batch that is whole or, if it was undone since, of that
+        self.lasts: dict[str, int] = {}
         self.sources: dict[str, Source] = {}
         # the batches without an end, by their numbers in their order, and the one whose lines follow
         self.open: dict[int, Batch] = {}
@@ -61,10 +68,10 @@ class Ledger:
         # the paths of those that have ended, and of those of mailboxes that were undone, by their numbers
         self.ended: dict[int, str] = {}
         self.undone: dict[int, str] = {}
-        # the lines that it lacks, since it is older than an undo: they come before what is appended next
-        self.lacking: list[bytes] = []
-        # the paths of mailboxes that were moved from there, or undone, and have brought nothing since
-        self.former: set[str] = set()
+        # when mailboxes that have brought something were begun first, in seconds since 1970
+        self.begun: dict[str, int] = {}
+        # the batches of which a sync failed
+        self.failed: set[int] = set()
         # how many of the names in it its folder no longer has, and how many it has itself; and how both were then
         self.gone = 0, 0
         self.looked_at: Optional[tuple[int, int, tuple[int, ...]]] = None
@@ -87,6 +94,7 @@ class Ledger:
         """Takes lines of messages, and returns whether they belong to a batch."""
         if self.batch:
             self.batch.take(several.words, several.cores, several.bares)
+            self.note_last(self.batch)
         return self.batch is not None
 
     def take(self, line: bytes) -> bool:
@@ -95,11 +103,15 @@ class Ledger:
             return False
         head, batch, end = HEAD.match(line), BATCH.match(line), END.match(line)
         placed, moved, undone = ALL_PLACED.match(line), MOVED.match(line), UNDONE.match(line)
+        leaving, failed = UNDOING.match(line), FAILED.match(line)
         if head:
             self.number = head[1].decode()
         elif batch:
-            self.last = int(batch[1])
-            self.batch = self.open[self.last] = Batch(Head.of(batch))
+            self.last, self.batch = int(batch[1]), Batch(Head.of(batch))
+            self.open[self.last] = self.batch
+            if self.batch.head.begun:
+                self.begun.setdefault(self.batch.path, self.batch.head.begun)
+            self.note_last(self.batch)
         elif placed:
             return self.take_all_placed(int(placed[1]))
         elif end:
@@ -107,8 +119,18 @@ class Ledger:
         elif moved:
             self.rename(moved[1].decode(), moved[2].decode())
         elif undone:
-            self.forget(undone[1].decode())
-        return bool(head or batch or moved or undone)
+            self.last = self.lasts[undone[2].decode()] = int(undone[1])
+            self.forget(undone[2].decode())
+        elif leaving:
+            self.leaving.add(leaving[1].decode())
+        elif failed:
+            self.failed.add(int(failed[1]))
+        return bool(head or batch or moved or undone or leaving or failed)
+
+    def note_last(self, batch: Batch) -> None:
+        """Notes the number of the last batch, once it is whole."""
+        if batch.is_whole:
+            self.lasts[batch.path] = self.last
 
     def take_all_placed(self, number: int) -> bool:
         """Takes it that all of a batch has its files, and returns whether it had all of its lines."""
@@ -124,32 +146,26 @@ class Ledger:
         if batch is None or not batch.is_whole:
             return False
         self.ended[number] = batch.path
-        self.former.discard(batch.path)
         self.sources.setdefault(batch.path, Source()).take(batch)
         return True
 
     def forget(self, path: str) -> None:
         """Forgets a mailbox, all of which was undone."""
         self.sources.pop(path, None)
-        self.former.add(path)
+        self.begun.pop(path, None)
+        self.leaving.discard(path)
         self.undone.update((number, path) for number, batch in self.open.items() if batch.path == path)
         self.undone.update((number, path) for number, its in self.ended.items() if its == path)
         self.open = {number: batch for number, batch in self.open.items() if batch.path != path}
         self.ended = {number: its for number, its in self.ended.items() if its != path}
 
-    def take_undone(self, path: str) -> None:
-        """Takes it that a mailbox was undone, if the ledger has it still: it is older than that. Its next lines say
-        so."""
-        if path in self.paths():
-            self.forget(path)
-            self.lacking.append(undone_line(path))
-
     def rename(self, old: str, new: str) -> None:
         """Takes it that a mailbox has another path now."""
         if old in self.sources:
             self.sources[new] = self.sources.pop(old)
-        self.former.add(old)
-        self.former.discard(new)
+        if old in self.begun:
+            self.begun[new] = self.begun.pop(old)
+        self.lasts[new] = max(self.lasts.get(name, 0) for name in (old, new))
         self.ended = {number: new if path == old else path for number, path in self.ended.items()}
         for batch in self.open.values():
             batch.path = new if batch.path == old else batch.path
@@ -179,11 +195,6 @@ class Ledger:
         number = self.pending(path)
         before = self.sources[path].inode if number is None else self.open[number].head.inode
         return self.key_of(path) == key or bool(inode) and before == inode
-
-    def keys_of(self, path: str) -> set[tuple[int, str]]:
-        """The sizes and the SHA-256s that a mailbox had when it brought something, or was going to."""
-        several = {batch.head.key for batch in self.open.values() if batch.path == path}
-        return several | self.sources[path].keys if path in self.sources else several
 
     def paths(self) -> list[str]:
         """The paths of the mailboxes that brought something, or may have."""
@@ -220,7 +231,7 @@ class Ledger:
     def pieces(self) -> Iterator[tuple[int, Several, int]]:
         """The lines of messages, the number of their batch, and how many come before those that it was to place."""
         number = first = 0
-        for text, several in pieces_in(self.folder):
+        for text, several in itertools.chain(pieces_in(self.folder), pieces_of(self.in_memory)):
             batch = None if several else BATCH.match(text[:-1])
             number, first = (int(batch[1]), int(batch[2]) - int(batch[3])) if batch else (number, first)
             if several:
@@ -281,7 +292,7 @@ class Ledger:
 
     def make(self, sync: SyncNames = sync_folder) -> None:
         """Makes its file, unless that has been done. `sync` syncs its name, which is on the disk before its lines."""
-        if not (self.is_made or self.ended):
+        if not (self.is_made or self.ended or self.is_dry):
             # if it is there, a run may have been killed before its name was on the disk
             append(self.folder, [], sync=False)
             sync(self.folder)
@@ -297,18 +308,25 @@ class Ledger:
             if not self.number:
                 self.number = os.urandom(16).hex()
                 yield BEGINS + self.number.encode() + b"\n"
-            yield from self.lacking
-            self.lacking = []
             self.take(first)
             yield first + b"\n"
             for one in messages:
                 assert self.batch is not None, "it was begun"
                 self.batch.take(one.word, one.core, one.bare)
                 yield one.line()
+            self.note_last(self.open[number])
 
         # its lines are known up to here
-        self.size = append(self.folder, lines(), since=self.size)
+        self.append(lines(), self.size)
         return number
+
+    def append(self, lines: Iterable[bytes], since: Optional[int] = None) -> None:
+        """Appends lines, which are on the disk then. Raises Fault if that fails, or if another process has begun a
+        batch since the ledger had a size."""
+        if self.is_dry:
+            self.in_memory += b"".join(lines)
+        else:
+            self.size = append(self.folder, lines, since=since)
 
     def note_empty(self, path: str, key: tuple[int, str]) -> None:
         """Notes that a mailbox has no message any more, if it had some."""
@@ -316,24 +334,20 @@ class Ledger:
         if source and source.count():
             has = (line.message for line in self.entries(source.has()) if line[:2] == (path, State.HELD))
             lost = [one._replace(word=LOST) for one in has]
-            number = self.begin(Head(len(lost), 0, 0, (), key, source.words, path), lost)
-            note_end(self.folder, number)
-            self.end(number)
+            self.note(END_LINE % self.begin(Head(len(lost), 0, 0, (), key, source.words, path), lost))
 
     def move(self, old: str, new: str) -> None:
         """Notes that a mailbox has another path now."""
         self.note(b">\t%s\t%s\n" % (old.encode(), new.encode()))
 
-    def undo(self, path: str) -> int:
-        """Notes that everything of a mailbox was undone. Returns the size of the ledger then."""
-        return self.note(undone_line(path))
+    def undo(self, path: str) -> None:
+        """Notes that everything of a mailbox was undone."""
+        self.note(b"-\t%d\t%s\n" % (self.last + 1, path.encode()))
 
-    def note(self, line: bytes) -> int:
-        """Appends a line, and takes it. Returns the size then."""
-        size = append(self.folder, [*self.lacking, line])
-        self.lacking = []
+    def note(self, line: bytes) -> None:
+        """Appends a line, and takes it."""
+        self.append([line])
         self.take(line[:-1])
-        return size
 
     def without_lines(self) -> "Ledger":
         """The same folder, as if its ledger had no lines."""
@@ -345,14 +359,25 @@ class Ledger:
         """Forgets all lines."""
         self.number, self.size, self.last, self.damage, self.is_made = "", 0, 0, None, False
         self.sources, self.open, self.ended, self.undone, self.batch = {}, {}, {}, {}, None
+        self.lasts, self.begun, self.leaving, self.failed = {}, {}, set(), set()
 
     def put_aside(self) -> None:
         """Begins anew. What is damaged stays beside it."""
-        path = os.path.join(self.folder, LEDGER)
-        os.rename(path, path + b".damaged")
+        path, last = os.path.join(self.folder, LEDGER), self.last
+        if not self.is_dry:
+            os.rename(path, path + b".damaged")
         self.forget_all()
+        # a dry run still reads the lines of the file
+        self.last = last
 
 
-def undone_line(path: str) -> bytes:
-    """The line that says that everything of the mailbox at a path was undone."""
-    return b"-\t%s\n" % path.encode()
+def count_in(ledger: Ledger, path: str) -> int:
+    """How many messages a mailbox had when it was read last."""
+    count, number = ledger.sources[path].count() if path in ledger.sources else 0, ledger.pending(path)
+    letters = b"" if number is None else ledger.open[number].letters
+    return count + len(letters) - 2 * letters.count(LOST)
+
+
+def has_failed(ledger: Ledger, *paths: str) -> bool:
+    """Whether a sync failed of what was to be brought last from one of these mailboxes; or from any."""
+    return any(ledger.pending(path) in ledger.failed for path in paths or ledger.paths())

@@ -13,6 +13,7 @@ from ..faults import Fault, PlaceFault, Reason
 from ..maildir.making import LEDGER
 from ..mbox.core import SHORT
 from ..mbox.locks import WITHOUT_LOCKS
+from ..patterns import pattern
 from ..terminal import named
 
 # the word of a message: its file was placed by this mailbox; brought by another one; nobody's; nobody's, and `back` has
@@ -22,30 +23,34 @@ PLACED, SHARED, FOREIGN, RETURNED, LOST = b"p", b"s", b"f", b"b", b"l"
 NOBODYS = FOREIGN, RETURNED
 # stands for a name that a line cannot have
 NAMELESS = b"-"
-NAME = re.compile(rb"[!-~]+\Z")
+NAME = pattern(rb"[!-~]+\Z")
 # what the first line of a ledger begins with: the number stands for the form of its lines
-BEGINS = b"mbox2maildir\t2\t"
-HEAD = re.compile(BEGINS + rb"([0-9a-f]{32})\Z")
+BEGINS = b"mbox2maildir\t3\t"
+HEAD = pattern(BEGINS + rb"([0-9a-f]{32})\Z")
 # the beginning of a ledger of another version, perhaps behind lines that were cut
-OF_ANOTHER = re.compile(rb"(?:.*\t\n)*(?!%s)mbox2maildir\t.*[^\t\n]\n" % BEGINS)
+OF_ANOTHER = pattern(rb"(?:.*\t\n)*(?!%s)mbox2maildir\t.*[^\t\n]\n" % BEGINS)
 BY_ANOTHER = (
     "%s: this version did not write it: finish with the version that did, or move this file away and run migrate with "
     "--again"
 )
 # `=` stands for the first digits of the name
-MESSAGE = re.compile(
+MESSAGE = pattern(
     rb"^([psfbl])\t((?=[0-9a-f]{32})[!-~]+(?=\t=)|[!-~]+(?=\t[0-9a-f]))\t(=|[0-9a-f]{32})(?:\t([0-9a-f]{32}))?\n", re.M
 )
 # a line of something else
-OTHER_LINE = re.compile(rb"^(?![psfbl]\t).*\n", re.M)
-BATCH = re.compile(
-    rb"@\t(\d{1,18})\t(\d{1,18})\t(\d{1,18})\t(\d{1,18})\t((?:-?\d{1,19}(?:,-?\d{1,19})*)?)"
+OTHER_LINE = pattern(rb"^(?![psfbl]\t).*\n", re.M)
+BATCH = pattern(
+    rb"@\t(\d{1,18})\t(\d{1,18})\t(\d{1,18})\t(\d{1,18})\t(\d{1,18})\t((?:-?\d{1,19}(?:,-?\d{1,19})*)?)"
     rb"\t(\d{1,18})-([0-9a-f]{64})(?:-(\d{1,20}))?\t([!-~][ -~]*)\t([^\t]+)\Z"
 )
-ALL_PLACED = re.compile(rb"\+\t(\d{1,18})\Z")
-END = re.compile(rb"=\t(\d{1,18})\Z")
-MOVED = re.compile(rb">\t([^\t]+)\t([^\t]+)\Z")
-UNDONE = re.compile(rb"-\t([^\t]+)\Z")
+ALL_PLACED = pattern(rb"\+\t(\d{1,18})\Z")
+END = pattern(rb"=\t(\d{1,18})\Z")
+MOVED = pattern(rb">\t([^\t]+)\t([^\t]+)\Z")
+UNDOING = pattern(rb"<\t([^\t]+)\Z")
+UNDONE = pattern(rb"-\t(\d{1,18})\t([^\t]+)\Z")
+FAILED = pattern(rb"!\t(\d{1,18})\Z")
+# the line that ends a batch, by its number
+END_LINE = b"=\t%d\n"
 # what ends a line that was cut: no line ends with a tab, so it becomes no other one
 CUT = b"\t"
 # how many bytes of lines are written at once, in whole lines: others append too
@@ -102,8 +107,8 @@ Piece = tuple[bytes, Optional[Several]]
 
 class Head(NamedTuple):
     """What the first line of a batch says: how many lines follow, how many of these are of messages that are placed,
-    how many may come back, when names had changed, the mailbox's size and SHA-256, its reading and its path, and the
-    inode of its file, by which it is known after it was renamed."""
+    how many may come back, when names had changed, the mailbox's size and SHA-256, its reading and its path, the inode
+    of its file, by which it is known after it was renamed, and when a migration began it, in seconds since 1970."""
 
     wanted: int
     need: int
@@ -113,20 +118,21 @@ class Head(NamedTuple):
     words: str
     path: str
     inode: int = 0
+    begun: int = 0
 
     @classmethod
     def of(cls, found: re.Match[bytes]) -> "Head":
         """What a line says."""
-        wanted, need, back, times, size, digest, inode, words, path = (
+        wanted, need, back, begun, times, size, digest, inode, words, path = (
             one.decode() for one in found.groups(default=b"0")[1:]
         )
-        changed = tuple(map(int, filter(None, times.split(","))))
-        return cls(int(wanted), int(need), int(back), changed, (int(size), digest), words, path, int(inode))
+        changed, key = tuple(map(int, filter(None, times.split(",")))), (int(size), digest)
+        return cls(int(wanted), int(need), int(back), changed, key, words, path, int(inode), int(begun))
 
     def line(self, number: int) -> bytes:
         """The same as a line."""
         times, key = ",".join(map(str, self.times)), "%d-%s" % self.key + ("-%d" % self.inode if self.inode else "")
-        words = ["@", number, self.wanted, self.need, self.back, times, key, self.words, self.path]
+        words = ["@", number, self.wanted, self.need, self.back, self.begun, times, key, self.words, self.path]
         return "\t".join(map(str, words)).encode()
 
 
@@ -191,9 +197,14 @@ def note_all_placed(folder: bytes, number: int) -> None:
     append(folder, [b"+\t%d\n" % number], sync=False)
 
 
-def note_end(folder: bytes, number: int) -> int:
-    """Notes that a batch of the ledger of a folder was verified, and is on the disk. Returns the ledger's size then."""
-    return append(folder, [b"=\t%d\n" % number])
+def note_ends(folder: bytes, numbers: Iterable[int]) -> None:
+    """Notes that batches of the ledger of a folder were verified, and are on the disk."""
+    append(folder, [END_LINE % number for number in numbers])
+
+
+def note_failed(folder: bytes, number: int) -> None:
+    """Notes that a sync failed of a batch of the ledger of a folder, of which nothing is to be believed."""
+    append(folder, [b"!\t%d\n" % number])
 
 
 def put(number: int, piece: bytes) -> None:

@@ -9,7 +9,6 @@ import array
 import collections
 import itertools
 from collections.abc import Callable, Iterable, Iterator, Sequence
-from dataclasses import dataclass, field
 
 from ..maildir.hashes import Hashes
 from ..mbox.bases import is_own
@@ -26,21 +25,19 @@ from .lines import FOREIGN, NAMELESS, SHARED, Brought, counted_in, word_for_othe
 IsDeleted = Callable[[Place], bool]
 
 
-@dataclass
 class Seen:
     """What is to be said of new messages."""
 
-    # by the paths of other mailboxes: how many messages they brought too, or a killed run of theirs has placed, and how
-    # many of these are gone
-    shared: collections.Counter[str] = field(default_factory=collections.Counter)
-    gone: collections.Counter[str] = field(default_factory=collections.Counter)
-    # the files that no mailbox brought
-    foreign: list[bytes] = field(default_factory=list)
-    # how many stand there in another form only; how many the mailbox had before, and has again; and how many are placed
-    # though a file that is marked as deleted has them
-    other_form: int = 0
-    regained: int = 0
-    marked: int = 0
+    def __init__(self) -> None:
+        # by the paths of other mailboxes: how many messages they brought too, or a killed run of theirs has placed, and
+        # how many of these are gone
+        self.shared: collections.Counter[str] = collections.Counter()
+        self.gone: collections.Counter[str] = collections.Counter()
+        # the files that no mailbox brought
+        self.foreign: list[bytes] = []
+        # how many stand there in another form only; how many the mailbox had before, and has again; and how many are
+        # placed though a file that is marked as deleted has them
+        self.other_form = self.regained = self.marked = 0
 
 
 class Match:

@@ -9,19 +9,20 @@ from typing import NamedTuple, Optional
 from ..looks import is_there
 from ..maildir.making import PREPARED, sync_folder
 from ..mbox.bases import before_info
+from ..patterns import pattern
 from .lines import append, lines_in
 
 FIRST_LINE = b"mbox2maildir-prepared\t1"
-BEGUN = re.compile(
+BEGUN = pattern(
     rb"@\t(\d{1,18})-([0-9a-f]{64})\t(\d{1,20}(?:,\d{1,20})*)\t(\d{1,18})\t([!-~][ -~]*)\t([^\t]*)\t([^\t]+)\Z"
 )
-FILE = re.compile(
+FILE = pattern(
     rb"p\t([0-9a-f]{64}\.[1-9][0-9]{0,8})"
     rb"(?:\t(\d{1,20})\t(\d{1,19})\t(\d{1,19})\t((?:new|cur)(?::[!-~]*)?)"
     rb"(?:\t(=|[0-9a-f]{32})\t(=|[0-9a-f]{32})\t(\d{1,18})\t(\d{1,18})\t(\d{1,18}))?)?\Z"
 )
-FINISHES = re.compile(rb">\t(\d{1,18})\Z")
-TOOK = re.compile(rb"t\t(\d{1,18})\Z")
+FINISHES = pattern(rb">\t(\d{1,18})\Z")
+TOOK = pattern(rb"t\t(\d{1,18})\Z")
 WHOLE, FAILED, MADE = b"=", b"!", b"/"
 # the facts of a file that is read again, whatever its facts are
 READ_AGAIN = 0, 0, 0

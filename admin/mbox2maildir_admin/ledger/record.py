@@ -1,4 +1,7 @@
-"""The record of a Maildir: a file with one line for each step that was taken.
+"""The record of a Maildir: a file with a line for each thing that is noted of a mailbox, and an index of its ledgers.
+
+The index is written from the ledgers when the record is opened and closed. It says where a folder is, and that a ledger
+is gone, or was longer once. All else the ledgers decide, and what the index lacks is found in them.
 
 The file belongs to the owner of the Maildir, and nothing in it is trusted that could harm anybody else.
 """
@@ -12,18 +15,23 @@ import time
 from collections.abc import Callable, Container, Iterator
 from typing import NamedTuple, Optional
 
-from ..faults import PlaceFault, Reason
+from ..faults import Fault, PlaceFault, Reason
 from ..looks import is_there
-from ..maildir.making import RECORD, SyncNames, has_begun, sync_folder, synced_once
+from ..maildir.folders import folder_path, folders_in, name_of
+from ..maildir.making import LEDGER, RECORD, SyncNames, has_begun, sync_folder, synced_once
 from ..maildir.roots import make_alone
 from ..mbox.mailbox import is_still
 from ..terminal import named, spelled
-from .history import TIME, Entry, History, Key, Step, What
-from .lines import BY_ANOTHER, CUT
+from ..units import Size
+from .history import TIME, Entry, History, Key, Note, Step, What
+from .ledger import Ledger, count_in
+from .lines import BY_ANOTHER, CUT, number_in
 
 MADE_MEANWHILE = "another migrate has made %s meanwhile: run the same command again"
 # the first line says which version has written it
-VERSION_LINE = b"mbox2maildir-record\t1"
+VERSION_LINE = b"mbox2maildir-record\t2"
+# what lines of the index say
+INDEX = (*Step, Note.FOUND)
 # a larger file is no record; this is some 50,000 lines
 MOST = 1 << 23
 # what is escaped in the path of a line of the record
@@ -32,8 +40,7 @@ ESCAPED = re.compile(rb"\\x([0-9a-f]{2})|\\\\")
 
 class Verified(NamedTuple):
     """A mailbox each message of which is where it is to be: what the record is to have of it, its folder, the number of
-    the batch of its ledger and of the ledger itself, and the state of its file then. The file is closed, so others may
-    write to it."""
+    the batch of its ledger, and the state of its file then. The file is closed, so others may write to it."""
 
     key: Key
     messages: int
@@ -41,7 +48,6 @@ class Verified(NamedTuple):
     plan: str
     folder: bytes
     state: os.stat_result
-    ledger: str = ""
     batch: int = 0
     # whether its folder has a list of what was prepared there; without a batch it is only prepared
     is_prepared: bool = False
@@ -61,8 +67,9 @@ class Record(History):
         self._number: Optional[int] = None
         self.size, self.is_cut, self.has_head = 0, False, False
         self._gone: dict[str, list[Entry]] = {}
-        # the lines that wait for the file to be made
+        # the lines that wait for the file to be made; and whether lines stay in memory
         self.waiting: list[Entry] = []
+        self.is_dry = False
         # the function that puts lines on the disk; for a worker, its parent does that
         self.write: Callable[..., None] = self.store
 
@@ -70,11 +77,18 @@ class Record(History):
     @contextlib.contextmanager
     def open(cls, maildir: bytes, make: bool = True) -> Iterator["Record"]:
         """Opens the record of a Maildir, makes it if it is missing, and locks it. Without `make` it is only read, and
-        need not exist. In the end it is closed; programs that inherited it keep the lock."""
+        need not exist, and lines stay in memory. In the end it is closed; programs that inherited it keep the lock."""
         record = cls(maildir)
+        record.is_dry = not make
         try:
             record.take_file(make)
-            yield record
+            record.add_entry(*record.changes(is_found=True))
+            try:
+                yield record
+            finally:
+                # what cannot be written now is found by the next run
+                with contextlib.suppress(Fault):
+                    record.add_entry(*record.changes())
         finally:
             record.close()
 
@@ -87,6 +101,7 @@ class Record(History):
         if is_open:
             make_alone(maildir)
         with cls.open(maildir, is_open) as record:
+            record.is_dry = dry
             yield record
 
     @property
@@ -104,6 +119,7 @@ class Record(History):
         """Opens its file if it exists, and reads it. With `make` it also makes and locks it, and `sync` syncs its
         name."""
         self._number = open_record(self.path, make)
+        self.look()
         if not self.is_open:
             return
         # a record that is only read may belong to the owner of the Maildir
@@ -117,8 +133,10 @@ class Record(History):
 
     def make(self, *more: Callable[[SyncNames], object]) -> None:
         """Makes the Maildir and its file, if that has not been done, and more by functions that take what syncs the
-        names. All names are on the disk then, and the lines that waited for the file. Raises Fault if another `migrate`
-        has made them meanwhile."""
+        names. All names are on the disk then, and the lines that waited for the file. A dry run makes nothing. Raises
+        Fault if another `migrate` has made them meanwhile."""
+        if self.is_dry:
+            return
         was_open = self.is_open
         try:
             with synced_once() as sync:
@@ -182,9 +200,11 @@ class Record(History):
         """Reads its lines. Lines that were cut do not count. Raises Fault if another version has written it."""
         data = os.pread(self.number, MOST + 1, 0)
         self.size, self.is_cut = len(data), bool(data) and not data.endswith(b"\n")
-        lines = [line for line in data.split(b"\n")[:-1] if not line.endswith(CUT) and b"\0" not in line]
+        several = data.split(b"\n")[:-1]
+        lines = [line for line in several if not line.endswith(CUT) and b"\0" not in line]
         self.has_head = lines[:1] == [VERSION_LINE]
-        if lines and not self.has_head:
+        # a power cut may have taken the first line
+        if lines and not self.has_head and b"\0" not in several[0]:
             raise PlaceFault(BY_ANOTHER % named(self.path), Reason.RECORD)
         for entry in filter(None, map(Entry.parse, lines)):
             self.take(entry)
@@ -201,28 +221,69 @@ class Record(History):
         """Appends a line, which is on the disk when this returns."""
         self.add_entry(Entry(what, key, messages, time.strftime(TIME, time.gmtime()), spelled(path), plan))
 
-    def add_step(self, step: Step, one: Verified, size: int = 0) -> None:
-        """The same for a step of a mailbox, whose folder's ledger has this size."""
-        self.add_entry(self.line_of(step, one, size))
+    def look(self) -> None:
+        """Looks which folders have which ledgers."""
+        numbers = ((name_of(self.maildir, folder), number_in(folder)) for folder in folders_in(self.maildir))
+        self.numbers = {name: number for name, number in numbers if number}
+        self.folders = {number: name for name, number in reversed([*self.numbers.items()])}
 
-    def line_of(self, step: Step, one: Verified, size: int) -> Entry:
-        """The line of a step of a mailbox, whose folder's ledger has this size."""
-        when = time.strftime(TIME, time.gmtime())
-        return Entry(step, one.key, one.messages, when, spelled(one.path), one.plan, one.ledger, size)
+    def changes(self, is_found: bool = False) -> Iterator[Entry]:
+        """The lines that the index lacks of the ledgers that have changed. If it was just read, mailboxes of ledgers
+        that no line names are found. What cannot be read is said where it is needed."""
+        if not is_found:
+            self.look()
+        # of two copies of a folder, that one counts which the index has
+        its = {(one.ledger, one.key.folder) for one in self.lines()}
+        self.folders.update((number, name) for name, number in self.numbers.items() if (number, name) in its)
+        for number, name in self.folders.items():
+            with contextlib.suppress(Fault, OSError):
+                folder = folder_path(self.maildir, name)
+                if os.stat(os.path.join(folder, LEDGER)).st_size != self.seen.get(number):
+                    is_new, lines = is_found and number not in self.seen, self.changes_in(name, Ledger(folder))
+                    yield from lines
+                    yield from (one._replace(what=Note.FOUND) for one in lines if is_new)
 
-    def add_after(self, entry: Entry, step: Step, *paths: bytes) -> None:
-        """The same for a further step of what a line is about, at once for each of some paths."""
-        when = time.strftime(TIME, time.gmtime())
-        self.add_entry(*(entry._replace(what=step, when=when, path=spelled(path)) for path in paths))
+    def changes_in(self, name: bytes, ledger: Ledger) -> list[Entry]:
+        """The lines that the index lacks of the mailboxes of a folder, as far as its ledger has all that it had."""
+        several = [*self._undone[ledger.number].values(), *self.last_steps(name)]
+        last = {one.path: one for one in several if one.ledger == ledger.number}
+        found = []
+        for path, number in [] if ledger.damage else ledger.lasts.items():
+            before, now = last.get(path), self.entry_of(name, ledger, path)
+            is_known = before is not None and number >= before.number and now.says() != before.says()
+            if is_known or before is None and now.what is not Step.UNDONE:
+                found.append(now)
+        return found
+
+    @staticmethod
+    def entry_of(name: bytes, ledger: Ledger, path: str) -> Entry:
+        """The line of the index about a mailbox, by the ledger of a folder."""
+        step, when, number = Step.UNDONE, time.strftime(TIME, time.gmtime()), ledger.lasts[path]
+        at = ledger.number, ledger.size, number
+        if path not in ledger.paths():
+            return Entry(step, Key(name, Size(0), "0" * 64), 0, when, path, "-", *at)
+        step = Step.DONE if ledger.pending(path) is None and path not in ledger.leaving else Step.BEGUN
+        (size, digest), words = ledger.key_of(path), ledger.words_of(path)
+        return Entry(step, Key(name, Size(size), digest), count_in(ledger, path), when, path, words, *at)
+
+    def unknown_to(self, name: bytes, ledger: Ledger) -> list[Entry]:
+        """The last line about each mailbox of a folder of which the ledger there lacks something: the folder had
+        another one, or it was longer once."""
+        several = [*self.last_steps(name), *self._undone[ledger.number].values()]
+        last = {one.path: one for one in several}.values()
+        return [one for one in last if one.ledger != ledger.number or ledger.lasts.get(one.path, 0) < one.number]
 
     def add_entry(self, *entries: Entry) -> None:
         """The same for lines, at once."""
-        self.write(*entries)
+        if entries:
+            self.write(*entries)
         for entry in entries:
             self.take(entry)
 
     def store(self, *entries: Entry) -> None:
-        """Puts lines on the disk, once the file is there."""
+        """Puts lines on the disk, once the file is there. Those of the index need no sync."""
+        if self.is_dry:
+            return
         if not self.is_open:
             self.waiting += entries
             return
@@ -230,6 +291,8 @@ class Record(History):
             # if a full disk cut the line before, that is ended first, so that it becomes no other one
             begin = (CUT + b"\n") * self.is_cut + (VERSION_LINE + b"\n") * (not self.has_head)
             self.append(begin + b"".join(entry.line() for entry in entries))
+            if any(entry.what not in INDEX for entry in entries):
+                os.fsync(self.number)
             self.has_head = True
         except OSError as fault:
             raise PlaceFault("%s: %s" % (named(self.path), fault.strerror), Reason.RECORD) from fault
@@ -244,7 +307,6 @@ class Record(History):
         if written != len(piece):
             raise OSError(errno.ENOSPC, os.strerror(errno.ENOSPC))
         self.is_cut = False
-        os.fsync(self.number)
 
 
 def open_record(path: bytes, make: bool) -> Optional[int]:

@@ -6,17 +6,22 @@ import os
 from collections.abc import Callable, Iterable, Iterator
 from typing import NoReturn, Optional
 
-from .files import Named, digest_of
+from ..units import Place
 
 # more threads gain little; each takes this many files at a time
 MOST_THREADS, BATCH = 4, 16
 # smaller files take longer to hand over than to hash
 WORTHWHILE = 1 << 14
 
-# returns the digest of a file and its owner, or raises what the read of the file raised
-Read = Callable[[], tuple[Optional[bytes], Optional[int]]]
-# the name and the path of a file, and what returns its digest
-Readable = tuple[bytes, bytes, Read]
+# the digest of a file and its owner
+Digested = tuple[Optional[bytes], Optional[int]]
+# a file: the place of the message to which its name belongs, if it belongs to one, its name and its path
+File = tuple[Optional[Place], bytes, bytes]
+# reads a file; and returns what was read so, or raises what that raised
+ReadFile = Callable[[File], Digested]
+Read = Callable[[], Digested]
+# a file, and what returns its digest
+Readable = tuple[File, Read]
 
 
 def threads_for(files: int, size: int) -> int:
@@ -24,11 +29,13 @@ def threads_for(files: int, size: int) -> int:
     return min(MOST_THREADS, os.cpu_count() or 1) if size >= WORTHWHILE * max(files, 1) else 1
 
 
-def readable(files: Iterable[Named], is_wanted: Callable[[bytes], bool], threads: int) -> Iterator[Readable]:
-    """Yields the files in their order. Several threads read ahead the files whose names are wanted. Any other file is
-    read when its digest is asked for."""
+def readable(
+    files: Iterable[File], read: ReadFile, is_wanted: Callable[[File], bool], threads: int
+) -> Iterator[Readable]:
+    """Yields the files in their order. Several threads read ahead those that are wanted. Any other file is read when
+    its digest is asked for."""
     if threads == 1:
-        yield from (later(name, path) for name, path in files)
+        yield from (later(file, read) for file in files)
         return
     from concurrent.futures import Future, ThreadPoolExecutor
 
@@ -37,7 +44,7 @@ def readable(files: Iterable[Named], is_wanted: Callable[[bytes], bool], threads
     with ThreadPoolExecutor(threads) as pool:
         try:
             for batch in iter(lambda: list(itertools.islice(left, BATCH)), []):
-                ahead.append(pool.submit(read_some, batch, is_wanted))
+                ahead.append(pool.submit(read_some, batch, read, is_wanted))
                 if len(ahead) > 2 * threads:
                     yield from ahead.popleft().result()
             while ahead:
@@ -47,23 +54,23 @@ def readable(files: Iterable[Named], is_wanted: Callable[[bytes], bool], threads
                 batch_ahead.cancel()
 
 
-def read_some(files: list[Named], is_wanted: Callable[[bytes], bool]) -> list[Readable]:
-    """Reads the files whose names are wanted, and leaves the others for later."""
-    return [now(name, path) if is_wanted(name) else later(name, path) for name, path in files]
+def read_some(files: list[File], read: ReadFile, is_wanted: Callable[[File], bool]) -> list[Readable]:
+    """Reads the files that are wanted, and leaves the others for later."""
+    return [now(file, read) if is_wanted(file) else later(file, read) for file in files]
 
 
-def later(name: bytes, path: bytes) -> Readable:
+def later(file: File, read: ReadFile) -> Readable:
     """A file that is read when its digest is asked for."""
-    return name, path, functools.partial(digest_of, path)
+    return file, functools.partial(read, file)
 
 
-def now(name: bytes, path: bytes) -> Readable:
+def now(file: File, read: ReadFile) -> Readable:
     """A file that is read now."""
     try:
-        digested = digest_of(path)
+        digested = read(file)
     except OSError as error:
-        return name, path, functools.partial(fail, error)
-    return name, path, lambda: digested
+        return file, functools.partial(fail, error)
+    return file, lambda: digested
 
 
 def fail(error: OSError) -> NoReturn:

@@ -11,7 +11,7 @@ from ..mbox.bases import BASE, before_info, is_own
 from ..mbox.inventory import Inventory
 from ..terminal import NAMED, named
 from ..units import Place, Say, counted, silent
-from .ahead import Read, readable, threads_for
+from .ahead import Digested, File, Read, readable, threads_for
 from .either import Others
 from .files import digest_of, listings_of, paths_of
 
@@ -48,6 +48,7 @@ class Check:
         self.owner: Optional[int] = None
         # looks at the open file of a message first; None where each file is hashed
         self.look_first: Optional[LookFirst] = None
+        self.threads = threads_for(len(inventory), sum(inventory.sizes))
         # by message: how it is found, and the path of its file if that has another name
         self.states = bytearray(len(inventory))
         self.paths: dict[Place, bytes] = {}
@@ -64,15 +65,14 @@ class Check:
     def look(self, maildir: bytes) -> None:
         """Looks for the messages in the files of a Maildir, which other programs may have renamed."""
         self.owner = os.stat(maildir).st_uid
-        # bytes are compared faster than they are handed over
-        threads = 1 if self.look_first else threads_for(len(self.inventory), sum(self.inventory.sizes))
         for again, paths in enumerate(listings_of(maildir)):
             is_home = functools.partial(self.is_home, bool(again))
-            for number, (name, path, read) in enumerate(readable(paths, is_home, threads), 1):
+            files = ((self.inventory.place(name), name, path) for name, path in paths)
+            for number, (file, read) in enumerate(readable(files, self.read, is_home, self.threads), 1):
                 # the number is news each time: a child that says nothing new is ended
                 self.say("verifying file %d" % number)
                 try:
-                    self.look_at(name, path, read, bool(again))
+                    self.look_at(file, read, bool(again))
                 except FileNotFoundError:
                     # the file was renamed meanwhile
                     continue
@@ -111,18 +111,25 @@ class Check:
             # a file that was moved is there only once
             self.doubles += list(filter(is_there, paths))[1:]
 
-    def is_home(self, again: bool, name: bytes) -> bool:
-        """Whether the file of this name is read as a message's. In a listing after the first one, this holds only if
-        the message has no file so far."""
-        place = self.inventory.place(name)
+    def is_home(self, again: bool, file: File) -> bool:
+        """Whether a file is read as a message's. In a listing after the first one, this holds only if the message has
+        no file so far."""
+        place = file[0]
         return place is not None and (not again or self.states[place] == State.NOWHERE)
 
-    def look_at(self, name: bytes, path: bytes, read: Read, again: bool) -> None:
+    def read(self, file: File) -> Digested:
+        """Reads a file, which is a message's if its name says so."""
+        place, _, path = file
+        if place is None or not self.look_first:
+            return digest_of(path)
+        return digest_of(path, look=functools.partial(self.look_first, place))
+
+    def look_at(self, file: File, read: Read, again: bool) -> None:
         """Looks at a file that has a message's base, or at any other file, which may have a message's bytes."""
-        place = self.inventory.place(name)
+        place, name, path = file
         if place is None:
             self.look_at_other(name, path)
-        elif not again or self.states[place] == State.NOWHERE:
+        elif self.is_home(again, file):
             self.look_at_home(place, path, bytes.fromhex(name[:64].decode()), read)
 
     def look_at_other(self, name: bytes, path: bytes) -> None:
@@ -146,8 +153,6 @@ class Check:
 
     def look_at_home(self, place: Place, path: bytes, wanted: bytes, read: Read) -> None:
         """Looks at the file that has a message's base."""
-        if self.look_first:
-            read = functools.partial(digest_of, path, look=functools.partial(self.look_first, place))
         digest, owner = read()
         if self.states[place]:
             self.met_again.add(place)

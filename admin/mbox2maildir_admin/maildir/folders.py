@@ -4,6 +4,7 @@ import os
 import re
 from typing import Optional
 
+from ..patterns import pattern
 from ..terminal import is_text, named, option, shown, text_of
 
 # the name of the Maildir itself among its folders
@@ -11,22 +12,22 @@ INBOX = b"."
 # how long a name may be on a disk, in bytes
 LONGEST = 255
 # the folders above Thunderbird's mailboxes: a profile, and in it a folder for each account
-PROFILE = re.compile(
+PROFILE = pattern(
     r"\A(?:(?:Profiles/)?[0-9a-z]{8}\.default[^/]*/(?:Mail|ImapMail)/[^/]+/|Mail/Local Folders/|ImapMail/[^/]+\.[^/]+/)"
 )
 # KMail keeps the folders below a folder in a hidden one beside it
-BELOW_OF_KMAIL = re.compile(r"(\A|/)\.([^/]+)\.directory(?=/)")
+BELOW_OF_KMAIL = pattern(r"(\A|/)\.([^/]+)\.directory(?=/)")
 # Apple Mail and `readpst -r` keep the mail of a folder in a file of this name in that folder
-MAIL_OF_FOLDER = re.compile(r"([^/])/mbox\Z")
+MAIL_OF_FOLDER = pattern(r"([^/])/mbox\Z")
 # the ending of a copy made by hand, and what it may stand for
 COPY = b".mboxrd"
-HAND_MADE = re.compile(r"([^/])(?:\.(?:gz|bz2|xz|zst|lz4))?\.mboxrd\Z")
-ENDINGS = re.compile(r"([^/])\.(?:(?:sbd|mbox)(?=/)|mbox\Z)")
+HAND_MADE = pattern(r"([^/])(?:\.(?:gz|bz2|xz|zst|lz4))?\.mboxrd\Z")
+ENDINGS = pattern(r"([^/])\.(?:(?:sbd|mbox)(?=/)|mbox\Z)")
 # Thunderbird keeps the folders below a folder in one of this ending beside it
-BELOW_OF_THUNDERBIRD = re.compile(r"([^/])\.sbd(?=/)")
+BELOW_OF_THUNDERBIRD = pattern(r"([^/])\.sbd(?=/)")
 SIX = "[A-Za-z0-9+,]"
-ENCODED = re.compile("&(?:%s{8})*(?:%s{2}[AEIMQUYcgkosw048]|%s{5}[AQgw])?-" % (SIX, SIX, SIX))
-CONTROL = re.compile(r"[\x00-\x1f\x7f-\x9f]")
+ENCODED = pattern("&(?:%s{8})*(?:%s{2}[AEIMQUYcgkosw048]|%s{5}[AQgw])?-" % (SIX, SIX, SIX))
+CONTROL = pattern(r"[\x00-\x1f\x7f-\x9f]")
 
 
 def folder_name(folder: bytes) -> str:
@@ -47,6 +48,20 @@ def folder_shown(folder: bytes) -> str:
 def folder_path(maildir: bytes, folder: bytes) -> bytes:
     """The path of a folder in a Maildir."""
     return maildir if folder == INBOX else os.path.join(maildir, folder)
+
+
+def folders_in(maildir: bytes) -> list[bytes]:
+    """The paths of the folders of a Maildir, its own among them."""
+    try:
+        names = [name for name in os.listdir(maildir) if name.startswith(b".")]
+    except FileNotFoundError:
+        return []
+    return [maildir, *(os.path.join(maildir, name) for name in sorted(names))]
+
+
+def name_of(maildir: bytes, folder: bytes) -> bytes:
+    """The name on the disk of the folder at a path in a Maildir."""
+    return INBOX if folder == maildir else os.path.basename(folder)
 
 
 def on_disk(name: str) -> bytes:

@@ -16,8 +16,9 @@ OTHERS_WRITE = stat.S_IWGRP | stat.S_IWOTH
 
 
 def real_place(maildir: bytes) -> bytes:
-    """The path of a Maildir without symbolic links. A path without any stays as it was given."""
-    real = real_path(maildir)
+    """The path of a Maildir, for root without symbolic links: one above it may lead elsewhere later. A path without any
+    stays as it was given."""
+    real = real_path(maildir) if os.geteuid() == 0 else maildir
     return maildir if real == os.path.abspath(maildir) else real
 
 

@@ -43,9 +43,8 @@ def trial_folder() -> bytes:
     return os.fsencode(chosen if os.access(chosen, os.W_OK | os.X_OK) else "/var/tmp")
 
 
-def room_of(folder: bytes) -> int:
-    """How many bytes are free on the disk of a folder."""
-    disk = disk_of(folder)
+def room_on(disk: os.statvfs_result) -> int:
+    """How many bytes are free on a disk."""
     return disk.f_bavail * (disk.f_frsize or 4096)
 
 
@@ -60,13 +59,15 @@ class Need(NamedTuple):
     @classmethod
     def of(cls, folder: bytes, sizes: Collection[int], copy: int = 0) -> "Need":
         """Returns what files of these sizes need, and a copy of this size."""
-        block = disk_of(folder).f_frsize or 4096
+        there = folder_there(folder)
+        block = os.statvfs(there).f_frsize or 4096
         size = sum(-(-size // block) * block for size in sizes) + copy
-        return cls(folder, os.stat(folder_there(folder)).st_dev, size, len(sizes) + len(SUBFOLDERS) + 2)
+        return cls(folder, os.stat(there).st_dev, size, len(sizes) + len(SUBFOLDERS) + 2)
 
     def what_lacks(self) -> Optional[str]:
         """What the disk lacks, if it lacks anything."""
-        disk, free = disk_of(self.folder), room_of(self.folder)
+        disk = disk_of(self.folder)
+        free = room_on(disk)
         if self.size > free:
             return not_enough(self.folder, "it needs %s, and %s are free" % (amount(self.size), amount(free)))
         # some disks make inodes as they are needed, and have no number of free ones

@@ -2,8 +2,8 @@
 
 A plan says first what becomes of each message. Its file goes if this mailbox, or one that was undone before, placed it,
 its bytes are right, the mailbox still has the message, and no other mailbox has the file, had it, or lacks its own file
-of that message. Before the first file is removed, the record has `undoing`, and once everything is synced, the ledger
-and the record note that nothing is known of the mailbox any more. The same words go on with a run that was killed.
+of that message. The ledger says that the mailbox is being undone before the first file is removed, and that nothing is
+known of it any more once everything is synced. The same words go on with a run that was killed.
 """
 import collections
 import contextlib
@@ -19,18 +19,18 @@ from ..flags.renaming import sync_names
 from ..ledger.assign import File, Unnamed, by_form, files_of
 from ..ledger.batches import Line, State
 from ..ledger.files import forms_in
-from ..ledger.history import Entry, Step, names_of
-from ..ledger.ledger import Ledger
-from ..ledger.lines import LOST, NOBODYS, Brought, Head, note_end
+from ..ledger.history import Step, names_of
+from ..ledger.ledger import Ledger, count_in
+from ..ledger.lines import END_LINE, LOST, NOBODYS, Brought, Head
 from ..ledger.match import cores_of
 from ..ledger.prepared import Prepared
 from ..ledger.prepared_lines import has_list
 from ..ledger.record import Record, is_gone, unspelled
-from ..ledger.strangers import folders_in, without_line
+from ..ledger.strangers import without_line
 from ..looks import is_there
 from ..maildir.files import digest_of
 from ..maildir.files import names_of as mail_in
-from ..maildir.folders import INBOX, folder_named, folder_path, name_given
+from ..maildir.folders import INBOX, folder_named, folder_path, folders_in, name_given, name_of
 from ..maildir.making import RECORD
 from ..maildir.roots import real_place
 from ..mbox.bases import DIGEST, base_in, before_info, is_own
@@ -39,7 +39,6 @@ from ..mbox.mailbox import Mailbox
 from ..migration.dovecot import Dovecot, remove_lists
 from ..migration.known import Known
 from ..migration.outcomes import Fate, Observer, Row, row_left
-from ..migration.places import where_it_is
 from ..migration.replica import empty, is_prepared, take_back
 from ..migration.several import refuse
 from ..migration.steps import Extra, Opened, Options
@@ -108,7 +107,7 @@ class Planned(NamedTuple):
     why: Why
     line: Line
     keeper: str = ""
-    lacked: Optional[File] = None
+    instead_of: Optional[File] = None
 
 
 class Undo:
@@ -124,41 +123,32 @@ class Undo:
             name = self.folder_of(path) if self.how.folder is None else self.how.folder
             with open_mailbox(path, say=say, follow=True, quiet=not self.how.now) as mailbox:
                 size = mailbox.size
-                line = self.record.last_at(name, path)
-                folder = where_it_is(self.root, name, line.ledger if line else "")
-                return self.undo(Opened.into(self.root, folder, mailbox))
+                return self.undo(Opened.into(self.root, self.record.name_now(name, path), mailbox))
         except (Fault, OSError) as fault:
             return row_left(path, name, fault, None, size)
 
     def folder_of(self, path: bytes) -> bytes:
         """The folder in which the record has a mailbox by its path; INBOX if it has none by that path."""
-        names = sorted({where_it_is(self.root, line.key.folder, line.ledger) for line in self.lines_of(path)})
+        names = sorted(self.record.folders_of(path))
         if len(names) > 1:
             raise Left(IN_SEVERAL % ", ".join(map(folder_named, names)), Reason.UNDO, task(Todo.NAME_FOLDER))
         return names[0] if names else INBOX
 
-    def lines_of(self, path: bytes) -> list[Entry]:
-        """The last line about the mailbox of a path in each folder."""
-        several = (self.record.last_at(name, path) for name in self.record.folders_of(path))
-        return [line for line in several if line]
-
     def undo(self, opened: Opened) -> Row:
         """Undoes an open mailbox."""
-        mailbox, ledger, dry = opened.mailbox, Ledger(opened.folder), self.how.dry
+        mailbox, dry = opened.mailbox, self.how.dry
+        ledger = Ledger(opened.folder, dry=dry)
         if ledger.damage:
             raise Left(DAMAGED % ledger.damage, Reason.UNDO)
-        known = Known(self.record, ledger, opened)
         path = self.path_in(ledger, opened)
-        line = known.line_of(path) if path else known.line_of(*known.names)
-        is_resumed = line is not None and line.what is Step.UNDOING
-        if not path and not is_resumed:
+        if not path:
             raise Left(NOT_RECORDED, Reason.UNDO)
-        want_whole(known)
-        plan = plan_of(ledger, path, self.cores_now(opened, ledger, path), is_resumed)
+        want_whole(Known(self.record, ledger, opened))
+        plan = plan_of(ledger, path, self.cores_now(opened, ledger, path))
         if any(one.why is Why.REMOVED for one in plan):
             want_explained(self.root, opened.folder)
-        messages = messages_of(ledger, path, line)
-        counts = remove(opened, plan, dry) if dry else self.carry_out(opened, ledger, path, line, plan)
+        messages = count_in(ledger, path)
+        counts = remove(opened, plan, dry) if dry else self.carry_out(opened, ledger, path, plan)
         keepers = collections.Counter(one.keeper for one in plan if one.keeper)
         fate = Fate.WOULD_UNDO if dry else Fate.UNDONE
         remarks = tuple(remarks_on(counts, keepers, dry))
@@ -179,10 +169,7 @@ class Undo:
 
     def cores_now(self, opened: Opened, ledger: Ledger, path: str) -> Cores:
         """How often the mailbox has each core now, as it was read when it was migrated."""
-        words = ledger.words_of(path) if path else ""
-        if not words:
-            return collections.Counter()
-        disk = disk_of(self.root, self.how.dry)
+        words, disk = ledger.words_of(path), disk_of(self.root, self.how.dry)
         reading = Reading.of_words(words)
         extra = Dovecot(self.record) if reading.bare else Extra()
         with content_of(opened.mailbox, disk) as text:
@@ -192,26 +179,17 @@ class Undo:
                 raise Left(UNREADABLE % words, Reason.UNDO)
             return cores_of(messages_then(text, plan, disk, extra.start_of))
 
-    def carry_out(
-        self, opened: Opened, ledger: Ledger, path: str, line: Optional[Entry], plan: Sequence[Planned]
-    ) -> Counts:
+    def carry_out(self, opened: Opened, ledger: Ledger, path: str, plan: Sequence[Planned]) -> Counts:
         """Removes the files that go, and notes that before and afterwards. Returns what became of the messages."""
         with alone_in(opened.folder):
             want_same(opened.mailbox)
-            if line and line.what is not Step.UNDOING:
-                self.record.add_after(line, Step.UNDOING, unspelled(line.path))
+            if path not in ledger.leaving:
+                ledger.note(b"<\t%s\n" % path.encode())
             hand_over(ledger, plan)
             counts = remove(opened, plan)
             remove_lists(self.record, opened)
             sync_names(opened.folder)
-            size = ledger.undo(path) if path else 0
-            if line:
-                line = line._replace(ledger=ledger.number, size=size) if size else line
-                self.record.add_after(line, Step.UNDONE, unspelled(line.path))
-            for entry in self.lines_of(opened.mailbox.path):
-                # the folder may have had another name once
-                if ledger.number and entry.ledger == ledger.number:
-                    self.record.add_after(entry, Step.UNDONE, unspelled(entry.path))
+            ledger.undo(path)
             return counts
 
 
@@ -233,8 +211,8 @@ def undo_own(root: bytes, path: bytes, how: How, observer: Observer) -> None:
 
 
 def want_whole(known: Known) -> None:
-    """Raises Left if the ledger lacks what the record has of a mailbox, or of another one of its folder."""
-    lines = [known.last] if known.last and known.is_older else known.lacked()
+    """Raises Left if the ledger lacks what the index has of a mailbox, or of another one of its folder."""
+    lines = [known.lost] if known.lost else [one for one in known.unknown if one.what is not Step.UNDONE]
     if lines:
         raise Left(OLDER % named(unspelled(lines[0].path)), Reason.UNDO)
 
@@ -247,19 +225,13 @@ def want_explained(root: bytes, folder: bytes) -> None:
         raise Left(WITHOUT_LINE % counted(len(names), "message"), Reason.LEDGER)
 
 
-def messages_of(ledger: Ledger, path: str, line: Optional[Entry]) -> Optional[int]:
-    """How many messages a mailbox had, if that is known."""
-    if line:
-        return line.messages
-    return ledger.sources[path].count() if path in ledger.sources else None
-
-
-def plan_of(ledger: Ledger, path: str, has: Cores, is_resumed: bool) -> list[Planned]:
+def plan_of(ledger: Ledger, path: str, has: Cores) -> list[Planned]:
     """What becomes of the messages that the mailbox of a path brought. It has each core so often now, and a killed undo
     may have removed what is gone."""
+    is_resumed = path in ledger.leaving
     there = {before_info(name) for name, _ in mail_in(ledger.folder)}
     files = files_of((line for line in ledger.entries(None) if line.state is not State.UNDONE), there)
-    lacking = lacked_by_others(ledger.folder, files, path, has)
+    gone = gone_of_others(ledger.folder, files, path, has)
 
     def order(one: tuple[Line, File]) -> tuple[bool, bool, bool]:
         """What stays for others comes first; and what the mailbox had once may have other bytes than what it has."""
@@ -267,16 +239,16 @@ def plan_of(ledger: Ledger, path: str, has: Cores, is_resumed: bool) -> list[Pla
         return not others_of(file, path, MAY_HAVE), line.state is State.FORMER, (file.name is None) != is_resumed
 
     own = sorted(((line, file) for file in files for line in [file.line_of(path)] if line), key=order)
-    plan = [planned(line, file, has, lacking) for line, file in own]
+    plan = [planned(line, file, has, gone) for line, file in own]
     # of what the mailbox no longer has, or a killed run was to bring, nothing is said once it is gone
     return [one for one in plan if one.why is not Why.GONE or one.line.state in MAY_HAVE]
 
 
-def planned(line: Line, file: File, has: Cores, lacking: Mapping[bytes, list[File]]) -> Planned:
+def planned(line: Line, file: File, has: Cores, gone: Mapping[bytes, list[File]]) -> Planned:
     """What becomes of a message, by the line of the mailbox about its file. What goes, or stays in place of what others
     lack, is taken from what the mailbox has, and from what others lack."""
     message, has_file = line.message, file.name is not None
-    holders, lacked = others_of(file, line.path, MAY_HAVE), lacking.get(message.core, [])
+    holders, theirs = others_of(file, line.path, MAY_HAVE), gone.get(message.core, [])
     if file.is_renamed:
         return Planned(Why.RENAMED, line)
     if not has_file and (message.word in NOBODYS or holders or not has[message.core] or not file.is_newest):
@@ -285,17 +257,16 @@ def planned(line: Line, file: File, has: Cores, lacking: Mapping[bytes, list[Fil
         return Planned(Why.FOREIGN, line)
     if holders:
         # those that lack theirs have this one too
-        is_theirs = lacked and not any(lacked[-1].line_of(other.path) for other in holders)
-        return Planned(Why.SHARED, line, holders[-1].path, lacked.pop() if is_theirs else None)
+        is_theirs = theirs and not any(theirs[-1].line_of(other.path) for other in holders)
+        return Planned(Why.SHARED, line, holders[-1].path, theirs.pop() if is_theirs else None)
     if not has[message.core]:
         return Planned(Why.LOST, line)
     has[message.core] -= 1
-    if lacked and has_file:
-        theirs = lacked.pop()
-        return Planned(Why.SHARED, line, others_of(theirs, line.path, HAVE)[-1].path, theirs)
+    if theirs and has_file:
+        return Planned(Why.SHARED, line, others_of(theirs[-1], line.path, HAVE)[-1].path, theirs.pop())
     # if it went, nothing would bring it again
-    is_former = has_file and others_of(file, line.path, (State.FORMER,))
-    return Planned(Why.FORMER if is_former else Why.REMOVED, line)
+    had = has_file and others_of(file, line.path, (State.FORMER,))
+    return Planned(Why.FORMER if had else Why.REMOVED, line)
 
 
 def others_of(file: File, path: str, states: Container[State]) -> list[Line]:
@@ -303,18 +274,18 @@ def others_of(file: File, path: str, states: Container[State]) -> list[Line]:
     return [line for line in file.lines if line.path != path and line.state in states]
 
 
-def lacked_by_others(folder: bytes, files: Sequence[File], path: str, has: Cores) -> dict[bytes, list[File]]:
+def gone_of_others(folder: bytes, files: Sequence[File], path: str, has: Cores) -> dict[bytes, list[File]]:
     """The files of other mailboxes that are gone, by the cores of their messages, as far as the mailbox of a path has
     these. What programs have renamed is not gone, and gets its name."""
     missing = [file for file in files if file.name is None and any(line.state in MAY_HAVE for line in file.lines)]
     unnamed = unnamed_in(folder, {line.message.name for file in files for line in file.lines}) if missing else {}
-    lacked: collections.defaultdict[bytes, list[File]] = collections.defaultdict(list)
+    found: collections.defaultdict[bytes, list[File]] = collections.defaultdict(list)
     # what stands for a file of another mailbox stays whether it is that one or not
     for file in sorted(missing, key=lambda one: not others_of(one, path, HAVE)):
         core = file.lines[0].message.core
         if not file.find(unnamed, file.bare) and has[core] and others_of(file, path, HAVE):
-            lacked[core].append(file)
-    return lacked
+            found[core].append(file)
+    return found
 
 
 def unnamed_in(folder: bytes, names: Container[bytes]) -> Unnamed:
@@ -329,14 +300,12 @@ def hand_over(ledger: Ledger, plan: Sequence[Planned]) -> None:
     is not noted: a batch that ends would hide what that run may have placed."""
     handed: collections.defaultdict[str, list[Brought]] = collections.defaultdict(list)
     for one in plan:
-        for other in others_of(one.lacked, one.line.path, HAVE) if one.lacked else ():
+        for other in others_of(one.instead_of, one.line.path, HAVE) if one.instead_of else ():
             handed[other.path] += other.message._replace(word=LOST), one.line.message
     for path, several in handed.items():
         if ledger.pending(path) is None:
             head = Head(len(several), 0, 0, (), ledger.key_of(path), ledger.words_of(path), path)
-            number = ledger.begin(head, sorted(several, key=lambda one: one.word != LOST))
-            note_end(ledger.folder, number)
-            ledger.end(number)
+            ledger.note(END_LINE % ledger.begin(head, sorted(several, key=lambda one: one.word != LOST)))
 
 
 def remove(opened: Opened, plan: Sequence[Planned], dry: bool = False) -> Counts:
@@ -422,7 +391,7 @@ def undo_prepared(
         place = folder_path(root, name) if name is not None else b""
         if name is None or not has_list(place):
             return None
-        ledger, prepared = Ledger(place), Prepared.read(place)
+        ledger, prepared = Ledger(place, dry=dry), Prepared.read(place)
         if not is_prepared(record, name, ledger, prepared):
             return None
         if prepared.batch:
@@ -444,7 +413,7 @@ def prepared_from(root: bytes, path: bytes) -> Optional[bytes]:
     for folder in folders_in(root):
         origin = Prepared.read(folder).origin if has_list(folder) else None
         if origin and origin.path in spelled:
-            return INBOX if folder == root else os.path.basename(folder)
+            return name_of(root, folder)
     return None
 
 
