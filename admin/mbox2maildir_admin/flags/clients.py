@@ -12,10 +12,10 @@ from ..mbox.fields import VALUE, Header
 from ..mbox.inventory import Inventory
 from ..mbox.mailbox import Mailbox
 from ..nexts import Remark
+from ..patterns import pattern
 from ..units import Place, counted
 
-# the flags of a Maildir by their letters: draft, flagged, passed on, replied, seen, trashed
-FLAG_LETTERS = "DFPRST"
+# the letters of flags in a Maildir: draft, flagged, passed on, replied, seen, trashed.
 # Thunderbird, nsMsgMessageFlags.idl: Read, Replied, Marked, Forwarded
 THUNDERBIRD = {0x0001: "S", 0x0002: "R", 0x0004: "F", 0x1000: "P"}
 # Expunged
@@ -23,16 +23,16 @@ EXPUNGED = 0x0008
 # Evolution, camel-message-info.h: ANSWERED, DELETED, DRAFT, FLAGGED, SEEN, FORWARDED
 EVOLUTION = {1 << 0: "R", 1 << 1: "T", 1 << 2: "D", 1 << 3: "F", 1 << 4: "S", 1 << 10: "P"}
 # RFC 2047, 2: encoded words, of which a letter may have parts in two, and what separates two of them
-ENCODED = re.compile(r"(?:=\?[^?\s]+\?[bqBQ]\?[^?\s]*\?=)+")
-BETWEEN_ENCODED = re.compile(r"(?<=\?=)[ \t]+(?==\?)")
-FOLD = re.compile(r"\r?\n[ \t]+")
+ENCODED = pattern(r"(?:=\?[^?\s]+\?[bqBQ]\?[^?\s]*\?=)+")
+BETWEEN_ENCODED = pattern(r"(?<=\?=)[ \t]+(?==\?)")
+FOLD = pattern(r"\r?\n[ \t]+")
 
 
 def field(name: bytes, value: bytes = rb"(?P<value>(?s:.*))") -> Callable[[bytes], Optional[str]]:
     """Returns a function that reads the value of the first field of this name in a header, or None if the value is not
     of this form."""
-    first = re.compile(rb"^%s%s" % (name, VALUE), re.I | re.M)
-    wanted = re.compile(rb"[ \t]*%s\s*\Z" % value, re.I)
+    first = pattern(rb"^%s%s" % (name, VALUE), re.I | re.M)
+    wanted = pattern(rb"[ \t]*%s\s*\Z" % value, re.I)
 
     def read(header: bytes) -> Optional[str]:
         found = first.search(header)
@@ -59,11 +59,6 @@ def is_deleted(header: bytes) -> Optional[bool]:
 def letters_of(bits: Optional[str], table: dict[int, str]) -> Optional[str]:
     """The flags of a number in hexadecimal digits; None without a number."""
     return None if bits is None else "".join(letter for bit, letter in table.items() if int(bits, 16) & bit)
-
-
-def letters_of_thunderbird(header: bytes) -> Optional[str]:
-    """The flags that Thunderbird keeps in a header; None if it keeps none there."""
-    return letters_of(mozilla_status(header), THUNDERBIRD)
 
 
 def letters_of_evolution(header: bytes) -> Optional[str]:
@@ -105,7 +100,7 @@ def decoded_words(words: re.Match[str]) -> str:
 
 GMAIL = "Gmail"
 CLIENTS = {
-    "Thunderbird": letters_of_thunderbird,
+    "Thunderbird": lambda header: letters_of(mozilla_status(header), THUNDERBIRD),
     "Evolution": letters_of_evolution,
     GMAIL: field_of_takeout,
 }

@@ -11,7 +11,9 @@ from typing import NamedTuple, Optional
 
 from ..mbox.fields import LONGEST, VALUE, Header
 from ..mbox.mailbox import Mailbox
+from ..mbox.plain import NOTE
 from ..nexts import Remark
+from ..patterns import pattern
 from ..terminal import NAMED, named
 from ..units import Offset, Place
 
@@ -20,18 +22,17 @@ from ..units import Offset, Place
 # for new mail than any folder gets
 MOST_VALIDITY, LETTERS, MOST_UID = (1 << 32) - 1, 26, 4294967293 - (1 << 24)
 LONGEST_KEYWORD, LONGEST_INTERNAL = 50, 1 << 13
-FIELD = re.compile(rb"^(x-imapbase|x-imap|x-uid|x-keywords|x-status|status)([ \t]*)" + VALUE, re.I | re.M)
-HEAD = re.compile(rb"[ \t]?([0-9]+) [ \t\r\n]*([0-9]+)(?=[ \t\r\n]|\Z)")
-UID = re.compile(rb"[ \t]?([0-9]+)[ \t\r\n]*\Z")
+FIELD = pattern(rb"^(x-imapbase|x-imap|x-uid|x-keywords|x-status|status)([ \t]*)" + VALUE, re.I | re.M)
+HEAD = pattern(rb"[ \t]?([0-9]+) [ \t\r\n]*([0-9]+)(?=[ \t\r\n]|\Z)")
+UID = pattern(rb"[ \t]?([0-9]+)[ \t\r\n]*\Z")
 # the characters that no IMAP atom has
-NO_KEYWORD = re.compile(rb"[^!-~]|[(){%*\"\\\]]")
-INTERNAL_SUBJECT = b"DON'T DELETE THIS MESSAGE -- FOLDER INTERNAL DATA"
-INTERNAL_BODY = re.compile(
+NO_KEYWORD = pattern(rb"[^!-~]|[(){%*\"\\\]]")
+INTERNAL_BODY = pattern(
     rb"This text is part of the internal format of your mail folder, and is not\s+a real message\.\s+"
     rb"It is created automatically by the mail system software\.\s+If deleted, important folder data will be lost, "
     rb"and it will be re-created\s+with the data reset to initial values\.\s*\Z"
 )
-SUBJECT = re.compile(rb"^subject:([^\n]*)", re.I | re.M)
+SUBJECT = pattern(rb"^subject:([^\n]*)", re.I | re.M)
 # the flags of Dovecot by their letters in Status and X-Status, and the letters of a Maildir
 STATUS, X_STATUS = {b"R": "S"}, {b"A": "R", b"D": "T", b"F": "F", b"T": "D"}
 FLAGS = "DFRST"
@@ -102,7 +103,7 @@ def internal_head(mailbox: Mailbox, start: Offset) -> tuple[Optional[Head], Offs
     subject = SUBJECT.search(header)
     body = message[message.find(b"\n") + 1 + len(header) :].lstrip(b"\r\n")
     head = next(filter(None, map(head_of, fields_of(header))), None)
-    is_named = subject and subject.group(1).strip() == INTERNAL_SUBJECT
+    is_named = subject and subject.group(1).strip() == NOTE
     is_it = is_named and head and head.is_hidden and INTERNAL_BODY.match(body)
     return (head if is_it else None), Offset(start + len(message))
 
@@ -169,7 +170,9 @@ class Reading:
         if self.hides_first and not self.uids:
             self.uids.append(0)
         else:
-            self.uids.append(self.take(uid or self.last + 1))
+            self.previous = uid or self.last + 1
+            self.last = max(self.previous, self.last)
+            self.uids.append(self.previous)
         self.marks.append(marks_of(fields, self.names))
 
     def kept(self, value: bytes) -> int:
@@ -184,11 +187,6 @@ class Reading:
             return False
         found = [UID.match(field.value) for field in fields if field.name == b"x-uid"]
         return any(uid and 0 < number_of(uid.group(1)) <= self.head.last for uid in found)
-
-    def take(self, uid: int) -> int:
-        """Gives a message this UID."""
-        self.previous, self.last = uid, max(uid, self.last)
-        return uid
 
     def numbers(self, moment: int) -> Numbers:
         """UIDVALIDITY, the next UID, and the places of the messages by their UIDs. If no numbers were kept, UIDVALIDITY
@@ -246,15 +244,8 @@ def flags_of(marks: int, is_bare: bool) -> str:
     return "".join(flag for place, flag in enumerate(FLAGS) if marks >> place + (32 if is_bare else 40) & 1)
 
 
-def info_of(marks: int, current: str, is_bare: bool = False) -> str:
-    """The letters after `:2,` for a message with these marks, given those that its name has now. Unless it was
-    converted bare, mbox2maildir gave it some of them."""
-    flags = set(current)
-    for place, flag in enumerate(FLAGS):
-        wanted, given = marks >> 32 + place & 1, marks >> 40 + place & 1 and not is_bare
-        if wanted:
-            flags.add(flag)
-        elif given:
-            flags.discard(flag)
-    flags.update(chr(ord("a") + place) for place in range(LETTERS) if marks >> place & 1)
-    return "".join(sorted(flags))
+def info_of(marks: int, current: str) -> str:
+    """The letters after `:2,` for a message with these marks that was converted bare, given those that its name has
+    now."""
+    keywords = (chr(ord("a") + place) for place in range(LETTERS) if marks >> place & 1)
+    return "".join(sorted({*current, *flags_of(marks, True), *keywords}))

@@ -29,13 +29,13 @@ CHANGED = "Dovecot is changing %s: stop Dovecot, and run this again"
 Infos = list[Optional[bytes]]
 
 
-def rename(folder: bytes, inventory: Inventory, marks: Sequence[int], is_bare: bool) -> Infos:
+def rename(folder: bytes, inventory: Inventory, marks: Sequence[int]) -> Infos:
     """Gives each message the flags and keywords of its marks. Returns the infos of the files by their places."""
     infos: Infos = [None] * len(inventory)
     known: dict[bytes, bytes] = {}
     for file in flagged_in(folder, inventory):
         its = marks[file.place]
-        info = file.give(folder, info_of(its, file.letters, is_bare), is_listed(its))[len(file.base) :]
+        info = file.give(folder, info_of(its, file.letters), is_listed(its))[len(file.base) :]
         infos[file.place] = known.setdefault(info, info)
     sync_names(folder)
     return infos

@@ -10,7 +10,6 @@ for clients.
 """
 import enum
 from collections.abc import Iterable, Mapping, Sequence
-from types import MappingProxyType
 
 
 class Own(enum.Enum):
@@ -34,78 +33,36 @@ Roles = Mapping[str, Own]
 ARCHIVE = "Archive"
 ORDER = Own.INBOX, Own.SENT, Own.DRAFTS, Own.JUNK, Own.TRASH
 CATEGORIES = "Personal", "Social", "Promotions", "Updates", "Forums", "Purchases"
-MARKS = "Archived", "Important", "Snoozed", "Muted", "Scheduled"
+MARKS = "Snoozed", "Muted", "Scheduled", *("Category %s" % name for name in CATEGORIES)
 
-ENGLISH: Roles = MappingProxyType(
-    {
-        "Inbox": Own.INBOX,
-        "Sent": Own.SENT,
-        "Drafts": Own.DRAFTS,
-        "Draft": Own.DRAFTS,
-        "Spam": Own.JUNK,
-        "Trash": Own.TRASH,
-        "Opened": Own.READ,
-        "Unread": Own.UNREAD,
-        "Starred": Own.STARRED,
-        **{name: Own.MARK for name in (*MARKS, *("Category %s" % name for name in CATEGORIES))},
-    }
-)
-# Inbox, Sent, Drafts, Spam, Trash, Starred, Important, Archived, Unread, Opened: as many as are known
+# what the names of a language stand for, in their order, as many as are known
 NAMED = *ORDER, Own.STARRED, Own.MARK, Own.MARK, Own.UNREAD, Own.READ
-OTHERS = (
-    (
-        *("Posteingang", "Gesendet", "Entw\u00fcrfe", "Spam", "Papierkorb", "Markiert", "Wichtig"),
-        *("Archiviert", "Ungelesen", "Ge\u00f6ffnet"),
-    ),
-    (
-        *("Bo\u00eete de r\u00e9ception", "Messages envoy\u00e9s", "Brouillons", "Spam", "Corbeille", "Suivis"),
-        *("Importants", "Archiv\u00e9s", "Non lus"),
-    ),
-    (
-        *("Recibidos", "Enviados", "Borradores", "Spam", "Papelera", "Destacados", "Importantes"),
-        *("Archivados", "No le\u00eddos"),
-    ),
-    (
-        *("Posta in arrivo", "Posta inviata", "Bozze", "Spam", "Cestino", "Speciali", "Importanti"),
-        *("Archiviati", "Da leggere"),
-    ),
-    (
-        *("Postvak IN", "Verzonden", "Concepten", "Spam", "Prullenbak", "Met ster", "Belangrijk"),
-        *("Gearchiveerd", "Ongelezen"),
-    ),
-    (
-        *("Caixa de entrada", "Enviados", "Rascunhos", "Spam", "Lixeira", "Com estrela", "Importante"),
-        *("Arquivados", "N\u00e3o lidos"),
-    ),
-    # Russian: Vkhodyashchiye, Otpravlennyye, Chernoviki, Spam, Korzina, Pomechennyye
-    (
-        "\u0412\u0445\u043e\u0434\u044f\u0449\u0438\u0435",
-        "\u041e\u0442\u043f\u0440\u0430\u0432\u043b\u0435\u043d\u043d\u044b\u0435",
-        "\u0427\u0435\u0440\u043d\u043e\u0432\u0438\u043a\u0438",
-        "\u0421\u043f\u0430\u043c",
-        "\u041a\u043e\u0440\u0437\u0438\u043d\u0430",
-        "\u041f\u043e\u043c\u0435\u0447\u0435\u043d\u043d\u044b\u0435",
-    ),
-    # Japanese: jushin torei, soshin-zumi meru, shitagaki, meiwaku meru, gomibako, suta-tsuki, juyo
-    (
-        "\u53d7\u4fe1\u30c8\u30ec\u30a4",
-        "\u9001\u4fe1\u6e08\u307f\u30e1\u30fc\u30eb",
-        "\u4e0b\u66f8\u304d",
-        "\u8ff7\u60d1\u30e1\u30fc\u30eb",
-        "\u30b4\u30df\u7bb1",
-        "\u30b9\u30bf\u30fc\u4ed8\u304d",
-        "\u91cd\u8981",
-    ),
-    # Chinese: shoujianxiang, yifa youjian, caogao, laji youjian, yishanchu youjian, yijia xingbiao
-    (
-        "\u6536\u4ef6\u7bb1",
-        "\u5df2\u53d1\u90ae\u4ef6",
-        "\u8349\u7a3f",
-        "\u5783\u573e\u90ae\u4ef6",
-        "\u5df2\u5220\u9664\u90ae\u4ef6",
-        "\u5df2\u52a0\u661f\u6807",
-    ),
+ENGLISH, *OTHERS = (
+    dict(zip(names.split(", "), NAMED))
+    for names in (
+        "Inbox, Sent, Drafts, Spam, Trash, Starred, Important, Archived, Unread, Opened",
+        "Posteingang, Gesendet, Entw\u00fcrfe, Spam, Papierkorb, Markiert, Wichtig, Archiviert, "
+        "Ungelesen, Ge\u00f6ffnet",
+        "Bo\u00eete de r\u00e9ception, Messages envoy\u00e9s, Brouillons, Spam, Corbeille, Suivis, Importants, "
+        "Archiv\u00e9s, Non lus",
+        "Recibidos, Enviados, Borradores, Spam, Papelera, Destacados, Importantes, Archivados, No le\u00eddos",
+        "Posta in arrivo, Posta inviata, Bozze, Spam, Cestino, Speciali, Importanti, Archiviati, Da leggere",
+        "Postvak IN, Verzonden, Concepten, Spam, Prullenbak, Met ster, Belangrijk, Gearchiveerd, Ongelezen",
+        "Caixa de entrada, Enviados, Rascunhos, Spam, Lixeira, Com estrela, Importante, Arquivados, N\u00e3o lidos",
+        # Russian: Vkhodyashchiye, Otpravlennyye, Chernoviki, Spam, Korzina, Pomechennyye
+        "\u0412\u0445\u043e\u0434\u044f\u0449\u0438\u0435, "
+        "\u041e\u0442\u043f\u0440\u0430\u0432\u043b\u0435\u043d\u043d\u044b\u0435, "
+        "\u0427\u0435\u0440\u043d\u043e\u0432\u0438\u043a\u0438, \u0421\u043f\u0430\u043c, "
+        "\u041a\u043e\u0440\u0437\u0438\u043d\u0430, \u041f\u043e\u043c\u0435\u0447\u0435\u043d\u043d\u044b\u0435",
+        # Japanese: jushin torei, soshin-zumi meru, shitagaki, meiwaku meru, gomibako, suta-tsuki, juyo
+        "\u53d7\u4fe1\u30c8\u30ec\u30a4, \u9001\u4fe1\u6e08\u307f\u30e1\u30fc\u30eb, \u4e0b\u66f8\u304d, "
+        "\u8ff7\u60d1\u30e1\u30fc\u30eb, \u30b4\u30df\u7bb1, \u30b9\u30bf\u30fc\u4ed8\u304d, \u91cd\u8981",
+        # Chinese: shoujianxiang, yifa youjian, caogao, laji youjian, yishanchu youjian, yijia xingbiao
+        "\u6536\u4ef6\u7bb1, \u5df2\u53d1\u90ae\u4ef6, \u8349\u7a3f, \u5783\u573e\u90ae\u4ef6, "
+        "\u5df2\u5220\u9664\u90ae\u4ef6, \u5df2\u52a0\u661f\u6807",
+    )
 )
+ENGLISH.update({"Draft": Own.DRAFTS, **{name: Own.MARK for name in MARKS}})
 
 
 def own_names(labels: Iterable[str]) -> Roles:
@@ -113,8 +70,8 @@ def own_names(labels: Iterable[str]) -> Roles:
     if its word for Inbox is among them, and no label `Inbox`: what is a folder of Gmail's in one language may be
     somebody's label in another."""
     there = set(labels)
-    language = next((names for names in OTHERS if names[0] in there), ())
-    return ENGLISH if "Inbox" in there else {**ENGLISH, **dict(zip(language, NAMED))}
+    language: Roles = next((names for names in OTHERS if next(iter(names)) in there), {})
+    return ENGLISH if "Inbox" in there else {**ENGLISH, **language}
 
 
 def letters_by(several: Sequence[tuple[str, ...]], roles: Roles) -> tuple[list[str], bytes]:

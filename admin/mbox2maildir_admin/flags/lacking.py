@@ -1,6 +1,6 @@
 """Flags of messages that the files lack which stand for them, since another mailbox brought these."""
 import functools
-from collections.abc import Callable, Iterator
+from collections.abc import Callable
 from typing import Optional
 
 from ..maildir.files import names_of
@@ -18,19 +18,14 @@ OffsetOf = Callable[[bytes], Optional[int]]
 def lacking_flags(folder: bytes, mailbox: Mailbox, offset_of: OffsetOf, is_bare: bool) -> int:
     """How many messages, whose offsets are given by the bases of their files, have a flag in their headers that their
     files lack. `is_bare` says whether bare text was converted, which decides the flags that they got."""
-    return sum(not now <= letters for letters, now in known_in(folder, mailbox, offset_of, is_bare))
-
-
-def known_in(
-    folder: bytes, mailbox: Mailbox, offset_of: OffsetOf, is_bare: bool
-) -> Iterator[tuple[frozenset[str], frozenset[str]]]:
-    """The letters of flags of each file of these messages, and those that the header of its message gives."""
+    count = 0
     for name, _ in names_of(folder):
         base, info = OWN.match(name), name[len(before_info(name)) :]
         offset = offset_of(base[0]) if base else None
         if offset is not None and (not info or info.startswith(INFO)):
-            now = flags_in(Header.at(mailbox, Offset(offset)).text, is_bare)
-            yield frozenset(info[len(INFO) :].decode("latin-1")), now
+            letters = info[len(INFO) :].decode("latin-1")
+            count += not flags_in(Header.at(mailbox, Offset(offset)).text, is_bare) <= {*letters}
+    return count
 
 
 def flags_in(header: bytes, is_bare: bool) -> frozenset[str]:

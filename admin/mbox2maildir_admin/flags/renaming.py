@@ -24,10 +24,6 @@ class Flagged(NamedTuple):
     base: bytes
     letters: str
 
-    def is_untouched(self) -> bool:
-        """Whether the file is in `new` without flags, as it was delivered."""
-        return self.sub == b"new" and self.name == self.base
-
     def give(self, folder: bytes, letters: str, is_listed: bool = False) -> bytes:
         """Gives the file these letters in place of its own, but never in place of another file. Returns the name that
         it has then. A message that was listed is not new, and leaves `new`."""
@@ -71,7 +67,8 @@ def add_flags(
     """Adds the letters of messages to the flags of their files, if they were placed just now or nobody has touched
     them. A file that is gone by now has been touched. A message that was listed is not new."""
     for file in flagged_in(folder, inventory):
-        if is_placed(file.place) or file.is_untouched():
+        is_untouched = file.sub == b"new" and file.name == file.base
+        if is_untouched or is_placed(file.place):
             with contextlib.suppress(FileNotFoundError):
                 file.give(folder, "".join(sorted({*file.letters, *letters[file.place]})), file.place in listed)
     sync_names(folder)

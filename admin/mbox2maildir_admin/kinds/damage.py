@@ -1,29 +1,29 @@
 """What a file is that does not begin with mbox text and is of no kind in the table: damaged, one mail, or not known."""
-import re
 from collections.abc import Callable
-from typing import NamedTuple, Optional
+from typing import NamedTuple
 
 from ..mbox.dates import is_dated
-from ..mbox.files import BLOCK, LONG
+from ..mbox.files import LONG
 from ..mbox.lines import Said, cut
 from ..mbox.mailbox import Mailbox
 from ..mbox.pieces import Piece, pieces_of
 from ..nexts import Does, Task, Todo
+from ..patterns import pattern
 from ..terminal import shown
 from ..units import Line, Offset
 from .making import Looks, Makes, Recipe
 from .named import index_of
 from .others import FROM_LINE, ONE_MAIL, Holds
-from .starts import HEAD, is_from_line, nulls_of
+from .starts import HEAD, end_of_row, is_from_line
 
 # a header, and a line of text without a colon before it
-HEADER = re.compile(rb"(?:[!-9;-~]+[ \t]*:[^\n]*\n(?:[ \t][^\n]*\n)*)+")
-BEFORE_HEADER = re.compile(rb"[^\0\n:]*\n")
+HEADER = pattern(rb"(?:[!-9;-~]+[ \t]*:[^\n]*\n(?:[ \t][^\n]*\n)*)+")
+BEFORE_HEADER = pattern(rb"[^\0\n:]*\n")
 # what the header of a mail has: who sent it or which server took it, and one of the other fields. Notes, vCards,
 # calendars and settings have lines like a header too
-FROM_SOMEBODY = re.compile(rb"(?mi)^(?:From|Received)[ \t]*:")
-OF_MAIL = re.compile(rb"(?mi)^(?:Date|Message-ID|Subject|Return-Path|MIME-Version)[ \t]*:")
-BLANK = re.compile(rb"[\0\s]*")
+FROM_SOMEBODY = pattern(rb"(?mi)^(?:From|Received)[ \t]*:")
+OF_MAIL = pattern(rb"(?mi)^(?:Date|Message-ID|Subject|Return-Path|MIME-Version)[ \t]*:")
+BLANKS = b"\0 \t\r\n\v\f"
 BEGINS = "the mbox text begins here, at byte %d"
 NO_FROM_LINE = "a line `From ` without a date at its end and without a header after it"
 WITH_FROM_LINE = "(" + FROM_LINE + " && %s) >{copy}"
@@ -36,9 +36,7 @@ ASK_FILE: Recipe = (WITH_DATE, ALONE)
 LIKE_MAIL: Recipe = (Looks("file {}"), ALONE)
 LEAVE: Recipe = (Task(Todo.LEAVE),)
 # a line of this form may be one of mail
-LINE_OF_MAIL = re.compile(
-    rb"(?m)^(?:>*From |(?i:From|Received|Date|Message-ID|Subject|Return-Path|MIME-Version)[ \t]*:)"
-)
+LINE_OF_MAIL = pattern(rb"(?m)^(?:>*From |(?i:From|Received|Date|Message-ID|Subject|Return-Path|MIME-Version)[ \t]*:)")
 
 
 class Finding(NamedTuple):
@@ -51,9 +49,10 @@ class Finding(NamedTuple):
 
 
 def finding_of(mailbox: Mailbox, begins_message: Callable[[Piece], bool]) -> Finding:
-    """Finds out what a file is that does not begin with mbox text. A line `From ` begins a
-    message if `begins_message` says so."""
-    begins = first_from_line(mailbox, begins_message)
+    """Finds out what a file is that does not begin with mbox text. A line `From ` begins a message if `begins_message`
+    says so."""
+    pieces = pieces_of(mailbox.again().read)
+    begins = next((piece for piece in pieces if piece.begins and begins_message(piece)), None)
     line_of = mailbox.line_at
     found = [Said(line_of(begins.offset), BEGINS % (begins.offset + 1), shown(begins.from_line[:72]))] if begins else []
     head = mailbox.at(0, HEAD)
@@ -62,7 +61,7 @@ def finding_of(mailbox: Mailbox, begins_message: Callable[[Piece], bool]) -> Fin
         if begins:
             return Finding("damaged", ASK_LINE, Holds.MAIL, why + found)
         return Finding("not known", ASK_FILE, Holds.UNKNOWN, why)
-    blanks = length_of_blanks(mailbox)
+    blanks = end_of_row(mailbox, Offset(0), BLANKS)
     text = mailbox.at(blanks, HEAD)
     line = shown(text.split(b"\n")[0][:72])
     if is_from_line(text):
@@ -91,27 +90,7 @@ def unknown(mailbox: Mailbox, line: str) -> Finding:
 
 def has_line_of_mail(mailbox: Mailbox) -> bool:
     """Whether any line looks like a From_ line or like one of the header of a mail."""
-    reader, before = mailbox.again(), b""
-    while True:
-        block = reader.read(BLOCK)
-        if not block or LINE_OF_MAIL.search(before + block):
-            return bool(block)
-        # a line goes on in the next block; what `^` matches there is the beginning of one
-        before = block[max(0, len(block) - LONG) :]
-        before = before[before.find(b"\n") + 1 :] if b"\n" in before else b" "
-
-
-def first_from_line(mailbox: Mailbox, begins_message: Callable[[Piece], bool]) -> Optional[Piece]:
-    """The first line that begins a message, if there is one."""
-    return next((one for one in pieces_of(mailbox.again().read) if one.begins and begins_message(one)), None)
-
-
-def length_of_blanks(mailbox: Mailbox) -> Offset:
-    """How many bytes come before the first byte that is neither NUL nor blank."""
-    nulls = nulls_of(mailbox)
-    blank = BLANK.match(mailbox.at(nulls, HEAD))
-    assert blank is not None, "it matches nothing too"
-    return Offset(nulls + blank.end())
+    return any(LINE_OF_MAIL.search(piece.data) for piece in pieces_of(mailbox.again().read))
 
 
 def begins_with_mail(text: bytes, start: int = 0) -> bool:

@@ -2,27 +2,23 @@
 import os
 import re
 import stat
-from typing import TYPE_CHECKING
 
 from ..faults import Fault
 from ..looks import type_at
 from ..maildir.making import ENVELOPES, LEDGER, RECORD, SUBFOLDERS
 from ..mbox.files import open_file
+from ..mbox.pieces import FROM
 from ..nexts import Next, Todo, in_shell, task
+from ..patterns import pattern
 from ..terminal import text_of, word
 from .making import filled
 from .others import FROM_LINE, QUOTED
 from .starts import FIELD
 
-if TYPE_CHECKING:
-    Entry = os.DirEntry[bytes]
-else:
-    # before Python 3.9 DirEntry takes no type
-    Entry = os.DirEntry
-
+Entry = os.DirEntry[bytes]
 MAILDIR, MH = "it is a Maildir", "an MH folder"
 # what servers, and programs that copy mail, write beside the three folders of a Maildir
-OF_MAILDIR = re.compile(
+OF_MAILDIR = pattern(
     rb"maildirfolder|maildirsize|subscriptions|dovecot.*|courier.*|\.uidvalidity|\.mbsyncstate.*|\.isyncuidmap\.db"
     rb"|%s|%s|%s" % (re.escape(RECORD), re.escape(LEDGER), re.escape(ENVELOPES)),
     re.DOTALL,
@@ -31,10 +27,9 @@ KEYWORDS_OF_COURIER = b"courierimapkeywords"
 # Apple Mail exports the mailbox NAME as a folder NAME.mbox, in which a file of this name has the mail
 MBOX = b"mbox"
 # the names of MH's messages, and the file in which MH keeps lists of them
-NUMBER, SEQUENCES = re.compile(rb"[0-9]+"), b".mh_sequences"
+NUMBER, SEQUENCES = pattern(rb"[0-9]+"), b".mh_sequences"
 # how many bytes of a message show how it begins
 BEGINNING = 1 << 9
-FROM = b"From "
 # makes a mailbox of the messages in a folder of MH; {} stands for the folder, and {copy} for the mailbox
 FROM_MH = (
     "(cd {} && for n in $(ls | grep -xE '[0-9]+' | sort -n); do "

@@ -1,5 +1,4 @@
 """Lines within which a message may begin."""
-import re
 from collections.abc import Iterator
 from typing import NamedTuple
 
@@ -7,15 +6,16 @@ from ..mbox.dates import is_dated
 from ..mbox.files import LONG
 from ..mbox.mailbox import Mailbox
 from ..mbox.pieces import FROM, Piece, header_of
+from ..patterns import pattern
 from ..units import Offset
 from .starts import FIELD, HEAD
 
 # the end of a line that has a word `From `, which a piece may have without its end
-WORD_IN_LINE = re.compile(rb"From [^\n]*\n?")
+WORD_IN_LINE = pattern(rb"From [^\n]*\n?")
 # the beginning of a line that is quoted or escaped, by replies, by format=flowed or by OpenPGP
-REPLY = re.compile(rb"(?:- )?[> \t]*\Z")
+REPLY = pattern(rb"(?:- )?[> \t]*\Z")
 # what the header has that follows what may be the end of a sentence, wherever
-MAIL_FIELD = re.compile(
+MAIL_FIELD = pattern(
     rb"(?im)^(?:Return-Path|Received|Delivered-To|X-Original-To|Envelope-To|From|Sender|To|Date|Subject|Message-ID)"
     rb"[ \t]*:"
 )

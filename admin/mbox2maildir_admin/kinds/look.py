@@ -22,7 +22,7 @@ from .joins import joins_in
 from .sorts import AGAINST, DOUBTFUL, KEEPING, MAY_BE_MAIL, SAID, WITHIN
 from .starts import FIELD, end_of_row
 from .undated import ending_of, shape_of
-from .within import ADDRESS, Escapes, is_after_blank, may_be_mail
+from .within import ADDRESS, is_after_blank, may_be_mail
 
 GIT = re.compile(rb"From [0-9a-f]{40,64} Mon Sep 17 00:00:00 2001\r?\Z")
 # what the header of a message has of which something is to be said, in lower case
@@ -50,7 +50,10 @@ class Look:
         self.claimed_by, self.claimed, self.body, self.without = 0, 0, 0, False
         # whether the first message is the one by which Dovecot keeps an empty mailbox
         self.internal = bool(internal_head(mailbox, start)[0])
-        self.doubts, self.escapes = Doubts(), Escapes()
+        self.doubts = Doubts()
+        # the messages with right lengths, by their offsets, that have a line `>From `, and those that have a line
+        # `From ` after a blank one, so that no program has escaped it
+        self.with_quotes, self.unescaped = set[int](), set[int]()
         # what the first From_ line looks like without a date, and in what all of them end, if none has one
         first = mailbox.at(start, LONG).split(b"\n")[0]
         self.shape, self.ending = shape_of(first), ending_of(first)
@@ -109,7 +112,7 @@ class Look:
             sort = "quoted twice" if len(quote[1]) > 1 else "quoted, by length" if inside else "quoted"
             self.seen[sort].add(piece.offset + quote.start(), quote[0][1:])
             if inside:
-                self.escapes.quoted.add(self.claimed_by)
+                self.with_quotes.add(self.claimed_by)
         for join in joins_in(self.mailbox, piece, self.body):
             if join.offset >= self.claimed:
                 self.seen["joined"].add(join.offset, join.from_line)
@@ -121,7 +124,8 @@ class Look:
         if inside:
             is_doubtful = not dated and may_be_mail(self.mailbox, piece, self.claimed)
             sort = "inside, dated" if dated else "inside, like mail" if is_doubtful else "inside"
-            self.escapes.take_bare(self.mailbox, piece, self.claimed_by)
+            if is_after_blank(self.mailbox, piece):
+                self.unescaped.add(self.claimed_by)
         else:
             sort = self.sort_of(piece, dated, has_header)
         self.seen[sort].add(piece.offset, from_line, self.claimed_by if inside else None)
@@ -189,7 +193,7 @@ class Look:
         """Looks at what programs wrote into the header of a message, and at its length."""
         if header[b"x-gm-thrid"]:
             self.seen["Gmail"].add(piece.offset)
-        deleted = is_deleted(header.text) if b"x-mozilla-status" in header else None
+        deleted = is_deleted(header.text)
         if deleted is not None:
             self.seen["Thunderbird"].add(piece.offset)
         if deleted:
@@ -217,7 +221,7 @@ class Look:
         other lines may begin messages, all From_ lines have dates, and no `>` in a message with a length may be one
         that its delivery added."""
         is_plain = self.is_whole and not self.count(*DOUBTFUL, "wrong", "undated", "joined", "holds mail", "cut")
-        return is_plain and self.count("inside") > 0 and not (self.escapes.are_possible() or self.are_deleted())
+        return is_plain and self.count("inside") > 0 and self.with_quotes <= self.unescaped and not self.are_deleted()
 
     def count(self, *sorts: str) -> int:
         """How many lines are of these sorts."""
@@ -268,10 +272,6 @@ class Look:
         """Whether Thunderbird marked messages as deleted. Its marks count only if each message has one."""
         return self.count("deleted") > 0 and self.count("Thunderbird") == self.messages
 
-    def has_bare_lines(self) -> bool:
-        """Whether lines `From ` outside of right lengths have neither a date nor a header after them."""
-        return self.count("against each line") > self.count(*WITHIN)
-
     def keeping(self) -> Reasons:
         """The lines because of which the text cannot be read without a decision, and what is said of the first ones."""
         for sorts in KEEPING:
@@ -282,16 +282,11 @@ class Look:
 
     def against(self, word: str) -> Reasons:
         """The lines that contradict a word that says how a text was written, and what is said of the first ones."""
-        dated = (
-            "a date at its end, but no header after it"
-            if word == "unquoted"
-            else "no date at its end and no header after it"
-        )
-        found = [
-            Said(line, "within the message of line %d, by its length" % by if by else dated, text)
-            for line, text, by in self.first(AGAINST[word])
-        ]
-        return Reasons(found, self.count(AGAINST[word]))
+        sort, found = AGAINST[word], []
+        outside = ("a date at its end, but" if word == "unquoted" else "no date at its end and") + " no header after it"
+        for line, text, by in self.first(sort):
+            found.append(Said(line, SAID["inside"].format(by) if by else outside, text))
+        return Reasons(found, self.count(sort))
 
 
 # whether a look at the beginning of a text is enough, and what looks at as much of a text as is wanted

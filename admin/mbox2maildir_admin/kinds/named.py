@@ -7,55 +7,42 @@ import stat
 from collections.abc import Sequence
 
 from ..mbox.files import open_file, read_up_to
+from ..patterns import pattern
 from ..terminal import text_of
 from .starts import FIELD
 
 # mutt's muttrc and manual (mbox, record, postponed), Alpine's technical notes, Thunderbird's, Evolution's and KMail's
 # own folders, Apple Mail, Outlook; in lower case
 NAMES = frozenset(
-    [
-        *("mbox", "sent", "postponed", "outbox", "drafts", "draft", "trash", "junk", "spam", "templates"),
-        *("sent-mail", "sent_mail", "sentmail", "sent items", "sent messages", "sent mail"),
-        *("postponed-msgs", "saved-messages", "received", "read-mail", "read-messages"),
-        *("deleted items", "deleted messages", "unsent messages"),
-        *("archive", "archives", "archived"),
-    ]
+    (
+        "mbox, sent, postponed, outbox, drafts, draft, trash, junk, spam, templates, sent-mail, sent_mail, sentmail, "
+        "sent items, sent messages, sent mail, postponed-msgs, saved-messages, received, read-mail, read-messages, "
+        "deleted items, deleted messages, unsent messages, archive, archives, archived"
+    ).split(", ")
 )
 # the mail of a mailbox that Apple Mail exported, and the name of that
-EXPORTED = re.compile(rb"([^/]+)\.mbox/mbox\Z")
+EXPORTED = pattern(rb"([^/]+)\.mbox/mbox\Z")
 # the endings of mailboxes, of compressed files and of copies made by hand
-ENDINGS = re.compile(r"(?:\.mbox)?(?:\.(?:gz|bz2|xz|zst|lz4))?(?:\.mboxrd)?\Z")
+ENDINGS = pattern(r"(?:\.mbox)?(?:\.(?:gz|bz2|xz|zst|lz4))?(?:\.mboxrd)?\Z")
 # the names of empty files that are not mailboxes: hidden ones, locks, indexes, and Dovecot's files beside its counter
-EMPTY_AUXILIARY = re.compile(rb"\..*|.*\.(?:lock|msf)|dovecot-uidvalidity\.[0-9a-f]{8}", re.DOTALL)
+EMPTY_AUXILIARY = pattern(rb"\..*|.*\.(?:lock|msf)|dovecot-uidvalidity\.[0-9a-f]{8}", re.DOTALL)
 # nsMsgLocalStoreUtils.cpp: the names that Thunderbird takes for no folder
-BESIDE = re.compile(
-    rb"(?:msgfilterrules|rules|rulesbackup|popstate|sort)\.dat|(?:filterlog|junklog)\.html|mailfilt\.log|filters\.js"
-    rb"|feed(?:s|items)\.(?:json|rdf)(?:\.(?:tmp|backup|corrupt))?|feeditems_error.*|.*\.msf",
-    re.DOTALL | re.IGNORECASE,
+BESIDE = pattern(
+    rb"(?is:(?:msgfilterrules|rules|rulesbackup|popstate|sort)\.dat|(?:filterlog|junklog)\.html|mailfilt\.log"
+    rb"|filters\.js|feed(?:s|items)\.(?:json|rdf)(?:\.(?:tmp|backup|corrupt))?|feeditems_error.*|.*\.msf)"
 )
 # the names of files that mail programs write beside mailboxes
-INDEXES = [
-    (re.compile(rb"table_of_contents|\.DS_Store|(?:Info|mbox)\.plist"), "Apple's index"),
-    (
-        re.compile(
-            rb".+\.(?:cmeta|ev-summary(?:-meta)?|ibex\.index(?:\.data)?)|folders\.db|folder-tree\.xml", re.DOTALL
-        ),
-        "Evolution's index",
-    ),
-    (
-        re.compile(rb".+\.toc(?:\.\d{3})?|(?:descmap|filters)\.pce|eudora\.ini|lmos\.dat", re.DOTALL | re.IGNORECASE),
-        "Eudora's index",
-    ),
-    (BESIDE, "Thunderbird's index"),
-    (re.compile(rb"(?:panacea|virtualFolders)\.dat|(?:profiles|installs)\.ini"), "Thunderbird's index"),
-    (
-        re.compile(rb"archive_browser\.html|(?:Blocked Addresses|Delegates|Filters|Settings|Vacation responder)\.json"),
-        "a Takeout's settings",
-    ),
-]
+INDEXES = {
+    "Apple's index": rb"table_of_contents|\.DS_Store|(?:Info|mbox)\.plist",
+    "Evolution's index": rb".+\.(?:cmeta|ev-summary(?:-meta)?|ibex\.index(?:\.data)?)|folders\.db|folder-tree\.xml",
+    "Eudora's index": rb"(?i:.+\.toc(?:\.\d{3})?|(?:descmap|filters)\.pce|eudora\.ini|lmos\.dat)",
+    "Thunderbird's index": rb"%s|(?:panacea|virtualFolders)\.dat|(?:profiles|installs)\.ini" % BESIDE.pattern,
+    "a Takeout's settings": rb"archive_browser\.html"
+    rb"|(?:Blocked Addresses|Delegates|Filters|Settings|Vacation responder)\.json",
+}
 # the most bytes of a line that a program writes into its lock: ASCII, such as its number, which Dovecot's host follows
 LONGEST_LOCK = 256
-LINE_OF_LOCK = re.compile(rb"(?:\d+:|(?!From |%s))[\t -~]*(?:\r?\n)?\Z" % FIELD.pattern)
+LINE_OF_LOCK = pattern(rb"(?:\d+:|(?!From |%s))[\t -~]*(?:\r?\n)?\Z" % FIELD.pattern)
 
 
 def name_of_folder(path: bytes) -> str:
@@ -101,7 +88,7 @@ def is_auxiliary(name: bytes) -> bool:
 def index_of(path: bytes) -> str:
     """What a file is by its name if a mail program writes such files; empty otherwise. One that holds mail is none."""
     name = os.path.basename(path)
-    return next((kind for names, kind in INDEXES if names.fullmatch(name)), "")
+    return next((kind for kind, names in INDEXES.items() if re.fullmatch(names, name, re.DOTALL)), "")
 
 
 def is_lock(path: bytes) -> bool:

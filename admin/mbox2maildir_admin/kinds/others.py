@@ -6,6 +6,7 @@ from typing import NamedTuple, Optional
 
 from ..mbox.mailbox import Mailbox
 from ..nexts import Task, Todo
+from ..patterns import pattern
 from .making import Makes, Recipe
 from .shapes import is_emlx, is_filter_rules, is_mailbox_log, is_subscriptions, is_tar, is_uidvalidity
 from .starts import HEAD
@@ -54,7 +55,7 @@ def other(
 ) -> Other:
     """A kind that may hold mail, with the command that makes a mailbox of it. Debian's package is named if it has
     another name than the program."""
-    return Other(re.compile(start, re.DOTALL), kind, (Makes(then, package=package),), check=check)
+    return Other(pattern(start, re.DOTALL), kind, (Makes(then, package=package),), check=check)
 
 
 def folder(start: bytes, kind: str, then: str, package: str = "", if_packed: str = "") -> Other:
@@ -69,7 +70,7 @@ def packed(start: bytes, form: Form, then: str, package: str = "") -> Other:
 
 def no_mail(start: bytes, kind: str, check: Optional[Callable[[Mailbox], bool]] = None) -> Other:
     """A kind that holds no mail."""
-    return Other(re.compile(start, re.DOTALL), "no mail: " + kind, (Task(Todo.LEAVE),), Holds.NO_MAIL, check)
+    return Other(pattern(start, re.DOTALL), "no mail: " + kind, (Task(Todo.LEAVE),), Holds.NO_MAIL, check)
 
 
 ONE_MAIL = "(%s && %s {} && echo) >{copy}" % (FROM_LINE, QUOTED)

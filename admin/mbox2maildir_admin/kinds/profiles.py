@@ -7,8 +7,9 @@ from typing import NamedTuple, Optional
 from ..looks import is_file, is_folder, may_be
 from ..maildir.folders import INBOX, folder_on_disk
 from ..mbox.files import is_empty
+from ..mbox.pieces import FROM
 from ..terminal import is_text
-from .folders import FROM, Entry, head_of
+from .folders import Entry, head_of
 from .making import is_below
 from .named import BESIDE
 

@@ -4,18 +4,20 @@ import re
 
 from ..mbox.files import WHOLE
 from ..mbox.mailbox import Mailbox
+from ..patterns import pattern
 
 # a block of tar, the place of its checksum, and the digits of that
 BLOCK, SUM = 512, slice(148, 156)
-OCTAL = re.compile(rb" *[0-7]{1,7}[ \0]")
-FIRST_FIELD = re.compile(rb"[!-9;-~]+[ \t]*:")
-PROPERTY_LIST = re.compile(rb"\s*<(?:\?xml|!DOCTYPE plist|plist)")
+OCTAL = pattern(rb" *[0-7]{1,7}[ \0]")
+FIRST_FIELD = pattern(rb"[!-9;-~]+[ \t]*:")
+PROPERTY_LIST = pattern(rb"\s*<(?:\?xml|!DOCTYPE plist|plist)")
 # the names of subscription files of Dovecot and UW-IMAP; a line of such a file in the older form, and in version 2
 SUBSCRIPTIONS = b".subscriptions", b".mailboxlist"
-NAME = re.compile(rb"(?!From )[^\0-\x1f\x7f>:][^\0-\x1f\x7f:]{0,254}\Z")
-TABBED_NAME = re.compile(rb"(?!From )[^\0-\x08\x0b-\x1f\x7f]{1,1024}\Z")
-RULE = re.compile(rb'[A-Za-z]+="[^\r\n]*"\r?\Z')
-LOG_LENGTH = 24
+NAME = pattern(rb"(?!From )[^\0-\x1f\x7f>:][^\0-\x1f\x7f:]{0,254}\Z")
+TABBED_NAME = pattern(rb"(?!From )[^\0-\x08\x0b-\x1f\x7f]{1,1024}\Z")
+RULE = pattern(rb'[A-Za-z]+="[^\r\n]*"\r?\Z')
+# records of 24 bytes
+LOG = pattern(rb"(?:[\x01-\x0c]\0{3}.{20})*\Z", re.DOTALL)
 
 
 def whole(mailbox: Mailbox) -> bytes:
@@ -47,11 +49,7 @@ def is_emlx(mailbox: Mailbox) -> bool:
 def is_mailbox_log(mailbox: Mailbox) -> bool:
     """Whether it has only records of Dovecot: a byte that is one of four, 16 bytes for a mailbox, and four for a
     time."""
-    text = whole(mailbox)
-    records = range(0, len(text), LOG_LENGTH)
-    return len(text) % LOG_LENGTH == 0 and all(
-        1 <= text[start] <= 12 and text[start + 1 : start + 4] == b"\0\0\0" for start in records
-    )
+    return LOG.match(whole(mailbox)) is not None
 
 
 def is_uidvalidity(mailbox: Mailbox) -> bool:

@@ -15,13 +15,13 @@ BEFORE_TEXT = re.compile(rb"(?:\xef\xbb\xbf)?(?:[ \t]*\r?\n)*")
 FIELD = re.compile(rb"[!-9;-~]+[ \t]*:|>From ")
 
 
-def text_start(mailbox: Mailbox, cr: bool = False) -> Optional[Offset]:
+def text_start(mailbox: Mailbox) -> Optional[Offset]:
     """The offset at which the mbox text begins: after a mark and blank lines, or after NUL bytes. None if no text
-    begins, as in a tar archive, which begins with a name. With `cr` the lines end in CR."""
+    begins, as in a tar archive, which begins with a name."""
     head = mailbox.at(0, HEAD)
     if is_tar(mailbox):
         return None
-    before = BEFORE_TEXT.match(head.replace(b"\r", b"\n") if cr else head)
+    before = BEFORE_TEXT.match(head)
     assert before is not None, "it matches nothing too"
     if not head or is_from_line(mailbox.at(before.end(), HEAD)):
         return Offset(before.end())
@@ -31,22 +31,17 @@ def text_start(mailbox: Mailbox, cr: bool = False) -> Optional[Offset]:
 
 def is_from_line(text: bytes) -> bool:
     """Whether a text begins with a From_ line that ends in a date, or that a header follows."""
+    several = text, text.replace(b"\r\n", b"\n").replace(b"\r", b"\n")
     return any(
         line.startswith(b"From ") and (is_dated(line) or FIELD.match(header))
-        for line, header in (parted(text), parted(text.replace(b"\r\n", b"\n").replace(b"\r", b"\n")))
+        for line, _, header in (one.partition(b"\n") for one in several)
     )
 
 
 def has_date_and_header(text: bytes) -> bool:
     """Whether a text begins with a From_ line that ends in a date and that a header follows."""
-    line, header = parted(text)
+    line, _, header = text.partition(b"\n")
     return line.startswith(b"From ") and is_dated(line) and FIELD.match(header) is not None
-
-
-def parted(text: bytes) -> tuple[bytes, bytes]:
-    """The first line of a text, and what follows it."""
-    line, _, rest = text.partition(b"\n")
-    return line, rest
 
 
 def nulls_of(mailbox: Mailbox, offset: Offset = Offset(0)) -> Offset:

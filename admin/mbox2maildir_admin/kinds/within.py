@@ -1,5 +1,4 @@
-"""Lines `From ` within messages with right lengths: which of them may begin other messages, and whether a program may
-have put `>` before others."""
+"""Lines `From ` within messages with right lengths: which of them may begin other messages."""
 import re
 
 from ..mbox.files import LONG
@@ -12,23 +11,6 @@ BY_RMAIL = re.compile(rb"(?:>+From [^\n]*\n)*")
 ADDRESS = re.compile(rb"From \S+@\S+\s*\Z")
 ONE_WORD = re.compile(rb"From \S+\s*\Z")
 EMPTY_LINE = (b"\n", b"\r\n")
-
-
-class Escapes:
-    """The messages with right lengths, by their offsets, that have a line `>From `, and those that have a line
-    `From ` after a blank one, so that no program has escaped it."""
-
-    def __init__(self) -> None:
-        self.quoted, self.bare = set[int](), set[int]()
-
-    def take_bare(self, mailbox: Mailbox, piece: Piece, by: int) -> None:
-        """Takes a line `From ` within the message that begins at an offset."""
-        if is_after_blank(mailbox, piece):
-            self.bare.add(by)
-
-    def are_possible(self) -> bool:
-        """Whether a program may have put a `>` before a line of these messages."""
-        return not self.quoted <= self.bare
 
 
 def is_after_blank(mailbox: Mailbox, piece: Piece) -> bool:

@@ -10,14 +10,14 @@ from ..mbox.mailbox import Mailbox
 from ..units import Place
 
 # Google writes both fields before those that were sent; what a sender writes comes after them
-FIRST = re.compile(rb"X-GM-THRID%s\nX-Gmail-Labels%s(?:\n|\Z)" % (VALUE, VALUE), re.I)
-LABELS_FIRST = re.compile(rb"X-Gmail-Labels%s\nX-GM-THRID%s(?:\n|\Z)" % (VALUE, VALUE), re.I)
+THREAD, LABELS = rb"X-GM-THRID" + VALUE, rb"X-Gmail-Labels" + VALUE
+FIRST = re.compile(rb"(?:%s\n%s|%s\n%s)(?:\n|\Z)" % (THREAD, LABELS, LABELS, THREAD), re.I)
 
 
 def field_of(header: bytes) -> Optional[bytes]:
     """The value of the first field with labels; None unless it and the number of the thread come before all others."""
-    found, other = FIRST.match(header), LABELS_FIRST.match(header)
-    return found[2] if found else other[1] if other else None
+    found = FIRST.match(header)
+    return (found[3] if found[2] is None else found[2]) if found else None
 
 
 def labels_of(header: bytes) -> Optional[list[str]]:

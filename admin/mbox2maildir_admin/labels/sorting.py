@@ -18,7 +18,7 @@ MOST = 2000
 NO_LABELS = "message %d does not begin with X-GM-THRID and X-Gmail-Labels, as each message of a Takeout does"
 UNREADABLE = "the labels of message %d cannot be read"
 NO_FOLDER = "message %d has the label %s, which gives no folder: %s"
-IN_QUESTION = "more than half of the messages have %s, so it may be a mark of Gmail's and no folder: %s"
+IN_QUESTION = "more than half of the messages have %s, so it may be a mark of Gmail's and no folder: %s of %d"
 TOO_MANY = "its labels give %d folders"
 
 Places = Sequence[int]
@@ -93,13 +93,10 @@ class Sorting:
             for read in asked:
                 given = ((label, READ if label == read else NONE) for label in asked)
                 answers.append((self.choosing.with_given(*given), Does.LABEL_READ))
-            names, counts = ("the labels %s" if len(asked) > 1 else "the label %s"), self.counts_of(asked)
-            raise LabelsLeft(IN_QUESTION % (names % " and ".join(map(named, asked)), counts), *answers)
-
-    def counts_of(self, labels: Sequence[str]) -> str:
-        """How many of the messages have these labels, as it is said."""
-        several = " and ".join(str(self.counts[label]) for label in labels)
-        return "%s of %d" % (several, len(self.messages))
+            names = "the labels %s" if len(asked) > 1 else "the label %s"
+            counts = " and ".join(str(self.counts[label]) for label in asked)
+            its = names % " and ".join(map(named, asked)), counts, len(self.messages)
+            raise LabelsLeft(IN_QUESTION % its, *answers)
 
     def sorted(self) -> Sorted:
         """The places of the messages in each folder, that of INBOX first. Raises LabelsLeft for what is not decided."""
@@ -127,16 +124,11 @@ class Sorting:
         users = [label for label in labels if label not in self.roles]
         gmails = {self.roles.get(label) for label in labels}
         several = [(on_disk(folder_of(label)), label) for label in users]
-        several += [(folder_of_own(own), own.value) for own in ORDER if own in gmails]
+        several += [(on_disk(own.value), own.value) for own in ORDER if own in gmails]
         found: dict[bytes, list[str]] = {}
         for folder, label in several[:1] if self.choosing.word == ONE else several:
             found.setdefault(folder, []).append(label)
         return found or {on_disk(ARCHIVE): []}
-
-
-def folder_of_own(own: Own) -> bytes:
-    """The folder of a label of Gmail's own, by its name on the disk."""
-    return on_disk(own.value)
 
 
 def why_no_label(label: str) -> str:

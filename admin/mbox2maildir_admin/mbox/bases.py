@@ -120,8 +120,7 @@ class Table:
     def own_place(self, name: bytes) -> Optional[Place]:
         """The place of the message whose base a name is, without its info; None if it belongs to none, or was
         renamed."""
-        found = OWN.match(name)
-        return self.place_at(binascii.unhexlify(found[1]), int(found[2][1:])) if found else None
+        return self.place_of(own_base_in(name))
 
     def place_of(self, base: Optional[bytes]) -> Optional[Place]:
         """The place of the message that has this base; None if no message has it."""

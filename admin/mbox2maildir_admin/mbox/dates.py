@@ -8,89 +8,61 @@ import time
 from collections.abc import Callable, Sequence
 from typing import Any, Optional
 
+from ..patterns import pattern
 from .files import LONG
 
 MONTHS = {name: number for number, name in enumerate("jan feb mar apr may jun jul aug sep oct nov dec".split(), 1)}
 WEEKDAY = r"(?i:mon|tue|wed|thu|fri|sat|sun)"
-# hours east of Greenwich; for a name that several zones have, those of the zone that mail mostly means
-ZONES = {
-    "Z": 0,
-    "UT": 0,
-    "UTC": 0,
-    "GMT": 0,
-    "WET": 0,
-    "WEST": 1,
-    "BST": 1,
-    "CET": 1,
-    "MET": 1,
-    "MEZ": 1,
-    "CEST": 2,
-    "MEST": 2,
-    "MESZ": 2,
-    "EET": 2,
-    "EEST": 3,
-    "MSK": 3,
-    "MSD": 4,
-    "SGT": 8,
-    "HKT": 8,
-    "AWST": 8,
-    "JST": 9,
-    "KST": 9,
-    "ACST": 9.5,
-    "ACDT": 10.5,
-    "AEST": 10,
-    "AEDT": 11,
-    "NZST": 12,
-    "NZDT": 13,
-    "NST": -3.5,
-    "NDT": -2.5,
-    "AST": -4,
-    "ADT": -3,
-    "EST": -5,
-    "EDT": -4,
-    "CST": -6,
-    "CDT": -5,
-    "MST": -7,
-    "MDT": -6,
-    "PST": -8,
-    "PDT": -7,
-    "AKST": -9,
-    "AKDT": -8,
-    "HST": -10,
+# the names of zones by their hours east of Greenwich; one that several zones have stands for what mail mostly means
+ZONES_AT = {
+    -10: "HST",
+    -9: "AKST",
+    -8: "PST AKDT",
+    -7: "MST PDT",
+    -6: "CST MDT",
+    -5: "EST CDT",
+    -4: "AST EDT",
+    -3.5: "NST",
+    -3: "ADT",
+    -2.5: "NDT",
+    0: "Z UT UTC GMT WET",
+    1: "WEST BST CET MET MEZ",
+    2: "CEST MEST MESZ EET",
+    3: "EEST MSK",
+    4: "MSD",
+    8: "SGT HKT AWST",
+    9: "JST KST",
+    9.5: "ACST",
+    10: "AEST",
+    10.5: "ACDT",
+    11: "AEDT",
+    12: "NZST",
+    13: "NZDT",
 }
+ZONES = {name: hours for hours, names in ZONES_AT.items() for name in names.split()}
 MONTH = "(?P<{0}month>(?i:%s))" % "|".join(MONTHS)
 CLOCK = r"(?P<{0}hour>[01]?\d|2[0-3]):(?P<{0}minute>[0-5]\d)(?::(?P<{0}second>[0-5]\d|60))?"
 ZONE = r"(?:\s+(?P<{0}zone>(?:GMT|UTC)?[-+]\d{{4}}|[A-Z]+(?:\s+DST)?)\b)?"
 # as in a From_ line, and as in a header
-ASCTIME = (
-    MONTH
-    + r"\s+(?P<{0}day>\d\d?)\s+"
-    + CLOCK
-    + ZONE
-    + r"\s+(?P<{0}year>(?:19|20)\d\d)\b"
-    + ZONE.replace("zone", "last_zone")
-)
-HEADER = r"(?P<{0}day>\d\d?)\s+" + MONTH + r"\s+(?P<{0}year>(?:19|20)\d\d|\d\d)\s+" + CLOCK + ZONE
+DAY, YEAR, LAST_ZONE = r"(?P<{0}day>\d\d?)", r"(?P<{0}year>(?:19|20)\d\d%s)", ZONE.replace("zone", "last_zone")
+ASCTIME = r"%s\s+%s\s+%s%s\s+%s\b%s" % (MONTH, DAY, CLOCK, ZONE, YEAR % "", LAST_ZONE)
+HEADER = r"%s\s+%s\s+%s\s+%s%s" % (DAY, MONTH, YEAR % r"|\d\d", CLOCK, ZONE)
 DATE = "(?:%s|%s)" % (ASCTIME.format(""), HEADER.format("header_"))
-HAS_DATE = re.compile(r"\b" + DATE)
-ENDS_DATED = re.compile(r"\s" + WEEKDAY + r",?\s+" + DATE + r"(?:\s+\([^()]*\)|\s+remote\s+from\s+\S+)?\s*\Z")
+HAS_DATE = pattern(r"\b" + DATE)
+ENDS_DATED = pattern(r"\s" + WEEKDAY + r",?\s+" + DATE + r"(?:\s+\([^()]*\)|\s+remote\s+from\s+\S+)?\s*\Z")
 # the end of a line that is dated like most From_ lines, and the number of its letters
-PLAIN = re.compile(
-    r"\s%s %s (?P<day>[ 0-3]\d) " % (WEEKDAY, MONTH.format(""))
-    + r"(?P<hour>[01]\d|2[0-3]):(?P<minute>[0-5]\d):(?P<second>[0-5]\d) (?P<year>(?:19|20)\d\d)\Z"
-)
+PLAIN = pattern(r"\s%s %s [ 0-3]\d (?:[01]\d|2[0-3]):[0-5]\d:[0-5]\d (?:19|20)\d\d\Z" % (WEEKDAY, MONTH.format("")))
 PLAIN_LENGTH = 25
 # a date of ISO 8601 at the end of a line
-ISO = re.compile(
+ISO = pattern(
     r"\s(?P<year>(?:19|20)\d\d)-(?P<month>0[1-9]|1[0-2])-(?P<day>0[1-9]|[12]\d|3[01])[T ](?P<hour>[01]\d|2[0-3])"
     r":(?P<minute>[0-5]\d)(?::(?P<second>[0-5]\d|60)(?:[.,]\d+)?)?\s?(?P<zone>Z|UTC|GMT|[-+]\d\d:?\d\d|)\s*\Z"
 )
-EAST = re.compile(r"(?P<sign>[-+])(?P<hours>[01]\d)(?P<minutes>[0-5]\d)\Z")
-ZONE_NAME = re.compile(r"(?P<name>[A-Z]*)(?P<summer>\s+DST)?\Z")
+EAST = pattern(r"(?P<sign>[-+])(?P<hours>[01]\d)(?P<minutes>[0-5]\d)\Z")
+ZONE_NAME = pattern(r"(?P<name>[A-Z]*)(?P<summer>\s+DST)?\Z")
 PARTS = ("year", "month", "day", "hour", "minute", "second")
-# the groups of these and of the zone in each of the two forms, and in the first form if the zone comes last
-FORMS = [[HAS_DATE.groupindex[form + part] for part in (*PARTS, "zone")] for form in ("", "header_")]
-LAST_ZONE = HAS_DATE.groupindex["last_zone"]
+# the groups of these and of the zone in each of the two forms
+FORMS = [[form + part for part in (*PARTS, "zone")] for form in ("", "header_")]
 # what programs write if they know no date: midnight of this day
 UNKNOWN = (1970, 1, 1, 0, 0, 0)
 FIRST_DAY = datetime.date(*UNKNOWN[:3]).toordinal()
@@ -102,14 +74,8 @@ TOO_LATE = 4102444800
 
 def is_dated(line: bytes) -> bool:
     """Whether a line that begins with `From ` ends in a weekday, a date and a time, as a From_ line does."""
-    if len(line) > LONG:
-        return False
-    return ends_plain(line) is not None or ENDS_DATED.search(line.decode("latin-1")) is not None
-
-
-def ends_plain(text: bytes) -> Optional[re.Match[str]]:
-    """The end of a text that is dated like most From_ lines."""
-    return PLAIN.match(text[-PLAIN_LENGTH:].decode("latin-1"))
+    text = line.decode("latin-1") if len(line) <= LONG else ""
+    return PLAIN.match(text[-PLAIN_LENGTH:]) is not None or ENDS_DATED.search(text) is not None
 
 
 def date_in(text: bytes) -> Optional[Sequence[str]]:
@@ -118,7 +84,7 @@ def date_in(text: bytes) -> Optional[Sequence[str]]:
     if not found:
         return iso_date_in(text)
     *parts, zone = found.group(*FORMS[found["month"] is None])
-    return (*parts, zone or found[LAST_ZONE])
+    return (*parts, zone or found["last_zone"])
 
 
 def ends_in_iso(line: bytes) -> Optional[re.Match[str]]:
@@ -158,14 +124,11 @@ def seconds_of_plain(day: bytes, hour: bytes, minute: bytes, second: bytes, year
 
 
 @functools.lru_cache(maxsize=1 << 13)
-def midnight_by(zone: tuple[str, str], day: bytes, year: bytes) -> Optional[int]:
-    """When such a day begins in the zone of these names, as `midnight_of` says."""
-    found = ends_plain(b" %s 00:00:00 %s" % (day, year))
-    try:
-        moment = (int(found["year"]), MONTHS[found["month"].lower()], int(found["day"])) if found else UNKNOWN[:3]
-        return midnight_of(zone, *moment) if moment[0] > UNKNOWN[0] else None
-    except (ValueError, OverflowError):
-        return None
+def midnight_by(_: tuple[str, str], day: bytes, year: bytes) -> Optional[int]:
+    """When such a day after 1970 begins in the zone of these names; None if the clock is changed on that day."""
+    lines = [b" %s %s %s" % (day, clock, year) for clock in (b"00:00:00", b"23:59:59")]
+    first, last = map(seconds_of, lines)
+    return first if is_dated(lines[0]) and first and first > 0 and last == first + 86399 else None
 
 
 def seconds_east(moment: Moment, east: Optional[int]) -> Optional[int]:

@@ -11,6 +11,7 @@ import re
 from collections.abc import Iterable, Iterator
 from typing import Optional
 
+from ..patterns import pattern
 from ..units import Offset
 from .mailbox import Mailbox
 from .pieces import FROM, LONGEST_HEADER, Piece, header_of
@@ -27,9 +28,9 @@ NOTED = (
 LONGEST = 8191
 # the value of a field after its colon, with the lines that continue it
 VALUE = rb":([^\n]*(?:\n[ \t][^\n]*)*)"
-ITS_VALUE = re.compile(VALUE)
-AFTER_MESSAGE = re.compile(rb"(?:\r?\n)?(?P<mark>From )?")
-LENGTH = re.compile(rb"\d{1,18}\Z")
+ITS_VALUE = pattern(VALUE)
+AFTER_MESSAGE = pattern(rb"(?:\r?\n)?(?P<mark>From )?")
+LENGTH = pattern(rb"\d{1,18}\Z")
 
 
 def pattern_of(names: tuple[bytes, ...]) -> re.Pattern[bytes]:
@@ -38,7 +39,7 @@ def pattern_of(names: tuple[bytes, ...]) -> re.Pattern[bytes]:
     firsts = b"".join(sorted({name[:1] + name[:1].upper() for name in names}))
     either = [re.sub(rb"[a-z]", lambda letter: b"[%s%s]" % (letter[0], letter[0].upper()), name) for name in names]
     begun = b"|".join(b"%s[ \t]{0,%d}" % (one, LONGEST - len(name) - 1) for one, name in zip(either, names))
-    return re.compile(b"\n(?=[%s])(?:%s)%s" % (firsts, begun, VALUE))
+    return pattern(b"\n(?=[%s])(?:%s)%s" % (firsts, begun, VALUE))
 
 
 HIDDEN_FIELD, NOTED_FIELD = pattern_of(HIDDEN), pattern_of(NOTED)
@@ -47,15 +48,12 @@ HIDDEN_FIELD, NOTED_FIELD = pattern_of(HIDDEN), pattern_of(NOTED)
 def without(fields: re.Pattern[bytes], data: bytes, begin: int, end: int) -> bytes:
     """A text without the fields of a header, which is between two places in it."""
     header = b"\n" + data[begin:end]
-    if not header.endswith(b"\n"):
-        # a last line without its end, which the line before keeps
-        last = header.rfind(b"\n")
-        while last and header.startswith((b" ", b"\t"), last + 1):
-            last = header.rfind(b"\n", 0, last)
-        if fields.match(header, last):
-            return without(fields, data[: begin + last] + data[end:], begin, begin + last)
-    rest = fields.sub(b"", header)
-    return data if len(rest) == len(header) else data[:begin] + rest[1:] + data[end:]
+    ends = [found.end() for found in fields.finditer(header)]
+    if not ends:
+        return data
+    # a last line may have no end, and the line before keeps its own
+    rest = fields.sub(b"", header) + b"\n" * (ends[-1] == len(header))
+    return data[:begin] + rest[1:] + data[end:]
 
 
 def bared(piece: Piece, fields: re.Pattern[bytes] = HIDDEN_FIELD) -> bytes:
@@ -72,12 +70,8 @@ def bared(piece: Piece, fields: re.Pattern[bytes] = HIDDEN_FIELD) -> bytes:
 
 
 def bare_pieces(pieces: Iterable[Piece]) -> Iterator[Piece]:
-    """The pieces of the bare text of a text, with their offsets in it."""
-    given = 0
-    for piece in pieces:
-        data = bared(piece)
-        yield piece._replace(data=data, offset=Offset(given))
-        given += len(data)
+    """The pieces of a text, each with its bare text."""
+    return (piece._replace(data=bared(piece)) for piece in pieces)
 
 
 class Header:

@@ -79,7 +79,7 @@ class Begun:
 
     def take(self, piece: Piece) -> None:
         """Takes a piece. Of a quoted line the first `>` is left out, and of the message the blank line at its end."""
-        mail, count = piece.data[piece.body :] if piece.begins else piece.data, 0
+        mail, count = piece.data[piece.body :], 0
         is_blank = piece.ends and (mail == b"\n" or mail.endswith(b"\n\n"))
         mail = mail[:-1] if is_blank else mail
         if piece.has_quote:
@@ -90,14 +90,9 @@ class Begun:
 
     def message(self) -> Message:
         """The whole message."""
-        size, of_mail, date = self.digests.size, (self.digests.whole.digest(), *self.digests.end()), self.date
-        return Message(self.offset, size, *of_mail, date, may_hold_mail(self.from_line), self.unquoted, self.read)
-
-    @property
-    def date(self) -> int:
-        """The date of its From_ line."""
-        date = seconds_of(self.from_line)
-        return NO_DATE if date is None else date
+        digests, date = self.digests, seconds_of(self.from_line)
+        of_mail = digests.whole.digest(), *digests.end(), NO_DATE if date is None else date
+        return Message(self.offset, digests.size, *of_mail, may_hold_mail(self.from_line), self.unquoted, self.read)
 
 
 def messages_in(path: bytes, pieces: Iterable[Marked], with_cores: bool = False) -> Iterator[Message]:
@@ -141,24 +136,19 @@ class Inventory:
 
     @classmethod
     def read(
-        cls, mailbox: Mailbox, start: Offset, listing: Optional[Listing] = None, with_cores: bool = True
-    ) -> "Inventory":
-        """Reads a text from an offset on. `listing` is what `mbox2maildir list` says of it, for comparison. Cores and
-        bare forms, which a ledger needs, take a second digest of each message that has a noted field."""
-        return cls.of(mailbox, start, marked(mailbox.pieces(start)), listing, with_cores)
-
-    @classmethod
-    def of(
         cls,
         mailbox: Mailbox,
         start: Offset,
-        pieces: Iterable[Marked],
         listing: Optional[Listing] = None,
         with_cores: bool = True,
+        pieces: Optional[Iterable[Marked]] = None,
     ) -> "Inventory":
-        """Reads the messages of a text that has these pieces, and compares them with the listing."""
+        """Reads a text from an offset on, or its pieces from there on as they are given. `listing` is what
+        `mbox2maildir list` says of it, for comparison. Cores and bare forms, which a ledger needs, take a second digest
+        of each message that has a noted field."""
         self, held = cls(), int(start)
         try:
+            pieces = pieces or marked(mailbox.pieces(start))
             for number, message in enumerate(messages_in(mailbox.path, pieces, with_cores), 1):
                 base = self.table.add(message.digest)
                 if listing and not listing.has(number, base, message.size):

@@ -77,11 +77,6 @@ def stands_for(owner: bytes) -> bytes:
     return hashlib.sha256(owner).hexdigest()[:32].encode()
 
 
-def content_for(owner: bytes) -> bytes:
-    """What a lock has that this process makes."""
-    return b"%d %s %s\n" % (os.getpid(), ADMIN.encode(), stands_for(owner))
-
-
 def opened_if_left(spot: Spot, owner: Optional[bytes] = None) -> Optional[int]:
     """The descriptor of a lock, which it holds, if a run of the companion made it that is no longer at work; otherwise
     None. On a disk without `flock` only one of this owner is known: only one run at a time is at work for it."""
@@ -151,7 +146,7 @@ def make_lock(spot: Spot, owner: bytes) -> int:
         beside.unlink()
     number = beside.open(os.O_RDWR | os.O_CREAT | os.O_EXCL, 0o444)
     try:
-        os.write(number, content_for(owner))
+        os.write(number, b"%d %s %s\n" % (os.getpid(), ADMIN.encode(), stands_for(owner)))
         # after a power cut, nobody knows whose a lock without its content is
         os.fsync(number)
         with contextlib.suppress(OSError):
@@ -200,8 +195,8 @@ def look_for_lock_file(mailbox: Mailbox) -> None:
 def lock_file_of(mailbox: Mailbox, owner: bytes) -> Iterator[None]:
     """Holds FILE.lock for an open mailbox. One that a killed run left goes first. In a folder where this user may make
     no file the other locks must do. Raises Left if another program has it."""
-    drop_left(mailbox.path, owner)
     spot = spot_of(mailbox.path)
+    drop_lock(spot, owner)
     said = len(mailbox.remarks)
     look_for_lock_file(mailbox)
     # an old one stays, and counts for nothing
@@ -216,11 +211,6 @@ def lock_file_of(mailbox: Mailbox, owner: bytes) -> Iterator[None]:
 def spot_of(mailbox: bytes) -> Spot:
     """Where the lock of the mailbox at a path is."""
     return Spot(os.path.realpath(mailbox) + LOCK)
-
-
-def drop_left(mailbox: bytes, owner: bytes) -> None:
-    """Removes FILE.lock of the mailbox at a path if a killed run left it, also if the mailbox is opened no more."""
-    drop_lock(spot_of(mailbox), owner)
 
 
 def taken(spot: Spot, owner: bytes) -> Optional[int]:

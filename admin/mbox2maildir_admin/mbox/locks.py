@@ -8,16 +8,13 @@ import struct
 import time
 from typing import NamedTuple
 
-from ..faults import Left, Reason, next_of, reason_of_fault
+from ..faults import Left, Reason, fault_of
 from ..units import WAITING, Say, silent
 from .digest import Digest
 from .files import has_holes, open_plain
 from .lock_file import look_for_lock_file
 from .mailbox import Mailbox
 
-# the lock of an open file: closing another descriptor does not drop it, and a child inherits it; Python has this name
-# since 3.9
-F_OFD_SETLK = getattr(fcntl, "F_OFD_SETLK", 37)
 # in seconds: how long a mailbox must have been left alone, and how long to wait for that
 QUIET, PATIENCE = 60, 300
 # the errors that say that another program has the lock, and that a disk has no locks
@@ -45,7 +42,7 @@ def open_mailbox(
     try:
         number = open_plain(path, kind.flags | (0 if follow else os.O_NOFOLLOW))
     except OSError as fault:
-        raise Left(fault.strerror, reason_of_fault(fault, path), next_of(fault, path)) from fault
+        raise fault_of(fault, path) from fault
     try:
         mailbox = Mailbox(path, number, Digest(), say)
         if quiet:
@@ -95,8 +92,9 @@ def lock_file(number: int, kind: int = fcntl.LOCK_SH) -> None:
 
 
 def lock_record(number: int, kind: int = fcntl.F_RDLCK) -> None:
-    """Takes the lock of fcntl, for all bytes."""
-    fcntl.fcntl(number, F_OFD_SETLK, struct.pack("hhqqi4x", kind, os.SEEK_SET, 0, 0, 0))
+    """Takes the lock of fcntl, for all bytes, as that of an open file: closing another descriptor does not drop it, and
+    a child inherits it."""
+    fcntl.fcntl(number, fcntl.F_OFD_SETLK, struct.pack("hhqqi4x", kind, os.SEEK_SET, 0, 0, 0))
 
 
 def unlock(number: int) -> None:

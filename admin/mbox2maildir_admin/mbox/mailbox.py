@@ -127,21 +127,15 @@ class Mailbox:
 
     def lines_with(self, numbers: Iterable[int]) -> Iterator[tuple[Line, Offset]]:
         """The lines of these numbers that the text has, each with the offset at which it begins, in their order."""
-        wanted = sorted({one for one in numbers if one > 0}, reverse=True)
-        if wanted[-1:] == [1]:
-            yield Line(wanted.pop()), Offset(0)
-        reader, line, here = self.again(), 1, 0
-        while wanted:
-            block, at = reader.read(BLOCK), 0
-            if not block:
-                return
-            last = line + block.count(b"\n")
-            while wanted and wanted[-1] <= last:
-                for _ in range(wanted[-1] - line):
-                    at = block.index(b"\n", at) + 1
-                line = wanted.pop()
-                yield Line(line), Offset(here + at)
-            line, here = last, reader.offset
+        # a block, and the numbers of the line in which it begins, and of the last one that begins in it
+        reader, block, first, last = self.again(), b"", 1, 1
+        for line in sorted({one for one in numbers if one > 0}):
+            while line > last:
+                block = reader.read(BLOCK)
+                if not block:
+                    return
+                first, last = last, last + block.count(b"\n")
+            yield Line(line), Offset(reader.offset - len(block.split(b"\n", line - first)[-1]))
 
     @property
     def end(self) -> Offset:

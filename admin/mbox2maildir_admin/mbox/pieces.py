@@ -1,9 +1,9 @@
 """A text in pieces of whole lines, parted before each line `From `. All else is read from these pieces."""
 import re
-from collections.abc import Callable, Iterable, Iterator
+from collections.abc import Callable, Iterator
 from typing import NamedTuple
 
-from ..units import Line, Offset
+from ..units import Offset
 from .files import BLOCK, LONG
 
 FROM = b"From "
@@ -93,13 +93,6 @@ def header_of(data: bytes, begin: int) -> tuple[int, int]:
     end = data.find(b"\n\n", begin) + 1 or len(data)
     with_cr = data.find(b"\n\r\n", begin, end + 1) + 1
     return (with_cr, with_cr + 2) if with_cr else (end, min(end + 1, len(data)))
-
-
-def numbered(pieces: Iterable[Piece], line: int = 1) -> Iterator[tuple[Line, Piece]]:
-    """Pieces, each with the number of its first line. That of the first one is given."""
-    for piece in pieces:
-        yield Line(line), piece
-        line += piece.data.count(b"\n")
 
 
 def from_lines_of(read: Read) -> int:

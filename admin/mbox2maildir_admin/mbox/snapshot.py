@@ -9,13 +9,12 @@ from .digest import Digest
 from .files import BLOCK
 from .locks import open_mailbox, unlock
 from .mailbox import Mailbox
+from .pieces import FROM
 
 # in seconds: for how long a mailbox is locked at most, and how long the lock of another program is waited for; and how
 # often a copy is tried
 LONGEST_LOCK, LONGEST_WAIT, TRIES = 10, 15, 3
 KEEPS_CHANGING = "it keeps changing: the next pass may find it at rest"
-# how the message begins that was appended to a mailbox
-BEGINNING = b"From "
 
 
 def snapshot(path: bytes, make: Callable[[int], IO[bytes]], say: Say = silent, follow: bool = False) -> Mailbox:
@@ -52,7 +51,7 @@ def copy_into(file: IO[bytes], mailbox: Mailbox, digest: Digest) -> None:
 
 def has_only_grown(mailbox: Mailbox) -> bool:
     """Whether a message begins where an open mailbox ended before."""
-    return os.pread(mailbox.number, len(BEGINNING), mailbox.size) == BEGINNING
+    return os.pread(mailbox.number, len(FROM), mailbox.size) == FROM
 
 
 def open_soon(path: bytes, say: Say, follow: bool) -> Mailbox:

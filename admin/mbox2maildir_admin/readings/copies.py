@@ -2,11 +2,11 @@
 import contextlib
 import os
 import stat
-from collections.abc import Container, Iterator
+from collections.abc import Container
 from typing import BinaryIO, Optional
 
 from .. import ADMIN
-from ..faults import Fault, fault_of
+from ..faults import Fault, naming
 from ..looks import is_there
 from ..maildir.folders import COPY
 from ..mbox.files import BLOCK, Reader
@@ -39,39 +39,33 @@ class Copy:
     then it has no name, or one that is never taken for a mailbox."""
 
     def __init__(self, path: bytes) -> None:
+        """Opens a copy to be written. Unless it was placed, nothing is left of it in the end."""
         self.path, self.folder = path, os.path.dirname(path) or b"."
-        with fault_of(self.folder):
-            self.file, self.part = unfinished(self.folder)
-
-    @classmethod
-    @contextlib.contextmanager
-    def open(cls, path: bytes) -> Iterator["Copy"]:
-        """Opens a copy to be written. Unless it was placed, nothing is left of it."""
-        with fault_of(path):
+        with naming(path):
             is_taken = is_there(path)
         if is_taken:
             raise Fault("%s already exists" % named(path), then=task(Todo.OTHER_NAME))
-        copy = cls(path)
-        try:
-            yield copy
-        finally:
-            copy.end()
+        with naming(self.folder):
+            self.file, self.part = unfinished(self.folder)
+
+    def __enter__(self) -> "Copy":
+        return self
 
     def write(self, piece: bytes) -> None:
         """Adds bytes to it."""
-        with fault_of(self.path):
+        with naming(self.path):
             self.file.write(piece)
 
     def written(self) -> tuple[int, int]:
         """How many bytes and how many messages the file has now."""
-        with fault_of(self.path):
+        with naming(self.path):
             self.file.flush()
             return os.fstat(self.file.fileno()).st_size, from_lines_of(Reader(self.file.fileno()).read)
 
     def place(self, state: os.stat_result) -> None:
         """Gives the copy its name, and the owner and the mode of the mailbox; if that is not possible, only its maker
         may read it."""
-        with fault_of(self.path):
+        with naming(self.path):
             with contextlib.suppress(OSError):
                 os.fchown(self.file.fileno(), state.st_uid, state.st_gid)
                 os.fchmod(self.file.fileno(), stat.S_IMODE(state.st_mode) & 0o666)
@@ -87,16 +81,14 @@ class Copy:
         """Gives the copy its name, unless something has that name. Since a folder is given, os.link follows the link in
         /proc."""
         try:
-            os.link(
-                self.part or "/proc/self/fd/%d" % self.file.fileno(),
-                self.path,
-                src_dir_fd=None if self.part else folder,
-            )
+            if self.part:
+                os.link(self.part, self.path)
+            else:
+                os.link("/proc/self/fd/%d" % self.file.fileno(), self.path, src_dir_fd=folder)
         except FileExistsError as error:
             raise Fault("%s already exists" % named(self.path), then=task(Todo.OTHER_NAME)) from error
 
-    def end(self) -> None:
-        """Leaves nothing unless the copy was placed."""
+    def __exit__(self, *_: object) -> None:
         if self.part:
             with contextlib.suppress(FileNotFoundError):
                 os.unlink(self.part)

@@ -55,4 +55,4 @@ def decision_by(mailbox: Mailbox, plan: Plan, given: Reading = UNDECIDED) -> Rea
     found = plan.reading.decided
     text, begin = (found.text - given.begin) | given.text, (found.begin - given.text) | given.begin
     found = found._replace(text=text, begin=begin)
-    return look_at(mailbox).tied(mailbox, found) if text or begin else found
+    return look_at(mailbox).tied(found) if text or begin else found

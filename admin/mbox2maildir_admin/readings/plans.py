@@ -1,7 +1,5 @@
 """Which part of a mailbox is converted, and how it is read: as is certain, or as a human decided."""
-import functools
 from collections.abc import Callable, Sequence
-from dataclasses import dataclass, replace
 from typing import NamedTuple, Optional
 
 from ..faults import Fault, Left, Reason
@@ -14,8 +12,8 @@ from ..mbox.mailbox import Mailbox
 from ..nexts import Answer, Command, Does, Next, Quote, Remark
 from ..terminal import NAMED
 from ..units import Line, Offset, counted
-from .quoting import Counts, measured
-from .reading import BY_LENGTHS, CR, CRLF, MBOXCL2, MBOXRD, PLAIN, UNDECIDED, UNQUOTED, Reading, renumbered
+from .quoting import Quoter, measured
+from .reading import BY_LENGTHS, CR, CRLF, MBOXCL2, MBOXO, MBOXRD, PLAIN, UNDECIDED, UNQUOTED, Reading, renumbered
 from .verdict import DROP_DELETED, Verdict, is_against_lengths, is_answer, look_at, reading_of
 
 # why a file is left that holds this
@@ -26,8 +24,7 @@ NEW_LINE = "it came since the others were decided, and may begin a message"
 NO_LENGTHS = Reasons([Said(Line(0), "its lines end in CR alone, so that no length in it is right")], 1)
 
 
-@dataclass(frozen=True)
-class Plan:
+class Plan(NamedTuple):
     """What a mailbox is, how many messages are converted, where its text begins, how it is read, and whether that needs
     a copy."""
 
@@ -50,7 +47,7 @@ class Plan:
 
     def bared(self, is_bare: bool) -> "Plan":
         """The same plan; whether it leaves out the header fields that mail programs wrote for themselves."""
-        return replace(self, reading=self.reading._replace(bare=is_bare))
+        return self._replace(reading=self.reading._replace(bare=is_bare))
 
 
 class Choosable(NamedTuple):
@@ -91,7 +88,8 @@ class OtherKind(Left):
     """A file that is not mbox text: what is said of it, and what to do next."""
 
     def __init__(self, path: bytes, says: Optional[Said], recipe: Recipe, reason: Reason, kind: str) -> None:
-        super().__init__(says.sentence() if says else "", reason, quotes=quotes_of([says] if says else []))
+        quote = says.quote() if says else None
+        super().__init__(says.sentence() if says else "", reason, quotes=[quote] if quote else [])
         self.path, self.recipe, self.kind = path, recipe, kind
         self.put(beside(path))
 
@@ -141,72 +139,71 @@ def plan_of(mailbox: Mailbox, read: Read = Look.read, decision: Reading = UNDECI
     if verdict.holds == Holds.NO_MAIL:
         raise NoMail(verdict.kind)
     if verdict.recipe:
-        raise left_as_other(verdict, mailbox.path)
+        left, first = NotKnown if verdict.holds == Holds.UNKNOWN else OtherKind, next(iter(verdict.remarks), None)
+        raise left(mailbox.path, first, verdict.recipe, REASONS[verdict.holds], verdict.kind)
     if decision.noted:
-        verdict = with_noted(mailbox, verdict, decision)
+        verdict = with_noted(verdict, decision)
         decision = UNDECIDED if decision.of or verdict.answers or not decision.word else decision
     if decision.of:
-        want_tied(mailbox, verdict, decision)
-    plan = planned(mailbox, verdict, decision)
+        want_tied(verdict, decision)
+    plan = planned(verdict, decision)
     if not verdict.answers or decision == UNDECIDED:
         return plan
     order = {line: Line(number) for number, line in enumerate(verdict.doubtful(), 1)}
-    answer = renumbered(decision.decided, order)._replace(of=verdict.tied(mailbox, UNDECIDED).of)
-    return replace(plan, answer=answer)
+    answer = renumbered(decision.decided, order)._replace(of=verdict.tied(UNDECIDED).of)
+    return plan._replace(answer=answer)
 
 
-def with_noted(mailbox: Mailbox, verdict: Verdict, noted: Reading) -> Verdict:
+def with_noted(verdict: Verdict, noted: Reading) -> Verdict:
     """The verdict on a mailbox about which a human has decided before. The answer holds for the lines that it was
     about, and a rule decides only about others, as far as it agrees. Raises Question if lines came since that nobody
     has decided about: these are asked about alone."""
-    verdict, count = verdict.after(noted), verdict.answered(mailbox, noted)
+    verdict, count = verdict.after(noted), verdict.answered(noted)
     if not verdict.answers:
         return verdict
     new = verdict.look.doubts.after(count) if verdict.look else []
     agrees = noted.word in BY_LENGTHS if noted.of else noted.word != UNQUOTED
     if verdict.reading and agrees and new:
         word = noted.word if noted.word in BY_LENGTHS else verdict.reading.word
-        return replace(verdict, reading=verdict.reading._replace(word=word))
+        return verdict._replace(reading=verdict.reading._replace(word=word))
     if count and noted.word and verdict.is_on_lines and 0 < len(new) <= Lines.MANY:
-        raise question_of_new(mailbox, verdict, noted, new)
-    return replace(verdict, reading=None)
+        raise question_of_new(verdict, noted, new)
+    return verdict._replace(reading=None)
 
 
-def question_of_new(
-    mailbox: Mailbox, verdict: Verdict, noted: Reading, new: Sequence[tuple[Line, Offset]]
-) -> "Question":
+def question_of_new(verdict: Verdict, noted: Reading, new: Sequence[tuple[Line, Offset]]) -> Question:
     """What is asked about lines that came since a human decided about the others."""
-    said = [Said(line, NEW_LINE, cut(mailbox.from_line_at(offset))) for line, offset in new[:NAMED]]
+    said = [Said(line, NEW_LINE, cut(verdict.mailbox.from_line_at(offset))) for line, offset in new[:NAMED]]
     before = renumbered(noted.decided, {Line(number): line for number, line in enumerate(verdict.doubtful(), 1)})
     lines = frozenset(line for line, _ in new)
     answers = before._replace(text=before.text | lines), before._replace(begin=before.begin | lines)
-    return question(mailbox, verdict, Reasons(said, len(new)), answers)
+    return question(verdict, Reasons(said, len(new)), answers)
 
 
-def want_tied(mailbox: Mailbox, verdict: Verdict, decision: Reading) -> None:
+def want_tied(verdict: Verdict, decision: Reading) -> None:
     """Raises Left if a decision was made about other lines than those that are doubtful now, or names one that is not.
     What is asked now is asked then."""
-    is_same = decision == verdict.tied(mailbox, decision)
+    is_same = decision == verdict.tied(decision)
     if is_same and decision.text | decision.begin <= set(verdict.doubtful()):
         return
     if verdict.answers:
-        raise question_of(mailbox, verdict, ANOTHER_QUESTION)
+        raise question_of(verdict, ANOTHER_QUESTION)
     raise Question(ANOTHER_QUESTION, verdict, [], [Choosable(UNDECIDED, verdict.messages or 0)])
 
 
-def planned(mailbox: Mailbox, verdict: Verdict, decision: Reading) -> Plan:
+def planned(verdict: Verdict, decision: Reading) -> Plan:
     """The plan of an mbox text, as it is certain or decided."""
     is_empty = not (verdict.messages or verdict.answers)
-    reading = decided(mailbox, verdict, decision) if decision.word and not is_empty else None
+    reading = decided(verdict, decision) if decision.word and not is_empty else None
     if reading:
-        return plan_by(mailbox, verdict, reading, decision, "%s by --as" % decision.word)
+        return plan_by(verdict, reading, decision, "%s by --as" % decision.word)
     reading = verdict.reading
     if decision.drop and DROP_DELETED in verdict.answers and verdict.look:
         reading = reading_of(verdict.look)
     if not reading:
-        raise question_of(mailbox, verdict)
+        raise question_of(verdict)
     if decision.drop and verdict.messages:
-        return plan_by(mailbox, verdict, reading, DROP_DELETED, verdict.kind)
+        return plan_by(verdict, reading, DROP_DELETED, verdict.kind)
     return plan_as_it_is(verdict, reading)
 
 
@@ -219,7 +216,7 @@ def plan_as_it_is(verdict: Verdict, reading: Reading) -> Plan:
     return Plan(verdict.kind + ", quoted", verdict.messages or 0, verdict.start, reading, True, remarks)
 
 
-def decided(mailbox: Mailbox, verdict: Verdict, decision: Reading) -> Optional[Reading]:
+def decided(verdict: Verdict, decision: Reading) -> Optional[Reading]:
     """How a text is read by a decision; None if it is certain anyhow. Raises Left if the mailbox is one of several and
     contradicts the decision on them, or if something else is doubtful; or if the decision is on lengths alone, and
     lines outside of them look like mail."""
@@ -228,18 +225,18 @@ def decided(mailbox: Mailbox, verdict: Verdict, decision: Reading) -> Optional[R
         if verdict.reading and (look is None or look.have_lengths()):
             return None
         if look is None or look.count("joined", "holds mail", "cut"):
-            raise question_of(mailbox, verdict)
+            raise question_of(verdict)
         if look.are_deleted() and not decision.drop or not is_answer(look, decision.word):
-            raise question_of(mailbox, verdict)
-        want_no_contradiction(mailbox, verdict, look, decision)
+            raise question_of(verdict)
+        want_no_contradiction(verdict, look, decision)
     elif look and verdict.answers and is_against_lengths(look, decision):
-        raise question_of(mailbox, verdict)
+        raise question_of(verdict)
     if look is None and decision.word in BY_LENGTHS:
-        raise question(mailbox, verdict, NO_LENGTHS, verdict.answers)
+        raise question(verdict, NO_LENGTHS, verdict.answers)
     return Reading(decision.word, decision.text, decision.begin, ends=CR if look is None else CRLF)
 
 
-def want_no_contradiction(mailbox: Mailbox, verdict: Verdict, look: Look, decision: Reading) -> None:
+def want_no_contradiction(verdict: Verdict, look: Look, decision: Reading) -> None:
     """Raises Left if lines of a text contradict what was decided of several mailboxes, with what each word would
     give."""
     against = look.against(decision.word)
@@ -247,21 +244,18 @@ def want_no_contradiction(mailbox: Mailbox, verdict: Verdict, look: Look, decisi
         return
     by_words = [Reading(one) for one in (decision.word, *others_than(decision.word))]
     by_lines = [one for one in verdict.answers if one.text or one.begin]
-    raise question(mailbox, verdict, against, tuple(by_words + by_lines))
+    raise question(verdict, against, tuple(by_words + by_lines))
 
 
 def others_than(one: str) -> list[str]:
     """The words by which other lines begin messages."""
-    return [
-        other
-        for other, same in ((MBOXRD, ("mboxrd", "mboxo")), (MBOXCL2, BY_LENGTHS), (UNQUOTED, (UNQUOTED,)))
-        if one not in same
-    ]
+    pairs = (MBOXRD, (MBOXRD, MBOXO)), (MBOXCL2, BY_LENGTHS), (UNQUOTED, (UNQUOTED,))
+    return [other for other, same in pairs if one not in same]
 
 
-def plan_by(mailbox: Mailbox, verdict: Verdict, reading: Reading, decision: Reading, kind: str) -> Plan:
+def plan_by(verdict: Verdict, reading: Reading, decision: Reading, kind: str) -> Plan:
     """The plan of a mailbox that is read in this way. All of it is read for that; a copy is made if it would differ."""
-    counts = measured(reading, mailbox, verdict.start)
+    counts = measured(reading, verdict.mailbox, verdict.start)
     if reading.ends == CRLF and not counts.crlf:
         reading = reading._replace(ends="")
     says, without = verdict.remarks_on_text(), counts.messages - counts.marked
@@ -282,44 +276,30 @@ def left_out(count: int) -> Remark:
     return Remark("deleted-left-out", "without %s marked as deleted" % counted(count, "message"))
 
 
-def wants_copy(reading: Reading, counts: Counts) -> bool:
-    """Whether a text, of which these were measured, differs from the mailbox when it is read in this way."""
+def wants_copy(reading: Reading, counts: Quoter) -> bool:
+    """Whether a text that was measured differs from the mailbox when it is read in this way."""
     return bool(counts.quoted or counts.left_out or reading.drop or reading.ends == CR or reading.begin)
 
 
-def question_of(mailbox: Mailbox, verdict: Verdict, before: str = "") -> Question:
+def question_of(verdict: Verdict, before: str = "") -> Question:
     """What is asked about a mailbox of which something would be a guess, and what is said before that."""
     reasons = verdict.reasons if verdict.reasons.total else Reasons(verdict.remarks, len(verdict.remarks))
-    return question(mailbox, verdict, reasons, verdict.answers, before)
+    return question(verdict, reasons, verdict.answers, before)
 
 
-def question(
-    mailbox: Mailbox, verdict: Verdict, reasons: Reasons, decisions: Sequence[Reading], before: str = ""
-) -> Question:
+def question(verdict: Verdict, reasons: Reasons, decisions: Sequence[Reading], before: str = "") -> Question:
     """What is asked about a mailbox: the lines that are the reason, with the answers that its text allows, each tied to
     it."""
     answers: list[Choosable] = []
     for decision in decisions:
-        decision = verdict.tied(mailbox, decision)
+        decision = verdict.tied(decision)
         try:
-            answers.append(Choosable(decision, planned(mailbox, verdict, decision).messages))
+            answers.append(Choosable(decision, planned(verdict, decision).messages))
         except Fault:
             # no message begins with the first line
             continue
-    quotes = lines_around(mailbox, reasons)
+    quotes = lines_around(verdict.mailbox, reasons)
     says = ": ".join(filter(None, [before, reasons.sentence()]))
     found = Question(says, verdict, quotes, [one.meant(answers) for one in answers])
-    found.tied = functools.partial(verdict.tied, mailbox)
+    found.tied = verdict.tied
     return found
-
-
-def quotes_of(lines: list[Said]) -> list[Quote]:
-    """The lines that are shown, of some about which something is said."""
-    return [quote for quote in (one.quote() for one in lines) if quote]
-
-
-def left_as_other(verdict: Verdict, path: bytes) -> OtherKind:
-    """Why a file is left that is not mbox text."""
-    left = NotKnown if verdict.holds == Holds.UNKNOWN else OtherKind
-    first = verdict.remarks[0] if verdict.remarks else None
-    return left(path, first, verdict.recipe, REASONS[verdict.holds], verdict.kind)

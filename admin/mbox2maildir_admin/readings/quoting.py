@@ -17,7 +17,7 @@ from ..mbox.dates import is_dated
 from ..mbox.fields import Header, bare_pieces
 from ..mbox.files import BLOCK, LineEnds
 from ..mbox.mailbox import Mailbox, Watched
-from ..mbox.pieces import FROM, Piece, header_of, numbered, pieces_of
+from ..mbox.pieces import FROM, Piece, header_of, pieces_of
 from ..units import Line, Offset, Size
 from .copies import Copy
 from .reading import BY_LENGTHS, CR, CRLF, MBOXCL2, MBOXO, UNQUOTED, Reading
@@ -26,7 +26,7 @@ NOT_FIRST = "line %d: the text begins here, but no message begins with this line
 NO_FROM_LINE = "line %d: it neither begins with `From ` nor contains a From_ line"
 # the lines of `>` and `From `, and those that mboxo does not write; what a line begins with that is in its place
 QUOTES, ABOVE_MBOXO, IS_MARK = re.compile(rb"\n(?=>+From )"), re.compile(rb"\n(?=>>+From )"), re.compile(rb">*From ")
-# how many bytes of a line are looked at, after its NUL bytes
+# how many bytes at the beginning and at the end of a line are looked at
 MOST = 1 << 16
 
 
@@ -43,30 +43,21 @@ class Break(NamedTuple):
 def breaks_of(mailbox: Mailbox, lines: frozenset[Line]) -> Iterator[Break]:
     """Where a text is parted, given the numbers of lines that begin messages by decision, of which some do not begin
     with `From `: a crash left NUL bytes before it, or a text without a last line end."""
-    for line, offset in mailbox.lines_with(lines):
+    offsets = dict(mailbox.lines_with({*lines, *(line + 1 for line in lines)}))
+    for line in sorted(lines & offsets.keys()):
+        offset, end = offsets[line], offsets.get(Line(line + 1), mailbox.size + 1) - 1
         nulls = nulls_of(mailbox, offset)
-        text = mailbox.at(nulls, MOST).split(b"\n")[0]
-        if nulls == offset and IS_MARK.match(text):
+        if nulls == offset and IS_MARK.match(mailbox.at(nulls, MOST)):
             continue
-        before, mark, date = text.rpartition(FROM)
+        begin = max(nulls, end - MOST)
+        before, mark, date = mailbox.at(begin, end - begin).rpartition(FROM)
         is_after_nulls = before.endswith(b"\0") or not before and nulls > offset
         if not mark or not (is_after_nulls or is_dated(mark + date)):
             raise Fault(NO_FROM_LINE % line, Reason.WRONG_LINES)
         rest = before.rstrip(b"\0")
-        end = nulls + len(rest) if rest else offset
-        yield Break(Offset(end), Offset(nulls + len(before)), line, b"\n" if rest else b"")
-
-
-class Counts(NamedTuple):
-    """What a copy has: its messages, the lines that were quoted in it, the bytes that were left out, what Thunderbird
-    marked among its messages, and how many From_ lines end in CR LF."""
-
-    messages: int
-    quoted: int
-    left_out: int
-    marked: int
-    deleted: int
-    crlf: int
+        is_after_text = begin > nulls or bool(rest)
+        end = begin + len(rest) if is_after_text else offset
+        yield Break(Offset(end), Offset(begin + len(before)), line, b"\n" * is_after_text)
 
 
 class Quoter:
@@ -75,8 +66,8 @@ class Quoter:
 
     def __init__(self, how: Reading, mailbox: Mailbox, start: Offset, keeps_lengths: bool = True) -> None:
         self.how, self.mailbox, self.start, self.keeps_lengths = how, mailbox, start, keeps_lengths
-        # lines that begin messages, lines that are quoted, and messages by Thunderbird's mark
-        self.messages = self.quoted = self.marked = self.deleted = 0
+        # lines that are quoted, and messages by Thunderbird's mark
+        self.quoted = self.marked = self.deleted = 0
         # of the messages that are given: the lines in which they begin, and how many lines were quoted before each
         self.lines, self.quoted_before = array.array("Q"), array.array("Q")
         # bytes
@@ -97,16 +88,15 @@ class Quoter:
             read = LineEnds(file).read if self.how.ends == CR else file.read
             blocks = itertools.chain(iter(functools.partial(read, BLOCK), b""), filter(None, [one.lacks]))
             pieces = pieces_of(lambda _, blocks=blocks: next(blocks, b""), start)  # type: ignore[misc]
-            for number, piece in numbered(pieces, line):
-                data = self.piece(number, piece)
+            for piece in pieces:
+                data = self.piece(line, piece)
+                line = Line(line + piece.data.count(b"\n"))
                 self.read, self.given = self.read + len(piece.data), self.given + len(data)
                 yield data
             skipped, added, start, line = one.start - one.end, len(one.lacks), one.start, one.line
-            self.read, self.left_out, self.added = (
-                self.read + skipped - added,
-                self.left_out + skipped,
-                self.added + added,
-            )
+            self.read += skipped - added
+            self.left_out += skipped
+            self.added += added
         self.quoted_before.append(self.quoted)
         if self.unmet:
             raise Fault("line %d: it does not begin with `From `" % min(self.unmet), Reason.WRONG_LINES)
@@ -120,7 +110,7 @@ class Quoter:
             self.unmet.discard(line)
             if self.begins(line, piece):
                 data = self.begin(line, piece)
-            elif not self.messages:
+            elif piece.offset == self.start:
                 raise Fault(NOT_FIRST % line, Reason.WRONG_LINES)
             else:
                 is_quoted = True
@@ -156,7 +146,6 @@ class Quoter:
     def begin(self, line: Line, piece: Piece) -> bytes:
         """Begins a message, and returns what is given of its piece."""
         data, header = piece.data, Header.of(piece) if self.how.word in BY_LENGTHS else None
-        self.messages += 1
         self.is_crlf = self.how.ends == CRLF and piece.from_line.endswith(b"\r")
         self.crlf += self.is_crlf
         end = header.message_end(self.mailbox) if header else None
@@ -173,22 +162,22 @@ class Quoter:
             data = data[:left] + data[right:]
         return data
 
-    def counts(self) -> Counts:
-        """What was given so far."""
-        gone = self.deleted if self.how.drop else 0
-        return Counts(self.messages - gone, self.quoted, self.left_out, self.marked, self.deleted, self.crlf)
+    @property
+    def messages(self) -> int:
+        """How many messages were given so far."""
+        return len(self.lines)
 
     def check(self, size: int, messages: int, *wanted: int) -> None:
         """Checks that what was written is what was read: the copy has this size, and as many messages as wanted. Raises
         Fault if not."""
-        more, text, counted = self.quoted + self.added, self.mailbox.size - self.start, self.counts().messages
+        more, text = self.quoted + self.added, self.mailbox.size - self.start
         if size != self.given or size != self.read + more - self.left_out:
             says = "the copy has %d bytes, but %d were read, %d added and %d left out"
             raise Fault(says % (size, self.read, more, self.left_out), Reason.MISREAD)
         if self.how.ends != CR and self.read != text:
             raise Fault("%d of its %d bytes were read" % (self.read, text), Reason.MISREAD)
-        if any(one != counted for one in (messages, *wanted)):
-            says = "the copy has %d messages, but %d were counted" % (messages, counted)
+        if any(one != self.messages for one in (messages, *wanted)):
+            says = "the copy has %d messages, but %d were counted" % (messages, self.messages)
             raise Fault(says + "".join(", and %d expected" % one for one in wanted), Reason.MISREAD)
 
 
@@ -215,8 +204,8 @@ def write_copy(how: Reading, mailbox: Mailbox, start: Offset, wanted: int, copy:
     return quoter
 
 
-def measured(how: Reading, mailbox: Mailbox, start: Offset) -> Counts:
-    """What a text has by a reading. Nothing is written."""
+def measured(how: Reading, mailbox: Mailbox, start: Offset) -> Quoter:
+    """What has counted what a text has by a reading. Nothing is written."""
     quoter = Quoter(how, mailbox, start)
-    quoter.check(written(quoter, len), quoter.counts().messages)
-    return quoter.counts()
+    quoter.check(written(quoter, len), quoter.messages)
+    return quoter

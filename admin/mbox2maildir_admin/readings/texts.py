@@ -3,9 +3,9 @@ which lines are quoted or header fields are left out that mail programs wrote fo
 import array
 import bisect
 import contextlib
+import functools
 import os
 from collections.abc import Callable, Iterator, Sequence
-from dataclasses import replace
 from typing import NamedTuple, Optional
 
 from ..faults import Fault, Left, Reason
@@ -22,7 +22,7 @@ from ..mbox.fields import bared
 from ..mbox.inventory import Inventory, messages_of
 from ..mbox.lines import Said
 from ..mbox.mailbox import Mailbox
-from ..mbox.pieces import numbered, pieces_of
+from ..mbox.pieces import pieces_of
 from ..mbox.plain import Marked
 from ..program import Listing, Program
 from ..units import Line, Offset, Say, silent
@@ -44,9 +44,9 @@ class Full(NamedTuple):
 
 
 class Text(NamedTuple):
-    """The text that stands for a mailbox, and where its messages begin. For a copy it also has the lines of the mailbox
-    in which each message begins; for a quoted copy how many lines were quoted before each, and in all; for a bare copy
-    the text that it was made of, and where the messages of that begin and the last one ends."""
+    """The text that stands for a mailbox, and where its messages begin. For a quoted copy it also has the lines of the
+    mailbox in which each message begins, and how many lines were quoted before each, and in all; for a bare copy the
+    text that it was made of, and where the messages of that begin and the last one ends."""
 
     mailbox: Mailbox
     start: Offset
@@ -57,15 +57,14 @@ class Text(NamedTuple):
 
     def bare(self, folder: bytes) -> "Text":
         """The bare copy of a text, on the disk of a folder."""
-        offsets, lines, bare_offsets = (array.array("Q") for _ in range(3))
+        offsets, bare_offsets = array.array("Q"), array.array("Q")
 
         def given() -> Iterator[bytes]:
             mailbox, size = self.mailbox, 0
-            pieces = pieces_of(mailbox.again(self.start).read, self.start)
-            for line, piece in numbered(pieces, mailbox.line_at(self.start)):
+            for piece in pieces_of(mailbox.again(self.start).read, self.start):
                 if piece.begins:
-                    for column, value in ((offsets, piece.offset), (lines, line), (bare_offsets, size)):
-                        column.append(value)
+                    offsets.append(piece.offset)
+                    bare_offsets.append(size)
                 data = bared(piece)
                 size += len(data)
                 yield data
@@ -76,7 +75,7 @@ class Text(NamedTuple):
         offsets.append(self.mailbox.size)
         bare_offsets.append(copy.size)
         full = Full(self.mailbox, self.start, offsets)
-        return Text(copy, Offset(0), self.lines or lines, self.quoted_before, full, bare_offsets)
+        return Text(copy, Offset(0), self.lines, self.quoted_before, full, bare_offsets)
 
     def whole(self) -> tuple[Mailbox, Offset]:
         """The text with all its header fields, and where its messages begin."""
@@ -85,11 +84,10 @@ class Text(NamedTuple):
     def begun_at(self, offset: Offset) -> "Text":
         """The same text from the message on that begins at this offset of the text with all header fields."""
         if not self.full:
-            return Text(self.mailbox, offset, self.lines, self.quoted_before)
+            return self._replace(start=offset)
         skipped = bisect.bisect_left(self.full.offsets, offset)
         full = self.full._replace(offsets=self.full.offsets[skipped:])
-        start, offsets = Offset(self.offsets[skipped]), self.offsets[skipped:]
-        return Text(self.mailbox, start, self.lines, self.quoted_before, full, offsets)
+        return self._replace(start=Offset(self.offsets[skipped]), full=full, offsets=self.offsets[skipped:])
 
     def messages(self, listing: Optional[Listing] = None, with_cores: bool = True) -> Inventory:
         """Its messages, with the lines of the mailbox in which they begin. `listing` is what `mbox2maildir list` says
@@ -97,29 +95,22 @@ class Text(NamedTuple):
         inventory = Inventory.read(self.mailbox, self.start, listing, with_cores)
         if self.lines is not None:
             inventory.lines = array.array("Q", self.lines[len(self.lines) - len(inventory) :])
+        elif self.full:
+            inventory.count_lines = functools.partial(self.full.mailbox.lines_at, self.full.offsets[:-1])
         if self.full and len(self.full.offsets) != len(inventory.offsets):
             counts = len(inventory), len(self.full.offsets) - 1
             raise Fault("its copy without hidden header fields has %d of %d messages" % counts, Reason.MISREAD)
         return inventory
 
 
-class Messages(NamedTuple):
-    """The messages of a text that begins at an offset."""
-
-    mailbox: Mailbox
-    start: Offset
-    inventory: Inventory
-
-
 class Choice(NamedTuple):
-    """The text that a mailbox is or holds, and its plan. If it holds the text, also the mailbox itself and its form."""
+    """The text that a mailbox is or, if it is packed, holds, and its plan."""
 
     mailbox: Mailbox
     plan: Plan
-    packed: Optional[Mailbox] = None
-    form: Optional[Form] = None
+    is_packed: bool = False
     # the messages of the text itself, if they were read when it was looked at
-    known: Optional[Messages] = None
+    known: Optional[Inventory] = None
 
     @contextlib.contextmanager
     def text(self, folder: bytes) -> Iterator[Text]:
@@ -129,7 +120,7 @@ class Choice(NamedTuple):
             if self.plan.is_copied:
                 quoter = Quoter(self.plan.reading, self.mailbox, self.plan.start)
                 copy = stack.enter_context(text_of(self.mailbox, quoter.run(), folder))
-                quoter.check(copy.size, quoter.counts().messages, self.plan.messages)
+                quoter.check(copy.size, quoter.messages, self.plan.messages)
                 text = Text(copy, Offset(0), quoter.lines, quoter.quoted_before)
             if self.plan.reading.bare:
                 text = text.bare(folder)
@@ -143,7 +134,7 @@ class AtOnce:
 
     def __init__(self, program: Program) -> None:
         self.program = program
-        self.known: Optional[Messages] = None
+        self.known: Optional[Inventory] = None
 
     def read(self, look: Look) -> Look:
         """Looks at all of a text, and reads its messages if its beginning shows that no copy of it is made."""
@@ -152,7 +143,7 @@ class AtOnce:
             return first
         pieces = look.passed()
         try:
-            self.known = self.read_pieces(look.mailbox, look.start, pieces)
+            self.known = self.read_pieces(look, pieces)
         except (Fault, OSError):
             for _ in pieces:
                 pass
@@ -161,20 +152,20 @@ class AtOnce:
                 raise
         return look
 
-    def read_pieces(self, mailbox: Mailbox, start: Offset, pieces: Iterator[Marked]) -> Messages:
-        """Reads the messages that have these pieces. The program must list the same messages."""
-        with self.program.listing(mailbox.number, start) as listing:
-            return Messages(mailbox, start, Inventory.of(mailbox, start, pieces, listing))
+    def read_pieces(self, look: Look, pieces: Iterator[Marked]) -> Inventory:
+        """Reads the messages of a text that has these pieces. The program must list the same messages."""
+        with self.program.listing(look.mailbox.number, look.start) as listing:
+            return Inventory.read(look.mailbox, look.start, listing, pieces=pieces)
 
 
-def read_messages(program: Program, text: Text, known: Optional[Messages]) -> Messages:
-    """The messages of a text, as they are known or else as they are read now. The program must list the same
-    messages."""
-    if known and known.mailbox is text.mailbox and known.start == text.start:
-        known.mailbox.check()
-        return known
+def read_messages(program: Program, text: Text, choice: Choice) -> Inventory:
+    """The messages of a text that was chosen, as they are known or else as they are read now. The program must list the
+    same messages."""
+    if choice.known is not None and text.mailbox is choice.mailbox and text.start == choice.plan.start:
+        text.mailbox.check()
+        return choice.known
     with program.listing(text.mailbox.number, text.start) as listing:
-        return Messages(text.mailbox, text.start, text.messages(listing))
+        return text.messages(listing)
 
 
 def form_of(mailbox: Mailbox) -> Optional[Form]:
@@ -204,13 +195,9 @@ def choice_of(
     """Chooses the text that stands for a mailbox. Raises Left if something would be a guess that is not decided. What a
     packed mailbox holds is unpacked on the disk of a folder."""
     form = form_of(mailbox)
-    if not form:
-        yield Choice(mailbox, plan_of(mailbox, read, decision))
-        return
-    from .unpacking import unpacked
-
-    with unpacked(mailbox, form, folder) as text:
-        yield Choice(text, plan_of_packed(text, form, read, decision), mailbox, form)
+    with content_of(mailbox, folder) as text:
+        plan = plan_of_packed(text, form, read, decision) if form else plan_of(text, read, decision)
+        yield Choice(text, plan, form is not None)
 
 
 def plan_of_packed(text: Mailbox, form: Form, read: Read, decision: Reading) -> Plan:
@@ -227,7 +214,7 @@ def plan_of_packed(text: Mailbox, form: Form, read: Read, decision: Reading) -> 
         recipe = recipe_for(left, form)
         kind = NotKnown if isinstance(left, NotKnown) else OtherKind
         raise kind(text.path, why, recipe, left.reason, joined(left.kind, form)) from left
-    return replace(plan, kind=joined(plan.kind, form))
+    return plan._replace(kind=joined(plan.kind, form))
 
 
 def recipe_for(left: Left, form: Form) -> Recipe:

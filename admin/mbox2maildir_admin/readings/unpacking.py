@@ -10,7 +10,7 @@ from collections.abc import Iterator
 from ..faults import Left, Reason
 from ..kinds.making import Makes
 from ..kinds.others import Form
-from ..maildir.space import amount, not_enough, room_of
+from ..maildir.space import amount, disk_of, not_enough, room_on
 from ..mbox.files import BLOCK, Reader
 from ..mbox.lines import Said
 from ..mbox.mailbox import Mailbox
@@ -81,7 +81,7 @@ def given_by(name: str, mailbox: Mailbox) -> Iterator[bytes]:
 
 def size_of(mailbox: Mailbox, form: Form, folder: bytes) -> Size:
     """How many bytes a mailbox holds. Raises Left if the disk of a folder has no space for them."""
-    room, most, size = room_of(folder), max(LARGE, TIMES * mailbox.size), 0
+    room, most, size = room_on(disk_of(folder)), max(LARGE, TIMES * mailbox.size), 0
     mailbox.file.seek(Offset(0))
     for piece in unpack(mailbox, mailbox.file, form):
         mailbox.say("unpacking")

@@ -1,7 +1,6 @@
 """What a file is, and what may be decided about it."""
 from collections.abc import Sequence
-from dataclasses import dataclass, replace
-from typing import Optional
+from typing import NamedTuple, Optional
 
 from ..kinds.damage import finding_of
 from ..kinds.doubts import Doubts
@@ -26,10 +25,10 @@ DROP_DELETED = Reading(drop=True)
 NO_END = remark_of("no-line-end")
 
 
-@dataclass(frozen=True)
-class Verdict:
+class Verdict(NamedTuple):
     """What a file is: how its text is read if that is no guess, or what may be decided about it."""
 
+    mailbox: Mailbox
     kind: str
     # how many messages it has, and how many it may have; None if that is not known
     messages: Optional[int] = None
@@ -48,9 +47,9 @@ class Verdict:
     # what was seen in its text
     look: Optional[Look] = None
 
-    def tied(self, mailbox: Mailbox, decision: Reading) -> Reading:
+    def tied(self, decision: Reading) -> Reading:
         """A decision that holds only as long as the lines that are doubtful now stay so, and no other one is."""
-        ties = (self.look.doubts if self.look else Doubts()).ties(mailbox, self.kind)
+        ties = (self.look.doubts if self.look else Doubts()).ties(self.mailbox, self.kind)
         return decision._replace(of=ties.numbers if decision.text or decision.begin else ties.messages)
 
     def after(self, noted: Reading) -> "Verdict":
@@ -62,29 +61,23 @@ class Verdict:
         elif word == MBOXO:
             answers = tuple(one._replace(word=MBOXO) if one.word == MBOXRD else one for one in answers)
         is_kept = bool(noted.of) and not noted.drop
-        return replace(self, answers=tuple(sorted(answers, key=lambda one: bool(one.drop == is_kept))))
+        return self._replace(answers=tuple(sorted(answers, key=lambda one: bool(one.drop == is_kept))))
 
-    def answered(self, mailbox: Mailbox, noted: Reading) -> int:
+    def answered(self, noted: Reading) -> int:
         """How many of the first lines that are doubtful have the tie of what was decided."""
-        return self.look.doubts.ties(mailbox, self.kind).first.get(noted.of, 0) if self.look else 0
+        return self.look.doubts.ties(self.mailbox, self.kind).first.get(noted.of, 0) if self.look else 0
 
     def doubtful(self) -> list[Line]:
         """The lines that may begin messages."""
         return self.look.doubts.numbers() if self.look else []
 
     @property
-    def is_by_rule(self) -> bool:
-        """Whether a rule decides what a human would be asked about otherwise."""
-        return self.reading is not None and bool(self.answers)
-
-    @property
     def is_on_lines(self) -> bool:
         """Whether nothing is doubtful besides which lines begin messages: no mail is cut or marked as deleted, and no
         From_ line may contain mail."""
         look = self.look
-        return (
-            look is not None and bool(self.doubtful()) and not (look.count("cut", "holds mail") or look.are_deleted())
-        )
+        is_whole = look is not None and not (look.count("cut", "holds mail") or look.are_deleted())
+        return is_whole and bool(self.doubtful())
 
     @property
     def is_as_it_is(self) -> bool:
@@ -118,7 +111,8 @@ class Verdict:
         """What is to be said if messages end by their lengths: how many lines these decide about, if not each message
         has one; and how many keep a `>`. When mutt and Dovecot copy mail out of a spool, they keep the `>` that its
         delivery added, and give the length of that."""
-        inside = look.count("inside") if self.is_by_rule else 0
+        # a rule decides what a human would be asked about otherwise
+        inside = look.count("inside") if self.reading and self.answers else 0
         kept = look.count("quoted, by length", "quoted twice") if self.reading and self.reading.word == MBOXCL2 else 0
         by = "`From ` is text in %s, by lengths (--as mboxrd begins mail there)" % counted(inside, "line")
         says = "`>From ` keeps its `>` in %s (--as mboxcl takes it away)" % counted(kept, "line")
@@ -137,7 +131,7 @@ def look_at(mailbox: Mailbox, read: Read = Look.read) -> Verdict:
         count = from_lines_of(LineEnds(mailbox.file).read)
         mailbox.check()
         why = Reasons([Said(Line(0), "its lines end in CR alone")], 1)
-        return Verdict("line ends of CR alone", count, count, start=start, reasons=why, answers=(PLAIN,))
+        return Verdict(mailbox, "line ends of CR alone", count, count, start=start, reasons=why, answers=(PLAIN,))
     return verdict_on(read(Look(mailbox, start)))
 
 
@@ -145,16 +139,17 @@ def verdict_on_other(mailbox: Mailbox) -> Verdict:
     """What a file is that does not begin with mbox text."""
     other = other_of(mailbox)
     if other:
-        return Verdict(other.kind, recipe=other.recipe, holds=other.holds)
+        return Verdict(mailbox, other.kind, recipe=other.recipe, holds=other.holds)
     look = Look(mailbox)
     finding = finding_of(mailbox, lambda piece: look.sort_of(piece, *signs_of(piece)) != "text")
-    return Verdict(finding.kind, recipe=finding.recipe, remarks=finding.remarks, holds=finding.holds)
+    return Verdict(mailbox, finding.kind, recipe=finding.recipe, remarks=finding.remarks, holds=finding.holds)
 
 
 def verdict_on(look: Look) -> Verdict:
     """What an mbox text is, and how it is read, or what may be decided about it."""
     answers = answers_of(look)
     return Verdict(
+        look.mailbox,
         kind_of(look),
         look.fewest(),
         look.most(),
@@ -249,7 +244,9 @@ def is_against_lengths(look: Look, decision: Reading) -> bool:
     """Whether a decision for one mailbox reads it by its lengths, and lines outside of these look like mail, about
     which neither the decision nor a printed answer says anything."""
     is_said = bool(decision.text or decision.begin) or Reading(MBOXCL2) in doubts_of(look)
-    return decision.word in BY_LENGTHS and look.has_bare_lines() and not is_said
+    # lines outside of right lengths that have neither a date nor a header after them
+    has_bare_lines = look.count("against each line") > look.count(*WITHIN)
+    return decision.word in BY_LENGTHS and has_bare_lines and not is_said
 
 
 def as_mail(look: Look) -> Reading:

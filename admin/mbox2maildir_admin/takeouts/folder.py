@@ -4,7 +4,7 @@ import collections
 import contextlib
 import functools
 from collections.abc import Iterator
-from dataclasses import dataclass, replace
+from dataclasses import dataclass
 from typing import Optional
 
 from ..flags.clients import Kept
@@ -76,9 +76,9 @@ class KnownPart(Known):
         super().__init__(record, ledger, opened)
         self.part = part
 
-    def done_by(self, dry: bool) -> Optional[Entry]:
+    def done(self) -> Optional[Entry]:
         """The line that says that the same messages are done in this folder; None if there is none."""
-        line = super().done_by(dry)
+        line = super().done()
         return line if line and self.part == Reading.of_words(line.plan).part else None
 
     def elsewhere(self, inventory: Inventory) -> list[Elsewhere]:
@@ -92,9 +92,9 @@ class FolderTransfer(Transfer):
 
     def __init__(self, source: Source, conversion: Conversion, how: How, opened: Opened, ledger: Ledger) -> None:
         self.source, self.places = source, source.sorted.places[opened.name]
-        super().__init__(conversion, replace(how, extra=OfLabels(source.sorted.kept.at(self.places))), opened, ledger)
+        super().__init__(conversion, how._replace(extra=OfLabels(source.sorted.kept.at(self.places))), opened, ledger)
         reading = source.choice.plan.reading._replace(part=word_of(self.places))
-        self.plan = replace(source.choice.plan, messages=len(self.places), reading=reading)
+        self.plan = source.choice.plan._replace(messages=len(self.places), reading=reading)
         self.known = KnownPart(self.record, ledger, opened, reading.part)
         labels = list(map(named, source.sorted.alike(opened.name)))
         if labels:
@@ -113,7 +113,7 @@ class FolderTransfer(Transfer):
         source = self.source
         self.want_room(Need.of(self.disk, [], sum(source.sizes(self.opened.name))))
         with part_of(source.text, source.inventory, self.places, self.disk) as text:
-            inventory = read_messages(self.program, text, None).inventory
+            inventory = read_messages(self.program, text, choice)
             want_same(inventory, source.inventory, self.places)
             yield Contents(text.mailbox, text.start, inventory, choice.plan.reading, text)
 
@@ -132,7 +132,7 @@ class FolderTransfer(Transfer):
     def run(self) -> Row:
         """Does what is left to do, and returns what became of the folder."""
         row = super().run()
-        return replace(row, remarks=tuple(self.remarks_of(row))) if self.unlabelled else row
+        return row._replace(remarks=tuple(self.remarks_of(row))) if self.unlabelled else row
 
     def remarks_of(self, row: Row) -> Iterator[Remark]:
         """What is to be said of the folder. What has lost its label is not gone."""
@@ -146,4 +146,4 @@ class FolderTransfer(Transfer):
 
     def row(self, plan: Plan, then: Next = NOTHING) -> Row:
         """The row of the folder, with the size of its messages."""
-        return replace(super().row(plan, then), size=sum(self.source.sizes(self.opened.name)))
+        return super().row(plan, then)._replace(size=sum(self.source.sizes(self.opened.name)))

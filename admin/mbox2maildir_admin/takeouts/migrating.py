@@ -3,7 +3,6 @@ import contextlib
 import functools
 import os
 from collections.abc import Iterator, Sequence
-from dataclasses import replace
 from typing import Optional
 
 from ..faults import Fault, Left, Reason
@@ -17,14 +16,12 @@ from ..ledger.ledger import Ledger
 from ..ledger.prepared import Prepared
 from ..ledger.prepared_lines import has_list
 from ..ledger.record import Record, is_gone, unspelled
-from ..ledger.strangers import folders_in
-from ..maildir.folders import INBOX, folder_path
+from ..maildir.folders import INBOX, folder_path, folders_in, name_of
 from ..maildir.roots import real_place
 from ..maildir.space import Need
 from ..maildir.syncing import Syncs
 from ..mbox.locks import open_mailbox
 from ..migration.answers import answer_to
-from ..migration.leftovers import name_of
 from ..migration.mailbox import Migration
 from ..migration.outcomes import Ended, Fate, Observer, Row, row_left, seen
 from ..migration.replica import is_prepared
@@ -33,7 +30,7 @@ from ..migration.steps import How, Opened, Options
 from ..nexts import Answer
 from ..program import Program, find_program
 from ..progress import Beat
-from ..readings.plans import NoMail, OtherKind, Question, answers_to
+from ..readings.plans import NoMail, OtherKind, Question
 from ..readings.reading import UNDECIDED
 from ..readings.texts import AtOnce, Choice, choice_of, disk_of, read_messages
 from ..terminal import named
@@ -49,17 +46,11 @@ ONLY_PREPARED = "mail is only prepared in %s, and --labels is for a Maildir with
 def migrate_takeouts(root: bytes, names: Sequence[bytes], options: Options, observer: Observer) -> None:
     """Migrates Takeouts into a Maildir of the user who runs this, by their labels. What was said about the labels of
     one before need not be said again."""
-    if os.geteuid() == 0:
-        # a symbolic link above it may lead elsewhere by then
-        root = real_place(root)
-    names = seen(names, observer)
+    root, names = real_place(root), seen(names, observer)
     refuse(root, names, options)
     os.umask(0o077)
     with Record.to_migrate(root, options.dry) as record:
-        how = How(options.dry, options.again, now=options.now, decision=options.decision, names=names)
-        how = replace(how, again_rewritten=options.again_rewritten, any_disk=options.any_disk, is_labelled=True)
-        how = replace(how, answer=options.answer)
-        how = replace(how, options=options.of_next(), home=os.fsencode(os.path.expanduser("~")))
+        how = How.of(options, names)._replace(is_labelled=True)
         migration = Migration(Program(find_program()), root, record, how)
         observer.total += len(names)
         for name in names:
@@ -110,9 +101,8 @@ class Takeout:
             with self.chosen_text(opened, line) as choice, self.read(choice, choosing) as source:
                 self.want_room(source)
                 folders = tuple(source.sorted.places)
-                if not self.how.dry:
-                    self.record.make()
-                    note(self.record, opened.mailbox, Noted(choosing, folders), len(source.inventory))
+                self.record.make()
+                note(self.record, opened.mailbox, Noted(choosing, folders), len(source.inventory))
                 self.observer.total += len(folders) - 1
                 for folder in folders:
                     self.observer.begin(folder != folders[0])
@@ -131,7 +121,7 @@ class Takeout:
             name, prepared = name_of(self.root, folder), Prepared.read(folder)
             # before a list has what a pass reads, nothing is placed
             if prepared.origin and is_prepared(self.record, name, Ledger(folder), prepared):
-                how, path = replace(self.how, is_labelled=False), unspelled(prepared.origin.path)
+                how, path = self.how._replace(is_labelled=False), unspelled(prepared.origin.path)
                 undo = how.undo(self.root, opened._replace(name=name), path)
                 raise Left(ONLY_PREPARED % named(folder), Reason.PREPARED, (Answer(undo),))
 
@@ -145,7 +135,7 @@ class Takeout:
             lines = self.record.lines_of(*mailbox.key())
             folders = [one.key.folder for one in lines if is_gone(one.path)]
         if folders:
-            undo = replace(self.how, is_labelled=False).undo(self.root, opened._replace(name=folders[-1]))
+            undo = self.how._replace(is_labelled=False).undo(self.root, opened._replace(name=folders[-1]))
             raise Left(WITHOUT_LABELS, Reason.ANOTHER_READING, (Answer(undo),))
 
     def chosen(self, opened: Opened, noted: Optional[Noted]) -> Choosing:
@@ -164,9 +154,10 @@ class Takeout:
     def chosen_text(self, opened: Opened, line: Optional[Entry]) -> Iterator[Choice]:
         """Chooses the text that stands for the mailbox, as it is certain, decided, or was answered before. Raises Left
         if a human must decide."""
-        decision, at_once = self.how.decision, AtOnce(self.migration.program)
+        decision = self.how.decision
         with contextlib.ExitStack() as stack:
             for is_last in (False, True):
+                at_once = AtOnce(self.migration.program)
                 read: Read = at_once.read
                 if decision.word:
                     read = Look.read
@@ -178,16 +169,9 @@ class Takeout:
                     answers = (answer_to(self.record, one, question) for one in several)
                     answer = question.by_tie(self.how.answer) or next(filter(None, answers), None)
                     if is_last or not answer or self.how.decision != UNDECIDED:
-                        raise self.asked(opened, question) from question
+                        raise self.how.asked(self.root, opened, question) from question
                     decision = answer
             yield choice._replace(known=at_once.known)
-
-    def asked(self, opened: Opened, question: Question) -> Left:
-        """What is left for a human to decide, with the commands that do so."""
-        command = functools.partial(self.how.command, self.root, opened)
-        then = answers_to(question.answers, lambda decision: command(decision=decision))
-        left = Left(str(question), question.reason, then, question.quotes)
-        return left.known(question.kind, question.messages, question.most)
 
     @contextlib.contextmanager
     def read(self, choice: Choice, choosing: Choosing) -> Iterator[Source]:
@@ -195,7 +179,7 @@ class Takeout:
         if choice.plan.is_copied:
             self.migration.want_room(Need.of(self.disk, [], choice.mailbox.size))
         with choice.text(self.disk) as text:
-            inventory = read_messages(self.migration.program, text, choice.known).inventory
+            inventory = read_messages(self.migration.program, text, choice)
             if len(inventory) == 0:
                 raise LabelsLeft(NO_MESSAGE)
             yield Source(choice, text, inventory, Sorting(headers_in(text.mailbox, inventory), choosing).sorted())

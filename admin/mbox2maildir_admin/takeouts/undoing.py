@@ -1,7 +1,6 @@
 """The undo of a Takeout: of each folder that the record names. It is undone once each of them is."""
 import collections
 import functools
-import os
 from collections.abc import Iterator
 from typing import Optional
 
@@ -14,7 +13,6 @@ from ..maildir.folders import folder_path
 from ..maildir.roots import real_place
 from ..mbox.locks import open_mailbox
 from ..migration.outcomes import Fate, Observer, Row, row_left
-from ..migration.places import where_it_is
 from ..migration.several import refuse
 from ..migration.steps import Opened, Options
 from ..nexts import Remark
@@ -26,9 +24,7 @@ from ..units import Say, silent
 
 def undo_takeout(root: bytes, path: bytes, how: How, observer: Observer) -> None:
     """Undoes a Takeout in a Maildir of the user who runs this."""
-    if os.geteuid() == 0:
-        # a symbolic link above it may lead elsewhere by then
-        root = real_place(root)
+    root = real_place(root)
     refuse(root, [path], Options(how.dry, now=how.now, undo=True))
     with Record.open(root, not how.dry) as record:
         rows = TakeoutUndo(root, record, how).rows(path, functools.partial(observer.progress, named(path)))
@@ -69,8 +65,8 @@ class TakeoutUndo(Undo):
         paths = {*names_of(path), *([line.path] if line else [])}
         named_there = [*(Noted.of(line).folders if line else ()), *self.record.folders_with(paths)]
         for name in dict.fromkeys(named_there):
-            last = self.record.last_of(name, paths)
-            folder = where_it_is(self.root, name, last.ledger if last else "")
+            folder = self.record.name_now(name, path)
+            last = self.record.last_of(folder, paths)
             ledger = Ledger(folder_path(self.root, folder))
             if last or ledger.damage or paths & set(ledger.paths()):
                 yield Opened.into(self.root, folder, opened.mailbox)
