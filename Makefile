@@ -1,4 +1,4 @@
-# make            prove the crates and build build/mbox2maildir
+# make            prove the crates, build build/mbox2maildir, and compile the companion's modules, if python3 is there
 # make run        deliver the example mailboxes to a fresh Maildir under build/, and show what it holds: by what is compiled
 #                 for this run where build/mbox2maildir is not there, or older than the sources
 # make test       prove the crates, all or what the kit has not proved here before, and test everything: the gate
@@ -23,6 +23,7 @@ CRATE = crates/mbox2maildir
 SOURCES = crates.txt $(shell find crates -name out -prune -o \( -name '*.rt' -o -name '*.antt' \) -print)
 
 all: $(PROGRAM)
+	! command -v python3 >/dev/null || python3 -I -S -m compileall -q admin/mbox2maildir_admin
 
 # rt builds a program only where it is proved, and then runs it, here on no input.
 $(PROGRAM): $(SOURCES)
@@ -41,7 +42,7 @@ test:
 	PYTHONUNBUFFERED=1 rt ci
 	mkdir -p build
 	cp $(CRATE)/out/mbox2maildir $(PROGRAM)
-	tests/run units program companion world
+	tests/run units program tables companion world
 
 # What is seen within a minute, of a program that is there.
 quick:

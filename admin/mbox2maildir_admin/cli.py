@@ -1,10 +1,9 @@
 """The command line."""
 import sys
-from collections.abc import Sequence
 
 from . import ADMIN
-from .commands.command_line import CommandLine
-from .commands.words import ADDS
+from .commands.command_line import CommandLine, Parser
+from .commands.words import COMMANDS, do_command
 from .faults import Fault, Status, complain_of
 from .signals import INTERRUPTS, end_in_order
 from .terminal import LINE, OutputFault, complain, drop, flush, open_streams
@@ -23,23 +22,17 @@ but what the same command settles when it is run again, 2 if the words are
 wrong, 130 after a signal."""
 
 
-def command_line(words: Sequence[str] = ()) -> CommandLine:
-    """Returns the command line with the command that the first word names, or with all commands if it names none."""
-    line = CommandLine(
-        ADMIN,
-        "Migrates mailboxes into a Maildir, and checks both.",
-        EXAMPLES % ((ADMIN,) * 5),
-    )
-    for word in words[:1] if words and words[0] in ADDS else ADDS:
-        ADDS[word](line)
-    return line
+def command_line() -> CommandLine:
+    """The command line, with all commands."""
+    says = "Migrates mailboxes into a Maildir, and checks both."
+    return CommandLine(Parser(ADMIN, "%s COMMAND ..." % ADMIN, says, EXAMPLES % ((ADMIN,) * 5)), COMMANDS, do_command)
 
 
 def run() -> Status:
     """Does what the command line says, and returns the status."""
     try:
         try:
-            return command_line(sys.argv[1:]).run()
+            return command_line().run(sys.argv[1:])
         finally:
             flush()
     except OutputFault as fault:

@@ -44,7 +44,7 @@ class Reason(Phrase):
     )
     PACKED = (
         "packed",
-        "It is compressed or in UTF-16, and cannot be unpacked: it is incomplete or damaged, it holds more than 100 "
+        "It is compressed or in UTF-16, and cannot be unpacked. It is incomplete or damaged, it holds more than 100 "
         "times its size, or the program that unpacks it is missing.",
     )
     COPY = "copy", "Another file stands beside it, and one of them may be a copy of the other."
@@ -74,8 +74,8 @@ class Reason(Phrase):
     )
     NOT_OWN = (
         "not-own",
-        "A folder on the path belongs to another user, can be changed by others, cannot be entered by users, or is a "
-        "link or a file.",
+        "A folder on the path belongs to another user, can be changed by others, cannot be entered, or is a link or a "
+        "file.",
     )
     NO_ROOM = (
         "no-room",
@@ -159,56 +159,42 @@ class Left(Fault):
         return self
 
 
-def reason_of_fault(fault: Union[Fault, OSError], path: bytes) -> Reason:
-    """The word for a fault that came up with the file at a path."""
-    if isinstance(fault, Fault):
-        return fault.reason
-    is_own = fault.filename is None or os.fsencode(fault.filename) == path
-    return Reason.MISSING if is_own and fault.errno in ABSENT else Reason.ERROR
+def fault_of(error: Union[Fault, OSError], path: bytes) -> Fault:
+    """The fault that came up with the file at a path. An error of the system names its own place, if that is another
+    one."""
+    if isinstance(error, Fault):
+        return error
+    place = path if error.filename is None else os.fsencode(error.filename)
+    why, then = error.strerror or str(error), next_at(place, error.errno)
+    if place != path:
+        return PlaceFault("%s: %s" % (named(place), why), Reason.ERROR, then)
+    return Left(why, Reason.MISSING if error.errno in ABSENT else Reason.ERROR, then)
 
 
-def reason_of(fault: Union[Fault, OSError], path: bytes) -> str:
-    """Returns what is said of a fault that came up with a file: the place and the cause."""
-    if isinstance(fault, PlaceFault):
-        return str(fault)
-    if isinstance(fault, Fault):
-        return "%s: %s" % (named(path), fault) if path else str(fault)
-    return "%s: %s" % (named(fault.filename if fault.filename is not None else path), fault.strerror or fault)
-
-
-def why_left(fault: Union[Fault, OSError], path: bytes) -> str:
-    """Returns what is said of a fault, if the name of the mailbox has been said already."""
-    if isinstance(fault, Fault):
-        return str(fault)
-    if fault.filename is not None and os.fsencode(fault.filename) != path:
-        return "%s: %s" % (named(fault.filename), fault.strerror)
-    return fault.strerror or str(fault)
-
-
-def next_of(fault: Union[Fault, OSError], path: bytes) -> Next:
-    """What is to be done about a fault that came up with the file at a path. If nothing is there, its folder shows what
-    is."""
-    if isinstance(fault, Fault):
-        return fault.next
-    place = os.fsencode(fault.filename) if fault.filename is not None else path
-    if fault.errno == errno.EACCES:
+def next_at(place: bytes, number: Optional[int]) -> Next:
+    """What is to be done about an error of the system of this number at a place. If nothing is there, its folder shows
+    what is."""
+    if number == errno.EACCES:
         return run_next("ls", "-ld", operand(place))
-    if fault.errno not in ABSENT:
+    if number not in ABSENT:
         return NOTHING
     while place and not may_be(is_folder, place):
         place = os.path.dirname(place)
     return run_next("ls", operand(place or b"."))
 
 
-def complain_of(fault: Union[Fault, OSError], path: bytes = b"") -> None:
+def complain_of(error: Union[Fault, OSError], path: bytes = b"") -> None:
     """Prints what is wrong with a file, and what to do next."""
-    complain(reason_of(fault, path), lines_below(getattr(fault, "quotes", ()), next_of(fault, path)))
+    fault = fault_of(error, path)
+    says = "%s: %s" % (named(path), fault) if path and not isinstance(fault, PlaceFault) else str(fault)
+    complain(says, lines_below(fault.quotes, fault.next))
 
 
 @contextlib.contextmanager
-def fault_of(path: bytes) -> Iterator[None]:
-    """Turns an error in here into a fault of this file or folder."""
+def naming(path: bytes) -> Iterator[None]:
+    """Turns an error in here into a fault that names this file or folder."""
     try:
         yield
     except OSError as error:
-        raise PlaceFault("%s: %s" % (named(path), error.strerror), Reason.ERROR, next_of(error, path)) from error
+        then = fault_of(error, path).next
+        raise PlaceFault("%s: %s" % (named(path), error.strerror), Reason.ERROR, then) from error

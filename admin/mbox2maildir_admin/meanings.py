@@ -22,23 +22,18 @@ class Weight(enum.Enum):
 # what is to be done about each reason why something is left, as docs/LEFT.md has it
 TO_DO = {
     Reason.OTHER: "Read the line",
-    Reason.ERROR: (
-        "Make room, raise the quota, or correct the permissions. `folder call n failed` is one of [the program's "
-        "errors](#errors-of-mbox2maildir)"
-    ),
+    Reason.ERROR: "Make room, raise the quota, or correct the permissions",
     Reason.UNCLEAR: "Look at the line of mail, and run [the right command](#decisions)",
     Reason.LABELS: "Its command. If there is none, migrate the mailbox without `--labels`",
     Reason.OTHER_KIND: "Its command, which [makes a mailbox of it](FORMATS.md#files-of-another-format)",
     Reason.NOT_KNOWN: (
-        "Its command, `file`, says more. If it holds no mail, add `--no-mail PATTERN`, once: later runs pass over the"
-        " file as long as its path and its bytes stay the same. PATTERN is a shell pattern for the path below MAILBOX"
-        " or below the home, such as `mail/notes.txt`. If PATTERN is the whole path of a file, that file is passed "
-        "over unless it is mbox text"
+        "Its command, `file`, says more. If it holds no mail, add `--no-mail PATTERN` once. PATTERN is its whole path, "
+        "or a shell pattern for the path below MAILBOX or the home, such as `mail/notes.txt`"
     ),
     Reason.PACKED: (
         "Find a complete copy, [unpack it](FORMATS.md#compressed-files), or install the program that the line names"
     ),
-    Reason.COPY: "[Move the copy away](FORMATS.md#copies), or its command",
+    Reason.COPY: "[Move the copy away](FORMATS.md#copies). If neither is a copy, its command",
     Reason.LEFT_BEHIND: "Remove it",
     Reason.LINK: (
         "[Migrate what it leads to](FORMATS.md#symbolic-links). If it leads nowhere, remove it. In the spool, put the"
@@ -46,8 +41,8 @@ TO_DO = {
         "`--maildir` or `--tree`"
     ),
     Reason.MISSING: (
-        "Correct the name. If `back --users` finds nothing where a user's mailboxes were, take [that user](BACK.md) "
-        "back alone, by the paths where they are"
+        "Correct the name. With `back --users`, take [that user](BACK.md) back alone, by the paths where the mailboxes "
+        "are"
     ),
     Reason.WORDS: "Put the path in quotes. To name the files `a` and `b` beside a file `a b`, write `./a ./b`",
     Reason.NO_FILE: "Remove it: a FIFO or a socket holds no mail",
@@ -72,13 +67,12 @@ TO_DO = {
         "command"
     ),
     Reason.LEDGER: (
-        "Restore the newest `mbox2maildir-messages`; if others may write to it, look at it and `chmod 600` it; if "
-        "another version wrote it, finish with that version; for an undo, migrate the folder's other mailboxes first. "
+        "Restore the newest `mbox2maildir-messages`. If others may write to it, look at it and `chmod 600` it. If "
+        "another version wrote it, finish with that version. For an undo, migrate the folder's other mailboxes first. "
         "Otherwise its command, which brings back deleted mail"
     ),
     Reason.ANOTHER_READING: (
-        "Its command. It either goes on as before, or undoes the mailbox. After an undo, migrate the mailbox as you "
-        "meant to"
+        "Its command, which goes on as before, or undoes the mailbox. After an undo, migrate it as you meant to"
     ),
     Reason.CUT: "Its command, which removes the file of the incomplete message. Then run `migrate` again",
     Reason.NUMBERED: (
@@ -90,8 +84,8 @@ TO_DO = {
     Reason.WRONG_LINES: "Give the numbers that `kind` prints",
     Reason.MISREAD: "Run the same command again. If the reason is the same again, keep the file, and report it",
     Reason.CONVERT_FAILED: (
-        "If it was killed, run the same command again. Otherwise look the program's line up in [its "
-        "errors](#errors-of-mbox2maildir), or install the program"
+        "If it was killed, run the same command again. If it is missing, install it. [Its manual](mbox2maildir.1) "
+        "explains its errors"
     ),
     Reason.SYNC_FAILED: "Remount the disk and check it, then run the command with `--again`",
     Reason.NOT_VERIFIED: "Remove a second copy. For the rest see [`verify`](SERVER.md#afterwards)",
@@ -133,7 +127,7 @@ LOOK = {
     "doubtful-line": "Lines in it may begin messages that were not counted.",
     "elsewhere": "It went into another folder before. Its command removes it there.",
     "first-appears": "A message in which an IMAP server kept its own notes becomes mail: delete that message.",
-    "flags-differ": "Messages have flags in it that their files lack, because another mailbox brought these.",
+    "flags-differ": "Messages have flags in it that their files lack. The files are of another mailbox, and stay.",
     "folder-gone": "The folder was removed. If nobody meant that, migrate the mailbox with --again.",
     "gone": "Mail that it brought was deleted in the Maildir.",
     "gone-elsewhere": "Mail that another mailbox brought too was deleted in the Maildir. Its command brings it back.",
@@ -162,23 +156,27 @@ COUNTED = {
     "by-lengths": "Lines `From ` within messages were taken for text, by their lengths. --as mboxrd begins mail there.",
     "fields-left-out": "Header fields that a mail program or Dovecot writes for itself were left out.",
     "flags": "Flags were taken from header fields of a mail program.",
-    "joined": "The folder has the mail of another mailbox too.",
-    "joins": "INBOX has the mail of another mailbox too.",
-    "keeps-quote": "A `>` before `From ` was taken for the mail's own, and stays. --as mboxcl removes it.",
+    "joined": "The folder has another mailbox's mail too. To part them, undo this one, and migrate it with --folder.",
+    "joins": "INBOX has the mail of another mailbox too. --folder would give it a folder of its own.",
+    "keeps-quote": "A `>` before `From ` was taken for the mail's own, and stays. If Postfix, Exim or procmail "
+    "delivered mail, and a mail program copied it since, --as mboxcl removes the `>` that the delivery had added. But "
+    "a line `From ` without `>` in the same message shows that its sender wrote the `>`.",
     "labelled": "It has Gmail's labels. With --labels, they become folders.",
-    "loses-quote": "A `>` before `From ` was taken for an escape, and removed. --as mboxo keeps that of `>>From `.",
-    "lost": "Mail that it brought is no longer in it. It stays in the Maildir.",
+    "loses-quote": "A `>` before `From ` was taken for an escape, and removed. Another reading of it may be "
+    "right: --as mboxo keeps that of `>>From `, if Postfix, Exim or procmail wrote the mailbox. --as mboxcl2 keeps that"
+    " of mail with a length, if Dovecot or procmail delivered it. --as unquoted keeps that of git's patches.",
+    "lost": "Mail that it brought is no longer in it, or was edited there. It stays in the Maildir.",
     "marked": "Mail was placed beside a file of it that is marked as deleted.",
     "name-before": "The folder had another name in Dovecot, which a Maildir cannot have.",
     "new-uids": "Some messages have new UIDs: clients fetch them again.",
     "no-uids": "No IMAP client has seen it so far, so there are no UIDs to keep.",
     "old-lock": "A lock that nobody holds any more was passed over.",
-    "other-form": "Some of its mail is there with other `>` or line ends, from another mailbox.",
+    "other-form": "Another mailbox has some of its mail with other `>` or line ends. Both forms are there.",
     "other-programs": "Other programs had put mail into the folder. It stays.",
     "regained": "Mail that was gone from it is in it again.",
     "renamed": "Other programs gave files new names: `mbox2maildir convert` would deliver their messages again.",
     "shared": "Another mailbox brought some of its mail too. It is there once.",
-    "there-already": "Some of its mail was there already.",
+    "there-already": "Some of its mail was there already, by no mailbox. An undo keeps it.",
     "uids-anew": "All messages have new UIDs: clients fetch them again.",
     "uids-of-new": "Dovecot gives UIDs to what is new.",
     "uids-raised": "The next UID was raised, so that none is given twice.",

@@ -1,13 +1,14 @@
 """Runs `mbox2maildir` on an open text: its `convert`, and its `list`."""
 import binascii
 import contextlib
+import io
 import os
 import re
 import select
 import subprocess
 import sys
 from collections.abc import Callable, Iterator
-from typing import NamedTuple, Optional
+from typing import IO, Any, NamedTuple, Optional
 
 from . import PROGRAM
 from .faults import Fault, Left, PlaceFault, Reason
@@ -39,9 +40,8 @@ class Failed(Left):
 def places_of_program(here: str, clone: str) -> Iterator[str]:
     """The paths at which it may be, given the folder of what was started, and that of the clone, if it is in one."""
     yield os.path.join(here, PROGRAM)
-    from shutil import which
-
-    yield which(PROGRAM) or ""
+    in_path = (os.path.join(folder, PROGRAM) for folder in os.get_exec_path())
+    yield from (program for program in in_path if os.access(program, os.X_OK))
     yield os.path.join(clone, "build", PROGRAM) if clone else ""
 
 
@@ -91,7 +91,7 @@ class Program:
     @contextlib.contextmanager
     def listing(self, number: int, start: Offset) -> Iterator[Optional["Listing"]]:
         """Gives what the program lists of an open text from an offset on; None for a program that lists nothing."""
-        with Listing.open(number, start, self.path) as listing, INTERRUPTS.let_through():
+        with Listing.open(number, start, self.path, self.alive) as listing, INTERRUPTS.let_through():
             yield listing
 
     def wait_for(self, child: Process, number: int, tell: Callable[[Offset], None]) -> str:
@@ -118,22 +118,43 @@ class Program:
             last = place
 
 
+class Printed(io.RawIOBase):
+    """What a program prints, as long as a pipe is open by which nothing comes. Its end ends who reads this."""
+
+    def __init__(self, stream: IO[bytes], alive: int) -> None:
+        super().__init__()
+        self.number, self.alive, self.poll = stream.fileno(), alive, select.poll()
+        for number in (self.number, alive):
+            self.poll.register(number, select.POLLIN)
+
+    def readable(self) -> bool:
+        """Whether it is read."""
+        return True
+
+    def readinto(self, buffer: Any) -> int:
+        """Reads as much as is there, once something is."""
+        if self.alive in dict(self.poll.poll()):
+            raise KeyboardInterrupt
+        return os.readv(self.number, [buffer])
+
+
 class Listing:
     """What mbox2maildir itself lists of a text, for comparing it message by message."""
 
-    def __init__(self, child: Process) -> None:
+    def __init__(self, child: Process, alive: Optional[int]) -> None:
         assert child.stdout is not None, "it is a pipe"
-        self.child, self.rows = child, child.stdout
+        self.child = child
+        self.rows = child.stdout if alive is None else io.BufferedReader(Printed(child.stdout, alive), BUFFER)
 
     @classmethod
     @contextlib.contextmanager
-    def open(cls, number: int, start: Offset, program: bytes) -> Iterator["Listing"]:
+    def open(cls, number: int, start: Offset, program: bytes, alive: Optional[int]) -> Iterator["Listing"]:
         """Lists an open text from an offset on. This moves its offset. Signals are held meanwhile."""
         os.lseek(number, start, os.SEEK_SET)
         with running(
             [program, b"list"], stdin=number, stdout=subprocess.PIPE, stderr=subprocess.PIPE, bufsize=BUFFER
         ) as child:
-            yield cls(child)
+            yield cls(child, alive)
 
     def has(self, number: int, base: bytes, size: int) -> bool:
         """Whether the next line is that of a message: its number, its base and its size. Raises Fault if there is

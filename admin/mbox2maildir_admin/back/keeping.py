@@ -6,7 +6,7 @@ from contextlib import AbstractContextManager
 
 from ..looks import is_folder
 from ..maildir.making import sync_folder
-from ..mbox.lock_file import drop_left, lock_file_of
+from ..mbox.lock_file import drop_lock, lock_file_of, spot_of
 from ..mbox.mailbox import Mailbox
 
 
@@ -26,7 +26,7 @@ class Keeper:
     def drop_locks(self, paths: Iterable[bytes], owner: bytes) -> None:
         """Removes FILE.lock of each of these mailboxes which a killed run left."""
         for path in paths:
-            drop_left(path, owner)
+            drop_lock(spot_of(path), owner)
 
 
 def make_mailbox(path: bytes) -> None:

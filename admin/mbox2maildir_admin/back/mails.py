@@ -12,15 +12,12 @@ from .. import ADMIN
 from ..faults import Fault, PlaceFault, Reason
 from ..ledger.assign import File, by_form, files_of
 from ..ledger.batches import Line, State
-from ..ledger.history import Step
 from ..ledger.ledger import Ledger
 from ..ledger.lines import RETURNED
 from ..ledger.prepared_lines import has_list
-from ..ledger.record import Record
-from ..ledger.strangers import folders_in
 from ..looks import is_folder
 from ..maildir.files import listings_of
-from ..maildir.folders import INBOX, folder_named
+from ..maildir.folders import INBOX, folder_named, folders_in
 from ..maildir.making import SUBFOLDERS
 from ..mbox.bases import BASE, before_info
 from ..mbox.core import forms_of
@@ -161,11 +158,8 @@ def own_base(name: bytes) -> bytes:
     return name if BASE.fullmatch(name) else b""
 
 
-def lines_about(root: bytes, record: Record) -> Iterator[tuple[bytes, list[Line]]]:
+def lines_about(root: bytes) -> Iterator[tuple[bytes, list[Line]]]:
     """The lines about the folders of a Maildir. Raises Fault if not all of them are known."""
-    for line in record.lines():
-        if line.what is Step.UNDOING:
-            raise PlaceFault(NOT_UNDONE % line.path, Reason.UNDO)
     for path in folders_in(root):
         folder = INBOX if path == root else os.path.basename(path)
         ledger = Ledger(path)
@@ -175,6 +169,8 @@ def lines_about(root: bytes, record: Record) -> Iterator[tuple[bytes, list[Line]
 
 def want_whole(root: bytes, folder: bytes, ledger: Ledger) -> None:
     """Raises Fault if a ledger does not say what is in its folder."""
+    if ledger.leaving:
+        raise PlaceFault(NOT_UNDONE % min(ledger.leaving), Reason.UNDO)
     if ledger.damage:
         raise PlaceFault(DAMAGED % (folder_named(folder), ledger.damage), Reason.LEDGER)
     is_prepared = has_list(ledger.folder)
@@ -225,9 +221,9 @@ def core_in(path: bytes) -> Optional[bytes]:
         return None
 
 
-def sorted_mail(root: bytes, record: Record, say: Say = silent) -> Sorted:
+def sorted_mail(root: bytes, say: Say = silent) -> Sorted:
     """Which mail of a Maildir is new, and what became of the rest. Raises Fault if nothing shows that."""
     try:
-        return Sorting(lines_about(root, record), mails_of(root, say)).run()
+        return Sorting(lines_about(root), mails_of(root, say)).run()
     except OSError as error:
         raise PlaceFault("%s: %s" % (named(error.filename or root), error.strerror), Reason.ERROR) from error

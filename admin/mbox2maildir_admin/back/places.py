@@ -9,9 +9,8 @@ from ..faults import Left, Reason
 from ..ledger.history import names_of
 from ..ledger.ledger import Ledger
 from ..ledger.record import Record, is_gone, unspelled
-from ..ledger.strangers import folders_in
 from ..looks import is_file, is_folder, is_link, is_there
-from ..maildir.folders import INBOX, folder_named, folder_on_disk, folder_path, name_given, without_utf7
+from ..maildir.folders import INBOX, folder_named, folder_on_disk, folder_path, folders_in, name_given, without_utf7
 from ..migration.places import Planned, recorded
 from ..migration.trees import Tree
 from ..readings.copies import COMPRESSED
@@ -66,7 +65,7 @@ class Places:
         if is_folder(name):
             yield from Tree(name, self.root).read().placed(self.record, self.root, set())
             return
-        one = recorded(Planned(name, INBOX), self.record, self.root)
+        one = recorded(Planned(name, INBOX), self.record)
         is_known = bool(self.record.folders_of(name)) or not is_file(name)
         yield one if is_known else one._replace(folder=self.folder_of_moved(name))
 

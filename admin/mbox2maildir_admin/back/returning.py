@@ -3,15 +3,14 @@ import collections
 import contextlib
 import os
 from collections.abc import Iterator, Sequence
-from dataclasses import replace
 from typing import NamedTuple, Optional
 
 from ..faults import Left, Reason
-from ..ledger.history import Key, Note, Step
+from ..ledger.history import Key, Note
 from ..ledger.ledger import Ledger
-from ..ledger.lines import RETURNED, Brought, Head, note_end
+from ..ledger.lines import END_LINE, RETURNED, Brought, Head
 from ..ledger.match import cores_of
-from ..ledger.record import Record, Verified, unspelled
+from ..ledger.record import Record
 from ..looks import is_there
 from ..maildir.space import Need, want_room
 from ..mbox.inventory import Inventory
@@ -37,6 +36,8 @@ from .steps import How, NotAsItIs, Outcome, TakesNothing, Target, left_unheld
 FILE_CHANGED = "%s was changed meanwhile: stop the program that did it, and run this again"
 MISREAD = "what was appended is not read back as it is, so it was taken back"
 REPLACED = "another file has its place meanwhile: run this again"
+# the size and the SHA-256 of no mailbox
+NO_KEY = 0, "0" * 64
 # how many bytes at the end of a mailbox show whether its last message has ended
 ENDS = 3
 
@@ -74,7 +75,7 @@ class Returning:
             opened = Opened.into(self.root, target.folder, mailbox)
             numbering = numbering_of(opened, self.record, target, self.how)
             if numbering.lacking:
-                known = Known(self.record, Ledger(opened.folder), opened)
+                known = Known(self.record, Ledger(opened.folder, dry=self.how.dry), opened)
                 # what cannot be read as it was is said once mail goes back
                 with contextlib.suppress(Left):
                     for words, _ in ways_to_read(known):
@@ -104,12 +105,12 @@ class Returning:
 
     def bring_into(self, target: Target, opened: Opened, numbering: Numbering) -> Outcome:
         """Does it for an open mailbox."""
-        known = Known(self.record, Ledger(opened.folder), opened)
+        known = Known(self.record, Ledger(opened.folder, dry=self.how.dry), opened)
         for words, dialect in ways_to_read(known):
             for gap in dialect.gaps_after(opened.mailbox.at(opened.mailbox.size - ENDS, ENDS)):
                 notes = Notes(numbering)
                 inventory = messages_by(words, opened.mailbox, self.disk, self.program, notes.look)
-                known.take_place(inventory, self.how.dry)
+                known.take_place(inventory)
                 if has_no_dates(opened.mailbox, inventory):
                     break
                 try:
@@ -221,7 +222,7 @@ class Appending:
             return
         if not entries:
             os.fsync(self.mailbox.number)
-            self.end(self.begin(entries, self.mailbox.key()), self.inventory)
+            self.known.ledger.note(END_LINE % self.begin(entries, self.mailbox.key()))
             return
         want_room(Need.of(os.path.dirname(self.mailbox.path), [], draft.size))
         reads = reading_now(self.mailbox)
@@ -233,10 +234,10 @@ class Appending:
                 # a further run knows the numbers of the Maildir as those of the mailbox
                 self.returning.record.add(Note.NUMBERED, Key(self.opened.name, *key), len(entries), self.mailbox.path)
             append(self.mailbox, beside)
-            found = self.verified(beside, entries, reads)
+            self.want_right(beside, entries, reads)
             # once the ledger says that it went back, no run may take it for a part, and cut it off
             beside.remove()
-            self.end(number, found)
+            self.known.ledger.note(END_LINE % number)
         finally:
             beside.close()
 
@@ -255,12 +256,14 @@ class Appending:
             bares[self.inventory.core(place)] = self.inventory.bare(place)
         lines = [Brought(RETURNED, one.before, one.core, bares[one.core]) for one in self.there]
         lines += [Brought(RETURNED, one.mail.before, one.forms.core, one.forms.bares[-1]) for one in entries]
+        # a mailbox that has more than the Maildir is not done, whatever its bytes are
+        key = NO_KEY if +self.extra else key
         head = Head(len(lines), 0, 0, (), key, self.words, self.known.path, self.mailbox.state.st_ino)
         return ledger.begin(head, lines)
 
-    def verified(self, beside: Beside, entries: Sequence[Entry], reads: str) -> Inventory:
-        """The messages of the mailbox with what was appended. Raises Left if any of them is not as it is to be: then
-        the mailbox is as it was before."""
+    def want_right(self, beside: Beside, entries: Sequence[Entry], reads: str) -> None:
+        """Raises Left if a message of the mailbox with what was appended is not as it is to be: then the mailbox is as
+        it was before."""
         mailbox, count = self.mailbox, len(self.inventory)
         try:
             look = self.notes.numbering.take if self.notes.numbering.lacking else None
@@ -272,21 +275,6 @@ class Appending:
         except BaseException:
             take_back(mailbox, beside)
             raise
-        return found
-
-    def end(self, number: int, inventory: Inventory) -> None:
-        """Notes that what went back was verified, and is on the disk; and that the mailbox is done, if the Maildir has
-        all that is in it."""
-        ledger, opened = self.known.ledger, self.opened
-        size = note_end(opened.folder, number)
-        ledger.end(number)
-        if +self.extra:
-            return
-        key = self.known.key._replace(size=Size(self.mailbox.size), digest=self.mailbox.key()[1])
-        path = unspelled(self.known.path)
-        state = os.fstat(self.mailbox.number)
-        done = Verified(key, len(inventory), path, self.words, opened.folder, state, ledger.number, number)
-        self.returning.record.add_step(Step.DONE, done, size)
 
     def row(self, entries: Sequence[Entry], size: int) -> Row:
         """The row of the mailbox."""
@@ -297,4 +285,4 @@ class Appending:
         says = [Remark("there-already", "%s there already" % counted(there, "message"), there)] if there else []
         says += remarks_on_taken(one.taken for one in entries)
         remarks = (*self.mailbox.remarks, *says, *self.notes.numbering.remarks, *self.target.remarks)
-        return replace(row, remarks=remarks, next=self.notes.numbering.next)
+        return row._replace(remarks=remarks, next=self.notes.numbering.next)

@@ -5,16 +5,14 @@ import functools
 import itertools
 import os
 from collections.abc import Iterator, Sequence
-from dataclasses import replace
 from typing import Optional, Union
 
 from ..faults import Fault, Left, PlaceFault, Reason
 from ..ledger.history import names_of
 from ..ledger.ledger import Ledger
 from ..ledger.record import Record, unspelled
-from ..ledger.strangers import folders_in
 from ..looks import is_file, is_there, may_be
-from ..maildir.folders import INBOX, folder_named, folder_path
+from ..maildir.folders import INBOX, folder_named, folder_path, folders_in
 from ..maildir.making import GOES_BACK, RECORD
 from ..maildir.roots import real_place, want_roots_alone
 from ..mbox.files import is_empty
@@ -73,7 +71,7 @@ def bring_all(program: Program, root: bytes, names: Names, how: How, observer: O
     os.umask(0o077)
     with Record.open(root, not how.dry) as record:
         places = Places(root, record, names)
-        return Several(program, root, record, replace(how, trees=places.trees), observer).run(places)
+        return Several(program, root, record, how._replace(trees=places.trees), observer).run(places)
 
 
 class Several:
@@ -87,7 +85,7 @@ class Several:
     def run(self, places: Places) -> Next:
         """Brings back the mail of each folder, and tells its row."""
         say = Beat(functools.partial(self.observer.progress, named(self.root)))
-        found = sorted_mail(self.root, self.record, say)
+        found = sorted_mail(self.root, say)
         self.observer.rest(named(self.root))
         if not self.how.dry:
             self.drop_locks(places, found)
@@ -96,7 +94,7 @@ class Several:
         self.observer.total += len(folders)
         for folder in folders:
             self.observer.begin()
-            standing = Standing(found, self.root, folder, places.all_of(folder), self.record)
+            standing = Standing(found, self.root, folder, places.all_of(folder))
             target = Target(b"", folder, mails[folder], moved_to(found, folder), returned[folder])
             for row in self.rows(target, places):
                 self.tell(standing.row(row))
@@ -158,7 +156,7 @@ class Several:
             return row
         say = Beat(functools.partial(self.observer.progress, named(row.path)))
         numbering = Returning(self.program, self.root, self.record, self.how, say).number(target)
-        return replace(row, remarks=(*numbering.remarks, *row.remarks), next=numbering.next)
+        return row._replace(remarks=(*numbering.remarks, *row.remarks), next=numbering.next)
 
     def recovered(self, folder: bytes, places: Places) -> Iterator[Row]:
         """Takes back what a killed run appended in part. The row of a mailbox in which a message stays cut."""
@@ -194,7 +192,7 @@ class Several:
         its = [one for one in mails if one not in found.refused]
         if its:
             says = Remark("beside", why % {"path": named(path), "files": files_of(its)})
-            yield replace(found.row, remarks=(says, *found.row.remarks))
+            yield found.row._replace(remarks=(says, *found.row.remarks))
         yield from self.rows_beside(target._replace(mails=found.refused), places, why, (*tried, other.path))
 
     def brought(self, place: Place, target: Target) -> Optional[Outcome]:
@@ -206,14 +204,14 @@ class Several:
             is_missing = place.is_new and not is_there(place.path)
             if is_missing and not how.dry:
                 # none is made that would stay empty
-                would = Returning(self.program, self.root, self.record, replace(how, dry=True), say).run(target)
+                would = Returning(self.program, self.root, self.record, how._replace(dry=True), say).run(target)
                 if would.row.left_for:
                     return would
             # the name of an empty one may not be on the disk yet
             if not how.dry and (is_missing or is_empty(place.path)):
                 how.keeper.make(place.path)
                 # nobody else knows of a new one
-                how = replace(how, now=how.now or is_missing)
+                how = how._replace(now=how.now or is_missing)
             return Returning(self.program, self.root, self.record, how, say).run(target)
         except TakesNothing:
             self.observer.rest(named(target.path))
@@ -234,7 +232,7 @@ def left(path: bytes, folder: bytes, fault: Union[Fault, OSError], count: int, r
     """The row of a mailbox to which nothing went back, of so many messages."""
     if isinstance(fault, OSError) and fault.errno in FULL:
         fault = Left(DISK_FULL, Reason.NO_ROOM)
-    return replace(row_left(path, folder, fault), messages=count, remarks=remarks, is_back=True)
+    return row_left(path, folder, fault)._replace(messages=count, remarks=remarks, is_back=True)
 
 
 def nothing_new(path: bytes, folder: bytes, remarks: Remarks) -> Row:
@@ -264,7 +262,7 @@ def moved_to(found: Sorted, folder: bytes) -> Remarks:
 class Standing:
     """The messages of a folder that were deleted or changed there, and stand in its mailboxes as before."""
 
-    def __init__(self, found: Sorted, root: bytes, folder: bytes, paths: Sequence[bytes], record: Record) -> None:
+    def __init__(self, found: Sorted, root: bytes, folder: bytes, paths: Sequence[bytes]) -> None:
         self.folder = folder
         # how many, by the mailboxes; one that the record knows by another path has the place of the first one
         self.counts: collections.defaultdict[bytes, collections.Counter[str]]
@@ -275,16 +273,15 @@ class Standing:
                 if slot.folder == folder:
                     for path in [one for one in paths if names[one] & slot.paths] or [FIRST]:
                         self.counts[path][word] += 1
-        # the mailboxes that had another size when they were read last, or fewer messages then than the ledger has, so
-        # that nobody knows what they have now
+        # the mailboxes that had another size when they were read last, so that nobody knows what they have now
         noted = Ledger(folder_path(root, folder)).sources.values() if self.counts else ()
-        sizes = {source.key[0] for source in noted if record.has_done(source.key, source.count())}
+        sizes = {source.key[0] for source in noted}
         self.unsure = {path for path in paths if may_be(lambda one: size_at(one) not in sizes, path)}
 
     def row(self, row: Row) -> Row:
         """The row of a mailbox, with what stands in it."""
         counts = self.counts.pop(row.path, collections.Counter()) + self.counts.pop(FIRST, collections.Counter())
-        return replace(row, remarks=(*row.remarks, *standing_in(counts, row.path not in self.unsure)))
+        return row._replace(remarks=(*row.remarks, *standing_in(counts, row.path not in self.unsure)))
 
     def rest(self) -> Iterator[Row]:
         """The rows of further mailboxes in which some stand."""

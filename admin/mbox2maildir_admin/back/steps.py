@@ -1,6 +1,5 @@
 """What the steps of the way back pass on to each other."""
 from collections.abc import Sequence
-from dataclasses import dataclass, replace
 from typing import NamedTuple
 
 from ..faults import Left, Reason
@@ -22,8 +21,7 @@ class NotAsItIs(Left):
     """A mailbox that would not be read, with what was appended, as it is to be."""
 
 
-@dataclass(frozen=True)
-class How:
+class How(NamedTuple):
     """How mail goes back: whether nothing is written; whether no quiet minute is waited for; whether Dovecot keeps UIDs
     and keywords in the mailboxes; who makes what is missing beside them; and the folders of mailboxes."""
 
@@ -61,6 +59,6 @@ def left_unheld(row: Row, refused: Sequence[Mail]) -> Row:
     """The row of a mailbox that cannot hold some of the mail, which no other one takes."""
     stay = "stays" if len(refused) == 1 else "stay"
     why = NOT_HELD % (counted(len(refused), "message"), stay, files_of(refused))
-    return replace(
-        row, fate=Fate.LEFT, reason=row.reason or Reason.NOT_HELD, why="; ".join(filter(None, [row.why, why]))
+    return row._replace(
+        fate=Fate.LEFT, reason=row.reason or Reason.NOT_HELD, why="; ".join(filter(None, [row.why, why]))
     )

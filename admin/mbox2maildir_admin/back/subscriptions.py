@@ -3,7 +3,6 @@ import contextlib
 import os
 import stat
 from collections.abc import Container, Iterator
-from dataclasses import replace
 from typing import Optional
 
 from ..faults import Fault, Left, Reason
@@ -98,7 +97,7 @@ def rows_of(root: bytes, tree: Optional[bytes], places: Places, is_dry: bool, wo
         if not is_dry:
             write(path, lists.text(names))
     except (Fault, OSError) as fault:
-        yield replace(row_left(path, b"", fault), reason=Reason.SUBSCRIPTIONS, is_back=True)
+        yield row_left(path, b"", fault)._replace(reason=Reason.SUBSCRIPTIONS, is_back=True)
         return
     says = Remark("subscriptions", "subscribed to %s" % counted(len(names), "folder"))
     yield Row(path, b"", KIND, None, Fate.WOULD_BACK if is_dry else Fate.BACK, remarks=(says,), is_back=True)

@@ -9,18 +9,13 @@ from ..migration.rows import Reporter, Shows
 from ..migration.steps import Options
 from ..users.asked import Tally
 from ..users.going_back import Way, back_users
-from .command_line import WrongOptions, want_operands
-from .of_users import UsersOptions, jobs_in, wrong_for_homes, wrong_for_one
+from .of_users import jobs_in
 from .running import reporter_of, run_reported
 from .spools import spool_of
 
 
 def do_back(given: argparse.Namespace) -> Status:
     """Brings mail back, and says whether all of it is in the mailboxes."""
-    want_operands(given.operands, ["OLD..."] if given.users else ["MAILDIR", "OLD..."])
-    of_users = UsersOptions.of(given)
-    for wrong in wrong_for_homes(of_users) if given.users else wrong_for_one(given, "jobs"):
-        raise WrongOptions(wrong)
     way = Way(How(given.dry_run, given.now, given.dovecot))
     options = Options(dry=given.dry_run, now=given.now, dovecot=given.dovecot, jobs=jobs_in(given.jobs))
 

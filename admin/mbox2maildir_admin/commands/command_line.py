@@ -4,25 +4,22 @@ import collections
 import functools
 import os
 import sys
-import textwrap
 from collections.abc import Callable, Iterable, Sequence
-from typing import Any, NoReturn
+from typing import Any, NamedTuple, NoReturn
 
 from ..faults import Status
 from ..terminal import complain, put, shown
 from ..version import version
+from .of_users import want_homes
+from .options import WrongOptions, add_options, want_together
 
 # how many columns a help has
 WIDTH = 80
 # what follows the name of an operand that may be given several times
 SEVERAL = "..."
 
-# does what the command line says, and returns whether all is well
-Task = Callable[[argparse.Namespace], Status]
-
-
-class WrongOptions(Exception):
-    """Options and operands that do not go together, named in a line."""
+# does what the command of a name does, and returns the status
+Task = Callable[[str, argparse.Namespace], Status]
 
 
 class PrintVersion(argparse.Action):
@@ -39,8 +36,15 @@ class Parser(argparse.ArgumentParser):
 
     def __init__(self, prog: str, usage: str, description: str, epilog: str) -> None:
         layout = functools.partial(argparse.RawDescriptionHelpFormatter, width=WIDTH)
-        text = textwrap.fill(description, WIDTH)
-        super().__init__(prog, usage, text, epilog, formatter_class=layout, allow_abbrev=False)
+        super().__init__(prog, usage, description, epilog, formatter_class=layout, allow_abbrev=False)
+
+    def format_help(self) -> str:
+        """The help. Only it needs the module that fills the lines of a description, unless these are there already."""
+        from textwrap import fill
+
+        text = str(self.description)
+        self.description = text if "\n" in text else fill(text, WIDTH)
+        return super().format_help()
 
     def error(self, message: str) -> NoReturn:
         """Ends the program with status 2."""
@@ -90,20 +94,46 @@ class Parser(argparse.ArgumentParser):
         return [word, value]
 
 
+class Words(NamedTuple):
+    """A command: its name, what it does in a line and in a text, its operands, of which one may stand for several as
+    FILE... does, how it is used in other ways than with these, and examples. Without operands, whatever does it looks
+    at them itself."""
+
+    name: str
+    short: str
+    text: str
+    operands: tuple[str, ...]
+    usage: tuple[str, ...] = ()
+    examples: str = ""
+
+
 class Command(Parser):
-    """A command, with the task that it does."""
+    """A command of a program, and its options."""
 
-    task: Task
-    # the names of its operands; none if the task looks at them itself
-    operands: tuple[str, ...] = ()
+    def __init__(self, program: str, words: Words) -> None:
+        prog = "%s %s" % (program, words.name)
+        usage = words.usage or ["[OPTION]... %s" % " ".join(words.operands)]
+        super().__init__(prog, "\n       ".join("%s %s" % (prog, one) for one in usage), words.text, words.examples)
+        self.words = words
+        add_options(self, words.name)
 
-    def run(self, words: Sequence[str]) -> Status:
-        """Does what the words say, and returns the status."""
+    def given(self, words: Iterable[str]) -> argparse.Namespace:
+        """The options and operands that the words give, which go together."""
         given = self.read(words)
+        is_of_users = getattr(given, "users", False)
+        if self.words.operands:
+            want_operands(given.operands, ("OLD...",) if is_of_users else self.words.operands)
+        if is_of_users:
+            want_homes(given)
+        want_together(self.words.name, given)
+        return given
+
+    def run(self, words: Iterable[str], task: Task) -> Status:
+        """Does what the words say, and returns the status."""
         try:
-            if self.operands:
-                want_operands(given.operands, self.operands)
-            return self.task(given)
+            given = self.given(words)
+            given.read = self.given
+            return task(self.words.name, given)
         except WrongOptions as wrong:
             self.error(str(wrong))
             return Status.LEFT
@@ -112,31 +142,16 @@ class Command(Parser):
 class CommandLine:
     """The command line: a command with its options and operands."""
 
-    def __init__(self, program: str, description: str, epilog: str) -> None:
-        self.parser = Parser(program, "%s COMMAND ..." % program, description, epilog)
-        self.parser.add_argument("--version", action=PrintVersion, nargs=0, help="print the version, and end")
-        self.commands: dict[str, Command] = {}
-        # a line for each, as the help has it
-        self.shorts = ["commands:"]
+    def __init__(self, parser: Parser, commands: Sequence[Words], task: Task) -> None:
+        parser.add_argument("--version", action=PrintVersion, nargs=0, help="print the version, and end")
+        self.parser, self.commands, self.task = parser, {words.name: words for words in commands}, task
 
-    def add(
-        self, name: str, task: Task, short: str, text: str, *operands: str, usage: Sequence[str] = (), epilog: str = ""
-    ) -> Command:
-        """Adds a command and the task that it does. An operand may stand for several: FILE..."""
-        prog = "%s %s" % (self.parser.prog, name)
-        lines = usage or ["[OPTION]... %s" % " ".join(operands)]
-        command = Command(prog, "\n       ".join("%s %s" % (prog, line) for line in lines), text, epilog)
-        command.task, command.operands = task, operands
-        self.commands[name] = command
-        self.shorts.append("  %-9s %s" % (name, short))
-        return command
-
-    def run(self) -> Status:
+    def run(self, words: Sequence[str]) -> Status:
         """Does what the command line says, and returns the status."""
-        words = sys.argv[1:]
         if words and words[0] in self.commands:
-            return self.commands[words[0]].run(words[1:])
-        self.parser.description = "\n".join([str(self.parser.description), "", *self.shorts])
+            return Command(self.parser.prog, self.commands[words[0]]).run(words[1:], self.task)
+        shorts = ("  %-9s %s" % (one.name, one.short) for one in self.commands.values())
+        self.parser.description = "\n".join([str(self.parser.description), "", "commands:", *shorts])
         for name in self.parser.read(words).operands:
             self.parser.error("%s: no such command%s" % (shown(name), like(os.fsdecode(name), self.commands)))
         self.parser.error("the command is missing: %s" % ", ".join(self.commands))

@@ -99,7 +99,7 @@ def folder_by_record(maildir: bytes, path: bytes, record: History) -> bytes:
     """The folder in which the record of a Maildir has a mailbox; the Maildir itself if it has it in none, or if it is
     not the record's own, but a folder that was named."""
     is_root = root_of(maildir) == maildir
-    return recorded(Planned(path, INBOX), record, maildir).folder_in(maildir) if is_root else maildir
+    return recorded(Planned(path, INBOX), record).folder_in(maildir) if is_root else maildir
 
 
 def for_planned(

@@ -6,7 +6,6 @@ import os
 import pwd
 import stat
 from collections.abc import Sequence
-from dataclasses import replace
 
 from .. import ADMIN
 from ..faults import Left, Status
@@ -83,10 +82,10 @@ def say_kind_in(mailbox: Mailbox, verdict: Verdict, tell: Observer, top: bytes =
     try:
         with choice_of(mailbox, trial_folder()) as choice:
             plan = choice.plan
-            tell.row(replace(row_found(path, plan.kind, as_it_is(path, top)), messages=plan.messages))
+            tell.row(row_found(path, plan.kind, as_it_is(path, top))._replace(messages=plan.messages))
     except Question as question:
         asked = answers_to(question.answers, lambda decision: migrate(path, decision))
-        tell.row(replace(left_as(question, path, question.kind), next=asked))
+        tell.row(left_as(question, path, question.kind)._replace(next=asked))
     except Left as left:
         if isinstance(left, OtherKind):
             left.put(where(path, top))
@@ -96,16 +95,16 @@ def say_kind_in(mailbox: Mailbox, verdict: Verdict, tell: Observer, top: bytes =
 
 def left_as(left: Left, path: bytes, kind: str) -> Row:
     """What a file is that would be left."""
-    row = replace(row_found(path, kind, left.next), messages=left.messages, most=left.most)
-    return replace(row, why=str(left), quotes=left.quotes)
+    row = row_found(path, kind, left.next)._replace(messages=left.messages, most=left.most)
+    return row._replace(why=str(left), quotes=left.quotes)
 
 
 def say_kind(mailbox: Mailbox, verdict: Verdict, tell: Observer, top: bytes) -> bool:
     """Prints what a file is. Returns whether it can be converted as it is."""
     then, quotes = next_of(mailbox, verdict, top)
-    row = replace(row_found(mailbox.path, verdict.kind, then), messages=verdict.messages, most=verdict.most)
+    row = row_found(mailbox.path, verdict.kind, then)._replace(messages=verdict.messages, most=verdict.most)
     details = tuple(Detail(one.says, line=one.line or None, text=one.text) for one in verdict.remarks)
-    tell.row(replace(row, quotes=tuple(quotes), details=details))
+    tell.row(row._replace(quotes=tuple(quotes), details=details))
     return verdict.is_as_it_is
 
 
@@ -116,7 +115,7 @@ def next_of(mailbox: Mailbox, verdict: Verdict, top: bytes) -> tuple[Next, Seque
         return where(path, top).next(verdict.recipe, path), ()
     if verdict.is_as_it_is or verdict.reading:
         return as_it_is(path, top), ()
-    question = question_of(mailbox, verdict)
+    question = question_of(verdict)
     return answers_to(question.answers, lambda decision: migrate(path, decision)), question.quotes
 
 

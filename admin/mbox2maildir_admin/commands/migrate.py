@@ -2,7 +2,6 @@
 import argparse
 import os
 from collections.abc import Iterator, Sequence
-from dataclasses import replace
 
 from .. import ADMIN
 from ..faults import Left, Reason, Status
@@ -16,9 +15,9 @@ from ..nexts import run_next
 from ..readings.reading import UNDECIDED
 from ..terminal import complain, has_terminal, named, operand
 from ..users.asked import Tally
-from .command_line import WrongOptions, want_operands
 from .deciding import decision_of, labels_of
-from .of_users import UsersOptions, jobs_in, wrong_for_homes
+from .of_users import jobs_in
+from .options import WrongOptions
 from .running import Telling, reporter_of, run_reported
 
 # the options that answer questions about mailboxes, or can be given only once
@@ -45,26 +44,18 @@ def do_migrate(given: argparse.Namespace) -> Status:
         task(reporter, tally)
         reporter.ask(lambda words: task_of(given.read(words))(reporter, tally))
         unmet = [tie for tie in given.of.split(",") if tie not in reporter.kept.ties]
-        if given.of and unmet and not is_one(given.operands[1:], UsersOptions.of(given)):
+        if given.of and unmet and not is_one(given):
             complain(UNMET % ",".join(map(named, unmet)))
 
     return run_reported(migrate, reporter, given.report, "what was done is in the record: run the same command again")
 
 
 def task_of(given: argparse.Namespace) -> Telling:
-    """What the words say. Raises WrongOptions if they do not go together."""
-    want_operands(given.operands, ["OLD..."] if given.users else ["MAILDIR", "MAILBOX..."])
+    """What the words say. Raises WrongOptions if one of them says nothing."""
     target, *names = given.operands
-    of_users = UsersOptions.of(given)
     # what is at a name counts only where something is said of one mailbox
     says = given.again or given.word or given.drop_deleted
-    options = options_of(given, bool(says) and is_one(names, of_users))
-    for wrong in wrong_for_users(options, of_users) if given.users else wrong_for_own(options, of_users, names):
-        raise WrongOptions(wrong)
-    for wrong in wrong_for_undo(options, given.users, names) if given.undo else wrong_for_prepare(options):
-        raise WrongOptions(wrong)
-    if given.list and (not given.users or given.json or given.report is not None):
-        raise WrongOptions("--list needs --users, and goes with neither --json nor --report")
+    options = options_of(given, bool(says) and is_one(given))
 
     def task(reporter: Reporter, tally: Tally) -> None:
         if given.users:
@@ -145,65 +136,21 @@ def typed_in(given: argparse.Namespace) -> Typed:
 
 def options_of(given: argparse.Namespace, alone: bool) -> Options:
     """The options for mailboxes: for one that is a file, or for several."""
-    jobs = jobs_in(given.jobs)
+    jobs, why = jobs_in(given.jobs), why_no_folder(given.folder) if given.folder is not None else ""
+    if why:
+        raise WrongOptions("--folder %s: %s" % (named(given.folder), why))
+    if given.users and given.drop_deleted and not given.of:
+        raise WrongOptions("--drop-deleted needs --of to go with --users")
     spared, decision = tuple(map(os.fsencode, given.no_mail)), decision_of(given, alone)
     options = Options(given.dry_run, given.again, given.dovecot, given.folder, spared, given.now, decision, jobs=jobs)
-    options = replace(options, any_disk=given.any_disk, labels=labels_of(given))
-    options = replace(options, prepare=given.prepare, unread=given.unread)
+    options = options._replace(any_disk=given.any_disk, labels=labels_of(given))
+    options = options._replace(prepare=given.prepare, unread=given.unread)
     if decision.of and not (alone or decision.text | decision.begin):
-        options = replace(options, decision=UNDECIDED, answer=decision)
-    return options if alone or not given.again else replace(options, again=False, again_rewritten=True)
+        options = options._replace(decision=UNDECIDED, answer=decision)
+    return options if alone or not given.again else options._replace(again=False, again_rewritten=True)
 
 
-def is_one(names: Sequence[bytes], of_users: UsersOptions) -> bool:
+def is_one(given: argparse.Namespace) -> bool:
     """Whether a single MAILBOX is migrated that is a file, or a single NAME without a folder of mailboxes."""
-    if len(names) != 1 or of_users.tree or of_users.names is not None:
-        return False
-    return not is_folder(names[0])
-
-
-def wrong_for_own(options: Options, of_users: UsersOptions, names: Sequence[bytes]) -> Iterator[str]:
-    """What is wrong with the options for a Maildir of one's own."""
-    if of_users != UsersOptions():
-        yield "--maildir, --tree and --names need --users"
-    if options.folder is not None:
-        why = why_no_folder(options.folder)
-        if why:
-            yield "--folder %s: %s" % (named(options.folder), why)
-        if any(map(is_folder, names)):
-            yield "--folder needs a MAILBOX that is a file"
-    if options.decision.text | options.decision.begin and not options.decision.alone:
-        yield "--text and --begin need exactly one MAILBOX, which is a file"
-    if options.labels and (options.folder is not None or options.dovecot):
-        yield "--labels does not go with --folder and --dovecot"
-    if options.labels and any(map(is_folder, names)):
-        yield "--labels needs a MAILBOX that is a file"
-
-
-def wrong_for_undo(options: Options, users: bool, names: Sequence[bytes]) -> Iterator[str]:
-    """What is wrong with the options for a mailbox that is undone."""
-    if users or options != Options(options.dry, folder=options.folder, now=options.now, jobs=options.jobs):
-        yield "--undo goes only with --dry-run, --folder, --now, --json and --report"
-    if not is_one(names, UsersOptions()):
-        yield "--undo needs exactly one MAILBOX, which is a file"
-
-
-def wrong_for_prepare(options: Options) -> Iterator[str]:
-    """What is wrong with the options for what is only prepared."""
-    if options.unread and not options.prepare:
-        yield "--unread needs --prepare"
-    if options.prepare and (options.again or options.again_rewritten or options.labels):
-        yield "--prepare goes with neither --again nor --labels"
-
-
-def wrong_for_users(options: Options, of_users: UsersOptions) -> Iterator[str]:
-    """What is wrong with the options for the mailboxes of a spool."""
-    yield from wrong_for_homes(of_users)
-    if options.folder is not None:
-        yield "--folder does not go with --users"
-    if options.labels:
-        yield "--labels does not go with --users"
-    if options.decision.text | options.decision.begin:
-        yield "--text and --begin do not go with --users"
-    if options.decision.drop:
-        yield "--drop-deleted needs --of to go with --users"
+    _, *names = given.operands
+    return len(names) == 1 and not given.tree and given.names is None and not is_folder(names[0])

@@ -1,41 +1,10 @@
-"""The options for the users of a spool, and for what each home has."""
+"""What the options for the users of a spool say."""
 import argparse
 import os
-from collections.abc import Callable, Iterator
-from typing import NamedTuple, Optional
+from typing import Optional
 
 from ..terminal import named
-from .command_line import WrongOptions
-
-# the name of the Maildir in a home
-MAILDIR = "Maildir"
-
-# adds an option
-Add = Callable[..., argparse.Action]
-
-
-class UsersOptions(NamedTuple):
-    """The options for homes, and for a list of users' names."""
-
-    maildir: str = MAILDIR
-    tree: Optional[str] = None
-    names: Optional[str] = None
-
-    @classmethod
-    def of(cls, given: argparse.Namespace) -> "UsersOptions":
-        """The options that the command line has."""
-        return cls(given.maildir, given.tree, given.names)
-
-
-def add_homes(add: Add, does: str) -> None:
-    """Adds these options to a command. `does` says what it does with mailboxes."""
-    add("--maildir", metavar="NAME", default=MAILDIR, help="the name of the Maildir in each home (%s)" % MAILDIR)
-    add("--tree", metavar="NAME", help="%s this folder of mailboxes, or this mailbox, of each home too" % does)
-    add(
-        "--names",
-        metavar="FILE",
-        help="%s only the users in this list, with one name per line (- is standard input)" % does,
-    )
+from .options import WrongOptions
 
 
 def jobs_in(number: Optional[str]) -> Optional[int]:
@@ -48,22 +17,14 @@ def jobs_in(number: Optional[str]) -> Optional[int]:
     return jobs
 
 
-def wrong_for_homes(of_users: UsersOptions) -> Iterator[str]:
-    """What is wrong with these options."""
+def want_homes(given: argparse.Namespace) -> None:
+    """Raises WrongOptions unless root gives the options for users, and these name what is below each home."""
     if os.geteuid() != 0:
-        yield "only root may use --users"
-    for option, name in zip(("--maildir", "--tree", "--names"), of_users):
+        raise WrongOptions("only root may use --users")
+    for option, name in (("--maildir", given.maildir), ("--tree", given.tree), ("--names", given.names)):
         if name == "":
             # as a variable of the shell is that was never set
-            yield "%s: it takes a name, which is empty here" % option
-    for name in (of_users.maildir, of_users.tree or "."):
+            raise WrongOptions("%s: it takes a name, which is empty here" % option)
+    for name in (given.maildir, given.tree or "."):
         if os.path.isabs(name) or ".." in name.split("/"):
-            yield "%s: --maildir and --tree take a name below each home" % named(name)
-
-
-def wrong_for_one(given: argparse.Namespace, *others: str) -> Iterator[str]:
-    """What is wrong with these options, and with others for users, of which a command has these, if it is about one
-    Maildir."""
-    if UsersOptions.of(given) != UsersOptions() or any(getattr(given, name) is not None for name in others):
-        *names, last = ("--%s" % name for name in ("maildir", "tree", "names", *others))
-        yield "%s and %s need --users" % (", ".join(names), last)
+            raise WrongOptions("%s: --maildir and --tree take a name below each home" % named(name))

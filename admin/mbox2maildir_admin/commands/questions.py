@@ -4,7 +4,6 @@ had been typed."""
 import os
 import termios
 from collections.abc import Sequence
-from dataclasses import replace
 from typing import Any, Optional
 
 from ..faults import Fault, Status, complain_of
@@ -17,7 +16,7 @@ from ..nexts import BELOW, Answer, Quote
 from ..progress import say_of
 from ..readings.texts import content_of, disk_of
 from ..terminal import INPUT, complain, flush, has_terminal, put, write
-from .command_line import WrongOptions
+from .options import WrongOptions
 
 # the letters of what is no answer
 MORE, SINGLY, LEAVE = "m", "s", "l"
@@ -118,7 +117,7 @@ def letter_for(group: Group, title: str, names: Sequence[bytes] = ()) -> str:
         if letter != MORE:
             return letter
         around *= TIMES
-        entries = [Entry(replace(one.row, quotes=lines_of(one, around, names))) for one in group.entries]
+        entries = [Entry(one.row._replace(quotes=lines_of(one, around, names))) for one in group.entries]
 
 
 def lines_of(entry: Entry, around: int, names: Sequence[bytes]) -> tuple[Quote, ...]:

@@ -14,9 +14,9 @@ from ..readings.quoting import Quoter, write_copy, written
 from ..readings.reading import PLAIN, Reading
 from ..terminal import named, operand, put, write
 from ..units import Say, silent
-from .command_line import WrongOptions
 from .deciding import decision_of
 from .files import Complaints, each
+from .options import WrongOptions
 
 STANDARD_OUTPUT = b"-"
 
@@ -45,9 +45,9 @@ def quote_file(decision: Reading, file: bytes, output: bytes, is_bare: bool = Fa
         if output == STANDARD_OUTPUT:
             quoter = Quoter(how, mailbox, start, keeps_lengths=False)
             written(quoter, write, is_bare)
-            quoter.check(quoter.given, quoter.counts().messages, messages)
+            quoter.check(quoter.given, quoter.messages, messages)
             return True
-        with Copy.open(output) as copy:
+        with Copy(output) as copy:
             quoter = write_copy(how, mailbox, start, messages, copy, is_bare)
     put("%s: messages %d, lines quoted %d" % (named(output), messages, quoter.quoted))
     return True

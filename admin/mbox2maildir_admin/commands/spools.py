@@ -9,15 +9,13 @@ from ..users.asked import Sources, Tally, asked_for
 from ..users.homes import Home
 from ..users.listing import list_users
 from ..users.spool import Spool, migrate_users
-from .of_users import UsersOptions
 
 
 def spool_of(given: argparse.Namespace) -> tuple[Spool, Optional[Sources]]:
     """The spool that the command line names, and the users who are asked for, if any are."""
     path, *names = given.operands
-    of_users = UsersOptions.of(given)
-    home = Home(os.fsencode(of_users.maildir), os.fsencode(of_users.tree) if of_users.tree else None)
-    return Spool(path, home), asked_for(names, os.fsencode(of_users.names) if of_users.names is not None else None)
+    home = Home(os.fsencode(given.maildir), os.fsencode(given.tree) if given.tree else None)
+    return Spool(path, home), asked_for(names, os.fsencode(given.names) if given.names is not None else None)
 
 
 def list_spool(given: argparse.Namespace) -> bool:

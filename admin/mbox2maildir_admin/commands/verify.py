@@ -5,7 +5,6 @@ import functools
 import importlib
 import os
 from collections.abc import Iterator
-from dataclasses import replace
 from itertools import islice
 
 from ..faults import Status
@@ -24,9 +23,7 @@ from ..readings.texts import Text, open_text
 from ..terminal import NAMED
 from ..units import Place, Say
 from ..users.asked import Tally
-from .command_line import WrongOptions, want_operands
 from .files import each, for_mailboxes
-from .of_users import UsersOptions, wrong_for_homes, wrong_for_one
 from .recorded import Recorded, record_of, root_of
 from .running import Telling, reporter_of, run_reported
 
@@ -47,10 +44,6 @@ STATES = {"other-bytes": State.OTHER, "renamed": State.RENAMED, "nowhere": State
 
 def do_verify(given: argparse.Namespace) -> Status:
     """Says whether each message is in the Maildir."""
-    want_operands(given.operands, ["OLD..."] if given.users else ["MAILDIR", "FILE..."])
-    of_users = UsersOptions.of(given)
-    for wrong in wrong_for_homes(of_users) if given.users else wrong_for_one(given, "jobs", "report"):
-        raise WrongOptions(wrong)
     shows = Shows((lambda row: True) if given.all else None, given.users)
     reporter = reporter_of(given, shows, {}, VERIFYING)
     if given.users:
@@ -117,7 +110,7 @@ def row_of(path: bytes, folder: bytes, check: Check, bare: int) -> Row:
     sizes, fate = check.inventory.sizes, Fate.WHOLE if check.is_right() else Fate.NOT_WHOLE
     remarks = tuple(Remark(word, says % counts[word]) for word, (says, _) in SORTS.items() if counts[word])
     row = Row(path, folder, "", len(sizes), fate, size=sum(sizes), remarks=remarks)
-    return replace(row, counts=tuple(counts.items()), details=tuple(details_of(check)))
+    return row._replace(counts=tuple(counts.items()), details=tuple(details_of(check)))
 
 
 def details_of(check: Check) -> Iterator[Detail]:

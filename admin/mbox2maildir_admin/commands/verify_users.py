@@ -2,22 +2,15 @@
 import argparse
 import os
 from collections.abc import Iterator
-from dataclasses import replace
-from typing import Optional
 
-from .. import ADMIN
 from ..ledger.record import Record
 from ..looks import is_folder, is_link
 from ..maildir.folders import INBOX
-from ..migration.outcomes import Fate, Observer, Row
 from ..migration.places import Pairs, Planned, recorded
 from ..migration.rows import Reporter
 from ..migration.steps import Options
 from ..migration.trees import Tree, link_left
-from ..nexts import run_next
 from ..program import Program
-from ..terminal import operand
-from ..units import Say
 from ..users.asked import Tally
 from ..users.homes import Kind, Migrant, Relay
 from ..users.spool import migrate_users
@@ -48,17 +41,16 @@ class Verifier(Migrant):
 
     def run(self, root: bytes, names: list[bytes], relay: Relay, program: Program) -> None:
         """Compares the mailboxes at these paths with a Maildir."""
-        tell = Told(relay, root)
 
         def verify(folder: bytes, file: bytes) -> bool:
-            return verify_file(folder, file, program.path, tell, os.path.relpath(folder, root))
+            return verify_file(folder, file, program.path, relay, os.path.relpath(folder, root))
 
         with Record.open(root, False) as record:
             pairs = Pairs(record, root, own=names)
             for name in names:
                 tree = Tree(name, root, options=self.options).read() if is_tree(name) else None
                 plan = tree.plan(record, root) if tree else list(self.planned(name, pairs, relay))
-                for_planned(root, name, (plan, tree.rows if tree else ()), record, verify, tell)
+                for_planned(root, name, (plan, tree.rows if tree else ()), record, verify, relay)
 
     @staticmethod
     def planned(name: bytes, pairs: Pairs, relay: Relay) -> Iterator[Planned]:
@@ -66,7 +58,7 @@ class Verifier(Migrant):
         if is_link(name):
             relay.leave(name, link_left(name))
             return
-        one = pairs.judged(recorded(Planned(name, INBOX), pairs.record, pairs.root))
+        one = pairs.judged(recorded(Planned(name, INBOX), pairs.record))
         if one.why:
             relay.leave(name, one.why)
         else:
@@ -76,21 +68,3 @@ class Verifier(Migrant):
 def is_tree(name: bytes) -> bool:
     """Whether a name is that of a folder of mailboxes."""
     return is_folder(name) and not is_link(name)
-
-
-class Told(Observer):
-    """Tells rows, each with the command that says more in place of what is said of single messages."""
-
-    def __init__(self, relay: Relay, root: bytes) -> None:
-        self.relay, self.root = relay, root
-
-    def say(self, path: bytes) -> Say:
-        """The function that takes the progress of the file at a path."""
-        return self.relay.say(path)
-
-    def row(self, row: Row, user: Optional[str] = None) -> None:
-        """Tells a row."""
-        if row.fate is Fate.NOT_WHOLE:
-            folder = os.path.normpath(os.path.join(self.root, row.folder))
-            row = replace(row, next=run_next(ADMIN, "verify", operand(folder), operand(row.path)))
-        self.relay.row(row, user)

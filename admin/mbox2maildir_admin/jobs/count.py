@@ -5,7 +5,7 @@ from typing import Optional
 
 from ..progress import length
 from ..terminal import complain
-from .words import Places
+from .work import Places
 
 # on most disks more of them would wait for each other
 MOST = 8

@@ -1,39 +1,32 @@
 """Several folders of a Maildir at the same time: each process migrates the mailboxes of one folder, then those of the
 next. It tells its parent what became of each. Only the parent writes the record, and prints."""
+import binascii
 import collections
-import contextlib
 import os
-import signal
+import pickle
 from collections.abc import Callable, Iterator, Sequence
-from multiprocessing.connection import Connection, Pipe, wait
-from typing import Any, NamedTuple, NoReturn, Optional, Union
+from typing import Any, NamedTuple, Optional
 
 from ..faults import PlaceFault, Reason
 from ..maildir.space import Need
-from ..signals import INTERRUPTS, blocked
+from ..progress import amount
+from ..signals import INTERRUPTS
 from ..terminal import complain
-from .parent import Parent
-from .words import Answer, At, Became, Begins, Failed, Line, Next, Places, Refusal, Word
+from .crew import Child, Crew, Parent, Spelling
+from .work import Places, Work
 
-# for how long workers are listened to at a time, in seconds
-TURN = 0.2
-# the status of a worker that was interrupted
-BROKEN_OFF = 130
-# the signals that are blocked
-Mask = set[Union[int, signal.Signals]]
-
-
-def close(connection: "Connection") -> None:
-    """Closes a connection. It is closed even if that raises an error."""
-    with contextlib.suppress(OSError):
-        connection.close()
+# a worker is this program with the rights of its parent, which trusts it
+TRUSTED = Spelling(
+    lambda words: binascii.b2a_base64(pickle.dumps(words), newline=False),
+    lambda line: pickle.loads(binascii.a2b_base64(line)),
+)
 
 
 class Orders(NamedTuple):
     """What a worker does; what writes its lines into the record; what is told that a mailbox begins, how far it is, and
     that it is no longer at work; and what gives the row of a mailbox whose worker told none."""
 
-    work: Callable[[Parent], None]
+    work: Callable[[Work], object]
     write: Callable[[Any], None]
     begin: Callable[[], None]
     progress: Callable[..., None]
@@ -41,170 +34,120 @@ class Orders(NamedTuple):
     leave: Callable[[int, str, Reason], Any]
 
 
-class Worker:
-    """A process at work, as its parent sees it."""
+class Worker(Child):
+    """A process at work for some mailboxes of one folder."""
 
-    def __init__(self, pid: int, connection: "Connection", places: Places) -> None:
-        self.pid, self.connection = pid, connection
+    def __init__(self, places: Places) -> None:
+        super().__init__()
         # the mailboxes that it has told no row of yet
         self.places = list(places)
-        # how far it is, the space that it counts on, and the space that it waits for
-        self.at: Optional[At] = None
+        # whose progress it told last, and what that was; the space that it counts on, and the space that it waits for
+        self.who, self.at = "", ""
         self.has: Optional[Need] = None
         self.wants: Optional[Need] = None
-        # the fault of its own that it told
-        self.why = ""
-
-    def answer(self, answer: Answer = None) -> bool:
-        """Sends an answer, and returns whether the worker may have got it."""
-        try:
-            self.connection.send(answer)
-        except OSError:
-            return False
-        return True
-
-    def has_ended(self) -> bool:
-        """Whether it has ended, even if another process holds its end of the connection."""
-        return os.waitid(os.P_PID, self.pid, os.WEXITED | os.WNOHANG | os.WNOWAIT) is not None
 
     def why_ended(self, status: int) -> tuple[str, Reason]:
         """Why a mailbox has no row whose worker ended with this status, and the word for it."""
-        if self.why:
-            return "internal error: %s" % self.why, Reason.DEFECT
+        if self.fault:
+            return "internal error: %s" % self.fault, Reason.DEFECT
         if os.WIFSIGNALED(status):
             return "its process was killed by signal %d: run this again" % os.WTERMSIG(status), Reason.PROCESS
         return "its process was interrupted: run this again", Reason.PROCESS
 
 
-class Workers:
-    """Several processes that are at work at the same time. All of them have ended in the end."""
+class Workers(Crew):
+    """Several workers."""
 
     def __init__(self, jobs: int, groups: Sequence[Places], orders: Orders) -> None:
-        self.jobs, self.orders = jobs, orders
+        super().__init__(jobs, TRUSTED)
+        self.orders = orders
         # the mailboxes that nobody has begun with
         self.groups = collections.deque(groups)
-        self.workers: list[Worker] = []
         # by the places of their mailboxes in the plan, until they are taken
         self.rows: dict[int, Any] = {}
 
-    def __enter__(self) -> "Workers":
-        return self
-
-    def __exit__(self, kind: Optional[type[BaseException]], *_: object) -> None:
+    def __exit__(self, kind: Optional[type[BaseException]], *rest: object) -> None:
         with INTERRUPTS.held():
-            for worker in self.workers:
+            for worker in self.children.values():
                 if kind is KeyboardInterrupt and worker.at:
-                    complain("%s: interrupted: %s" % (worker.at.who, worker.at))
-                os.kill(worker.pid, signal.SIGTERM)
+                    complain("%s: interrupted: %s" % (worker.who, worker.at))
             self.groups.clear()
-            while self.workers:
-                self.turn()
+            super().__exit__(kind, *rest)
 
     def turns(self) -> Iterator[None]:
         """Lets workers do everything. After each turn, the rows that came can be taken."""
-        while self.groups or self.workers:
-            if self.groups and len(self.workers) < self.jobs:
-                self.start()
+        while self.groups or self.children:
+            if self.groups and len(self.children) < self.jobs:
+                # they are its own even if it ends before it asks for them, lest one after the other starts for them
+                self.start(Worker(self.groups.popleft()), self.work)
             self.turn()
             yield
 
-    def start(self) -> None:
-        """Starts a worker for the next mailboxes. They are its own even if it ends before it asks for them, lest one
-        after the other is started for them."""
-        ours, theirs = Pipe()
-        with blocked() as mask:
-            pid = os.fork()
-            if not pid:
-                # it must see only its own parent's end of a connection
-                self.work(Parent(theirs), [ours, *(worker.connection for worker in self.workers)], mask)
-            self.workers.append(Worker(pid, ours, self.groups.popleft()))
-        close(theirs)
+    def work(self, parent: Parent) -> int:
+        """Does the work of a worker."""
+        self.orders.work(Work(parent))
+        return 0
 
-    def work(self, parent: Parent, of_others: Sequence["Connection"], mask: Mask) -> NoReturn:
-        """Does the work of a worker's process, and ends it. Closes the connections of other workers first."""
-        status, INTERRUPTS.is_held = 1, True
-        try:
-            for connection in of_others:
-                close(connection)
-            signal.pthread_sigmask(signal.SIG_SETMASK, mask)
-            with INTERRUPTS.let_through():
-                self.orders.work(parent)
-            status = 0
-        except KeyboardInterrupt:
-            status = BROKEN_OFF
-        except Exception as fault:  # pylint: disable=broad-except
-            parent.fail(fault)
-        finally:
-            os._exit(status)
-
-    def turn(self) -> None:
-        """Listens to the workers for a while."""
-        ready = wait([worker.connection for worker in self.workers], TURN)
-        with INTERRUPTS.held():
-            for worker in list(self.workers):
-                if worker.connection in ready:
-                    self.hear(worker)
-                elif worker.has_ended() and not worker.connection.poll():
-                    self.end(worker)
-            self.give_room()
-
-    def hear(self, worker: Worker) -> None:
-        """Takes the next word of a worker, or notes its end."""
-        try:
-            word = worker.connection.recv()
-        except (EOFError, OSError):
-            self.end(worker)
-        else:
-            self.take(worker, word)
-
-    def take(self, worker: Worker, word: Word) -> None:
+    def take(self, child: Worker, line: bytes) -> None:
         """Takes what a worker tells or asks."""
-        if isinstance(word, Next):
-            if self.groups and not worker.places:
-                worker.places += self.groups.popleft()
-            self.answer(worker, tuple(worker.places))
-        elif isinstance(word, Begins):
-            self.orders.begin()
-        elif isinstance(word, At):
-            worker.at = word
-            self.orders.progress(*word)
-        elif isinstance(word, Line):
-            self.answer(worker, self.refusal_of(word))
-        elif isinstance(word, Became):
-            worker.places.remove(word.place)
-            self.rows[word.place] = word.row
-            self.rest(worker)
-        elif isinstance(word, Failed):
-            worker.why = word.why
+        what, *words = self.spelling.read(line)
+        takes: dict[str, Callable[..., object]] = {
+            "next": self.give,
+            "begins": lambda _: self.orders.begin(),
+            "at": self.progress,
+            "line": self.write,
+            "became": self.became,
+        }
+        if what == "failed":
+            (child.fault,) = words
+        elif what == "needs":
+            child.has, (child.wants,) = None, words
         else:
-            worker.has, worker.wants = None, word
+            takes[what](child, *words)
 
-    def answer(self, worker: Worker, answer: Answer = None) -> None:
-        """Answers a worker. A worker that cannot get the answer is ended."""
-        if not worker.answer(answer):
-            self.end(worker)
+    def give(self, worker: Worker) -> None:
+        """Gives a worker the mailboxes of the next folder; none if all are begun."""
+        if self.groups and not worker.places:
+            worker.places += self.groups.popleft()
+        self.answer(worker, tuple(worker.places))
 
-    def refusal_of(self, line: Line) -> Optional[Refusal]:
-        """Writes a line into the record. Returns why that failed, if it did."""
+    def progress(self, worker: Worker, who: str, doing: str, *numbers: int) -> None:
+        """Passes on how far a mailbox is."""
+        worker.who, worker.at = who, " ".join([doing, *([amount(*numbers)] if len(numbers) == 2 else [])])
+        self.orders.progress(who, doing, *numbers)
+
+    def write(self, worker: Worker, entry: object) -> None:
+        """Writes a line into the record, and says why that failed, if it did."""
         try:
-            self.orders.write(line.entry)
+            self.orders.write(entry)
         except PlaceFault as fault:
-            return str(fault), fault.reason
-        return None
+            self.answer(worker, (str(fault), fault.reason))
+        else:
+            self.answer(worker, ())
 
-    def give_room(self) -> None:
+    def became(self, worker: Worker, place: int, row: object) -> None:
+        """Takes what became of a mailbox."""
+        worker.places.remove(place)
+        self.rows[place] = row
+        self.rest(worker)
+
+    def answer(self, worker: Worker, words: Sequence[Any]) -> None:
+        """Answers a worker."""
+        worker.answer(self.spelling.write(words))
+
+    def serve(self) -> None:
         """Lets workers go on that wait for space: if there is enough beside the space that others count on, or if
         none of the others counts on the same disk. In the second case the worker finds out itself whether there is
         enough."""
-        for worker in list(self.workers):
+        for worker in self.children.values():
             need = worker.wants
             if need and self.has_room(need):
                 worker.has, worker.wants = need, None
-                self.answer(worker)
+                self.answer(worker, ())
 
     def has_room(self, need: Need) -> bool:
         """Whether a worker need not wait for others."""
-        others = [one.has for one in self.workers if one.has and one.has.disk == need.disk]
+        others = [one.has for one in self.children.values() if one.has and one.has.disk == need.disk]
         size, inodes = (
             sum(counts) for counts in zip((need.size, need.inodes), *((one.size, one.inodes) for one in others))
         )
@@ -213,16 +156,12 @@ class Workers:
     def rest(self, worker: Worker) -> None:
         """Notes that a worker has done a mailbox, or has ended."""
         if worker.at:
-            self.orders.rest(worker.at.who)
-        worker.at = worker.has = worker.wants = None
+            self.orders.rest(worker.who)
+        worker.at, worker.has, worker.wants = "", None, None
 
-    def end(self, worker: Worker) -> None:
+    def end(self, child: Worker, status: int) -> None:
         """Takes out a worker that has ended. Mailboxes that it told no row of are left."""
-        close(worker.connection)
-        # a worker that could not be heard may be at work, and another process may hold its connection
-        os.kill(worker.pid, signal.SIGTERM)
-        status = os.waitpid(worker.pid, 0)[1]
-        self.workers.remove(worker)
-        self.rest(worker)
-        for place in worker.places:
-            self.rows[place] = self.orders.leave(place, *worker.why_ended(status))
+        super().end(child, status)
+        self.rest(child)
+        for place in child.places:
+            self.rows[place] = self.orders.leave(place, *child.why_ended(status))

@@ -1,16 +1,17 @@
 """The conversion of those messages of a mailbox that have no file, why one fails, and what is noted once a mailbox was
 verified."""
+import collections
 import contextlib
 import os
 import re
 from collections.abc import Iterator, Sequence
-from dataclasses import replace
 from typing import Optional
 
-from ..faults import Fault, Left, Reason, reason_of_fault, why_left
+from ..faults import Fault, Left, Reason, fault_of
 from ..ledger.files import Files
-from ..ledger.history import Entry, Note, Step
-from ..ledger.lines import note_all_placed, note_end
+from ..ledger.history import Note
+from ..ledger.lines import note_all_placed, note_ends
+from ..ledger.lines import note_failed as note_batch_failed
 from ..ledger.placing import Placing
 from ..ledger.prepared_lines import drop_list, finish_list, note_failed
 from ..ledger.record import Record, Verified
@@ -98,7 +99,7 @@ class Conversion:
     def explained(
         self, failed: Failed, opened: Opened, contents: Contents, placing: Placing, verified: Verified
     ) -> Left:
-        """Why the program failed, in better words than its own. If a sync failed, the record notes that."""
+        """Why the program failed, in better words than its own. If a sync failed, the ledger notes that."""
         whole = placing.whole()
         there = Files(opened.folder, whole, opened.mailbox.say).there
         nowhere = [place for place in placing.match.need if not there[place]]
@@ -114,21 +115,18 @@ class Conversion:
 
     def settled(self, several: Sequence[tuple[Ended, Optional[OSError]]]) -> list[Row]:
         """The rows of mailboxes, once their disks were synced, or failed, and that is noted of those that were
-        verified: in their ledgers, and in the record of all at once. What fails leaves those that it is about."""
-        rows, done = [ended.row for ended, _ in several], dict[int, Verified]()
-        lines: list[Entry] = []
+        verified: at once of all of a folder. What fails leaves those that it is about."""
+        rows = [ended.row for ended, _ in several]
+        done: collections.defaultdict[bytes, dict[int, Verified]] = collections.defaultdict(dict)
         for place, ((_, verified), fault) in enumerate(several):
             with leaving(rows, place):
                 if verified and self.is_ended(verified, fault):
-                    size = note_end(verified.folder, verified.batch)
-                    lines.append(self.record.line_of(Step.DONE, verified, size))
-                    done[place] = verified
-        if lines:
-            with leaving(rows, *done):
-                self.record.add_entry(*lines)
-                for place in [place for place, verified in done.items() if verified.is_prepared]:
-                    with leaving(rows, place):
-                        drop_list(done[place].folder)
+                    done[verified.folder][place] = verified
+        for folder, its in done.items():
+            with leaving(rows, *its):
+                note_ends(folder, (verified.batch for verified in its.values()))
+                if any(verified.is_prepared for verified in its.values()):
+                    drop_list(folder)
         return rows
 
     def is_ended(self, verified: Verified, fault: Optional[OSError]) -> bool:
@@ -151,14 +149,14 @@ class Conversion:
             self.record.add(Note.PREPARED, one.key, one.messages, one.path, one.plan)
 
     def sync_failed(self, one: Verified) -> Left:
-        """What is said of a sync that failed. The record notes it."""
+        """What is said of a sync that failed. The ledger notes it."""
         if not one.batch:
             note_failed(one.folder)
             return Left(PREPARED_SYNC_FAILED, Reason.SYNC_FAILED)
         try:
-            self.record.add_step(Step.FAILED, one)
+            note_batch_failed(one.folder, one.batch)
         except Fault as fault:
-            noted = "%s; note this yourself, because the record could not be written: %s" % (SYNC_FAILED, fault)
+            noted = "%s; note this yourself, because the ledger could not be written: %s" % (SYNC_FAILED, fault)
             return Left(noted, Reason.SYNC_FAILED)
         return Left(SYNC_FAILED, Reason.SYNC_FAILED)
 
@@ -168,11 +166,10 @@ def leaving(rows: list[Row], *places: int) -> Iterator[None]:
     """Leaves the mailboxes whose rows are at these places if what is in here fails."""
     try:
         yield
-    except (Fault, OSError) as fault:
+    except (Fault, OSError) as error:
         for place in places:
-            path = rows[place].path
-            why, reason = why_left(fault, path), reason_of_fault(fault, path)
-            rows[place] = replace(rows[place], fate=Fate.LEFT, why=why, reason=reason, remarks=())
+            fault = fault_of(error, rows[place].path)
+            rows[place] = rows[place]._replace(fate=Fate.LEFT, why=str(fault), reason=fault.reason, remarks=())
 
 
 def is_swept(folder: bytes) -> bool:

@@ -126,7 +126,7 @@ class Dovecot(Extra):
         if reading.keywords:
             text = b"".join(b"%d %s\n" % pair for pair in enumerate(reading.keywords[:LETTERS]))
             place_file(opened.folder, KEYWORDS, text, self.writer(opened.name))
-        infos = rename(opened.folder, whole, reading.marks, one.contents.is_bare)
+        infos = rename(opened.folder, whole, reading.marks)
         name_of = functools.partial(name_by, whole.table, infos)
         place_file(opened.folder, LIST, list_of(reading.numbers(one.begun_at), name_of), self.writer(opened.name))
 
@@ -184,7 +184,7 @@ def remove_lists(record: Record, opened: Opened) -> None:
 def give_flags(one: Bringing) -> None:
     """Gives the new messages those flags of their headers that their files lack, if the folder keeps its numbers."""
     marks = [marks_of(fields_of(one.contents.header(Place(place))), {}) for place in one.places]
-    letters = [info_of(its, "", True) for its in marks]
+    letters = [info_of(its, "") for its in marks]
     listed = {Place(place) for place, its in enumerate(marks) if is_listed(its)}
     add_flags(one.opened.folder, one.part, letters, one.is_unread, listed)
 

@@ -24,6 +24,8 @@ def finish(one: Bringing, extra: Extra) -> list[Remark]:
         return one.digest_by(place, number, state)
 
     check.look_first = look_first
+    # they were written just now, so each is compared faster than it is handed over
+    check.threads = 1
     check.look(folder)
     # it was decided what From_ lines hold, or they hold no mail: otherwise nothing would have been converted
     check.doubts = ()

@@ -12,9 +12,8 @@ from ..ledger.ledger import Ledger
 from ..ledger.prepared import Prepared
 from ..ledger.prepared_lines import ASIDE, has_list, origin_in, remove_aside
 from ..ledger.record import Record, unspelled
-from ..ledger.strangers import folders_in
 from ..looks import is_folder, is_there, may_be, real_path
-from ..maildir.folders import INBOX, folder_path, words_of
+from ..maildir.folders import INBOX, folder_path, folders_in, name_of, words_of
 from ..nexts import Does, Remark, Todo, run_next, task
 from ..terminal import operand, spelled, text_of
 from ..units import counted
@@ -55,11 +54,6 @@ def listed_in(root: bytes) -> list[Listed]:
 def asides_in(root: bytes) -> list[bytes]:
     """The folders that a killed pass was making or removing."""
     return [os.path.join(root, name) for name in names_in(root) if name.startswith(ASIDE)]
-
-
-def name_of(root: bytes, folder: bytes) -> bytes:
-    """The name of a folder of a Maildir."""
-    return INBOX if folder == root else os.path.basename(folder)
 
 
 class Leftovers:
@@ -126,7 +120,7 @@ class Leftovers:
             with contextlib.suppress(Fault, OSError):
                 # what cannot be read stays
                 if name not in went and has_list(folder) and not origin_in(folder):
-                    empty(self.record, name, Ledger(folder), Prepared.read(folder))
+                    empty(self.record, name, Ledger(folder, dry=self.dry), Prepared.read(folder))
 
     def is_open(self, one: Listed) -> bool:
         """Whether a folder is only prepared still."""
@@ -140,7 +134,7 @@ class Leftovers:
     def emptied(self, one: Listed) -> Row:
         """The row of a folder from which everything that was prepared is removed."""
         folder = folder_path(self.root, one.name)
-        ledger, prepared = Ledger(folder), Prepared.read(folder)
+        ledger, prepared = Ledger(folder, dry=self.dry), Prepared.read(folder)
         if prepared.batch:
             take_back(self.record, one.name, ledger, prepared, self.dry)
         prepared.look()

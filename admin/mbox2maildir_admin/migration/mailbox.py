@@ -2,13 +2,12 @@
 import collections
 import contextlib
 from collections.abc import Callable, Container
-from dataclasses import replace
 from typing import IO, Optional
 
 from ..faults import Fault, Left, Reason
-from ..jobs.parent import Parent
+from ..jobs.work import Work
 from ..kinds.named import is_no_mail
-from ..ledger.ledger import Ledger
+from ..ledger.ledger import Ledger, has_failed
 from ..ledger.prepared import Prepared
 from ..ledger.prepared_lines import remove_list
 from ..ledger.record import Record
@@ -28,7 +27,7 @@ from .answers import is_passed_over, note_no_mail
 from .converting import Conversion
 from .outcomes import BY_NO_MAIL, BY_RECORD, Ended, Fate, Row, row_left
 from .preparing import FirstPass, LastPass
-from .replica import has_failed, is_free, is_prepared, note_begun, reader_in, take_back
+from .replica import is_free, is_prepared, note_begun, reader_in, take_back
 from .steps import How, Opened
 from .transfer import Transfer
 from .unchanged import row_unchanged
@@ -52,13 +51,15 @@ class Migration:
         self.verified: collections.defaultdict[bytes, set[int]] = collections.defaultdict(set)
         self.kept: Optional[Ledger] = None
 
-    def work_for(self, parent: Parent) -> None:
+    def work_for(self, work: Work) -> None:
         """Makes this the migration of a worker. Its parent writes the record, and knows the space that all workers
         need."""
-        self.record.write, self.want_room, self.program.alive = parent.write, parent.want_room, parent.number
+        self.want_room, self.program.alive = work.want_room, work.alive
+        if not self.how.dry:
+            self.record.write = work.write
 
     def run(
-        self, path: bytes, name: bytes, say: Say = silent, follow: bool = False, why: Optional[Left] = None
+        self, path: bytes, name: bytes, say: Say = silent, follow: bool = False, why: Optional[Fault] = None
     ) -> Ended:
         """Migrates a mailbox into the folder of this name. `say` takes the progress. If `why` is a reason why not, a
         mailbox with mail is left for that reason."""
@@ -100,7 +101,7 @@ class Migration:
 
         return snapshot(path, make, say, follow)
 
-    def judge(self, opened: Opened, why: Left) -> Row:
+    def judge(self, opened: Opened, why: Fault) -> Row:
         """The row of a mailbox that is left for this reason, unless it is no mbox text. What may be asked about one is
         asked once this reason is gone."""
         mailbox = opened.mailbox
@@ -110,19 +111,18 @@ class Migration:
 
     def spare(self, opened: Opened, kind: str) -> Row:
         """Notes that a file that is not mbox text holds no mail by the command line, and returns its row."""
-        if not self.how.dry:
-            note_no_mail(self.record, opened.mailbox)
+        note_no_mail(self.record, opened.mailbox)
         return Row(opened.mailbox.path, b"", kind, None, Fate.NO_MAIL, remarks=(BY_NO_MAIL,))
 
     def migrate(self, opened: Opened, making: Optional[Making] = None) -> Ended:
         """Does what is left to do, and returns what became of the mailbox."""
         if not self.how.is_labelled and line_of(self.record, opened.mailbox):
-            undo = replace(self.how, is_labelled=True).undo(self.root, opened)
+            undo = self.how._replace(is_labelled=True).undo(self.root, opened)
             left = Left(WITH_LABELS, Reason.ANOTHER_READING, (Answer(undo),))
             return Ended(row_left(opened.mailbox.path, b"", left, None, opened.mailbox.size))
         verified, ledger, self.kept = self.verified[opened.name], self.kept, None
         if not ledger or ledger.folder != opened.folder:
-            ledger = Ledger(opened.folder, verified)
+            ledger = Ledger(opened.folder, verified, self.how.dry)
         if making:
             transfer = making(self.conversion, self.how, opened, ledger)
         else:
@@ -150,7 +150,7 @@ def transfer_of(conversion: Conversion, how: How, opened: Opened, ledger: Ledger
         prepared.batch
         and not how.again
         and not ledger.damage
-        and not has_failed(record, opened.name)
+        and not has_failed(ledger)
         and not reader_in(record, opened.name, opened.folder, prepared)
     ):
         take_back(record, opened.name, ledger, prepared, how.dry)

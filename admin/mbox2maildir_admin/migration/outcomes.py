@@ -2,10 +2,9 @@
 import enum
 import functools
 from collections.abc import Iterator, Sequence
-from dataclasses import dataclass, replace
 from typing import NamedTuple, Optional, Union
 
-from ..faults import Fault, Left, Reason, next_of, reason_of_fault, why_left
+from ..faults import Fault, Left, Reason, fault_of
 from ..ledger.record import Verified
 from ..looks import type_at
 from ..nexts import BELOW, NOTHING, Next, Quote, Remark, lines_below
@@ -60,8 +59,7 @@ class Detail(NamedTuple):
         return (where if self.line else "") + self.says + (" " + named(self.path) if self.path else "")
 
 
-@dataclass(frozen=True)
-class Row:
+class Row(NamedTuple):
     """A mailbox, and what became of it."""
 
     path: bytes
@@ -177,17 +175,18 @@ def with_name(row: Row, before: str) -> Row:
     """Adds to a row the name that the folder had in Dovecot, if mail programs will show another one."""
     if not before or not row.folder or row.fate == Fate.BEFORE:
         return row
-    return replace(row, remarks=(*row.remarks, Remark("name-before", "its name was %s" % named(before))))
+    return row._replace(remarks=(*row.remarks, Remark("name-before", "its name was %s" % named(before))))
 
 
 def row_left(
-    path: bytes, name: bytes, fault: Union[Fault, OSError], plan: Optional[Plan] = None, size: Optional[int] = None
+    path: bytes, name: bytes, error: Union[Fault, OSError], plan: Optional[Plan] = None, size: Optional[int] = None
 ) -> Row:
     """The row of a mailbox that is left, with what is known of it from its plan, or from the reason why it has none."""
+    fault = fault_of(error, path)
     known: Union[Plan, Left, None] = plan or (fault if isinstance(fault, Left) else None)
     kind, messages = (known.kind, known.messages) if known else ("", None)
-    row = Row(path, name, kind, messages, Fate.LEFT, why_left(fault, path), reason_of_fault(fault, path), size)
-    return replace(row, quotes=getattr(fault, "quotes", ()), next=next_of(fault, path))
+    row = Row(path, name, kind, messages, Fate.LEFT, str(fault), fault.reason, size)
+    return row._replace(quotes=fault.quotes, next=fault.next)
 
 
 def seen(names: Sequence[bytes], observer: Observer) -> list[bytes]:

@@ -4,21 +4,18 @@ but nothing shows that it is complete and of the same mail. So neither is taken 
 import collections
 import os
 from collections.abc import Callable, Container, Iterable, Sequence
-from dataclasses import replace
 from typing import NamedTuple, Optional
 
 from .. import ADMIN
-from ..faults import Fault, Left, Reason, reason_of_fault, why_left
+from ..faults import Fault, Left, Reason, fault_of
 from ..kinds.named import is_no_mail, name_of_folder
 from ..ledger.history import History, Step
-from ..ledger.lines import number_in
 from ..ledger.record import Record, unspelled
-from ..ledger.strangers import folders_in
 from ..looks import is_file
 from ..maildir.files import names_of
 from ..maildir.folders import COPY, INBOX, folder_named, folder_path, words_of
 from ..maildir.syncing import SyncOne
-from ..nexts import NOTHING, Answer, Command, Does, Next, Todo, in_shell, line_of, run_next, task
+from ..nexts import Answer, Command, Does, Next, Todo, in_shell, line_of, run_next, task
 from ..readings.copies import COMPRESSED
 from ..readings.reading import UNDECIDED, Reading
 from ..readings.texts import is_mbox
@@ -27,6 +24,7 @@ from .outcomes import Ended
 from .steps import How, Options
 
 ENDINGS = (COPY, *COMPRESSED)
+ELSEWHERE = "its mail is in %s: the ledger there says so, and the record does not"
 NAMED_AS_FOLDER = "INBOX has or gets other mail, and mail programs keep a folder in a file named %s"
 
 
@@ -45,7 +43,7 @@ class Planned(NamedTuple):
     folder: bytes
     before: str = ""
     # why it goes nowhere, if it holds mail
-    why: Optional[Left] = None
+    why: Optional[Fault] = None
     # for a symbolic link, the path that it leads to, which was migrated by hand
     target: Optional[bytes] = None
     # whether it is one of several Inboxes with mail of a profile
@@ -60,44 +58,37 @@ class Planned(NamedTuple):
         """Why it goes nowhere, as a word."""
         return self.why.reason if self.why else None
 
-    def left(self, why: str, reason: Reason, then: Next = NOTHING) -> "Planned":
+    def left(self, why: Fault) -> "Planned":
         """The same mailbox, which goes nowhere."""
-        return Planned(self.path, b"", "", Left(why, reason, then), self.target)
+        return Planned(self.path, b"", "", why, self.target)
 
     def left_to_human(self, why: str, words: Sequence[str]) -> "Planned":
         """The same mailbox, for which a human must find a folder. The command has these words before its path."""
-        return self.left(why, Reason.NO_FOLDER, run_next(ADMIN, "migrate", *words, operand(self.path)))
+        return self.left(Left(why, Reason.NO_FOLDER, run_next(ADMIN, "migrate", *words, operand(self.path))))
 
 
-def recorded(one: Planned, record: History, root: bytes) -> Planned:
-    """A mailbox with the folder of a Maildir in which its record has it last, wherever that is now; or why it goes
-    nowhere."""
+def recorded(one: Planned, record: History) -> Planned:
+    """A mailbox with the folder of a Maildir in which its record has it last; or why it goes nowhere."""
     try:
         folders = record.folders_of(one.path)
-        if not folders:
-            return one
-        line = record.last_at(folders[-1], one.path)
-        folder = where_it_is(root, folders[-1], line.ledger if line else "")
     except (Fault, OSError) as fault:
-        return one.left(why_left(fault, one.path), reason_of_fault(fault, one.path))
-    return one if folder == one.folder else one._replace(folder=folder, before="", why=None)
+        return one.left(fault_of(fault, one.path))
+    if not folders or folders[-1] == one.folder:
+        return one
+    return one._replace(folder=folders[-1], before="", why=None)
 
 
-def where_it_went(record: History, root: bytes, one: Planned) -> bytes:
-    """The name that a folder has now which was named for a mailbox; people may have renamed it since."""
-    line = record.last_at(one.folder, one.path)
-    return where_it_is(root, one.folder, line.ledger if line else "")
-
-
-def where_it_is(root: bytes, folder: bytes, ledger: str) -> bytes:
-    """The name of the folder that has the ledger with a number; this folder if none has it. People may have renamed
-    it."""
-    if not ledger or number_in(folder_path(root, folder)) == ledger:
-        return folder
-    names = (
-        INBOX if path == root else os.path.basename(path) for path in folders_in(root) if number_in(path) == ledger
-    )
-    return next(names, folder)
+def as_named(one: Planned, record: Record, options: Options) -> Planned:
+    """A mailbox for which a folder was named, which may have another name by now; or left, since only the ledger of
+    another folder has it, which may have had this name. The command for it has these options."""
+    try:
+        folder, found = record.name_now(one.folder, one.path), record.found_of(one.path)
+    except OSError as fault:
+        return one.left(fault_of(fault, one.path))
+    if not found or folder in found:
+        return one._replace(folder=folder)
+    words = [*options.words(), *words_of(found[0]), operand(record.maildir)]
+    return one.left_to_human(ELSEWHERE % folder_named(found[0]), words)
 
 
 def settled(
@@ -134,7 +125,7 @@ def beside(path: bytes) -> list[bytes]:
 def has_record(plan: Iterable[Planned], record: Record, dry: bool) -> bool:
     """Whether there is a record, which several processes need from the beginning. It is made if a mailbox can be read.
     A dry run needs none."""
-    if not dry and any(is_mbox(one.target or one.path) for one in plan):
+    if any(is_mbox(one.target or one.path) for one in plan):
         record.make()
     return dry or record.is_open
 
@@ -174,7 +165,7 @@ class Pairs(NamedTuple):
         folders = (option("--folder", its.encode()) for its in (name, "INBOX"))
         folder, inbox = (Command.of(ADMIN, "migrate", *words, *its, *paths) for its in folders)
         then = Answer(folder, Does.OWN_FOLDER), Answer(inbox, Does.JOINS_INBOX)
-        return one.left(NAMED_AS_FOLDER % named(name), Reason.NO_FOLDER, then)
+        return one.left(Left(NAMED_AS_FOLDER % named(name), Reason.NO_FOLDER, then))
 
     def done_in(self, path: bytes, folder: bytes = b"") -> Optional[bytes]:
         """The folder, this one or one of the record, into which all of a file went, even if programs have written into
@@ -190,7 +181,7 @@ class Pairs(NamedTuple):
         try:
             return self.paired(one)
         except (Fault, OSError) as fault:
-            return one.left(why_left(fault, one.path), reason_of_fault(fault, one.path))
+            return one.left(fault_of(fault, one.path))
 
     def paired(self, one: Planned) -> Planned:
         """The same, but raises the errors of files that can't be read."""
@@ -211,7 +202,7 @@ class Pairs(NamedTuple):
             words = [*self.options.words(), *folder, operand(self.root) if self.root else "MAILDIR", operand(one.path)]
             then += run_next(ADMIN, "migrate", *words, does=Does.KEEP_BOTH)
         names = " and ".join(map(named, others)) + (" stands" if len(others) == 1 else " stand")
-        return one.left("%s beside it" % names, Reason.COPY, then)
+        return one.left(Left("%s beside it" % names, Reason.COPY, then))
 
 
 def into_inbox(one: Planned, ended: Ended, how: How, root: bytes) -> Next:
@@ -219,7 +210,7 @@ def into_inbox(one: Planned, ended: Ended, how: How, root: bytes) -> Next:
     # a word decides nothing about one of several that contradicts it, but all about one that is named
     decision, read = how.decision, Reading.of_words(ended.verified.plan) if ended.verified else how.decision
     decision = decision if decision.word in ("", read.word) else UNDECIDED._replace(drop=decision.drop)
-    options, paths = replace(how.options, decision=decision), [operand(root), operand(one.path)]
+    options, paths = how.options._replace(decision=decision), [operand(root), operand(one.path)]
     into = line_of([ADMIN, "migrate", *options.words(), "--folder", "INBOX", *paths])
     undo = [ADMIN, "migrate", "--undo", *Options(now=options.now).words(), *words_of(ended.row.folder), *paths]
     return in_shell(into if options.dry else "%s && %s" % (line_of(undo), into), Does.INTO_INBOX)

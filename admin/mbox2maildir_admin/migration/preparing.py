@@ -9,13 +9,12 @@ import contextlib
 import functools
 import time
 from collections.abc import Iterator
-from dataclasses import replace
 from typing import Optional
 
 from ..faults import Left, Reason
 from ..ledger.files import hides_none
 from ..ledger.history import Note, names_of
-from ..ledger.ledger import Ledger
+from ..ledger.ledger import Ledger, has_failed
 from ..ledger.match import Match
 from ..ledger.placing import Placing
 from ..ledger.prepared import Prepared
@@ -35,7 +34,7 @@ from .answers import note_answer
 from .converting import CHANGED_MEANWHILE, PREPARED_SYNC_FAILED, SYNC_FAILED, Conversion
 from .finishing import finish
 from .outcomes import Fate, Row
-from .replica import Plain, empty, forget, has_failed, reader_in, signs_of, take_prepared, tree_above
+from .replica import Plain, empty, forget, reader_in, signs_of, take_prepared, tree_above
 from .steps import Bringing, Contents, How, Opened
 from .transfer import PARTLY_THERE, Transfer
 from .unchanged import Same, note_state, same_as_prepared, text_of
@@ -81,7 +80,7 @@ class LastPass(Transfer):
 
     def has_failed(self) -> bool:
         """Whether a sync of an earlier run failed, or of a pass."""
-        return super().has_failed() or self.prepared.has_failed or has_failed(self.record, self.opened.name)
+        return super().has_failed() or self.prepared.has_failed or has_failed(self.ledger)
 
     def want_usable(self) -> None:
         """Raises Left if what is prepared cannot be finished."""
@@ -90,7 +89,7 @@ class LastPass(Transfer):
             raise Left(LIST_LOST, Reason.LEDGER, again)
         if prepared.has_failed:
             raise Left(PREPARED_SYNC_FAILED, Reason.SYNC_FAILED)
-        if has_failed(self.record, self.opened.name):
+        if has_failed(self.ledger):
             raise Left(SYNC_FAILED, Reason.SYNC_FAILED)
         reader = reader_in(self.record, self.opened.name, self.opened.folder, prepared)
         if reader:
@@ -171,8 +170,8 @@ class LastPass(Transfer):
 
         is_verified = functools.partial(is_marked, prepared.verified)
         if self.again:
-            return replace(one, is_verified=is_verified)
-        return replace(one, is_verified=is_verified, is_prepared=functools.partial(is_marked, prepared.files))
+            return one._replace(is_verified=is_verified)
+        return one._replace(is_verified=is_verified, is_prepared=functools.partial(is_marked, prepared.files))
 
     def origin(self, contents: Contents) -> Origin:
         """What this pass reads."""
@@ -196,6 +195,8 @@ class FirstPass(LastPass):
 
     def __init__(self, conversion: Conversion, how: How, opened: Opened, ledger: Ledger, prepared: Prepared) -> None:
         super().__init__(conversion, how, opened, ledger, prepared)
+        # a first pass writes nothing into the ledger
+        ledger.is_dry = True
         # when this began; and whether a last pass would have it to do again, since the mailbox may change again
         self.began, self.is_changed = time.monotonic(), prepared.is_whole
 
@@ -205,7 +206,7 @@ class FirstPass(LastPass):
 
     def run(self) -> Row:
         """Prepares it, unless it is done."""
-        line = self.known.done_by(True)
+        line = self.known.done()
         if line:
             return self.row_before(line.plan, line.messages, [])
         if self.is_made_anew():
@@ -228,7 +229,7 @@ class FirstPass(LastPass):
             # a symbolic link may lead from one to the other
             if not {*names_of(other)} & {*self.known.names} and is_there(other):
                 raise Left(ANOTHER % named(other), Reason.PREPARED)
-        elif self.ledger.paths() or self.record.last_steps(name):
+        elif self.ledger.paths() or self.record.unknown_to(name, self.ledger):
             raise Left(NOT_FREE, Reason.PREPARED)
 
     def clear(self) -> None:
@@ -296,6 +297,6 @@ class FirstPass(LastPass):
     def row_prepared(self, plan: Plan) -> Row:
         """The row of a mailbox that is prepared, or would be."""
         if self.how.dry:
-            return replace(self.row(plan), fate=Fate.WOULD_PREPARE)
+            return self.row(plan)._replace(fate=Fate.WOULD_PREPARE)
         spent = Spent(self.passed(), self.passed() if self.is_changed else self.prepared.noted.foreseen())
-        return replace(self.row(plan), fate=Fate.PREPARED, spent=spent)
+        return self.row(plan)._replace(fate=Fate.PREPARED, spent=spent)

@@ -98,25 +98,15 @@ def reader_in(record: Record, name: bytes, folder: bytes, prepared: Prepared) ->
 def is_prepared(record: Record, name: bytes, ledger: Ledger, prepared: Prepared) -> bool:
     """Whether the list of a folder counts: once something of the folder is done, a list that is there was left by a
     killed run, or comes from a backup, and its files are mail."""
-    is_over = ledger.sources or has_done(record, name)
+    is_over = ledger.sources or any(one.what is Step.DONE for one in record.unknown_to(name, ledger))
     return prepared.is_there and not is_over
 
 
 def is_free(record: Record, opened: Opened, ledger: Ledger) -> bool:
     """Whether a folder without a list becomes a prepared one: once something was prepared in the Maildir, a run that is
     killed may be followed by a first pass, or by other mailboxes."""
-    has_none = record.has_prepared and not ledger.paths() and not record.last_steps(opened.name)
+    has_none = record.has_prepared and not ledger.paths() and not record.unknown_to(opened.name, ledger)
     return has_none and not reader_in(record, opened.name, opened.folder, Prepared(opened.folder))
-
-
-def has_done(record: Record, name: bytes) -> bool:
-    """Whether something of a folder is done by the record."""
-    return any(step.what is Step.DONE for step in record.last_steps(name))
-
-
-def has_failed(record: Record, name: bytes) -> bool:
-    """Whether a sync failed in a folder by the record. Nothing there is to be believed then."""
-    return any(step.what is Step.FAILED for step in record.last_steps(name))
 
 
 def note_begun(ledger: Ledger, prepared: Prepared) -> None:
@@ -133,8 +123,7 @@ def take_back(record: Record, name: bytes, ledger: Ledger, prepared: Prepared, d
     it noted. Afterwards the folder is only prepared."""
     folder, paths = ledger.folder, ledger.paths()
     if dry:
-        for path in paths:
-            ledger.forget(path)
+        take_back_lines(record, name, ledger, paths)
         return
     note_begun(ledger, prepared)
     give_names_back(folder, prepared)
@@ -146,12 +135,15 @@ def take_back(record: Record, name: bytes, ledger: Ledger, prepared: Prepared, d
     if all(is_folder(os.path.join(folder, sub)) for sub in (b"new", b"cur")):
         # a run may have been killed before it made them
         sync_names(folder)
+    take_back_lines(record, name, ledger, paths)
+    prepared.take_back()
+
+
+def take_back_lines(record: Record, name: bytes, ledger: Ledger, paths: Sequence[str]) -> None:
+    """Notes that nothing is known of mailboxes in a folder."""
     for path in paths:
         ledger.undo(path)
-    for line in (record.last_of(name, {path}) for path in sorted(ledger.former)):
-        if line:
-            record.add_after(line, Step.UNDONE, unspelled(line.path))
-    prepared.take_back()
+    record.add_entry(*record.changes_in(name, ledger))
 
 
 def give_names_back(folder: bytes, prepared: Prepared) -> None:

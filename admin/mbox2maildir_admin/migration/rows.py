@@ -3,7 +3,6 @@ import collections
 import math
 import time
 from collections.abc import Callable, Mapping, Sequence
-from dataclasses import dataclass, field, replace
 from types import MappingProxyType
 from typing import NamedTuple, Optional
 
@@ -46,16 +45,16 @@ class Shows(NamedTuple):
     typed: Optional[Typed] = None
 
 
-@dataclass
 class Kept:
     """What is kept of rows: those that have their place in the last block; how many mailboxes have each remark that is
     counted; of each user who is at work, how many mailboxes have each fate; and the ties of answers for several
     mailboxes that decided about one."""
 
-    entries: list[Entry] = field(default_factory=list)
-    noted: collections.Counter[str] = field(default_factory=collections.Counter)
-    users: dict[str, collections.Counter[Fate]] = field(default_factory=dict)
-    ties: set[str] = field(default_factory=set)
+    def __init__(self) -> None:
+        self.entries: list[Entry] = []
+        self.noted: collections.Counter[str] = collections.Counter()
+        self.users: dict[str, collections.Counter[Fate]] = {}
+        self.ties: set[str] = set()
 
 
 class Reporter(Observer):
@@ -162,7 +161,7 @@ class Reporter(Observer):
             self.put_row(row, None)
             return
         elif row.fate not in WRONG and row.is_changed():
-            self.put_row(replace(row, kind="", remarks=(), quotes=(), next=()), None)
+            self.put_row(row._replace(kind="", remarks=(), quotes=(), next=()), None)
         if (row.fate in WRONG or row.remarks or row.next) and row.fate is not Fate.NO_MAIL:
             self.kept.entries.append(Entry(row, user))
 
@@ -268,7 +267,7 @@ def with_looks(row: Row) -> Row:
     """A row with only that which asks for a look."""
     sorts = {one.word for one in row.remarks if weight_of(one.word) is not Weight.LOOK}
     remarks = tuple(one for one in row.remarks if one.word not in sorts)
-    return replace(row, remarks=remarks, details=tuple(one for one in row.details if one.word not in sorts))
+    return row._replace(remarks=remarks, details=tuple(one for one in row.details if one.word not in sorts))
 
 
 def label_of(row: Row, user: Optional[str]) -> str:

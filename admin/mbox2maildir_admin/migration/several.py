@@ -2,15 +2,13 @@
 import functools
 import os
 from collections.abc import Callable, Iterator, Sequence
-from dataclasses import replace
 from typing import Optional
 
 from .. import ADMIN
 from ..faults import Fault, Left, PlaceFault, Reason
 from ..jobs.count import groups_of, jobs_of
 from ..jobs.order import InOrder, largest_first
-from ..jobs.parent import Parent
-from ..jobs.words import Places
+from ..jobs.work import Places, Work
 from ..kinds.folders import is_maildir
 from ..kinds.making import is_below
 from ..kinds.named import is_spared
@@ -26,11 +24,10 @@ from ..program import Program, find_program
 from ..progress import Beat
 from ..terminal import named, operand, text_of, word
 from .dovecot import OLD_SUBSCRIPTIONS, SUBSCRIPTIONS, Dovecot, subscribe
-from .known import without_lost
 from .leftovers import Leftovers
 from .mailbox import Migration
 from .outcomes import Ended, Fate, Observer, Row, row_left, seen, with_name
-from .places import Pairs, Planned, UserHome, has_record, into_inbox, recorded, where_it_went
+from .places import Pairs, Planned, UserHome, as_named, has_record, into_inbox, recorded
 from .servers import Place, locations, want_unread
 from .steps import Extra, How, Options
 from .trees import NamesMet, Tree, also_named, identity, link_left, other_names
@@ -41,10 +38,7 @@ Tell = Callable[[Row], object]
 
 def migrate_own(root: bytes, names: Sequence[bytes], options: Options, observer: Observer) -> None:
     """Migrates into a Maildir of the user who runs this."""
-    if os.geteuid() == 0:
-        # a symbolic link above it may lead elsewhere by then
-        root = real_place(root)
-    names = seen(names, observer)
+    root, names = real_place(root), seen(names, observer)
     refuse(root, names, options)
     if options.prepare:
         want_unread(Place(root, os.fsencode(os.path.expanduser("~"))), locations(), options.unread)
@@ -99,10 +93,7 @@ def run_all(
     with Record.to_migrate(root, options.dry) as record:
         spared = functools.partial(is_spared, options.no_mail, [home.path] if home else names)
         extra = Dovecot(record) if options.dovecot else Extra()
-        how = How(options.dry, options.again, extra, spared, options.now, options.decision, options.of_next())
-        how = replace(how, names=names, home=home.path if home else os.fsencode(os.path.expanduser("~")))
-        how = replace(how, again_rewritten=options.again_rewritten, any_disk=options.any_disk, prepare=options.prepare)
-        how = replace(how, answer=options.answer)
+        how = How.of(options, names, home.path if home else None)._replace(extra=extra, is_spared=spared)
         several = Several(Migration(program, root, record, how), names, observer, home, options)
         leftovers = Leftovers(record, root, names, options)
         for row in leftovers.rows(several.migrate(options.folder)):
@@ -143,7 +134,6 @@ class Several:
         """Migrates each mailbox; those that are files go into this folder. Returns which hold mail."""
         how, plan = self.migration.how, list(self.plan(folder))
         plan = plan if folder else self.pairs.without_folders_in_inbox(plan, self.files_given())
-        plan = without_lost(plan, self.migration.record, how.options)
         self.observer.total += len(plan)
         # a symbolic link may give a folder two names, and it has one ledger
         groups = groups_of([one.folder and real_path(one.folder_in(self.migration.root)) for one in plan])
@@ -193,14 +183,14 @@ class Several:
         finally:
             report()
 
-    def work(self, plan: Sequence[Planned], parent: Parent) -> None:
+    def work(self, plan: Sequence[Planned], work: Work) -> None:
         """Does the work of a worker. Its parent syncs and reports."""
-        self.syncs, self.tell = Syncs(self.settle), parent.progress
-        self.migration.work_for(parent)
-        for places in parent.groups():
+        self.syncs, self.tell = Syncs(self.settle), work.progress
+        self.migration.work_for(work)
+        for places in work.groups():
             for place in places:
-                parent.begin(place)
-                parent.end(place, self.run_named(plan[place]))
+                work.begin()
+                work.end(place, self.run_named(plan[place]))
 
     def report(self, ended: Ended, take: Optional[Callable[[Optional[Row]], object]] = None) -> None:
         """Reports what became of a name: of subscriptions once they are written, and of a mailbox that was verified,
@@ -255,9 +245,9 @@ class Several:
             else:
                 one = Planned(name, INBOX if folder is None else on_disk(folder_of(text_of(folder))))
                 if folder is None:
-                    one = self.pairs.judged(recorded(one, record, root))
+                    one = self.pairs.judged(recorded(one, record))
                 else:
-                    one = one._replace(folder=where_it_went(record, root, one))
+                    one = as_named(one, self.migration.record, self.migration.how.options)
                 self.taken.add(one.folder)
                 yield one
 
@@ -279,8 +269,8 @@ class Several:
         ended, others = self.run_one(one), self.others.get(one.path)
         row = with_name(ended.row, one.before)
         if one.is_inbox and row.folder != INBOX and row.fate in (Fate.DONE, Fate.WOULD):
-            row = replace(row, next=(*row.next, *into_inbox(one, ended, self.migration.how, self.pairs.root)))
-        row = replace(row, remarks=(*row.remarks, also_named(others))) if others and row.is_said() else row
+            row = row._replace(next=(*row.next, *into_inbox(one, ended, self.migration.how, self.pairs.root)))
+        row = row._replace(remarks=(*row.remarks, also_named(others))) if others and row.is_said() else row
         return Ended(row, ended.verified)
 
     def run_one(self, one: Planned) -> Ended:
@@ -299,8 +289,8 @@ class Several:
         row, verified = self.migration.run(one.target or one.path, one.folder, say, follow, one.why)
         if one.why and one.reason is Reason.COPY and row.fate == Fate.LEFT:
             # whatever its text is, this reason comes first
-            row = replace(row, why=str(one.why), reason=one.reason, quotes=(), next=one.why.next)
-        return Ended(replace(row, path=one.path), verified)
+            row = row._replace(why=str(one.why), reason=one.reason, quotes=(), next=one.why.next)
+        return Ended(row._replace(path=one.path), verified)
 
     def subscribe(self) -> None:
         """Writes the subscriptions of trees. Those that can't be written are left."""
@@ -308,7 +298,7 @@ class Several:
             try:
                 self.write_subscriptions(self.subscriptions[path])
             except (Fault, OSError) as fault:
-                self.observer.row(replace(row_left(path, b"", fault), reason=Reason.SUBSCRIPTIONS))
+                self.observer.row(row_left(path, b"", fault)._replace(reason=Reason.SUBSCRIPTIONS))
             else:
                 self.observer.row(self.found[path])
 

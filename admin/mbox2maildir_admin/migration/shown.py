@@ -3,7 +3,6 @@ brought, so that the answer says nothing of new mail."""
 import bisect
 import collections
 from collections.abc import Iterable
-from dataclasses import replace
 from typing import NamedTuple, Optional
 
 from ..faults import Left
@@ -40,7 +39,7 @@ def answer_shown(how: How, known: Known, question: Question) -> Optional[Reading
     if not had or not question.is_on_lines:
         return None
     with content_of(known.opened.mailbox, disk_of(known.root, how.dry)) as text:
-        by = [replace(how, decision=answer.decision) for answer in question.answers]
+        by = [how._replace(decision=answer.decision) for answer in question.answers]
         given = [given_by(one, known, text, question.doubtful) for one in by]
     most = max((one.brought for one in given), default=0)
     best = [one for one in given if one.is_shown or one.brought == most]

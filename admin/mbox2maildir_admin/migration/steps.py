@@ -1,7 +1,6 @@
 """What the steps of a migration pass on to each other: what was opened, what the record says, what was read."""
 import os
 from collections.abc import Callable, Container, Sequence
-from dataclasses import dataclass, replace
 from typing import Any, NamedTuple, Optional
 
 from .. import ADMIN
@@ -17,6 +16,7 @@ from ..mbox.fields import Header
 from ..mbox.inventory import Inventory
 from ..mbox.mailbox import Mailbox
 from ..nexts import Command, Remark
+from ..readings.plans import Question, answers_to
 from ..readings.reading import PLAIN, UNDECIDED, Reading
 from ..readings.texts import Full, Text
 from ..terminal import operand, option
@@ -44,8 +44,7 @@ class Opened(NamedTuple):
         return self.mailbox.has_changed() or text.has_changed()
 
 
-@dataclass(frozen=True)
-class Contents:
+class Contents(NamedTuple):
     """What is converted of a mailbox: the text that stands for it, where that begins, its messages, how it is read, and
     what else is known of a copy."""
 
@@ -90,8 +89,7 @@ class Contents:
         return sum(self.inventory.unquoted[place] for place in places) - by_copy
 
 
-@dataclass(frozen=True)
-class Bringing:
+class Bringing(NamedTuple):
     """What a run brings of a mailbox: the mailbox, its text, and the messages that it places, or that a run has placed
     that was killed."""
 
@@ -185,8 +183,7 @@ class Extra:
         return remarks
 
 
-@dataclass(frozen=True)
-class Options:
+class Options(NamedTuple):
     """How mailboxes are migrated: whether nothing is made; whether all that is nowhere is placed; whether with
     Dovecot's files; the folder for mailboxes that are files; paths and patterns of files without mail; whether
     no quiet minute is waited for; and what is decided about how they are read."""
@@ -234,12 +231,11 @@ class Options:
         """Those of a command for one of the mailboxes, which decides itself, and names its folder. A dry run's is
         dry."""
         stay = Options(any_disk=self.any_disk, labels=self.labels)
-        stay = replace(stay, prepare=self.prepare, unread=self.unread)
-        return replace(stay, dry=self.dry, dovecot=self.dovecot, no_mail=self.no_mail, now=self.now)
+        stay = stay._replace(prepare=self.prepare, unread=self.unread)
+        return stay._replace(dry=self.dry, dovecot=self.dovecot, no_mail=self.no_mail, now=self.now)
 
 
-@dataclass(frozen=True)
-class How:
+class How(NamedTuple):
     """How mailboxes are migrated: whether nothing is made; whether everything that is nowhere is placed; what is done
     besides; whether a file that is not mbox text is passed over, by its path and whether its kind is known; whether no
     quiet minute is waited for; what is decided about how they are read; the options of the next command; the names that
@@ -265,6 +261,14 @@ class How:
     # whether mail is only prepared
     prepare: bool = False
 
+    @classmethod
+    def of(cls, options: Options, names: Sequence[bytes], home: Optional[bytes] = None) -> "How":
+        """How options say it of mailboxes of these names; the mail is that of a home, or of the user who runs this."""
+        home = os.fsencode(os.path.expanduser("~")) if home is None else home
+        how = cls(options.dry, options.again, now=options.now, decision=options.decision, options=options.of_next())
+        how = how._replace(again_rewritten=options.again_rewritten, any_disk=options.any_disk, prepare=options.prepare)
+        return how._replace(names=names, home=home, answer=options.answer)
+
     def where(self, root: bytes, opened: Opened) -> Where:
         """Where the next command puts a file of which it makes a mailbox for a folder of this Maildir."""
         path = opened.mailbox.path
@@ -279,11 +283,18 @@ class How:
     def command(self, root: bytes, opened: Opened, path: bytes = b"", **changes: Any) -> Command:
         """The command for a mailbox of a folder of this Maildir, or for the one at a path, with the options that were
         given, and their changes."""
-        options = replace(self.options, **{"decision": self.decision, **changes})
+        given: dict[str, Any] = {"decision": self.decision, **changes}
+        options = self.options._replace(**given)
         # with labels, a mailbox has all of its folders
         folder = [] if self.is_labelled or opened.name == INBOX else words_of(opened.name)
         paths = operand(root), operand(path or opened.mailbox.path)
         return Command.of(ADMIN, "migrate", *options.words(), *folder, *paths)
+
+    def asked(self, root: bytes, opened: Opened, question: Question) -> Left:
+        """What is left for a human to decide, with the commands that do so."""
+        then = answers_to(question.answers, lambda decision: self.command(root, opened, decision=decision))
+        left = Left(str(question), question.reason, then, question.quotes)
+        return left.known(question.kind, question.messages, question.most)
 
     def undo(self, root: bytes, opened: Opened, path: bytes = b"") -> Command:
         """The command that undoes a mailbox, or the one at a path."""

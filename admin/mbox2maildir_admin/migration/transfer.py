@@ -2,17 +2,14 @@
 is placed, dated, flagged and verified."""
 import collections
 import contextlib
-import functools
 import time
 from collections.abc import Callable, Iterator
-from dataclasses import replace
 from typing import Any, Optional
 
 from ..faults import Fault, Left, Reason
 from ..kinds.look import Look, Read
 from ..ledger.gone import BACK, back_in, gone_before, gone_from
-from ..ledger.history import Step
-from ..ledger.ledger import Ledger
+from ..ledger.ledger import Ledger, count_in, has_failed
 from ..ledger.lines import Head
 from ..ledger.match import Match
 from ..ledger.placing import Placing
@@ -24,7 +21,7 @@ from ..maildir.space import Need, want_room
 from ..maildir.traces import times_of
 from ..nexts import NOTHING, Answer, Does, Next, Remark
 from ..program import Program
-from ..readings.plans import Plan, Question, answers_to
+from ..readings.plans import Plan, Question
 from ..readings.reading import UNDECIDED
 from ..readings.texts import AtOnce, Choice, choice_of, disk_of, read_messages
 from ..units import counted
@@ -91,10 +88,10 @@ class Transfer:
 
     def run(self) -> Row:
         """Does what is left to do, and returns what became of the mailbox."""
-        line = None if self.again else self.known.done_by(self.how.dry)
+        line = None if self.again else self.known.done()
         if line:
             more, then = contradicted(self.how, self.root, self.opened, line)
-            return replace(self.row_before(line.plan, line.messages, more), next=then)
+            return self.row_before(line.plan, line.messages, more)._replace(next=then)
         return self.choose()
 
     def choose(self) -> Row:
@@ -105,7 +102,7 @@ class Transfer:
         except Question as question:
             row = self.row_of_question(question)
             if not row:
-                raise self.asked(question) from question
+                raise self.how.asked(self.root, self.opened, question) from question
             return row
 
     def row_before(self, words: Optional[str], messages: Optional[int], more: list[Remark]) -> Row:
@@ -113,10 +110,10 @@ class Transfer:
         mailbox, name = self.opened.mailbox, self.opened.name
         of_uids = self.how.extra.remarks_on_done(name) if mailbox.size else []
         of_folder = back_in(self.ledger) + gone_from(self.ledger)
-        if not self.known.is_at_home:
+        if self.known.is_cut:
+            of_folder = [Remark("ledger-older", OLDER % counted(self.known.count_lost(), "message"))]
+        elif self.known.lost:
             of_folder = [LEDGER_GONE if is_folder(self.opened.folder) else FOLDER_GONE]
-        elif self.known.is_older:
-            of_folder = [Remark("ledger-older", OLDER % counted(self.known.lacking(), "message"))]
         says = (*of_uids, *remarks_on_dropped(words), *of_folder, *more)
         return Row(mailbox.path, name, "", messages, Fate.BEFORE, size=mailbox.size, remarks=says)
 
@@ -127,24 +124,17 @@ class Transfer:
             before = as_before(self.opened, self.ledger, self.path, (self.disk, self.how.extra))
             if before:
                 words, more = before
-                return self.row_before(words, self.known.last.messages if self.known.last else None, more)
+                return self.row_before(words, count_in(self.ledger, self.path), more)
         if self.how.decision != UNDECIDED:
             return None
         given = question.by_tie(self.how.answer)
         answer = given or answer_to(self.record, self.opened, question)
-        shown = None if answer else answer_shown(self.how, self.known, question)
-        if not (answer or shown):
+        decision = answer or answer_shown(self.how, self.known, question)
+        if not decision:
             return None
         self.remarks += [] if given else [AS_ANSWERED if answer else AS_BROUGHT]
-        self.how = replace(self.how, decision=answer or shown)
-        return replace(self.run(), tie=given.of if given else "")
-
-    def asked(self, question: Question) -> Left:
-        """What is left for a human to decide, with the commands that do so."""
-        command = functools.partial(self.how.command, self.root, self.opened)
-        then = answers_to(question.answers, lambda decision: command(decision=decision))
-        left = Left(str(question), question.reason, then, question.quotes)
-        return left.known(question.kind, question.messages, question.most)
+        self.how = self.how._replace(decision=decision)
+        return self.run()._replace(tie=given.of if given else "")
 
     @contextlib.contextmanager
     def choice(self) -> Iterator[Choice]:
@@ -177,20 +167,19 @@ class Transfer:
     def bring_any(self, choice: Choice) -> Row:
         """The same, but raises what keeps the mailbox from being done. One without mail only gets its folder."""
         if choice.plan.is_empty:
-            if not self.how.dry:
-                self.record.make(self.opened.make_folder)
-                self.remarks += note_empty(self.record, self.opened, self.ledger, self.path)
+            self.record.make(self.opened.make_folder)
+            self.remarks += note_empty(self.record, self.opened, self.ledger, self.path)
             return self.row(choice.plan)
         self.remarks += want_syncs(self.opened.folder, self.how.any_disk)
         self.want_ended()
         with self.read(choice) as contents:
             self.want_ledger(contents)
-            want_same_reading(replace(self.how, again=self.again), self.known, choice, contents)
+            want_same_reading(self.how._replace(again=self.again), self.known, choice, contents)
             if not self.again:
-                self.known.take_place(contents.inventory, self.how.dry)
+                self.known.take_place(contents.inventory)
             match = self.matched(contents)
             self.want_sure(contents, match)
-            if not self.how.dry and AS_BROUGHT not in self.remarks:
+            if AS_BROUGHT not in self.remarks:
                 note_answer(self.record, self.opened, choice.plan)
             if match.is_known and self.path in self.ledger.sources:
                 return self.row_known(contents, match)
@@ -214,32 +203,31 @@ class Transfer:
         """The row of a mailbox that is done, or would be."""
         mailbox, fate = self.opened.mailbox, Fate.WOULD if self.how.dry else Fate.DONE
         row = Row(mailbox.path, self.opened.name, plan.kind, plan.messages, fate, size=mailbox.size)
-        return replace(row, remarks=(*plan.remarks, *self.remarks), next=then)
+        return row._replace(remarks=(*plan.remarks, *self.remarks), next=then)
 
     def has_failed(self) -> bool:
         """Whether a sync of an earlier run failed."""
-        return self.known.last is not None and self.known.last.what is Step.FAILED
+        return has_failed(self.ledger, self.path)
 
     def want_ended(self) -> None:
         """Raises Left if an undo was interrupted, or if a sync failed."""
-        last = self.known.last
-        if last and last.what is Step.UNDOING:
+        if self.path in self.ledger.leaving:
             raise Left("its undo was interrupted", Reason.UNDO, (Answer(self.how.undo(self.root, self.opened)),))
         if self.has_failed() and not self.again:
             raise Left(SYNC_FAILED, Reason.SYNC_FAILED)
 
     def want_ledger(self, contents: Contents) -> None:
-        """Raises Left if the ledger is damaged, or not what the record names, unless all that is nowhere is placed; a
-        ledger that is not what the record names says nothing that matters if nothing is nowhere."""
+        """Raises Left if the ledger is damaged, or lacks something that the index has of the mailbox, unless all that
+        is nowhere is placed; what it lacks does not matter if nothing is nowhere."""
         known, ledger = self.known, self.ledger
         if self.again:
-            if ledger.damage and not self.how.dry:
+            if ledger.damage:
                 ledger.put_aside()
         elif ledger.damage:
             rest = self.matched_again(ledger.without_lines(), contents)
             raise self.left_to_store(LOST % ("damaged in line %d" % ledger.damage), Reason.LEDGER, contents, rest)
-        elif not known.is_at_home or known.is_older:
-            how, rest = "older than its record" if known.is_older else "missing", self.matched_again(ledger, contents)
+        elif known.lost:
+            how, rest = "older than its record" if known.is_cut else "missing", self.matched_again(ledger, contents)
             if not self.is_whole(rest):
                 raise self.left_to_store(LOST % how, Reason.LEDGER, contents, rest)
             self.again = True
@@ -267,8 +255,8 @@ class Transfer:
             self.want_room(Need.of(self.disk, [], copies * choice.mailbox.size))
         with choice.text(self.disk) as whole:
             text = whole.begun_at(self.how.extra.start_of(*whole.whole()))
-            found = read_messages(self.program, text, choice.known)
-            yield Contents(text.mailbox, whole.start, found.inventory, choice.plan.reading, text)
+            inventory = read_messages(self.program, text, choice)
+            yield Contents(text.mailbox, whole.start, inventory, choice.plan.reading, text)
 
     def want_sure(self, contents: Contents, match: Match) -> None:
         """Raises Left if nobody knows what the files of the folder are, or whether it is the same mailbox."""
@@ -327,16 +315,13 @@ class Transfer:
             self.want_room(Need.of(self.opened.folder, wanted))
 
     def begin(self, contents: Contents, placing: Placing, back: int) -> Verified:
-        """Notes in the ledger and in the record what is going to be brought."""
+        """Notes in the ledger what is going to be brought."""
         self.record.make(self.opened.make_folder, self.ledger.make)
         opened, mailbox, match = self.opened, self.opened.mailbox, placing.match
-        key, times, inode = mailbox.key(), times_of(opened.folder), mailbox.state.st_ino
-        head = Head(placing.count_of_lines(), len(match.need), back, times, key, contents.words, self.path, inode)
-        number = self.ledger.begin(head, placing.lines())
+        its = times_of(opened.folder), mailbox.key(), contents.words, self.path, mailbox.state.st_ino, int(time.time())
+        number = self.ledger.begin(Head(placing.count_of_lines(), len(match.need), back, *its), placing.lines())
         words = self.known.key, len(contents.inventory), unspelled(self.path), contents.words
-        verified = Verified(*words, opened.folder, mailbox.state, self.ledger.number, number)
-        self.record.add_step(Step.BEGUN, verified, self.ledger.size)
-        return verified
+        return Verified(*words, opened.folder, mailbox.state, number)
 
     def bringing(self, contents: Contents, match: Match, placing: Placing) -> Bringing:
         """What this run brings of the mailbox."""
@@ -364,8 +349,8 @@ class Transfer:
         """How many messages that are nowhere may have been there before, and were deleted."""
         if self.again:
             return 0
-        back, ledger = min(self.known.lacking_of_others(), len(match.need)), self.ledger
-        gone = gone_before(ledger, {self.path: self.known.begun_at or 0})
+        back, ledger = min(self.known.count_lost_of_others(), len(match.need)), self.ledger
+        gone = gone_before(ledger)
         if gone:
             back += sum((gone & collections.Counter(map(match.inventory.core, match.need))).values())
         number = ledger.pending(self.path)

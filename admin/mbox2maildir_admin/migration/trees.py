@@ -206,7 +206,7 @@ class Tree:
         """A mailbox with its folder, or why its folder can't have that name."""
         place, one = self.profiles.place(path, self.top), Planned(path, b"")
         if os.path.basename(path).startswith(UNFINISHED):
-            return one.left("an interrupted `quote` left it behind: remove it", Reason.LEFT_BEHIND)
+            return one.left(Left("an interrupted `quote` left it behind: remove it", Reason.LEFT_BEHIND))
         if self.is_alone and path == self.export:
             return Planned(path, INBOX)
         if not (is_text(path) and is_text(place.name)):
@@ -236,7 +236,7 @@ class Tree:
         """The mailboxes with their folders in a Maildir, which are taken then. What the record has stays where it is,
         whatever else would go there; symbolic links are left unless they were migrated or prepared by themselves."""
         pairs = Pairs(record, root, self.options)
-        found = [pairs.judged(recorded(one, record, root)) for one in self.mailboxes()]
+        found = [pairs.judged(recorded(one, record)) for one in self.mailboxes()]
         links = []
         for path in self.links:
             try:
@@ -248,7 +248,7 @@ class Tree:
             if target is None:
                 self.leave(path, link_left(path))
             else:
-                links.append(recorded(Planned(path, folders[-1], target=target), record, root))
+                links.append(recorded(Planned(path, folders[-1], target=target), record))
         stay = [one for one in found if not one.why and record.folders_of(one.path)]
         taken.update(one.folder for one in [*stay, *links] if not one.why)
         moving = settled([one for one in found if one not in stay], taken, has_no_mail, self.words_by_hand)

@@ -71,7 +71,7 @@ def date_at(mailbox: Mailbox, offset: int) -> int:
 def text_of(choice: Choice, contents: Contents) -> Optional[Text]:
     """What is noted of a text that was read; None for one that is read again: it was unpacked or quoted."""
     plan = choice.plan
-    if choice.packed or plan.is_copied or not is_as_it_is(plan.reading):
+    if choice.is_packed or plan.is_copied or not is_as_it_is(plan.reading):
         return None
     as_read = AsRead(plan.start, plan.messages, plan.kind, plan.remarks)
     return Text(as_read, contents.inventory, contents.full.offsets)

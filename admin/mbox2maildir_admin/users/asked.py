@@ -4,7 +4,7 @@ import sys
 from collections.abc import Iterable, Iterator, Sequence
 from typing import IO, Optional
 
-from ..faults import PlaceFault, fault_of
+from ..faults import PlaceFault, naming
 from ..terminal import named
 
 COMMAND_LINE, STANDARD_INPUT, SPOOL, ACCOUNTS = (
@@ -44,7 +44,7 @@ def names_in(path: bytes) -> list[bytes]:
     """The names of a list, one per line, each up to a tab. Raises Fault if the list has none, since that would have
     meant all users."""
     place = "standard input" if path == DASH else named(path)
-    with fault_of(path), opened(path) as file:
+    with naming(path), opened(path) as file:
         text = file.read(LONGEST_LIST + 1)
     if len(text) > LONGEST_LIST:
         raise PlaceFault("%s: it is longer than 16 MB, so it is not a list of names" % place)

@@ -1,11 +1,5 @@
-"""What a child does, and what root does for it if it asks for that."""
-from collections.abc import Callable
+"""What root does for a child that asks for it."""
 from typing import Any, NamedTuple
-
-from .telling import Teller
-
-# what a child does: it returns its status, and ends if nobody holds the other end of the pipe by which it is answered
-Work = Callable[[Teller, int], int]
 
 
 class Refusal(NamedTuple):

@@ -5,9 +5,9 @@ from collections.abc import Callable
 from typing import NamedTuple
 
 from ..faults import Reason
+from ..jobs.crew import Parent
 from ..maildir.syncing import call_of_system
 from .clerks import Refusal
-from .telling import Teller
 
 # the word by which a child asks for a sync of the disk of a folder that it has open
 SYNC = "sync"
@@ -65,13 +65,13 @@ class Disks:
             one.answer(Refusal(fault.strerror, FAILED) if fault else Refusal())
 
 
-def synced_by_root(teller: Teller, answers: int) -> Callable[[bytes], None]:
+def synced_by_root(parent: Parent) -> Callable[[bytes], None]:
     """The function by which a child has root sync the disk of a folder. It raises OSError if that failed."""
 
     def sync(path: bytes) -> None:
         number = os.open(path, FOLDER)
         try:
-            why, word = teller.ask(answers, SYNC, number)
+            why, word = parent.ask("ask", SYNC, number)
             if word == FAILED:
                 raise OSError(errno.EIO, why)
             if word:

@@ -4,17 +4,18 @@ import contextlib
 import functools
 import os
 from collections.abc import Iterable, Iterator, Sequence
-from dataclasses import dataclass, replace
+from dataclasses import dataclass
 from typing import NamedTuple, Optional
 
 from ..back.keeping import Keeper
 from ..back.places import Names
 from ..back.several import bring_all, want_migrated
 from ..back.steps import How
-from ..faults import Left, Reason, fault_of
-from ..ledger.strangers import folders_in
+from ..faults import Left, Reason, naming
+from ..jobs.crew import Parent
 from ..looks import is_folder, is_link, is_there, may_be
 from ..maildir.files import names_of
+from ..maildir.folders import folders_in
 from ..mbox.bases import BASE
 from ..mbox.lock_file import hold, look_for_lock_file, spot_of
 from ..mbox.mailbox import Mailbox
@@ -28,7 +29,6 @@ from .clerks import Clerk
 from .homes import Kind, Migrant, Relay, is_recorded
 from .inboxes import MAKE, RELEASE, TAKE, Inboxes
 from .spool import Spool, migrate_users
-from .telling import Teller
 
 
 # what is said of the mail of an inbox whose mailbox root has left
@@ -84,10 +84,10 @@ class Returner(Migrant):
         if not has_none or has_own_names(root):
             want_migrated(root)
         paths = [one for one in names if one not in self.others or is_recorded(root, one)]
-        keeper = Asking(relay.teller, program.alive, self.boxes)
-        how = replace(self.way.how, keeper=keeper)
+        keeper = Asking(relay.parent, self.boxes)
+        how = self.way.how._replace(keeper=keeper)
         names_back = Names(paths, self.tree, NO_INBOX)
-        relay.teller.next(bring_all(program, root, names_back, how, relay))
+        relay.next(bring_all(program, root, names_back, how, relay))
 
 
 def is_bare(path: bytes) -> bool:
@@ -109,14 +109,13 @@ def has_own_names(root: bytes) -> bool:
 class Asking(Keeper):
     """Has root make the inbox of the spool, and FILE.lock beside it. What is in the home is the user's own."""
 
-    def __init__(self, teller: Teller, answers: Optional[int], boxes: Sequence[bytes]) -> None:
-        self.teller, self.answers = teller, answers
+    def __init__(self, parent: Parent, boxes: Sequence[bytes]) -> None:
+        self.parent = parent
         self.places = {os.path.realpath(path): place for place, path in enumerate(boxes)}
 
     def ask(self, what: str, path: bytes) -> Optional[Left]:
         """Asks root for something that it does beside an inbox. Returns why it did not."""
-        assert self.answers is not None, "a child has it"
-        why, word = self.teller.ask(self.answers, what, self.places[os.path.realpath(path)])
+        why, word = self.parent.ask("ask", what, self.places[os.path.realpath(path)])
         return Left(why, Reason.by(word)) if why else None
 
     @contextlib.contextmanager
@@ -161,7 +160,7 @@ def back_users(
     """Brings the mail of the users of a spool back."""
     with contextlib.ExitStack() as stack:
         if not way.how.dry:
-            with fault_of(spool.path):
+            with naming(spool.path):
                 way = way._replace(inboxes=stack.enter_context(Inboxes.open(spool.path)))
         kind = Kind(functools.partial(Returner, way=way), "back", True)
         migrate_users(spool, asked, options, observer, tally, kind)

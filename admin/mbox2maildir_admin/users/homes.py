@@ -3,26 +3,28 @@ import os
 import pwd
 import stat
 from collections.abc import Callable, Iterator, Sequence
-from dataclasses import dataclass, replace
+from dataclasses import dataclass
 from typing import NamedTuple, Optional, Union
 
 from ..faults import Fault, Left, Reason
+from ..jobs.crew import Parent
 from ..ledger.prepared_lines import has_list
 from ..ledger.record import Record
-from ..ledger.strangers import folders_in
 from ..looks import may_be
+from ..maildir.folders import folders_in
 from ..maildir.making import want_own
 from ..migration.outcomes import Observer, Row
 from ..migration.places import UserHome
 from ..migration.servers import Place, want_unread
 from ..migration.several import refuse, run_all
 from ..migration.steps import Options
+from ..nexts import Next
 from ..program import Program
 from ..terminal import named
 from .accounts import home_of, want_home
-from .clerks import Clerk, Work
+from .clerks import Clerk
 from .disks import synced_by_root
-from .telling import Teller
+from .telling import told
 
 
 class Home(NamedTuple):
@@ -65,18 +67,14 @@ class Migrant:
         """What root does for the child."""
         return Clerk()
 
-    def of_child(self) -> tuple[Work, Clerk]:
-        """What the child does, and what root does for it."""
-        return self.work, self.clerk()
-
     @property
     def unnamed(self) -> tuple[Optional[bytes], ...]:
         """The paths that are not named beside the user: the mailbox of the spool, and the home."""
         return self.mailbox, home_of(self.account)
 
-    def work(self, teller: Teller, alive: int) -> int:
+    def work(self, parent: Parent) -> int:
         """Does the work of a child: the same as a `migrate` that its user runs. Returns the child's status."""
-        relay = Relay(teller, self)
+        relay = Relay(parent, self)
         try:
             want_home(self.account)
         except Left as left:
@@ -85,8 +83,8 @@ class Migrant:
             for path in [self.mailbox, *self.beside] if self.mailbox else [of_home]:
                 relay.leave(path, left)
         else:
-            self.work_on(list(self.names(relay)), relay, Program(self.program, alive))
-        teller.end()
+            self.work_on(list(self.names(relay)), relay, Program(self.program, parent.alive))
+        parent.tell("end", relay.rows)
         return 0
 
     def names(self, relay: "Relay") -> Iterator[bytes]:
@@ -146,8 +144,7 @@ class Migrant:
 
     def run(self, root: bytes, names: list[bytes], relay: "Relay", program: Program) -> None:
         """Migrates the mailboxes at these paths into a Maildir."""
-        sync_one = synced_by_root(relay.teller, program.alive) if program.alive is not None else None
-        home = UserHome(home_of(self.account), bool(self.mailbox) or self.is_left, sync_one)
+        home = UserHome(home_of(self.account), bool(self.mailbox) or self.is_left, synced_by_root(relay.parent))
         run_all(self.options, root, names, relay, program, home)
 
 
@@ -170,21 +167,27 @@ class Relay(Observer):
     """Tells rows by the names that root prints after the user's name: none for the mailbox of the spool and for the
     home, otherwise a name below the home."""
 
-    def __init__(self, teller: Teller, migrant: Migrant) -> None:
-        self.teller, self.migrant, self.home = teller, migrant, home_of(migrant.account)
-        # the paths that have a row
+    def __init__(self, parent: Parent, migrant: Migrant) -> None:
+        self.parent, self.migrant, self.home = parent, migrant, home_of(migrant.account)
+        # the paths that have a row, and how many rows were told
         self.told: set[bytes] = set()
+        self.rows = 0
 
     def progress(self, who: str, doing: str, place: Optional[int] = None, size: Optional[int] = None) -> None:
-        """Tells how far a mailbox is. Root counts users, not mailboxes."""
-        self.teller.progress(who, doing, place, size)
+        """Tells how far a mailbox is."""
+        self.parent.progress(who, doing, place, size)
 
     def row(self, row: Row, user: Optional[str] = None) -> None:
         """Tells a row. The mailbox of a row may be gone from the spool."""
         path = b"" if row.path in self.migrant.unnamed else os.path.relpath(row.path, self.home)
         path = row.path if row.path in self.migrant.beside or path.startswith(b"../") else path
         self.told.add(row.path)
-        self.teller.row(replace(row, path=path), user)
+        self.rows += 1
+        self.parent.tell("row", *told(row._replace(path=path)))
+
+    def next(self, then: Next) -> None:
+        """Tells what is to be done once all is done."""
+        self.parent.tell("then", then)
 
     def leave_rest(self, names: list[bytes], fault: Union[Fault, OSError]) -> None:
         """Tells that each path without a row is left or, if all have one, the last."""

@@ -4,6 +4,7 @@ import importlib
 
 from ..maildir.folders import folder_of
 from ..maildir.syncing import call_of_system
+from ..patterns import compile_all
 
 # the library loads the threads of the first one late, too
 OF_PYTHON = (
@@ -27,6 +28,7 @@ def load_for_children() -> None:
         importlib.import_module(name)
     for name in OF_PACKAGE:
         importlib.import_module("..%s" % name, __package__)
+    compile_all()
     # what these load when they are called first
     folder_of("\u00e4")
     call_of_system()

@@ -3,7 +3,6 @@ import functools
 import os
 import pwd
 from collections.abc import Callable, Collection, Iterable
-from dataclasses import replace
 from typing import AbstractSet, NamedTuple, Optional
 
 from .. import ADMIN
@@ -20,7 +19,7 @@ from ..readings.copies import stem_of
 from ..terminal import named, operand, shown
 from .accounts import Accounts, first_uid, home_of, is_users, own_name, size_of_mailbox, want_entered, want_user
 from .asked import ACCOUNTS, SPOOL, Sources, Tally
-from .children import Crew
+from .children import Children
 from .found import Found, Queue
 from .homes import Home, Kind
 from .loading import load_for_children
@@ -66,26 +65,18 @@ def migrate_users(
     reporter.total = len(users) + len(others)
     # only one process at a time can be at work for an account
     for found, at_once in ((users, min(jobs, len(users))), (others, min(1, len(others)))):
-        with Crew(at_once, reporter, functools.partial(report_ended, reporter)) as crew:
+        with Children(at_once, reporter) as children:
             for place, one in enumerate(found):
                 reporter.begin()
                 # if there are fewer users than jobs, several folders of a user are at work
-                options = replace(options, jobs=share_of(jobs, at_once, place))
-                crew.add(one.whose(kind), one.account, *one.migrant(kind, spool.home, options, program).of_child())
-                if crew.is_asked:
-                    break
-        if crew.is_asked:
-            raise KeyboardInterrupt
+                options = options._replace(jobs=share_of(jobs, at_once, place))
+                children.add(one.whose(kind), one.migrant(kind, spool.home, options, program))
+            children.wait()
 
 
 def report_left(reporter: Observer, name: bytes, left: Left) -> None:
     """Reports why root itself leaves a user."""
     reporter.row(row_left(b"", b"", left), shown(name))
-
-
-def report_ended(reporter: Observer, name: str, why: str, reason: Reason) -> None:
-    """Reports that the process of a user ended badly."""
-    reporter.row(row_left(b"", b"", Left(why, reason)), name)
 
 
 def report_no_mail(reporter: Observer, name: bytes) -> None:
@@ -116,6 +107,7 @@ def add_users(users: "Users", asked: Optional[Sources], reporter: Observer, tall
         sources = names_of(spool, names, first, functools.partial(report_no_mail, reporter))
     else:
         sources, tally.not_asked = asked, len({stem_of(name, names) for name in names} - asked.keys())
+    users.asked = sources.keys()
     tally.expect([SPOOL, ACCOUNTS] if asked is None else asked.values())
     accounts = Accounts(len(sources))
     for name, source in sources.items():
@@ -144,6 +136,8 @@ class Users:
         """Begins without users. `names` are those of the spool."""
         self.spool, self.names, self.leave = spool, names, leave
         self.copies = copies_among(names)
+        # all names that are looked at
+        self.asked: AbstractSet[bytes] = frozenset()
         self.found: dict[Key, Found] = {}
         # further mailboxes of the same accounts
         self.others: list[Found] = []
@@ -162,6 +156,8 @@ class Users:
         other = self.other_name(name, key, accounts) if mailbox else None
         if mailbox and other is not None:
             self.others.append(Found(name, account, mailbox, False, self.why_not(key, other, mailbox), beside))
+            if other in self.asked:
+                return
             mailbox, is_left, beside = None, True, ()
         if mailbox or self.spool.is_of_homes and key not in self.found:
             self.found[key] = Found(name, account, mailbox, is_left, None, beside, place, (), size or 0)
@@ -217,14 +213,16 @@ class Users:
 
     def other_name(self, name: bytes, key: Key, accounts: Accounts) -> Optional[bytes]:
         """The other name of an account whose mailbox goes into its Maildir: the one that the system gives its number,
-        if the spool has that, otherwise the first one."""
+        if the spool has that, or mail may go back there; otherwise the first one."""
         try:
             account = accounts.of_number(key[0])
         except KeyError:
             pass
         else:
             own = own_name(account)
-            if own != name and home_of(account) == key[1] and own in self.names:
+            # on the way back, an account has its place under its own name, even if no mailbox is there
+            is_place = own in self.names or self.spool.kind.is_back and own in self.asked
+            if is_place and own != name and home_of(account) == key[1]:
                 return own
         taken = self.found.get(key)
         return taken.name if taken and taken.mailbox else None

@@ -1,15 +1,13 @@
 """What a child tells root, in lines of JSON. Root trusts none of it, and prints it escaped."""
 import json
-import os
-import time
-from collections.abc import Mapping, Sequence
-from dataclasses import replace
-from typing import Any, NamedTuple, Optional, Union
+from collections.abc import Callable, Mapping, Sequence
+from typing import Any, NamedTuple, Optional, TypeVar, Union
 
 from ..faults import Reason
+from ..jobs.crew import Spelling
 from ..kinds.making import with_aside
 from ..meanings import REMARKS
-from ..migration.outcomes import Fate, Observer, Row
+from ..migration.outcomes import Detail, Fate, Row
 from ..nexts import WITH_FILES, Answer, Command, Does, Next, Quote, Remark, Task, Todo, task
 from ..progress import Spent
 from ..terminal import shown, text_of
@@ -22,68 +20,24 @@ LONGEST_WHY = 1 << 13
 MOST = 64
 # the highest number of messages or bytes
 HIGHEST = 1 << 63
-# how often a child tells how far it is, in seconds
-BEAT = 0.5
+
+One = TypeVar("One")
 
 
-class Teller(Observer):
-    """Takes the place of the reporter in a child: it tells root."""
-
-    def __init__(self, told: int) -> None:
-        self.told, self.next_time = told, 0.0
-        # how many rows were told
-        self.rows = 0
-
-    def tell(self, *words: object) -> None:
-        """Tells a line. The child ends if nobody listens any more."""
-        rest = spelled(words) + b"\n"
-        try:
-            while rest:
-                # a signal that is held may interrupt the write of a long line
-                rest = rest[os.write(self.told, rest) :]
-        except OSError:
-            raise KeyboardInterrupt from None
-
-    def progress(self, who: str, doing: str, place: Optional[int] = None, size: Optional[int] = None) -> None:
-        """Tells how far a mailbox is. This also tells that it is at work, even if the words are the same as before."""
-        now = time.monotonic()
-        if now >= self.next_time:
-            self.next_time = now + BEAT
-            self.tell("at", doing, *(() if place is None else (place, size)))
-
-    def row(self, row: Row, user: Optional[str] = None) -> None:
-        """Tells what became of a mailbox. What is too long is left out: no command is told in part."""
-        self.rows += 1
-        words = ["row", *words_of_row(row)]
-        if len(spelled(words)) > LONGEST:
-            words = ["row", *words_of_row(replace(row, remarks=(), quotes=(), next=task(Todo.ASK_USER)))]
-        self.tell(*words)
-
-    def next(self, then: Next) -> None:
-        """Tells what is to be done once all is done."""
-        self.tell("then", list(map(words_of_step, then)))
-
-    def ask(self, answers: int, *words: object) -> tuple[str, str]:
-        """Asks for what only root can do. Root answers by this pipe. Returns why it was not done, as a sentence and as
-        the word of a reason; nothing if it was. The child ends if root is gone."""
-        self.tell("ask", *words)
-        answer = b""
-        while not answer.endswith(b"\n"):
-            piece = os.read(answers, LONGEST)
-            if not piece:
-                raise KeyboardInterrupt
-            answer += piece
-        why, word = json.loads(answer.decode())
-        return why, word
-
-    def end(self) -> None:
-        """Tells that nothing follows, and how many rows there were."""
-        self.tell("end", self.rows)
-
-
-def spelled(words: Sequence[object]) -> bytes:
+def spelled(words: Any) -> bytes:
     """Words as a child tells them. A byte that is not UTF-8 is a letter that JSON escapes in the same way."""
-    return json.dumps(words, ensure_ascii=False).encode("utf-8", "backslashreplace")
+    return json.dumps(words, ensure_ascii=False, default=plain).encode("utf-8", "backslashreplace")
+
+
+def plain(value: Any) -> Any:
+    """What JSON has no form for: a name, and the word of a table."""
+    if isinstance(value, bytes):
+        return text_of(value)
+    return value.value if isinstance(value, Fate) else value.word
+
+
+# root reads only words, numbers and lists, and looks at each
+UNTRUSTED = Spelling(spelled, json.loads)
 
 
 class Whose(NamedTuple):
@@ -96,52 +50,28 @@ class Whose(NamedTuple):
     is_back: bool = False
 
 
-def words_of_row(row: Row) -> list[Any]:
-    """The words by which a child tells a row."""
-    reason = row.reason.word if row.reason else None
-    known = [text_of(row.path), shown(row.folder), row.kind, row.messages, row.fate.value]
-    told = [[list(one) for one in row.remarks], [list(one) for one in row.quotes], list(map(words_of_step, row.next))]
-    return [*known, row.why[:LONGEST_WHY], reason, row.tie, row.size, *(row.spent or ()), *told]
-
-
-def words_of_step(step: Union[Answer, Task]) -> list[Any]:
-    """The words by which a child tells what is to be done."""
-    if isinstance(step, Task):
-        return ["task", step.todo.word, list(step.names)]
-    command = step.command
-    return ["answer", step.does.word, step.messages, list(command.words), command.shell]
+def told(row: Row) -> Sequence[Any]:
+    """The words by which a child tells a row. What is too long is left out: no command is told in part."""
+    words = row._replace(why=row.why[:LONGEST_WHY])
+    if len(spelled(words)) <= LONGEST - len('"row", '):
+        return words
+    return told(row._replace(remarks=(), quotes=(), details=(), next=task(Todo.ASK_USER)))
 
 
 def row_of(words: list[Any], whose: Whose) -> Row:
     """Reads a row that a child told. Each word is escaped here; names are escaped where they are printed. Raises an
     error of Python's if it is no row."""
-    *known, remarks, quotes, steps = words
-    row = bare_row_of(known)
-    return replace(
-        row,
-        remarks=tuple(remark_of(*one) for one in few(remarks)),
-        quotes=tuple(quote_of(*one) for one in few(quotes)),
-        next=next_of(steps, row.path, whose),
-        is_back=whose.is_back,
-    )
+    if len(words) != len(READS):
+        raise ValueError("no row")
+    row = Row(*(read(word) for read, word in zip(READS, words)))
+    return row._replace(next=next_of(list(row.next), row.path, whose), is_back=whose.is_back)
 
 
-def bare_row_of(words: list[Any]) -> Row:
-    """Reads what a child told of a row alone."""
-    path, folder, kind, messages, fate, why, reason, tie, size, *spent = words
-    count, length = (None if number is None else number_of(number) for number in (messages, size))
-    what = None if reason is None else Reason.by(reason)
-    # a letter that stands for no byte raises an error
-    path, folder = (name.encode("utf-8", "surrogateescape") for name in (path, folder))
-    row = Row(path, folder, shown(kind), count, Fate(fate), shown(why), what, length, tie=shown(tie))
-    return replace(row, spent=Spent(*map(number_of, spent))) if spent else row
-
-
-def few(told: list[Any]) -> list[Any]:
+def few(words: list[Any]) -> list[Any]:
     """A list of a child. Raises an error if it is too long for a row."""
-    if len(told) > MOST:
+    if len(words) > MOST:
         raise ValueError("too many")
-    return told
+    return words
 
 
 def next_of(steps: list[Any], path: bytes, whose: Whose) -> Next:
@@ -161,16 +91,29 @@ def remark_of(word: str, says: str, there: object = 0, stands: object = 0) -> Re
     return Remark(word, shown(says), number_of(there), number_of(stands))
 
 
+def detail_of(says: str, word: str, line: object, message: object, path: str, text: str) -> Detail:
+    """Reads what a child told of a message, a file or a line."""
+    if word and word not in REMARKS:
+        raise ValueError("no word")
+    number = perhaps(number_of)
+    return Detail(shown(says), word, number(line), number(message), bytes_of(path), shown(text))
+
+
+def count_of(word: str, count: object) -> tuple[str, int]:
+    """Reads how many of a sort a child told."""
+    return shown(word), number_of(count)
+
+
 def step_of(words: list[Any], path: bytes, whose: Whose) -> Union[Answer, Task]:
-    """Reads what a child told of what is to be done with a path. Root runs nothing of it but with the rights of the
-    child's user. What only root can do is made here, for a path that root knows."""
-    what, name, *rest = words
-    if what == "task":
+    """Reads what a child told of what is to be done with a path, whoever it says is to do that. Root runs nothing of it
+    but with the rights of the child's user. What only root can do is made here, for a path that root knows."""
+    what, *rest, _ = words
+    if isinstance(what, str):
         (names,) = rest
-        return task_of(Todo.by(name), names, path, whose)
-    messages, argv, shell = rest
-    does, count = Does.by(name), None if messages is None else number_of(messages)
-    if what != "answer" or bool(argv) == bool(shell):
+        return task_of(Todo.by(what), names, path, whose)
+    (argv, shell, _), (word,), messages = what, rest, words[-1]
+    does, count = Does.by(word), None if messages is None else number_of(messages)
+    if bool(argv) == bool(shell):
         raise ValueError("no command")
     command = Command(tuple(map(name_in, argv)), name_in(shell), whose.user)
     mailbox = whose.mailboxes.get(path) if does is Does.MAKE_ELSEWHERE else None
@@ -200,3 +143,26 @@ def number_of(value: object) -> int:
     if not isinstance(value, int) or not 0 <= value < HIGHEST:
         raise ValueError("no number")
     return value
+
+
+def bytes_of(name: str) -> bytes:
+    """Reads a name. A letter that stands for no byte raises an error."""
+    return name.encode("utf-8", "surrogateescape")
+
+
+def perhaps(read: Callable[[Any], One]) -> Callable[[Any], Optional[One]]:
+    """Reads what may be missing."""
+    return lambda word: None if word is None else read(word)
+
+
+def each(read: Callable[..., object]) -> Callable[[Any], object]:
+    """Reads a list of lists."""
+    return lambda words: tuple(read(*one) for one in few(words))
+
+
+# how each field of a row is read that a child tells; root itself knows which way mail goes, and what is next needs more
+READS: Sequence[Callable[[Any], Any]] = (
+    *(bytes_of, bytes_of, shown, perhaps(number_of), Fate, shown, perhaps(Reason.by), perhaps(number_of)),
+    *(each(remark_of), each(quote_of), few, perhaps(lambda words: Spent(*map(number_of, words)))),
+    *(lambda _: False, shown, perhaps(number_of), each(count_of), each(detail_of)),
+)
