@@ -210,6 +210,16 @@ def without_dates(home: Home) -> None:
     house.has({**dict.fromkeys(PATHS, []), "mail/inbox-back": PLAIN})
 
 
+def without_an_end(home: Home) -> None:
+    """The length of the last message leaves out its last line end, as where mutt has copied one that had none."""
+    text, last = (letter(number, b"Content-Length: 6\n", body) for number, body in ((1, b"hello\n"), (2, b"no end\n")))
+    house = House(home, dict.fromkeys(PATHS, text + last[:-1]))
+    new = b"Subject: new\n\nnew\n"
+    house.deliver([new])
+    equal("rows", house.back(), [Told("spool", messages=1)])
+    house.has({**dict.fromkeys(PATHS, []), "spool": [new]})
+
+
 def held_by_none(home: Home) -> None:
     """What no mailbox holds stays in the Maildir, by the name of its file; all else goes back. No mailbox is made for
     it."""
@@ -278,6 +288,7 @@ if __name__ == "__main__":
         an_empty_mailbox,
         marked_as_deleted,
         without_dates,
+        without_an_end,
         held_by_none,
         fields_of_programs,
         subscriptions,

@@ -10,7 +10,7 @@ from typing import NamedTuple, Optional
 
 from tests.support.archives import Home, letters, run_rules
 from tests.support.checks import LATER, equal
-from tests.support.homes import doing_first, script
+from tests.support.homes import doing_first, fake
 from tests.support.running import BY_OTHERS, Run
 
 OLD, NEW, MORE = letters(1), b"Subject: new\n\nnew\n", b"Subject: more\n\nmore\n"
@@ -235,14 +235,15 @@ def left_elsewhere(home: Home) -> None:
         equal(f"{junk!r}: it goes", [*home.maildir.rglob("mbox2maildir-back*")], [])
 
 
-# a run is killed when it is to note in the record that all is back
+# a run is killed once it has noted in the ledger that all is back
 NOTED = """
 import os, signal
 write = os.write
 def writes(number, piece):
-    if os.readlink('/proc/self/fd/%d' % number).endswith('mbox2maildir-record'):
+    written = write(number, piece)
+    if piece.startswith(b'='):
         os.kill(os.getpid(), signal.SIGKILL)
-    return write(number, piece)
+    return written
 os.write = writes
 """
 
@@ -263,7 +264,7 @@ def locks(home: Home) -> None:
     home.done("mail")
     home.place_file("1.M1.host", NEW, "p")
     ran_first(home, NOTED)
-    equal("before the record says that it is back", (home.path / "mail/p-back.lock").exists(), True)
+    equal("once the ledger says that it is back", (home.path / "mail/p-back.lock").exists(), True)
     home.place.run([*BACK, "spool"])
     equal("after another run", (home.path / "mail/p-back.lock").exists(), False)
 
@@ -289,9 +290,7 @@ def nothing_shows_what_is_new(home: Home) -> None:
     want_left(home, "what is only prepared", "was interrupted: run it again first")
     box = begun(home, NEW)
     box.write_bytes(OLD + letters(2))
-    program = home.path.parent / "bin/mbox2maildir"
-    program.rename(program.with_name("real"))
-    script(program, f'test "$1" != convert || exit 1; exec {program.with_name("real")} "$@"')
+    fake(home.path.parent, "exit 1")
     home.place.run(["migrate", "--json", "--now", "--jobs", "1", "M", "mail"])
     want_left(home, "a migration that was interrupted", "was interrupted: run it again first")
     shutil.rmtree(home.maildir)

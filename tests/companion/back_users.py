@@ -7,15 +7,15 @@ import pwd
 import shutil
 import signal
 import subprocess
-import time
-from collections.abc import Callable, Iterator
+from collections.abc import Iterator
 from pathlib import Path
 
 from tests.companion.spool import theirs, users
 from tests.support import accounts
-from tests.support.checks import PATIENCE, TOP, equal, match_in, matches, text_of
-from tests.support.homes import check_all, expect, mailbox, run, script, want_users
+from tests.support.checks import TOP, equal, match_in, matches, text_of
+from tests.support.homes import check_all, expect, fake, mailbox, run, want_users
 from tests.support.mail import ONE, THREE, TWO
+from tests.support.processes import wait_for
 from tests.support.running import Desk
 from tests.support.schema import wrong
 
@@ -274,12 +274,29 @@ def second_mailbox(home: Path) -> None:
             equal(name, rest_of(text, home / "spool" / name), BACK)
 
 
+def own_mailbox_gone(home: Path) -> None:
+    """A further name of an account does not take the place of its own one, whose mailbox is not there any more."""
+    with migrated(home), accounts.users({"m61info": home / "homes/m61one"}, like="m61one"):
+        theirs(mailbox(home / "spool/m61info", TWO), "m61one")
+        (home / "spool/m61one").rename(home / "away")
+        deliver(home, "m61one")
+        for names in (["m61one", "m61info"], ["m61info", "m61one"], list[str]()):
+            status, out, _ = run([*WORDS, *names], home)
+            row = out.splitlines()[0]
+            matches(
+                f"{names}: the row",
+                row,
+                "INBOX -> m61one Maildir: messages 1: left (missing): its mailbox is gone: ...",
+            )
+            equal(f"{names}: status, and the other text", (status, text_of(home / "spool/m61info")), (1, TWO.decode()))
+        (home / "away").rename(home / "spool/m61one")
+        expect([*WORDS, "m61one", "m61info"], home, 0, None)
+        equal("the text", rest_of(ONE, home / "spool/m61one"), BACK)
+
+
 def at_list(home: Path, text: str) -> None:
     """Has a text run by a shell each time that a child runs the program, as it does while it holds all locks."""
-    program = home / "bin/mbox2maildir"
-    if not (home / "bin/real").exists():
-        program.rename(home / "bin/real")
-    script(program, f'{text}\nexec {home}/bin/real "$@"')
+    fake(home, f'{text}\nexec "$real" "$@"', "")
 
 
 def rights(home: Path) -> None:
@@ -325,11 +342,14 @@ def killed(home: Path) -> None:
         wait.touch()
         with Desk(home).start([*WORDS, "m61one"], subprocess.DEVNULL) as root:
             wait_for(Path(f"{at_work}.now").exists)
-            os.kill(root.pid, signal.SIGKILL)
+            child = int(text_of(Path(f"{at_work}.now")))
+            # a process that goes on ends as soon as root is gone
+            for number, sign in ((root.pid, signal.SIGSTOP), (child, signal.SIGSTOP), (root.pid, signal.SIGKILL)):
+                os.kill(number, sign)
         lock, other = home / "spool/m61one.lock", [*WORDS[:2], "--dry-run", *WORDS[2:], "m61two"]
         expect([*WORDS, "m61two"], home, 0, None)
-        equal("the lock while the child is at work", lock.exists(), True)
-        os.kill(int(text_of(Path(f"{at_work}.now"))), signal.SIGKILL)
+        equal("the lock while the child is there", lock.exists(), True)
+        os.kill(child, signal.SIGKILL)
         wait.unlink()
         words = ["migrate", "--all", "--users", "--now", "--dry-run", "--maildir", "M", "spool", "m61one"]
         wait_for(lambda: "lock was left by a `back` that was killed" in run(words, home)[1])
@@ -339,14 +359,6 @@ def killed(home: Path) -> None:
         equal("the lock after the next run", lock.exists(), False)
         expect([*WORDS, "m61one"], home, 0, None)
         equal("the inbox", rest_of(ONE, home / "spool/m61one"), BACK)
-
-
-def wait_for(is_so: Callable[[], bool]) -> None:
-    """Waits until something is so."""
-    end = time.monotonic() + PATIENCE
-    while not is_so():
-        assert time.monotonic() < end, "it never came"
-        time.sleep(0.02)
 
 
 def hostile_spool(home: Path) -> None:
@@ -466,6 +478,7 @@ if __name__ == "__main__":
         in_nobodys_way,
         tree_elsewhere,
         second_mailbox,
+        own_mailbox_gone,
         rights,
         locked,
         killed,

@@ -86,9 +86,8 @@ def spoilt(home: Path) -> None:
     """The program fails, and the row says what is wrong with the Maildir."""
     for deed, says in SPOILT.items():
         hand_over(made(home), mailbox(home / "box", A + b"Status: RO\n\nhello\n\n"), home)
-        fails = (
-            "echo 'mbox2maildir: folder call 2 failed' >&2; exit 1" if "sleep" in deed else f"exec '{home}/real' \"$@\""
-        )
+        says_so = "echo 'mbox2maildir: folder call 2 failed' >&2; exit 1"
+        fails = says_so if "sleep" in deed else 'exec "$real" "$@"'
         fake(home, f"(cd '{home}'; {deed}\n)\n{fails}")
         ran = Desk(home, user=OWNER).run("migrate --all --now M box".split())
         matches(deed, ran.output, f"box -> INBOX: mboxrd or mboxo, messages 1: left (convert-failed): {says}\n...\n")

@@ -13,7 +13,7 @@ from typing import Any
 from tests.support.cases import Failed, LeftOut, run_cases
 from tests.support.running import OWNER, Desk
 from tests.worlds.fates import texts
-from tests.worlds.fates.comparing import AGAIN, Comparison, differences, migrate, things_done, wrong_maildirs
+from tests.worlds.fates.comparing import Comparison, differences, migrate
 from tests.worlds.fates.faults import of_kind, small_tree, wrong_calls
 from tests.worlds.fates.names import Name, name
 from tests.worlds.fates.stores import OF_SERVERS, indexes, maildir, mh_folder
@@ -287,7 +287,7 @@ def folder_names_that_are_none(scene: Scene) -> list[str]:
     Branch(scene.world, bytes(scene.home), b"old").put(name("box"), scene.mail().data)
     ready(scene.world, b"M", [b"box"])
     scene.finish()
-    for folder in ("/", "Sent/", "/Sent", "a//b", os.fsdecode(b"\xe6")):
+    for folder in ("", "/", "Sent/", "/Sent", "a//b", "..", "a\nb", os.fsdecode(b"\xe6")):
         run = migrate(scene.world, scene.place, ["--folder", folder])
         if run.status == 0 or run.out or "Traceback" in run.err or not run.err:
             wrong.append(f"--folder {folder!r}: status {run.status}: {run.output[-200:]}")
@@ -334,48 +334,6 @@ def thunderbird(scene: Scene, tree: Branch) -> None:
     host = profile.folder(name("ImapMail")).folder(name("imap.example.org"))
     host.file(name("lists"), scene.mail()).folder = "lists"
     host.file(name("msgFilterRules.dat"), of_kind("Thunderbird's rules"))
-
-
-def folders_of_the_record(scene: Scene) -> list[str]:
-    """A mailbox stays in the folder that the record has, even if it would have another name now."""
-    thing = scene.tree().folder(name(".inbox.directory", INBOX)).file(name("Haus"), scene.mail())
-    thing.folder = "-inbox-directory/Haus"
-    return done_by_hand(scene, {b"tree/.inbox.directory/Haus": "-inbox-directory/Haus"}, [thing])
-
-
-def done_with_a_folder(scene: Scene) -> list[str]:
-    """What was left in a tree, and then done with --folder, is done before in a run of the tree."""
-    tree = scene.tree()
-    several = [tree.file(name("twice"), scene.mail()), tree.file(name("twice.mbox", "twice"), scene.mail())]
-    for thing, folder in zip(several, ("Second", "Third")):
-        thing.folder = folder
-    tree.file(name("sheds"), scene.mail())
-    return done_by_hand(scene, {b"tree/twice": "Second", b"tree/twice.mbox": "Third"}, several)
-
-
-def done_under_a_link(scene: Scene) -> list[str]:
-    """What a symbolic link leads to was done with --folder, so the link is done before."""
-    tree, content = scene.tree(), scene.mail()
-    Branch(scene.world, bytes(scene.home / "old"), b"old").put(name("box"), content.data)
-    thing = tree.link(name("link"), "../old/box")
-    tree.file(name("sheds"), scene.mail())
-    thing.fate, thing.says, thing.folder, thing.messages = Fate.DONE, "", "Linked", content.messages
-    return done_by_hand(scene, {b"old/box": "Linked"}, [thing])
-
-
-def done_by_hand(scene: Scene, folders: dict[bytes, str], things: list[Thing]) -> list[str]:
-    """Does mailboxes with --folder, and then the tree: those are done before, and everything else is done."""
-    world, words = scene.finish(), scene.world.words
-    wrong: list[str] = []
-    for path, folder in folders.items():
-        world.words = [words[0], path]
-        by_hand = migrate(world, scene.place, [f"--folder={folder}"])
-        wrong += [f"by hand: {by_hand.output}"] if by_hand.status else []
-    world.words = words
-    first = Comparison(world, migrate(world, scene.place), already=things)
-    wrong += [*first.all_wrong(), *wrong_maildirs(world, things_done(first))]
-    again = Comparison(world, migrate(world, scene.place), AGAIN)
-    return wrong or [f"again: {line}" for line in (*again.all_wrong(), *wrong_maildirs(world, things_done(first)))]
 
 
 def named_and_met(scene: Scene) -> list[str]:
@@ -447,9 +405,6 @@ CASES = (
     users_names_in_another_locale,
     folder_names_that_are_none,
     folders_of_other_programs,
-    folders_of_the_record,
-    done_with_a_folder,
-    done_under_a_link,
     named_and_met,
     links_without_folders,
     faults,

@@ -51,9 +51,30 @@ def with_rights(number):
 
 os.setuid = with_rights
 """
-# a row of a mailbox, up to the fields that a line of the table has
-ROW = ["row", "mail/a", ".a", "", 1, "left", "", None, "", None]
-DONE = ["row", "mail/a", ".a", "", 1, "done", "", None, "", None, [], [], []]
+# the fields of a row, as a process tells them
+FIELDS: dict[str, object] = {
+    **{"path": "mail/a", "folder": ".a", "kind": "", "messages": 1, "fate": "left", "why": "", "reason": None},
+    **{"size": None, "remarks": [], "quotes": [], "next": [], "spent": None, "is_back": False, "tie": "", "most": None},
+    **{"counts": [], "details": []},
+}
+
+
+def row(**others: object) -> list[object]:
+    """A row of a mailbox that is left, with other fields."""
+    return ["row", *{**FIELDS, **others}.values()]
+
+
+def answer(does: str, words: object, shell: str = "", messages: Optional[int] = None) -> list[object]:
+    """A command that is next, which is said to be root's."""
+    return [[words, shell, "root"], does, messages]
+
+
+def a_task(todo: str, *names: str) -> list[object]:
+    """A task that is next, which is said to be root's."""
+    return [todo, names, "root"]
+
+
+DONE = row(fate="done")
 # lines that no process of this program tells: each counts as a row that could not be read
 NONSENSE = [
     b"",
@@ -62,14 +83,14 @@ NONSENSE = [
     b"null",
     b"[" * 9000,
     b"\xff",
-    b'["at", "reading", Infinity, 1]',
-    b'["at", "reading", 1, NaN]',
-    b'["at", "reading", %s, 1]' % (b"9" * 400),
-    b'["at", "%s"]' % (b"x" * (1 << 16)),
-    b'["row", "a", "b", "c", Infinity, "done", "", null, "", null, [], [], []]',
-    b'["row", "\\ud800", "b", "c", 1, "done", "", null, "", null, [], [], []]',
+    b'["at", "x", "reading", Infinity, 1]',
+    b'["at", "x", "reading", 1, NaN]',
+    b'["at", "x", "reading", %s, 1]' % (b"9" * 400),
+    b'["at", "x", "%s"]' % (b"x" * (1 << 16)),
+    json.dumps(row(messages=float("inf"))).encode(),
+    json.dumps(row(path="\ud800")).encode(),
     ["at"],
-    ["at", ["a"], 1, 2],
+    ["at", "x", ["a"], 1, 2],
     ["end"],
     ["end", -1],
     ["what"],
@@ -78,65 +99,81 @@ NONSENSE = [
     ["then"],
     ["then", [["answer"]]],
     ["row"],
-    ["row", *range(11)],
-    *([*DONE[:4], count, *DONE[5:]] for count in (1.5, -1, "1", 1 << 63)),
-    [*DONE[:5], "fine", *DONE[6:]],
-    [*DONE[:7], "no word", *DONE[8:]],
-    [*DONE[:9], -1, *DONE[10:]],
-    [*DONE[:10], 70, *DONE[10:]],
-    [*DONE[:10], 70, -3, *DONE[10:]],
-    # remarks, lines of mail, and what is next
+    ["row", *range(len(FIELDS))],
+    DONE[:-1],
+    [*DONE, None],
+    *(row(messages=count) for count in (1.5, -1, "1", 1 << 63)),
+    row(fate="fine"),
+    row(reason="no word"),
+    row(size=-1),
+    row(most=-1),
+    row(tie=7),
+    row(spent=[70]),
+    row(spent=[70, -3]),
+    row(remarks=[["Grew!", "x"]]),
+    row(remarks=[["grew"]]),
+    row(quotes=[[-1, "x", False]]),
+    row(quotes=[["7", "x", False]]),
+    row(counts=[["x", -1]]),
+    row(details=[["x", "grew", None, None, "\ud800", ""]]),
+    row(details=[["x", "Grew!", None, None, "", ""]]),
+    row(details=[["x", "", -1, None, "", ""]]),
     *(
-        [*ROW, *rest]
-        for rest in (
-            ([["Grew!", "x"]], [], []),
-            ([["grew"]], [], []),
-            ([], [[-1, "x"]], []),
-            ([], [["7", "x"]], []),
-            ([], [], [["answer", "run", None, [], ""]]),
-            ([], [], [["answer", "run", None, ["rm"], "rm"]]),
-            ([], [], [["answer", "no word", None, ["rm"], ""]]),
-            ([], [], [["answer", "run", -1, ["rm"], ""]]),
-            ([], [], [["answer", "run", None, [7], ""]]),
-            ([], [], [["answer", "run", None, ["a\0b"], ""]]),
-            ([], [], [["answer", "run", None, ["\ud800"], ""]]),
-            ([], [], [["task", "no word", []]]),
-            ([], [], [["task", "move-to", []]]),
-            ([], [], [["what", "run", None, ["rm"], ""]]),
-            ([], [], [["task", "leave", []]] * 65),
+        row(next=steps)
+        for steps in (
+            [answer("run", [])],
+            [answer("run", ["rm"], "rm")],
+            [answer("no word", ["rm"])],
+            [answer("run", ["rm"], messages=-1)],
+            [answer("run", [7])],
+            [answer("run", ["a\0b"])],
+            [answer("run", ["\ud800"])],
+            [a_task("no word")],
+            [a_task("move-to")],
+            [[7, "run", None]],
+            [a_task("leave")] * 65,
         )
     ),
 ]
 
 
 BELL, ESCAPED = "\x1b]0;x\x07", r"\x1b]0;x\x07"
-MAKE: list[object] = ["answer", "make-elsewhere", None, [], "make"]
+MAKE = answer("make-elsewhere", [], "make")
 RUN, COMMAND = "    run this next:", f"        runuser -u {NAME} -- "
-THEN = ["then", [["answer", "run", None, ["mv", "a", "b"], ""]]]
+THEN = ["then", [answer("run", ["mv", "a", "b"])]]
 
 
 def left(path: str, *steps: object) -> list[object]:
     """A row of a mailbox that is left, and what is next."""
-    return ["row", path, ".a", "", 1, "left", "", None, "", None, [], [], [*steps]]
+    return row(path=path, next=[*steps])
 
 
 # what is told of a mailbox, and what is printed of it
 LINE, INBOX = f"{NAME} mail/x -> a: messages 1: left (other)", f"{NAME} -> a: messages 1: left (other)"
 PRINTED = [
     (
-        ["row", "a", ".b", BELL, 1, "left", BELL, None, "", None, [["grew", BELL]], [[7, BELL, 1]], []],
+        row(
+            path="a",
+            folder=".b",
+            kind=BELL,
+            why=BELL,
+            remarks=[["grew", BELL]],
+            quotes=[[7, BELL, 1]],
+            details=[[BELL, "", 7, 2, BELL, ""]],
+        ),
         [
             f"{NAME} a -> b: {ESCAPED}, messages 1: left (other): {ESCAPED}; {ESCAPED}",
+            f"    message 2 (line 7): {ESCAPED} {ESCAPED}",
             f"    7 | {ESCAPED}",
         ],
     ),
     (
         left(
             "mail/x",
-            ["answer", "run", None, ["rm", "a b"], ""],
-            ["answer", "stores-rest", 3, ["rm", "x"], ""],
-            ["answer", "run", None, [], "rm a && rm 'b c'"],
-            ["task", "move-to", ["x: y"]],
+            answer("run", ["rm", "a b"]),
+            answer("stores-rest", ["rm", "x"], messages=3),
+            answer("run", [], "rm a && rm 'b c'"),
+            a_task("move-to", "x: y"),
         ),
         [
             LINE,
@@ -148,16 +185,16 @@ PRINTED = [
     ),
     # in a folder of the user root could be led elsewhere; in the spool only root can move a file
     (
-        left("mail/x", ["task", "migrate-target", []]),
+        left("mail/x", a_task("migrate-target")),
         [LINE, f"    as {NAME}, migrate what it points to, unless that is migrated anyway"],
     ),
-    (left("mail/x", ["task", "move-copy", []]), [LINE, f"    as {NAME}, if one is a copy, move it out of here"]),
-    (left("", ["task", "move-copy", []]), [INBOX, "    if one is a copy, move it out of here"]),
+    (left("mail/x", a_task("move-copy")), [LINE, f"    as {NAME}, if one is a copy, move it out of here"]),
+    (left("", a_task("move-copy")), [INBOX, "    if one is a copy, move it out of here"]),
     (
-        left("", ["task", "migrate-target", []]),
+        left("", a_task("migrate-target")),
         [INBOX, f"    as {NAME}, migrate what it points to, unless that is migrated anyway"],
     ),
-    (left("mail/x", ["task", "pass-over", []]), [LINE, "    if it holds no mail, pass over it by --no-mail"]),
+    (left("mail/x", a_task("pass-over")), [LINE, "    if it holds no mail, pass over it by --no-mail"]),
     (left("", MAKE), [INBOX, RUN, f"{COMMAND}sh -c make && ASIDE"]),
     (left("mail/x", MAKE), [LINE, RUN, f"{COMMAND}sh -c make"]),
     (left("/etc/passwd", MAKE), [LINE.replace("mail/x", "/etc/passwd"), RUN, f"{COMMAND}sh -c make"]),
@@ -426,12 +463,12 @@ def children_of(number: int) -> list[int]:
 
 
 def root_is_killed(home: Path) -> None:
-    """A process ends if root does, while it waits for a mailbox and while a program is at work for it. Nothing of the
-    mail comes then."""
+    """A process ends if root does, while it waits for a mailbox and while a program lists or converts it. Nothing of
+    the mail comes then."""
     with one_user(home):
         (home / "bin/mbox2maildir").rename(home / "bin/real")
-        script(home / "bin/mbox2maildir", f'test "$1" != convert || exec sleep 999; exec {home}/bin/real "$@"')
-        for age in (0, 3600):
+        for age, hangs in ((0, "convert"), (3600, "convert"), (3600, "list")):
+            script(home / "bin/mbox2maildir", f'test "$1" != {hangs} || exec sleep 999; exec {home}/bin/real "$@"')
             mailbox(home / "spool" / NAME, ONE, age)
             words = [word for word in started(home, "") if word != "--now"]
             with subprocess.Popen(words, cwd=str(home), stdout=subprocess.DEVNULL, stderr=subprocess.DEVNULL) as root:
@@ -442,7 +479,7 @@ def root_is_killed(home: Path) -> None:
                     time.sleep(0.5)
                 root.kill()
             for one in found:
-                assert has_ended(one), f"{age}: {one} goes on"
+                assert has_ended(one), f"{hangs}, {age}: {one} goes on"
             # the mailbox is waited for until it was left alone for a minute
             assert age or time.time() - (home / "spool" / NAME).stat().st_mtime < 55, "it waited on"
             equal(f"{age}: what came", list((home / "homes" / NAME).glob("Maildir/new/*")), [])

@@ -7,7 +7,7 @@ import subprocess
 import sys
 import time
 from collections import Counter
-from collections.abc import Iterator
+from collections.abc import Iterable, Iterator
 from contextlib import contextmanager
 from pathlib import Path
 
@@ -32,7 +32,7 @@ FAULTS = {
     "setattr(os, 'scandir', None)": "(defect): internal error: TypeError(",
 }
 # the first line of a record, and how large one may be
-VERSION_LINE, MOST = b"mbox2maildir-record\t1\n", 1 << 23
+VERSION_LINE, MOST = b"mbox2maildir-record\t2\n", 1 << 23
 
 
 def text_of(folder: int, count: int = MESSAGES) -> bytes:
@@ -87,10 +87,17 @@ def largest_first(home: Path) -> None:
     words = ["migrate", "--all", "--jobs", "2", "M", "old"]
     _, out, _ = run(words, home)
     equal("rows", [line.split(" ", 1)[0] for line in out.splitlines()[:-1]], [f"old/f{n}" for n in range(FOLDERS)])
-    lines = [line.split("\t")[:2] for line in (home / "M" / RECORD).read_text(encoding="utf-8").splitlines()]
-    first = {step: [folder for its, folder in lines if its == step][0] for step in ("begun", "done")}
-    equal("which begins first", first["begun"] in (f".f{FOLDERS - 1}", f".f{FOLDERS - 2}"), True)
-    equal("whether the smallest, which begins last, is noted first", first["done"] == ".f0", False)
+    # when the folder was made, and when the last line of its ledger was written
+    changed = {
+        name: [path.parent.name for path in by_time((home / "M").glob(f".f*/{name}"))] for name in ("cur", LEDGER)
+    }
+    equal("which begins first", changed["cur"][0] in (f".f{FOLDERS - 1}", f".f{FOLDERS - 2}"), True)
+    equal("whether the smallest, which begins last, is noted first", changed[LEDGER][0] == ".f0", False)
+
+
+def by_time(paths: Iterable[Path]) -> list[Path]:
+    """Files or folders in the order in which they were changed."""
+    return sorted(paths, key=lambda path: path.stat().st_mtime_ns)
 
 
 def names_in(maildir: Path) -> list[str]:
@@ -195,16 +202,19 @@ def ended_out_of_turn(home: Path) -> None:
 
 
 def full_record(home: Path) -> None:
-    """A record that is full takes no line: each mailbox is left, and nothing is placed. Once it is moved away, what the
-    ledgers say counts."""
+    """A record that is full takes no line: nothing is placed, since it lacks what the ledgers have. Once it is moved
+    away, what they say counts."""
     texts = tree(home)
     equal("a run before", run("migrate --jobs 1 --folder f0 M old/f0", home)[0], 0)
     record = home / "M" / RECORD
     record.write_bytes(VERSION_LINE + b"x" * (MOST - len(VERSION_LINE) - 2) + b"\n")
-    says = f"left (record): M/{RECORD}: it is full: move it away; the ledgers in the folders say what was brought"
+    says = f"M/{RECORD}: it is full: move it away; the ledgers in the folders say what was brought"
     for jobs in ("1", "2"):
-        status, out, _ = run(["migrate", "--all", "--jobs", jobs, "M", "old"], home)
-        equal(f"status, and how many are left: {out}", (status, out.count(says)), (1, FOLDERS))
+        equal(
+            "what is said",
+            run(["migrate", "--all", "--jobs", jobs, "M", "old"], home),
+            (1, "", f"{ADMIN.name}: {says}\n"),
+        )
     equal("what is there", [path.parent.parent.name for path in home.glob("M/.f[1-9]/new/*")], [])
     record.unlink()
     equal("the next run", run("migrate M old", home)[0], 1)

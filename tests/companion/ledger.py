@@ -286,6 +286,16 @@ def rule_3_restored_before_a_run(home: Home) -> None:
     want_said(row, 2, "gone")
 
 
+def rule_3_only_the_cores_are_equal(home: Home) -> None:
+    """A message has another `>` or CR in its mailbox than when it was brought. A reader has deleted it since: it does
+    not come back."""
+    for first, then in home.each(OTHER_BYTES.values()):
+        home.bring(OLD=first + letter(1))
+        home.take(0)
+        home.bring(OLD=then + letter(1))
+        home.has(1)
+
+
 def with_edited(count: int, edited: int) -> bytes:
     """A mailbox of which the first messages were edited."""
     changed = b"".join(letter(number, body=b"edited %d\n" % number) for number in range(edited))

@@ -569,7 +569,7 @@ def rule_9_another_mailbox_after_a_ledger_was_lost(home: Home) -> None:
 
 def rule_9_a_ledger_from_before_an_undo(home: Home) -> None:
     """A ledger comes from a backup that was made before an undo, and another mailbox may make it longer than it was
-    then. What was undone is brought again, and nothing of it is gone for another mailbox."""
+    then. The mailbox that was undone is left until --again, and what is gone of it is said of another one."""
     for grows, names in home.each((False, True), (["OLD"], ["NEW", "OLD"], ["NEW"])):
         home.bring(OLD=letters(*FIVE), OTHER=letters(20))
         with home.from_a_backup(home.ledger()):
@@ -581,10 +581,62 @@ def rule_9_a_ledger_from_before_an_undo(home: Home) -> None:
         more = range(21, 40) if grows else ()
         home.write("NEW", letters(1, 3))
         home.write("OLD", letters(*FIVE))
-        home.done(*names)
+        for name in names:
+            ran = home.run(name)
+            equal(f"status of {name}: {ran.text}", ran.status, int(name == "OLD"))
+            want_said(ran[name], "1 that" if name == "NEW" else "older than its record")
+            home.done(name, words=["--again"])
         home.has(*(FIVE if "OLD" in names else (1, 3, 4)), 20, *more)
         home.undo(*names)
-        home.has(3, 4, 20, *more)
+        # by the ledger, what stays may be all that there is of the other mailbox
+        home.has(*[] if "OLD" in names else [1, 3, 4], 20, *more)
+
+
+def rule_9_a_folder_from_before_an_undo(home: Home) -> None:
+    """A folder comes from a backup, with its ledger, that was made before an undo: its files are the mailbox's again,
+    as another undo shows."""
+    home.bring(OTHER=letters(20))
+    home.bring(OLD=letters(*FIVE))
+    home.take(2)
+    with home.from_a_backup(home.folder()):
+        home.undo("OLD")
+        home.has(20)
+    want_offered(home.left("OLD"), "--again")
+    home.done("OLD", words=["--again"])
+    home.has(*FIVE, 20)
+    home.undo("OLD")
+    home.has(20)
+
+
+def rule_9_an_undo_before_the_index_was_written(home: Home) -> None:
+    """An undo was killed once all was done, but for the index. Nothing is left to be undone, and all is brought again
+    if it is migrated."""
+    home.bring(OTHER=letters(20), OLD=letters(*FIVE))
+    with home.from_a_backup(home.record):
+        home.undo("OLD")
+    equal("why it is left", home.left("OLD", words=["--undo"])["reason"], "undo")
+    home.done("OLD")
+    home.has(*FIVE, 20)
+
+
+def rule_9_an_older_ledger_and_others(home: Home) -> None:
+    """A ledger comes from a backup, and what had come since was deleted. Other mailboxes make it longer than it was:
+    each row says what may have come back, and the mailbox is left all the same, until --again."""
+    home.bring(OLD=letters(0, 1))
+    with home.from_a_backup(home.ledger()):
+        home.bring(OLD=letters(*FIVE))
+        home.take(2, 3, 4)
+    for name, numbers in (("A", [2, *range(20, 40)]), ("B", [3, *range(40, 60)])):
+        home.write(name, letters(*numbers))
+        want_said(home.done(name)[name], "up", "to", "came", "back")
+    want_said(home.done("OLD")["OLD"], "older than its record")
+    home.write("OLD", letters(*FIVE, 5))
+    want_offered(home.left("OLD"), "--again")
+    home.has(0, 1, 2, 3, *range(20, 60))
+    home.done("OLD", words=["--again"])
+    home.has(*range(6), *range(20, 60))
+    home.bring(OLD=letters(*range(7)))
+    home.has(*range(7), *range(20, 60))
 
 
 def rule_9_an_undo_by_an_older_ledger(home: Home) -> None:
@@ -767,31 +819,34 @@ def rule_9_a_record_from_a_backup(home: Home) -> None:
 
 
 def rule_9_a_record_was_lost_and_a_folder_renamed(home: Home) -> None:
-    """Nothing shows into which folder a mailbox went but the ledger of that folder. If it would go into another one, by
-    its name or by --folder, it is left, with the name of the folder that has its mail, and it goes on there."""
-    for words, name in (["--folder", "Archive"], "Put-aside"), (JOBS, "Archive"):
-        home.begin(*words)
-        home.bring(OLD=letters(*FIVE), words=["--folder", "Archive"])
-        home.folder().rename(home.folder(name))
-        home.record.unlink()
-        row = home.left("OLD")
-        equal(f"{name}: why it is left", row["reason"], "no-folder")
-        want_said(row, name)
-        home.write("OLD", letters(*FIVE, 6))
-        home.words = row["next"][0]["argv"][2:-2]
-        home.done("OLD")
-        home.has(*FIVE, 6)
-    # a copy of a folder has its ledger too
-    hand_over(Path(shutil.copytree(str(home.folder(name)), str(home.folder("Copy")))))
+    """Nothing shows into which folder a mailbox went but the ledger of that folder: it goes on there. If --folder names
+    another one, it is left, each time, with the name of the folder that has its mail."""
+    home.begin("--folder", "Archive")
+    home.bring(OLD=letters(*FIVE))
+    home.folder().rename(home.folder("Put-aside"))
     home.record.unlink()
+    for _ in range(2):
+        row = home.left("OLD")
+        equal("why it is left", row["reason"], "no-folder")
+        want_said(row, "Put-aside")
+    home.has(*FIVE)
+    home.write("OLD", letters(*FIVE, 6))
+    home.words = row["next"][0]["argv"][2:-2]
     home.done("OLD")
-    home.has(*FIVE, 6, name=name)
+    home.has(*FIVE, 6, name="Put-aside")
+    # a copy of a folder has its ledger too
+    hand_over(Path(shutil.copytree(str(home.folder("Put-aside")), str(home.folder("Zebra")))))
+    home.record.unlink()
+    for words in (JOBS, home.words):
+        home.words = [*words]
+        equal("what becomes of it", home.done("OLD")["OLD"]["verdict"], "done before")
+    home.has(*FIVE, 6, name="Put-aside")
     a_tree(home)
     home.folder("x").rename(home.folder("put-aside"))
     home.record.unlink()
-    ran = home.run("mail")
-    home.has(0, 1, 3, 4, 10, 11)
-    equal("what is left of the tree", [ran[name]["verdict"] for name in ("mail/x", "mail/y")], ["left", "done before"])
+    home.bring_tree(x=letters(*FIVE, 6))
+    home.has(0, 1, 3, 4, 6, name="put-aside")
+    home.has(0, 1, 3, 4, 6, 10, 11)
 
 
 def rule_9_an_older_record_and_a_mailbox_that_is_gone(home: Home) -> None:

@@ -14,7 +14,7 @@ from typing import Any
 
 from tests.support.checks import LATER, equal
 from tests.support.copies import Copies
-from tests.support.homes import by_json, check_all, expect, mailbox, script
+from tests.support.homes import by_json, check_all, expect, fake, mailbox, restore
 from tests.support.mail import A, B, ONE, TWO
 from tests.support.processes import wait_for
 from tests.support.running import BY_OTHERS, Row, Run
@@ -257,7 +257,6 @@ def holes(home: Path) -> None:
 def locks_of_back(home: Path) -> None:
     """A lock that another program takes away meanwhile, or makes its own, is not removed; where none can be made, and
     on a disk without locks, mail comes back too."""
-    real = home / "real"
     rows: list[tuple[str, str, list[str]]] = [
         ("box", "true", []),
         ("box", "rm -f old/box.lock", []),
@@ -269,9 +268,8 @@ def locks_of_back(home: Path) -> None:
         mailbox(home / "old" / name, ONE)
         expect("migrate --now M old", home, 0, None)
         (home / f"M/.{name}/new/1.h").write_bytes(b"Subject: new\n\nhello\n")
-        (home / "bin/mbox2maildir").rename(real)
         sees = f'{{ cat "old/{name}.lock" 2>/dev/null; true; }} >>seen'
-        script(home / "bin/mbox2maildir", f'cd "{home}" && {sees} && {deed}\nexec "{real}" "$@"')
+        fake(home, f'cd "{home}" && {sees} && {deed}\nexec "$real" "$@"', "")
         numbers = ["flock"] if "no-flock" in name else []
         ran = Failing(home, numbers, errno.ENOLCK).run(["back", "--json", "--now", "M", "old"], BY_OTHERS)
         equal(f"{deed}: {ran.output}", (ran.status, b"Subject: new" in (home / "old" / name).read_bytes()), (0, True))
@@ -280,7 +278,7 @@ def locks_of_back(home: Path) -> None:
         held = re.search(r"(?m)^\d+ mbox2maildir-admin [0-9a-f]{32}$", (home / "seen").read_text(encoding="ascii"))
         equal(f"{name}: whether it is held meanwhile", held is not None, len(name) < 250)
         (home / "seen").unlink()
-        real.rename(home / "bin/mbox2maildir")
+        restore(home)
         for folder in ("M", "old"):
             shutil.rmtree(home / folder)
 

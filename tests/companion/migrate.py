@@ -1,30 +1,17 @@
-"""mbox2maildir-admin migrate: what each step leaves in the record, and what a further run makes of that; mailboxes that
-grew, are locked, or were begun; mail that people moved meanwhile; and records of others. Cases that need root are left
-out without it."""
+"""mbox2maildir-admin migrate: a mailbox that is done is never converted again; what is said at the end; copies beside
+mailboxes; locks; records of others and of other versions; and what root leaves alone. Cases that need root are left out
+without it."""
 import contextlib
-import fcntl
 import gzip
 import os
 import shlex
 import shutil
-import signal
 import subprocess
-import time
 from collections.abc import Callable, Iterator, Sequence
 from functools import partial
 from pathlib import Path
 
-from tests.support.checks import (
-    LATER,
-    PATIENCE,
-    TOP,
-    equal,
-    match_in,
-    matches,
-    text_of,
-    without_progress,
-    without_work,
-)
+from tests.support.checks import LATER, TOP, equal, match_in, matches, text_of, without_work
 from tests.support.homes import (
     check_all,
     expect,
@@ -35,27 +22,15 @@ from tests.support.homes import (
     run,
     run_whole,
     subjects,
+    want_root,
 )
 from tests.support.ledgers import LEDGER, RECORD
-from tests.support.mail import A, B, C, MAY, ONE, THREE, TWO, digest_of, numbered, with_length
-from tests.support.printed import commands_in, row_in
+from tests.support.mail import A, ONE, THREE, TWO, digest_of
 from tests.support.running import Desk
 
 AGAIN = ("--again", "M", "box")
-# what is said of a mailbox all of whose five messages were replaced
-EDITED = (
-    "5 messages that it brought are gone from it, and as many are new: it was edited as a whole, ...\n"
-    "    this stores the messages that are nowhere:\n        mbox2maildir-admin migrate --again M box"
-)
-# what mail of which no ledger says anything keeps a mailbox from, and the command that goes on
-DOUBLES = (
-    "    this stores the messages that are nowhere: it brings back mail that was deleted, and doubles mail that was "
-    "changed: 1 message:\n        mbox2maildir-admin migrate --again"
-)
 # the first line of a record
-VERSION_LINE = b"mbox2maildir-record\t1\n"
-# a larger file is no record
-MOST_OF_A_RECORD = 1 << 23
+VERSION_LINE = b"mbox2maildir-record\t2\n"
 
 
 def grow(path: Path, text: bytes) -> None:
@@ -63,10 +38,10 @@ def grow(path: Path, text: bytes) -> None:
     mailbox(path, path.read_bytes() + text)
 
 
-def steps(maildir: Path, folder: str = ".") -> list[str]:
-    """The steps and notes that a record has for a folder."""
-    lines = [line.split("\t") for line in (maildir / RECORD).read_text().split("\n")[:-1]]
-    return [line[0] for line in lines if line[1] == folder]
+def steps(folder: Path) -> str:
+    """The first letters of the lines that the ledger of a folder has, but those of messages."""
+    lines = (folder / LEDGER).read_text().splitlines()[1:] if (folder / LEDGER).exists() else []
+    return "".join(line[0] for line in lines if line[0] not in "psfbl")
 
 
 def file_of(maildir: Path, subject: str) -> Path:
@@ -86,22 +61,6 @@ def done_before(home: Path, gone: int, placed: int) -> None:
     expect("migrate --all M box", home, 0, f"box -> INBOX: done before, {says}\n1 mailbox: 1 done before\n")
 
 
-def left(
-    home: Path,
-    why: str,
-    words: Sequence[str] = ("M", "box"),
-    kind: str = "mboxrd or mboxo, messages ...",
-    status: int = 1,
-) -> None:
-    """Migrates a mailbox that must be left for this reason."""
-    expect(
-        ["migrate", "--all", *words],
-        home,
-        status,
-        f"box -> INBOX: {kind + ': ' if kind else ''}left (...): {why}\n1 mailbox: 1 left\n",
-    )
-
-
 def once_and_never_again(home: Path) -> None:
     """A mailbox that is done is never converted again, whatever was moved, renamed or deleted."""
     mailbox(home / "box", ONE + TWO + THREE)
@@ -114,7 +73,7 @@ def once_and_never_again(home: Path) -> None:
     )
     assert not (home / "M").exists(), "--dry-run made M"
     done(home, "messages 3: done")
-    equal("the record", steps(home / "M"), ["begun", "done"])
+    equal("the ledger", steps(home / "M"), "@+=")
     for name in (RECORD, LEDGER):
         equal(f"the mode of {name}", (home / "M" / name).stat().st_mode & 0o777, 0o600)
     equal("the mode of the Maildir", (home / "M").stat().st_mode & 0o777, 0o700)
@@ -149,71 +108,6 @@ def once_and_never_again(home: Path) -> None:
     equal("after --again", subjects(home / "M"), ["THREE", "one", "three", "two"])
 
 
-def known_by_its_mail(home: Path) -> None:
-    """What a server writes into a mailbox for itself does not make it another one: it is done before, and may grow. So
-    is one that lost mail, and one that was only begun goes on. One that was edited as a whole is left."""
-
-    def looked(*messages: bytes) -> bytes:
-        fields = (b"\nX-UID: %d\nStatus: RO\n\n" % uid for uid in range(1, len(messages) + 1))
-        return b"".join(message.replace(b"\n\n", next(fields), 1) for message in messages)
-
-    mailbox(home / "box", ONE + TWO)
-    done(home, "messages 2: done")
-    mailbox(home / "box", looked(ONE, TWO))
-    expect("migrate --all M box", home, 0, "1 mailbox: 1 done before\n")
-    expect("migrate --all --dovecot M box", home, 0, "box -> INBOX: done before, ...\n1 mailbox: 1 done before\n")
-    grow(home / "box", THREE)
-    done(home, "messages 3: done, it grew by 1 message")
-    mailbox(home / "box", looked(ONE, TWO, THREE))
-    mailbox(home / "copy", looked(ONE, TWO, THREE))
-    row = (
-        "copy -> INBOX: mboxrd or mboxo, messages 3: done, 3 messages there already, from .../box; "
-        "3 messages of these with flags in it that the file lacks\n"
-    )
-    expect("migrate --all M box copy", home, 0, row + "2 mailboxes: 1 done, ...\n")
-    equal("what is there", subjects(home / "M"), ["one", "three", "two"])
-    for text, gone in ((looked(ONE, THREE), 1), (THREE, 1), (looked(THREE), 0)):
-        mailbox(home / "box", text)
-        out = run("migrate --all M box", home)[1]
-        said = f"{gone} message gone from it that it had brought"
-        equal(f"{text!r}: {out}", ("1 done before\n" in out, said in out), (True, bool(gone)))
-    equal("what is there after that", subjects(home / "M"), ["one", "three", "two"])
-    mailbox(home / "box", b"")
-    expect("migrate --all M box", home, 0, "box -> INBOX: empty, messages 0: done\n1 mailbox: 1 done\n")
-    # so are other messages if enough of what it had is gone
-    mailbox(home / "box", numbered("first", 5))
-    done(home, "messages 5: done, it grew by 5 messages")
-    mailbox(home / "box", numbered("second", 5))
-    left(home, EDITED)
-    left(home, EDITED.replace(" --again", " --dry-run --again"), ("--dry-run", "M", "box"))
-    equal("what is there of it", [one for one in subjects(home / "M") if one.startswith("second")], [])
-
-    mailbox(home / "box", ONE + TWO)
-    killed_after(home, "N", ONE)
-    mailbox(home / "box", looked(ONE, TWO))
-    done(home, "messages 2: done", words=("N", "box"))
-    equal("what is there of one that was begun", subjects(home / "N"), ["one", "two"])
-
-
-def several(home: Path) -> None:
-    """Several files go into one folder. An empty one has a line of its own. Missing files, and files that are no
-    mailboxes, are left."""
-    for name, text in (("box", ONE), ("two", TWO), ("none", b""), (".hidden", b""), ("box.lock~", b"x\n")):
-        mailbox(home / name, text)
-    expect(
-        "migrate --all --folder Old/2004-x M box two none .hidden gone",
-        home,
-        1,
-        "box -> Old/2004-x: mboxrd or mboxo, messages 1: done\ntwo -> Old/2004-x: mboxrd or mboxo, messages 1: done\n"
-        "none -> Old/2004-x: empty, messages 0: done\ngone -> Old/2004-x: left (missing): No such file or directory\n"
-        "    run this next:\n        ls .\n"
-        "4 mailboxes: 3 done, 1 left; 1 other file: no mail\n",
-    )
-    equal("the folder", subjects(home / "M/.Old.2004-x"), ["one", "two"])
-    equal("its mark", (home / "M/.Old.2004-x/maildirfolder").read_text(), "")
-    equal("lines of the record", steps(home / "M", ".Old.2004-x"), ["begun"] * 2 + ["empty"] + ["done"] * 2)
-
-
 def last_line(home: Path) -> None:
     """The last line says how much was done or would be done, and in which time, if there was a mailbox. Times are not
     compared here."""
@@ -239,118 +133,6 @@ def last_line(home: Path) -> None:
     cut = subprocess.run(words, input=out.encode(), stdout=subprocess.PIPE, check=True)
     equal("what the manual page cuts away", cut.stdout.decode(), without_work(out))
     assert cut.stdout.endswith(b"\n1 mailbox: 1 done\n"), cut.stdout
-
-
-def kinds(home: Path) -> None:
-    """What is no guess is done. For the rest the next command is named, and the copy that it makes is taken."""
-    crlf = (ONE + TWO).replace(b"\n", b"\r\n")
-    mailbox(home / "mark", b"\xef\xbb\xbf\n" + ONE)
-    mailbox(home / "cl2", with_length(A, MAY) + b"\n" + with_length(B, b"x\n") + b"\n")
-    mailbox(home / "crlf", crlf)
-    mailbox(home / "note.msf", b"// <!-- <mdb:mork")
-    expect(
-        "migrate --all --dry-run M mark cl2 crlf note.msf",
-        home,
-        0,
-        "mark -> INBOX: mboxrd or mboxo, messages 1: would be done\n"
-        "cl2 -> INBOX: mboxcl2, quoted, messages 2: would be done\n"
-        "crlf -> INBOX: mboxrd or mboxo, quoted, messages 2: would be done\n"
-        "3 mailboxes: 3 would be done; 1 other file: no mail\n",
-    )
-    equal(
-        "what --dry-run left", sorted(path.name for path in home.iterdir()), ["bin", "cl2", "crlf", "mark", "note.msf"]
-    )
-    for name, count in (("mark", 1), ("cl2", 2), ("crlf", 2)):
-        expect(
-            ["migrate", "--all", f"M-{name}", name],
-            home,
-            0,
-            f"{name} -> INBOX: ...messages {count}: done\n1 mailbox: 1 done\n",
-        )
-        expect(["migrate", "--all", f"M-{name}", name], home, 0, "1 mailbox: 1 done before\n")
-        equal(f"{name}: messages", len(files_of(home / f"M-{name}")), count)
-        equal(
-            f"{name}: what stands in the Maildir",
-            sorted(path.name for path in (home / f"M-{name}").iterdir()),
-            ["cur", LEDGER, RECORD, "new", "tmp"],
-        )
-        text = (home / name).read_bytes()
-        equal(
-            f"{name}: its size and digest in the record",
-            (home / f"M-{name}" / RECORD).read_text().splitlines()[1].split("\t")[2:4],
-            [str(len(text)), digest_of(text)],
-        )
-    assert "From the first of May" in file_of(home / "M-cl2", "one").read_text(), "a quoted line lost its message"
-    assert b"\r" not in file_of(home / "M-crlf", "one").read_bytes(), "a CR was kept"
-
-
-def by_content(home: Path) -> None:
-    """The text decides what a file is, whatever its name. A file of an unknown kind is left."""
-    with_date = "sed '1s/$/ Thu Jan  1 00:00:00 1970/' notes"
-    ask = f"line 1 begins a mail:\n        ... && {with_date} >... && mv ...\n    ..."
-    for name, text, status, row in (
-        ("report.dat", ONE, 0, " -> INBOX: mboxrd or mboxo, messages 1: done"),
-        ("a.msf", ONE, 0, " -> INBOX: mboxrd or mboxo, messages 1: done"),
-        ("a.lock", ONE, 0, " -> INBOX: mboxrd or mboxo, messages 1: done"),
-        (
-            "nulls",
-            bytes(512) + ONE,
-            0,
-            " -> INBOX: mboxrd or mboxo, messages 1: done, its text begins at byte 513, after NUL bytes",
-        ),
-        (
-            "notes",
-            b"From time to time I write notes\n",
-            1,
-            " -> INBOX: not known: left (not-known): line 1: a line `From ` without a date at its end and "
-            f"without a header after it\n    1 | From time to time I write notes\n    {ask}",
-        ),
-        (
-            "pst",
-            b"!BDN",
-            1,
-            " -> INBOX: Outlook's pst: left (other-kind)\n    run this next:\n"
-            "        ... && readpst -r -o ... pst && mv ... # package pst-utils",
-        ),
-        ("pdf.lock", b"%PDF-1.4\n" * 30, 1, ""),
-        ("b.lock", b"1234:host\n", 1, ""),
-        (
-            "c.dat",
-            b"hello\n",
-            1,
-            " -> INBOX: not known: left (not-known)\n    1 | hello\n    find out what it is:\n"
-            "        file c.dat\n    ...",
-        ),
-    ):
-        mailbox(home / name, text)
-        fate = ("left" if status else "done") if row else "no mail"
-        said = f"{name}{row}\n" if row else ""
-        total = "no mailboxes; 1 other file: no mail" if fate == "no mail" else f"1 mailbox: 1 {fate}"
-        expect(["migrate", "--all", f"M-{name}", name], home, status, f"{said}{total}\n")
-        count = len(files_of(home / f"M-{name}")) if (home / f"M-{name}/new").is_dir() else 0
-        equal(f"{name}: messages", count, int(fate == "done"))
-    equal("the mail after NUL bytes", file_of(home / "M-nulls", "one").read_bytes(), ONE.split(b"\n", 1)[1][:-1])
-
-
-def waits(home: Path) -> None:
-    """Without a terminal a wait is said once. A mailbox is open to deliveries meanwhile, and is read with what they
-    brought."""
-    mailbox(home / "box", ONE, 0)
-    (home / "two").write_bytes(TWO)
-    ran = Desk(home).start(["migrate", "M", "box"])
-    assert ran.stderr, "it is a pipe"
-    says = "mbox2maildir-admin: box: waiting ... seconds, because it changed a moment ago\n"
-    matches("what is said of it", ran.stderr.readline().decode(), says)
-    delivery = "cat two >>box; touch -d '2 minutes ago' box"
-    subprocess.run(["flock", "-n", "box", "sh", "-c", delivery], cwd=str(home), check=True)
-    out, err = ran.communicate(timeout=PATIENCE)
-    equal(
-        "its rows",
-        (without_work(out.decode()), without_progress(err.decode())),
-        ("box -> INBOX: mboxrd or mboxo, messages 2: done\n1 mailbox: 1 done\n", ""),
-    )
-    row = "fresh -> INBOX: mboxrd or mboxo, messages 1: done\n1 mailbox: 1 done\n"
-    expect(["migrate", "--all", "--now", "N", str(mailbox(home / "fresh", ONE, 0).name)], home, 0, row, "")
 
 
 def copies_beside(home: Path) -> None:
@@ -383,249 +165,6 @@ def copies_beside(home: Path) -> None:
     expect([*words[:4], words[5]], home, 0, "2 mailboxes: 2 done before\n")
 
 
-def grown(home: Path) -> None:
-    """Only the rest of a mailbox that grew is converted, with equal messages too."""
-    mailbox(home / "box", ONE + TWO)
-    done(home, "messages 2: done")
-    for path in files_of(home / "M").values():
-        path.unlink()
-    grow(home / "box", THREE)
-    done(home, "messages 3: done, it grew by 1 message")
-    equal("what is there", subjects(home / "M"), ["three"])
-    grow(home / "box", THREE + THREE)
-    done(home, "messages 5: done, it grew by 2 messages")
-    equal("equal messages", subjects(home / "M"), ["three"] * 3)
-    done_before(home, 2, 5)
-    # one of them was renamed: still three are there, and two more come
-    next(iter(files_of(home / "M").values())).rename(home / "M/cur/17.host,U=1:2,S")
-    grow(home / "box", THREE + THREE)
-    done(home, "messages 7: done, it grew by 2 messages; 1 message of other programs in the folder")
-    equal("equal messages, one renamed", subjects(home / "M"), ["three"] * 5)
-    # two of them were deleted: though equal messages differ only by their numbers, these do not come back
-    for path in list(files_of(home / "M").values())[:2]:
-        path.unlink()
-    grow(home / "box", THREE)
-    done(home, "messages 8: done, it grew by 1 message; 1 message of other programs in the folder")
-    equal("equal messages, two deleted", subjects(home / "M"), ["three"] * 4)
-
-    text = with_length(A, MAY) + b"\n"
-    mailbox(home / "box", text)
-    expect("migrate --all N box", home, 0, "box -> INBOX: mboxcl2, quoted, messages 1: done\n1 mailbox: 1 done\n")
-    file_of(home / "N", "one").unlink()
-    grow(home / "box", with_length(B, MAY) + b"\n" + with_length(C, MAY) + b"\n")
-    expect(
-        "migrate --all N box",
-        home,
-        0,
-        "box -> INBOX: mboxcl2, quoted, messages 3: done, it grew by 2 messages\n1 mailbox: 1 done\n",
-    )
-    equal("a quoted mailbox that grew", subjects(home / "N"), ["three", "two"])
-
-    # what was done was not complete: its file is named, and the rest is not converted until it is gone
-    mailbox(home / "box", ONE + B + b"\nhel\n")
-    done(home, "messages 2: done", words=("O", "box"))
-    grow(home / "box", b"more\n\n" + THREE)
-    before = (home / "O" / RECORD).read_bytes()
-    says = "it grew by 2 messages; 1 message gone from it that it had brought"
-    expect(
-        "migrate --all --dry-run O box",
-        home,
-        0,
-        f"box -> INBOX: ...: would be done, {says}\n1 mailbox: 1 would be done\n",
-    )
-    equal("the record after --dry-run", (home / "O" / RECORD).read_bytes(), before)
-    status, out, _ = run("migrate --all O box", home)
-    equal("a message that was cut: status", status, 1)
-    os.unlink(home / match_in(r"\n        rm (.*)\n", out)[1])
-    done(home, f"messages 3: done, {says}", words=("O", "box"))
-    equal("after it is gone", subjects(home / "O"), ["one", "three", "two"])
-    expect("verify --all O box", home, 0, None)
-    # also if everything that is converted is a quoted copy
-    whole = (ONE + TWO).replace(b"\n", b"\r\n")
-    mailbox(home / "box", whole[:-2])
-    expect("migrate P box", home, 0, None)
-    mailbox(home / "box", whole[:-2] + b"more\r\n\r\n")
-    out = run("migrate --all P box", home)[1]
-    os.unlink(home / match_in(r"\n        rm (.*)\n", out)[1])
-    expect("migrate P box", home, 0, None)
-    equal(
-        "a message with CR LF that was cut",
-        [path.read_bytes()[-11:] for path in files_of(home / "P").values() if "two" in path.read_text()],
-        [b"hello\nmore\n"[-11:]],
-    )
-
-
-def killed_after(home: Path, maildir: str, placed: bytes, *options: str) -> None:
-    """Migrates a mailbox, and kills that once these messages of it were placed."""
-    mailbox(home / "placed", placed)
-    fake(home, f"'{home}/real' convert . '{home}/placed' && kill -9 $PPID")
-    equal("a run that is killed", run(["migrate", *options, maildir, "box"], home)[0], -signal.SIGKILL)
-    fake(home, f"exec '{home}/real' \"$@\"")
-
-
-def begun(home: Path) -> None:
-    """What was begun goes on. What mail programs renamed is not doubled, and it is said what may come back."""
-    mailbox(home / "box", ONE + TWO + THREE)
-    killed_after(home, "M", ONE + TWO)
-    # later by more than the clock of a disk may stand still
-    time.sleep(0.1)
-    file_of(home / "M", "one").rename(home / "M/cur/17.host,U=1:2,S")
-    says = "1 message there already, by no mailbox; 1 message of other programs in the folder"
-    done(home, f"messages 3: done, {says}; up to 1 message that had been deleted or moved came back")
-    equal("one renamed", subjects(home / "M"), ["one", "three", "two"])
-    equal("its lines", steps(home / "M"), ["begun", "begun", "done"])
-
-    # nothing was touched: nothing may come back
-    killed_after(home, "N", ONE + TWO)
-    done(home, "messages 3: done", words=("N", "box"))
-    # one was deleted
-    killed_after(home, "O", ONE + TWO)
-    file_of(home / "O", "one").unlink()
-    status, out, _ = run("migrate --all O box", home)
-    equal("one deleted: status", status, 0)
-    assert (
-        int(match_in(r"up to (\d) messages? that had been deleted", out)[1]) >= 1
-    ), f"it is not said that one came back: {out}"
-    equal("one deleted", subjects(home / "O"), ["one", "three", "two"])
-
-    # it grew since it was begun, and all that it had then was placed, or some of it
-    for maildir, placed in (("P", ONE + TWO), ("Q", ONE)):
-        mailbox(home / "box", ONE + TWO)
-        killed_after(home, maildir, placed)
-        grow(home / "box", THREE)
-        done(home, "messages 3: done", words=(maildir, "box"))
-        equal(f"what is in {maildir}", subjects(home / maildir), ["one", "three", "two"])
-
-
-def begun_otherwise(home: Path) -> None:
-    """What was begun is left for a run with or without --dovecot that it was not begun with. The command of that row
-    goes on. If nothing is there of it, the run goes on by its own words. Either says that a message that somebody has
-    deleted meanwhile may come back."""
-    mailbox(home / "box", ONE + TWO + THREE)
-    without, with_it = [], ["--dovecot"]  # type: list[str], list[str]
-    ways = (without, with_it, "without --dovecot"), (with_it, without, "with --dovecot")
-    for number, (first, then, says) in enumerate(ways):
-        maildir = f"R{number}"
-        killed_after(home, maildir, ONE, *first)
-        status, out, _ = run(["migrate", "--all", *then, maildir, "box"], home)
-        row = f"left (another-reading): its conversion was begun {says}\n"
-        equal(f"begun {says}, and {then}: {out}", (status, row in out), (1, True))
-        equal(f"begun {says}, and {then}", subjects(home / maildir), ["one"])
-        file_of(home / maildir, "one").unlink()
-        shutil.copytree(home / maildir, home / f"{maildir}-deleted")
-        for words in (commands_in(out)[0].split()[2:], [*then, f"{maildir}-deleted", "box"]):
-            status, out, _ = run(["migrate", "--all", *words], home)
-            # of the three, only one had been placed
-            assert status == 0 and int(match_in(r"done, .*?up to (\d) messages? that had been deleted", out)[1]), out
-            equal(f"begun {says}: {words}", subjects(home / words[-2]), ["one", "three", "two"])
-
-
-def converted(home: Path) -> None:
-    """What was converted by hand is dated and verified, and never converted again. If only some of it is there, nobody
-    knows why."""
-    mailbox(home / "box", ONE + TWO)
-    run("mbox2maildir convert N box", home)
-    done(home, "messages 2: done, 2 messages there already, by no mailbox", words=("N", "box"))
-    equal("its date", file_of(home / "N", "two").stat().st_mtime % 60, 2)
-    equal("its lines", steps(home / "N"), ["begun", "done"])
-    # also if a run was killed that found it
-    run("mbox2maildir convert P box", home)
-    fake(home, "kill -9 $PPID")
-    equal("a run that is killed", run("migrate P box", home)[0], -signal.SIGKILL)
-    fake(home, f"exec '{home}/real' \"$@\"")
-    done(home, "messages 2: done, 2 messages there already, by no mailbox", words=("P", "box"))
-    equal("its date after a kill", file_of(home / "P", "two").stat().st_mtime % 60, 2)
-    run("mbox2maildir convert O box", home)
-    file_of(home / "O", "one").unlink()
-    left(home, f"1 of its messages are there, and no ledger says why: ...\n{DOUBLES} O box", ("O", "box"))
-    equal("no line", steps(home / "O"), [])
-
-
-def programs_that_fail(home: Path) -> None:
-    """A failure of the program is explained, and a sync that failed is noted."""
-    mailbox(home / "box", ONE + TWO)
-    fake(home, "echo 'mbox2maildir: folder call 4 failed' >&2; exit 1")
-    left(
-        home,
-        "mbox2maildir: folder call 4 failed, which removes a leftover, or writes or places a message; the system "
-        "reported an error, but the same works now: read the system's log, and run this again; "
-        "0 of 2 messages are there",
-    )
-    equal("no sync failed", steps(home / "M"), ["begun"])
-    fake(home, f"'{home}/real' \"$@\"; echo 'mbox2maildir: folder call 9 failed' >&2; exit 1")
-    left(home, "its sync failed: ...")
-    equal("the sync failed", steps(home / "M"), ["begun", "begun", "failed"])
-    fake(home, f"exec '{home}/real' \"$@\"")
-    left(home, "its sync failed: ...")
-    grow(home / "box", THREE)
-    left(home, "its sync failed: ...")
-    done(home, "messages 3: done, placed 1 message", words=AGAIN)
-    fake(home, "kill -9 $$")
-    left(home, "convert was killed by signal 9; 0 of 3 messages are there", ("N", "box"))
-    fake(home, f"exec '{home}/real' \"$@\"")
-    done(home, "messages 3: done", words=("N", "box"))
-    # it writes after it was looked at, and the last message that the program reads is cut
-    box = home / "box"
-    fake(home, f"printf 'From d Mon Mar  3 12:00:00 2025\\nSubject: four\\n\\nhe' >>'{box}'; exec '{home}/real' \"$@\"")
-    left(home, "it changed while it was converted: ...", ("O", "box"), status=LATER)
-    equal("it is not done", steps(home / "O"), ["begun"])
-    fake(home, f"exec '{home}/real' \"$@\"")
-    grow(box, b"llo\n\n")
-    status, out, _ = run("migrate --all O box", home)
-    equal("a message that was cut: status", status, 1)
-    os.unlink(home / match_in(r"\n        rm (.*)\n", out)[1])
-    status, out, _ = run("migrate --all O box", home)
-    equal("after it is gone", (status, subjects(home / "O")), (0, ["four", "one", "three", "two"]))
-    killed_while_written(home)
-    # it writes after the program has read it, of which this is a copy
-    crlf = (ONE + B + b"\nhello\n").replace(b"\n", b"\r\n")
-    box = mailbox(home / "crlf", crlf)
-    fake(home, f"'{home}/real' \"$@\"; printf 'more\\r\\n\\r\\n' >>'{box}'")
-    expect(
-        "migrate --all Copy crlf",
-        home,
-        LATER,
-        "crlf -> INBOX: ...left (changed): it changed while it was converted: ...\n...\n",
-    )
-    equal("it is not done either", steps(home / "Copy"), ["begun"])
-    fake(home, f"exec '{home}/real' \"$@\"")
-    grow(box, b"")
-    os.unlink(home / match_in(r"\n        rm (.*)\n", run("migrate --all Copy crlf", home)[1])[1])
-    expect("migrate --all Copy crlf", home, 0, "crlf -> INBOX: ...messages 2: done...\n1 mailbox: 1 done\n")
-    equal(
-        "what is there of the copy",
-        sorted(path.read_bytes()[-6:] for path in files_of(home / "Copy").values()),
-        [b"\nmore\n", b"hello\n"],
-    )
-
-
-def killed_while_written(home: Path) -> None:
-    """A mailbox is written to while it is converted, and nobody is left to say so. The next run finds the cut
-    message."""
-    box = mailbox(home / "box", ONE + TWO)
-    fake(
-        home,
-        f"printf 'From d Mon Mar  3 12:00:00 2025\\nSubject: four\\n\\nhe' >>'{box}'; "
-        f"kill -9 $PPID; exec '{home}/real' \"$@\"",
-    )
-    equal("it is killed", run("migrate P box", home)[0], -9)
-    # what the killed one left has the record locked until it ends
-    with open(home / "P" / RECORD, "rb") as record:
-        fcntl.flock(record, fcntl.LOCK_EX)
-    fake(home, f"exec '{home}/real' \"$@\"")
-    grow(box, b"llo\n\n" + THREE)
-    status, out, _ = run("migrate --all P box", home)
-    _, cut = shlex.split(row_in(out, "box").command)
-    equal("a message that was cut, with nobody there", status, 1)
-    equal("what is named", (home / cut).read_bytes(), b"Subject: four\n\nhe")
-    os.unlink(home / cut)
-    equal(
-        "after it is gone",
-        (run("migrate P box", home)[0], subjects(home / "P")),
-        (0, ["four", "one", "three", "two"]),
-    )
-
-
 @contextlib.contextmanager
 def holding(path: Path, lock: str) -> Iterator[None]:
     """Another process has locked a file."""
@@ -643,34 +182,24 @@ def holding(path: Path, lock: str) -> Iterator[None]:
 def locks(home: Path) -> None:
     """A locked mailbox is left, and so is a Maildir in which another migrate is at work."""
     box = mailbox(home / "box", ONE)
+    says = "box -> INBOX: left (locked): another program has locked it{}: wait, or stop that program\n...\n".format
     for lock in ("flock", "lockf"):
         with holding(box, lock):
-            left(home, "another program has locked it: wait, or stop that program", kind="", status=LATER)
+            expect("migrate --all M box", home, LATER, says(""))
     mailbox(home / "box.lock", b"", 60)
-    with_lock = "another program has locked it with box.lock: wait, or stop that program"
-    left(home, with_lock, kind="", status=LATER)
+    expect("migrate --all M box", home, LATER, says(" with box.lock"))
     mailbox(home / "box.lock", b"", 1300)
     mailbox(home / "empty", b"")
     expect("migrate --all M empty", home, 0, "empty -> INBOX: empty, messages 0: done\n1 mailbox: 1 done\n")
     with holding(home / "M" / RECORD, "flock"):
-        expect(
-            "migrate M box",
-            home,
-            LATER,
-            "",
-            "mbox2maildir-admin: another migrate is at work in M, or a convert that an interrupted "
-            "one left behind: wait until it has ended\n",
-        )
+        says_of_it = "another migrate is at work in M, or a convert that an interrupted one left behind: wait until ..."
+        expect("migrate M box", home, LATER, "", f"mbox2maildir-admin: {says_of_it}\n")
     done(home, "messages 1: done, box.lock is older than 20 minutes and was ignored")
     # nobody may write to it while it is converted
     (home / "box.lock").unlink()
     grow(box, TWO)
-    fake(
-        home,
-        f'python3 -c \'import fcntl; fcntl.lockf(open("{box}", "r+"), fcntl.LOCK_EX | fcntl.LOCK_NB)\' '
-        f"2>>'{home}/refused'\n"
-        f"exec '{home}/real' \"$@\"",
-    )
+    locks_it = f'import fcntl; fcntl.lockf(open("{box}", "r+"), fcntl.LOCK_EX | fcntl.LOCK_NB)'
+    fake(home, f"python3 -c '{locks_it}' 2>>'{home}/refused'\nexec \"$real\" \"$@\"")
     done(home, "messages 2: done, it grew by 1 message")
     assert "BlockingIOError" in (home / "refused").read_text(), "another program got the lock while convert was at work"
 
@@ -712,32 +241,8 @@ def records_of_others(home: Path) -> None:
     record.write_bytes(VERSION_LINE + b"\xff\n\ndone\t.\nfroot\tloops\n" + line)
     record.chmod(0o600)
     done(home, "messages 1: done")
-    equal("the torn line is ended", record.read_text(errors="replace").split("\n")[6].split("\t")[0], "begun")
+    equal("the torn line is ended", record.read_text(errors="replace").split("\n")[6].split("\t")[0], "done")
     expect("migrate --all M two", home, 0, "two -> INBOX: ...messages 1: done, INBOX has the mail of ...\n...\n")
-
-
-def a_record_that_is_full(home: Path) -> None:
-    """What one sync has served is noted at once: if the record has no room for the lines of all, each mailbox is left.
-    Nothing of them is placed again once there is room."""
-    words = "migrate --all --jobs 1 M tree"
-    for name, text in (("a", ONE), ("b", TWO)):
-        mailbox(home / "tree" / name, text)
-    expect(words, home, 0, None)
-    record = home / "M" / RECORD
-    sizes = {line.split(b"\t")[0]: len(line) for line in record.read_bytes().splitlines(True)}
-    shutil.rmtree(str(home / "M"))
-    for sub in ("new", "cur"):
-        (home / "M" / sub).mkdir(parents=True)
-    # two mailboxes are begun, and one of them could be done
-    room = 2 * sizes[b"begun"] + sizes[b"done"]
-    record.write_bytes(VERSION_LINE + b"#" * (MOST_OF_A_RECORD - len(VERSION_LINE) - room - 1) + b"\n")
-    record.chmod(0o600)
-    full = "M/mbox2maildir-record: it is full: move it away; the ledgers in the folders say what was brought"
-    rows = "".join(f"tree/{name} -> {name}: mboxrd or mboxo, messages 1: left (record): {full}\n" for name in "ab")
-    expect(words, home, 1, rows + "2 mailboxes: 2 left\n")
-    record.unlink()
-    expect(words, home, 0, "...2 mailboxes: 2 done before\n")
-    equal("each once", [subjects(home / "M" / name) for name in (".a", ".b")], [["one"], ["two"]])
 
 
 def of_another_version(home: Path) -> None:
@@ -755,8 +260,9 @@ def of_another_version(home: Path) -> None:
         "migrate --undo",
         "back",
     )
-    ledgers = (b"mbox2maildir\t%d\t%s\n" % (number, b"0" * 32) for number in (1, 3))
-    lines = [(RECORD, b"mbox2maildir-record\t2\n"), (RECORD, b""), *((LEDGER, line) for line in ledgers)]
+    ledgers = (b"mbox2maildir\t%d\t%s\n" % (number, b"0" * 32) for number in (1, 2, 4))
+    records = [(RECORD, b"mbox2maildir-record\t%d\n" % number) for number in (1, 3)]
+    lines = [*records, (RECORD, b""), *((LEDGER, line) for line in ledgers)]
     for name, first in lines:
         mailbox(home / "box", ONE + TWO)
         expect("migrate M box", home, 0, None)
@@ -788,71 +294,27 @@ def links(home: Path) -> None:
     done(home, "messages 2: done, placed 2 messages", words=["--again", "N", "box"])
 
 
-# the last line of what is said of wrong words
-MORE = "mbox2maildir-admin: run this next: mbox2maildir-admin migrate --help"
-
-
 def refused(home: Path) -> None:
-    """Some runs are refused before anything is made."""
+    """root makes nothing of a mailbox that belongs to another user, nor in a folder of one."""
+    want_root()
     mailbox(home / "box", ONE)
-    mailbox(home / "stuff/letter", b"x")
-    for sub in ("cur", "new", "tmp"):
-        (home / "M" / sub).mkdir(parents=True)
-    for words, says in (
-        (["stuff", "box"], "stuff: it is neither a Maildir nor empty\n    name a Maildir, or ..."),
-        (["box", "M"], "...: it is a file, not a Maildir: the Maildir comes first\n...\n...migrate M box"),
-        (["N", "M"], "...M: it is a Maildir, not a mailbox: ...\n...\n...migrate M N"),
-        (["none/N", "box"], "none/N: the folder that it is to be made in is not there\n...\n..."),
-    ):
-        expect(["migrate", *words], home, 1, "", f"mbox2maildir-admin: {says}\n")
-    equal("what was made", sorted(path.name for path in home.iterdir()), ["M", "bin", "box", "stuff"])
-    wrong = [
-        [],
-        ["M"],
-        ["--users", "M", "--folder", "x"],
-        ["--tree", "x", "M", "box"],
-        ["--jobs", "0", "--users", "old"],
-        ["--undo", "M", "box", "box"],
-        ["--undo", "M", "stuff"],
-        ["--undo", "--again", "M", "box"],
-        ["--folder", "x", "M", "stuff"],
-        ["--maildir", "/x", "--users", "o"],
-        *(["--folder", name, "M", "box"] for name in ("", "/", "Sent/", "a//b", "..", "a\nb", os.fsdecode(b"\xe6"))),
-    ]  # type: list[list[str]]
-    for words in wrong:
-        status, out, err = run(["migrate", "--all", *words], home)
-        equal(f"wrong words {words}", (status, out, err.splitlines()[1:]), (2, "", [MORE]))
-    if os.getuid() == 0:
+    for options in ("", "--dry-run --again --folder 'x y' "):
         os.chown(home / "box", 65534, 65534)
-        for options in ("", "--dry-run --again --folder 'x y' "):
-            expect(
-                ["migrate", *shlex.split(options), "N", "box"],
-                home,
-                1,
-                "",
-                "mbox2maildir-admin: box: it belongs to nobody\n    run this next:\n"
-                f"        runuser -u nobody -- mbox2maildir-admin migrate {options}{home}/N {home}/box\n",
-            )
-        os.chown(home / "box", 54321, 65534)
+        says = "mbox2maildir-admin: box: it belongs to nobody\n    run this next:\n        runuser -u nobody -- "
+        says += f"mbox2maildir-admin migrate {options}{home}/N {home}/box\n"
+        expect(["migrate", *shlex.split(options), "N", "box"], home, 1, "", says)
+    for group in (65534, 0):
+        os.chown(home / "box", 54321, group)
         expect("migrate N box", home, 1, "", "...: box: it belongs to user 54321\n    run this as that user\n")
-        assert not (home / "N").exists(), "N was made"
-        os.chown(home / "box", 54321, 0)
-        expect(
-            "migrate N box",
-            home,
-            1,
-            "",
-            "mbox2maildir-admin: box: it belongs to user 54321\n    run this as that user\n",
-        )
-        # a Maildir that root made in the folder of another user
-        (home / "theirs/M").mkdir(parents=True)
-        os.chown(home / "theirs", 65534, 65534)
-        os.chown(home / "box", 0, 0)
-        expect(
-            "migrate theirs/M box", home, 1, "", f"mbox2maildir-admin: {home}/theirs: it belongs to nobody\n...\n...\n"
-        )
-        equal("what is in it", list((home / "theirs/M").iterdir()), [])
-        roots_alone(home)
+    equal("what was made", sorted(path.name for path in home.iterdir()), ["bin", "box"])
+    # a Maildir that root made in the folder of another user
+    (home / "theirs/M").mkdir(parents=True)
+    os.chown(home / "theirs", 65534, 65534)
+    os.chown(home / "box", 0, 0)
+    says = f"mbox2maildir-admin: {home}/theirs: it belongs to nobody\n...\n...\n"
+    expect("migrate theirs/M box", home, 1, "", says)
+    equal("what is in it", list((home / "theirs/M").iterdir()), [])
+    roots_alone(home)
 
 
 def begun_meanwhile(home: Path) -> None:
@@ -871,9 +333,7 @@ def begun_meanwhile(home: Path) -> None:
         (f"mkdir -p N/new; ln -s ../M/.X N/.X; {started} N three", LATER, says),
         ("cp older M/.X/mbox2maildir-messages", 0, "box -> X: ...: done...\n...\n"),
     ):
-        fake(home, "")
-        meanwhile = f"if test $1 = list && mkdir '{home}/once'; then (cd '{home}' && {deed}); fi >&2"
-        (home / "bin/mbox2maildir").write_text(f"#!/bin/sh\n{meanwhile}\nexec '{home}/real' \"$@\"\n")
+        fake(home, f"if mkdir '{home}/once'; then (cd '{home}' && {deed}); fi >&2\nexec \"$real\" \"$@\"", "list")
         ran = Desk(home).run("migrate --all --now --folder X M box".split())
         matches(deed, ran.output, wanted)
         equal(f"{deed}: its status: {ran.output}", ran.status, status)
@@ -922,22 +382,11 @@ def roots_alone(home: Path) -> None:
 if __name__ == "__main__":
     check_all(
         once_and_never_again,
-        known_by_its_mail,
         last_line,
-        several,
-        kinds,
-        by_content,
-        waits,
         copies_beside,
-        grown,
-        begun,
-        begun_otherwise,
         begun_meanwhile,
-        converted,
-        programs_that_fail,
         locks,
         records_of_others,
-        a_record_that_is_full,
         links,
         refused,
         of_another_version,

@@ -77,7 +77,7 @@ def loaded(words: Sequence[str], home: Path) -> set[str]:
 
 def modules(home: Path) -> None:
     """A help loads no room, and a run of a command only what it needs: most of a short run is spent on that."""
-    light = {"commands.command_line", "commands.words", "commands.deciding", "commands.of_users"}
+    light = {"commands.command_line", "commands.words", "commands.options", "commands.of_users"}
     light |= {"labels.choosing", "readings.reading"}
     rooms = {path.parent.name for path in (ADMIN.parent / "mbox2maildir_admin").glob("*/__init__.py")}
     for word in ("", *COMMANDS):

@@ -24,8 +24,10 @@ JOURNALS = (RECORD, LEDGER, LIST, f"{LIST}.new")
 CALL = re.compile(r"(\d+) +(\w+)\((.*)\) += \d")
 # a descriptor with its path, or a name, which may be relative to a folder before it
 FILE, NAME = re.compile(r"\d+<([^>]*)>"), re.compile(r'(?:(?:AT_FDCWD|\d+)<([^>]*)>, )?"([^"]*)"')
-# the lines that say that something has ended; and one after which nothing is lost with it
-ENDS, NOTE = re.compile(r'(?:^|, "|\\n)(?:=\\t|done\\t|undone\\t)'), '"+\\t'
+# the lines that say that something has ended; and those with which nothing is lost: the index is in the ledgers too
+ENDS, NOTE = re.compile(r'(?:^|, "|\\n)(?:=|-)\\t'), re.compile(
+    r', "(?:mbox2maildir-record\\t2\\n)?(?:\+|begun|done|undone|found)\\t'
+)
 # the first words of a batch
 BATCH = re.compile(r', "(?:mbox2maildir\\t|@\\t)')
 
@@ -109,10 +111,10 @@ class Disk:
             return
         if call in ("write", "pwrite64"):
             self.want(name not in JOURNALS or not {one for one in self.journals() if one not in path}, line)
-            self.want(name not in (RECORD, LEDGER) or not ENDS.search(words) or not self.dirty(path), line)
+            self.want(name != LEDGER or not ENDS.search(words) or not self.dirty(path), line)
             self.want(name != LEDGER or not BATCH.search(words) or path in self.read, line)
             self.want(name != RECORD or path in self.read, line)
-            self.files.update([] if NOTE in words else [path])
+            self.files.update([] if NOTE.search(words) else [path])
             return
         if name not in JOURNALS:
             self.want(call.startswith("mkdir") or not self.journals() - {*paths}, line)

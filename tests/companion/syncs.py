@@ -19,7 +19,9 @@ CALLS = "fsync,fdatasync,syncfs,write,pwrite64,link,linkat,rename,renameat,renam
 CALL = re.compile(r"^(?:\d+ +)?(\w+?)(?:at2?|64)?\((.*)\) += (?!-1 )", re.MULTILINE)
 NAMES = {"fsync": "sync", "fdatasync": "sync", "syncfs": "sync all of", "pwrite": "write", "unlink": "remove"}
 BATCH = ["write M/mbox2maildir-messages", "sync M/mbox2maildir-messages"]
-STEP = ["write M/mbox2maildir-record", "sync M/mbox2maildir-record"]
+NOTE = ["write M/mbox2maildir-record", "sync M/mbox2maildir-record"]
+# nothing is lost with the index, which is written in the end
+INDEX = "write M/mbox2maildir-record"
 MADE, PLACED = ["sync M", "sync ."], ["write M/mbox2maildir-messages", "sync all of M"]
 LATER = ONE.replace(b"one", b"later").replace(b"\nSubject", b"\nX-UID: 4\nSubject")
 NUMBERED, RAISED = (ONE.replace(b"\nSubject", b"\nX-IMAPbase: 222 %d\nX-UID: 3\nSubject" % last) for last in (3, 4))
@@ -33,25 +35,25 @@ FLAGGED = ONE.replace(b"\nSubject", b"\nX-Mozilla-Status: 0001\nSubject")
 # the mailbox before, and the words of a first run of `migrate`; the mailbox, the words, and what the run calls then
 RUNS = (
     # all names are on the disk, each folder synced once, before the first line of a file is written
-    (b"", "", ONE, "M", [*MADE, *BATCH, *STEP, *PLACED, *BATCH, *STEP]),
+    (b"", "", ONE, "M", [*MADE, *BATCH, *PLACED, *BATCH, INDEX]),
     (ONE, "M", ONE, "M", []),
-    (ONE, "M", ONE + TWO, "M", [*BATCH, *STEP, *PLACED, *BATCH, *STEP]),
-    (ONE, "M", ONE, "--undo M", [*STEP, "remove NEW", "sync M", *FLAGS, *BATCH, *STEP]),
-    (b"", "", FLAGGED, "M", [*MADE, *BATCH, *STEP, PLACED[0], "rename CUR", *FLAGS, PLACED[1], *BATCH, *STEP]),
+    (ONE, "M", ONE + TWO, "M", [*BATCH, *PLACED, *BATCH, INDEX]),
+    (ONE, "M", ONE, "--undo M", [*BATCH, "remove NEW", "sync M", *FLAGS, *BATCH, INDEX]),
+    (b"", "", FLAGGED, "M", [*MADE, *BATCH, PLACED[0], "rename CUR", *FLAGS, PLACED[1], *BATCH, INDEX]),
     # what the record says of a list comes before it
     (
         b"",
         "",
         NUMBERED,
         UIDS,
-        [*MADE, *BATCH, *STEP, PLACED[0], *STEP, *FLAGS, *STEP, *LISTED, PLACED[1], *BATCH, *STEP],
+        [*MADE, *BATCH, PLACED[0], *NOTE, *FLAGS, *NOTE, *LISTED, PLACED[1], *BATCH, INDEX],
     ),
     (
         NUMBERED,
         UIDS,
         RAISED + LATER,
         UIDS,
-        [*BATCH, *STEP, PLACED[0], *FLAGS, *STEP, *REPLACED, PLACED[1], *BATCH, *STEP],
+        [*BATCH, PLACED[0], *FLAGS, *NOTE, *REPLACED, PLACED[1], *BATCH, INDEX],
     ),
 )  # type: Sequence[tuple[bytes, str, bytes, str, list[str]]]
 

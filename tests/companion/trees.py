@@ -1,20 +1,16 @@
 """mbox2maildir-admin migrate of folders of mailboxes: which folder each mailbox becomes, what of a tree is left, what
 stays in the folder that the record has, and what is passed over, then and later."""
 import gzip
-import json
 import os
 import pwd
-import re
 import shutil
 from pathlib import Path
 
-from tests.companion.migrate import grow, steps
 from tests.support import accounts
-from tests.support.checks import equal, matches, text_of
+from tests.support.checks import equal, matches
 from tests.support.copies import Copies
 from tests.support.homes import (
     by_json,
-    check_all,
     expect,
     files_of,
     hand_over,
@@ -25,10 +21,11 @@ from tests.support.homes import (
     want_root,
     want_users,
 )
-from tests.support.ledgers import RECORD
+from tests.support.ledgers import LEDGER
 from tests.support.mail import A, B, MAY, ONE, THREE, TWO, with_length
 from tests.support.printed import rows_in
 from tests.support.running import BY_OTHERS, OWNER
+from tests.support.stories import Step, run_stories
 
 USER = "m93one"
 # the line before a command that is to be run, and what comes before the command itself
@@ -160,138 +157,6 @@ def folders_of_messages(home: Path) -> None:
     expect("migrate --all whole/M whole", home, 0, "1 mailbox: 1 done before\n")
 
 
-def stays(home: Path) -> None:
-    """What the record has stays in its folder, though a tree would give it another one: mailboxes that were done by
-    hand."""
-    old = {"tree/.inbox.directory/Haus": "Haus", "tree/Sent/mbox": "Sent/mbox"}
-    for name, folder in old.items():
-        mailbox(home / name, ONE)
-        expect(["migrate", "--folder", folder, "M", name], home, 0, None)
-    expect("migrate --all M tree", home, 0, "2 mailboxes: 2 done before\n")
-    grow(home / "tree/Sent/mbox", TWO)
-    out = "tree/Sent/mbox -> Sent/mbox: mboxrd or mboxo, messages 2: done, it grew by 1 message\n"
-    expect("migrate --all M tree", home, 0, f"{out}2 mailboxes: 1 done, 1 done before\n")
-    equal("what was made", sorted(path.name for path in (home / "M").glob(".*")), [".Haus", ".Sent.mbox"])
-    # so do verify and dates find it there
-    lines = [
-        "tree/.inbox.directory/Haus -> Haus: messages 1: whole\n",
-        "tree/Sent/mbox -> Sent/mbox: messages 2: whole\n",
-    ]
-    expect("verify --all M tree", home, 0, "".join(lines) + "2 mailboxes: 2 whole\n")
-    out = "tree/.inbox.directory/Haus: messages 1, dated 1\ntree/Sent/mbox: messages 2, dated 2\n"
-    expect("dates M tree", home, 0, out)
-    # without a record they are named as they are now
-    expect("migrate N tree", home, 0, None)
-    equal("folders", sorted(path.name for path in (home / "N").glob(".*")), [".INBOX.Haus", ".Sent"])
-    # what somebody else has put in the place of one goes there too
-    mailbox(home / "tree/Sent/mbox", THREE)
-    lines[1] = "tree/Sent/mbox -> Sent/mbox: messages 1: not whole, nowhere 1\n    message 1 (line 1): nowhere\n"
-    expect("verify --all M tree", home, 1, "".join(lines) + "2 mailboxes: 1 whole, 1 not whole (1 nowhere)\n")
-    says = "messages 1: done, it grew by 1 message; 2 messages gone from it that it had brought"
-    out = f"tree/Sent/mbox -> Sent/mbox: mboxrd or mboxo, {says}\n"
-    expect("migrate --all M tree", home, 0, f"{out}2 mailboxes: 1 done, 1 done before\n")
-    expect("migrate --all M tree", home, 0, "2 mailboxes: 2 done before\n")
-    by_hand(home)
-
-
-def by_hand(home: Path) -> None:
-    """Mailboxes that were done with --folder are done before in a run of their tree, also if a symbolic link leads to
-    them."""
-    for name, text in (("twice", ONE), ("twice.mbox", TWO)):
-        mailbox(home / "hand" / name, text)
-    mailbox(home / "else/box", THREE)
-    os.symlink("../else/box", home / "hand/link")
-    last = run("migrate --all O hand", home)[1].splitlines()[-1]
-    equal("before it is done by hand", last, "3 mailboxes: 3 left")
-    for name, folder in (("hand/twice", "One"), ("hand/twice.mbox", "INBOX"), ("else/box", "Linked")):
-        expect(
-            ["migrate", "--all", "--folder", folder, "O", name],
-            home,
-            0,
-            f"{name} -> {folder}: ...: done\n1 mailbox: 1 done\n",
-        )
-    expect("migrate --all O hand", home, 0, "3 mailboxes: 3 done before\n")
-    grow(home / "else/box", ONE)
-    out = "hand/link -> Linked: mboxrd or mboxo, messages 2: done, it grew by 1 message\n"
-    expect("migrate --all O hand", home, 0, f"{out}3 mailboxes: 1 done, 2 done before\n")
-
-
-def links_that_are_named(home: Path) -> None:
-    """A symbolic link that is named is followed, and none below a folder is."""
-    mailbox(home / "else/box", ONE)
-    mailbox(home / "tree/work", TWO)
-    os.symlink("else/box", home / "box")
-    os.symlink("../else/box", home / "tree/below")
-    os.symlink("tree", home / "folder")
-    expect("migrate --all M box", home, 0, "box -> INBOX: mboxrd or mboxo, messages 1: done\n1 mailbox: 1 done\n")
-    out = "folder/below: left (link): it is a symbolic link to ../else/box\n    ...\n"
-    out += "folder/work -> work: ..., messages 1: done\n"
-    expect("migrate --all N folder", home, 1, f"{out}2 mailboxes: 1 done, 1 left\n")
-
-
-def prepared_by_hand(home: Path) -> None:
-    """A symbolic link is not left by passes over its tree, nor on the day, if it or what it leads to was prepared with
-    --folder."""
-    mailbox(home / "tree/box", ONE)
-    mailbox(home / "else/old", TWO)
-    os.symlink("../else/old", home / "tree/link")
-    for maildir, name in (("M", "else/old"), ("N", "tree/link")):
-        passes, day = ["migrate", "--prepare", "--unread", maildir, "tree"], ["migrate", maildir, "tree"]
-        matches(
-            "before it is prepared by hand", by_json(passes, home).sums["says"], "2 mailboxes: 1 prepared, 1 left; ..."
-        )
-        expect([*passes[:3], "--folder", "linked", maildir, name], home, 0, None)
-        for words, fate in ((passes, "prepared"), (["migrate", "--dry-run", *day[1:]], "would be done"), (day, "done")):
-            ran = by_json(words, home)
-            link = ran.of("tree/link")
-            equal(f"{words}", (ran.status, link["folder"], link["verdict"]), (0, "linked", fate))
-        equal("once more", by_json(day, home).sums["says"], "2 mailboxes: 2 done before")
-        equal("what is there", subjects(home / maildir / ".linked"), ["two"])
-
-
-def passed_over(home: Path) -> None:
-    """--no-mail is only for files of unknown kinds. Later runs pass over them without it, until their bytes change."""
-    for name, text in (
-        ("a.junk", b"hello\n"),
-        ("x/b.junk", b"\0\1"),
-        ("c.junk", b"!BDN"),
-        ("d.junk", ONE),
-        ("e", b"hello\n"),
-    ):
-        mailbox(home / "tree" / name, text)
-    words = ["migrate", "--all", "--no-mail", "*.junk", "--no-mail", "none", "M", "tree"]
-    wanted = (
-        "tree/a.junk: not known: no mail, by --no-mail\n"
-        "tree/c.junk -> c-junk: Outlook's pst: left (other-kind): its name was c.junk\n...\n...\n"
-        "tree/d.junk -> d-junk: mboxrd or mboxo, messages 1: done, its name was d.junk\n"
-        "tree/e -> e: not known: left (not-known)\n    1 | hello\n...\n...\n...\n"
-        "tree/x/b.junk: not known: no mail, by --no-mail\n"
-        "3 mailboxes: 1 done, 2 left; 2 other files: no mail\n"
-    )
-    expect(["migrate", "--dry-run", *words[1:]], home, 1, wanted.replace(" done", " would be done"))
-    assert not (home / "M").exists(), "--dry-run made M"
-    expect(words, home, 1, wanted)
-    expect(
-        words,
-        home,
-        1,
-        wanted.replace("tree/d.junk -> d-junk: mboxrd or mboxo, messages 1: done, its name was d.junk\n", "").replace(
-            "1 done", "1 done before"
-        ),
-    )
-    equal("the record", sorted(steps(home / "M")), ["no-mail"] * 2)
-    without = ["migrate", "--all", "M", "tree"]
-    last = "3 mailboxes: 1 done before, 2 left; 2 other files: no mail"
-    equal("without it", run(without, home)[1].splitlines()[-1], last)
-    rows = [json.loads(line) for line in run([*without, "--json"], home)[1].splitlines()]
-    said = [(row["path"], row["remarks"]) for row in rows if row.get("verdict") == "no mail"]
-    remark = [{"remark": "no-mail-noted", "says": "by migrate --no-mail"}]
-    equal("its rows for programs", said, [(f"tree/{name}", remark) for name in ("a.junk", "x/b.junk")])
-    mailbox(home / "tree/a.junk", b"hello once more\n")
-    last = "4 mailboxes: 1 done before, 3 left; 1 other file: no mail"
-    equal("with other bytes", run(without, home)[1].splitlines()[-1], last)
-
-
 # a pattern, what is migrated, a file below that, and whether it is passed over
 PATTERNS = [
     ("*.junk", "tree", "tree/a/x.junk", True),
@@ -325,9 +190,9 @@ def commands_of_rehearsals(home: Path) -> None:
         mailbox(home / "tree" / name, text)
     expect("migrate --folder gone M tree/gone", home, 0, None)
     expect("migrate --folder undone M tree/undone", home, 0, None)
-    (home / "M/.gone/mbox2maildir-messages").unlink()
-    record = home / "M" / RECORD
-    record.write_text(re.sub(r"(?m)^done(\t\.undone\t.*)$", r"done\1\nundoing\1", text_of(record)), encoding="utf-8")
+    (home / "M/.gone" / LEDGER).unlink()
+    with open(home / "M/.undone" / LEDGER, "a", encoding="utf-8") as ledger:
+        ledger.write(f"<\t{home}/tree/undone\n")
     for sub in ("new", "cur", "tmp"):
         (home / "M/.there" / sub).mkdir(parents=True)
     expect("mbox2maildir convert M/.there tree/there", home, 0, None, None)
@@ -339,36 +204,6 @@ def commands_of_rehearsals(home: Path) -> None:
         found = [one for row in rows for one in row.commands if "migrate" in one]
         equal(f"{options}: {found}", {"--dry-run" in one for one in found}, {options != "--now"})
         equal(f"{options}: rows with a command", sum(any("migrate" in one for one in row.commands) for row in rows), 9)
-
-
-def passed_over_by_path(home: Path) -> None:
-    """--no-mail with the whole path of a file passes over whatever is not mbox text, and nothing else."""
-    zipped = b"PK\3\4" + bytes(40)
-    letter = ONE.split(b"\n", 1)[1]
-    for name, text in (("photos.zip", zipped), ("more.zip", zipped), ("box", ONE), ("letter", letter)):
-        mailbox(home / "tree" / name, text)
-    given = "tree/photos.zip", str(home / "tree/letter"), "tree/box", "more.zip", "tree/none"
-    words = ["migrate", "--all", *(word for path in given for word in ("--no-mail", path)), "M", "tree"]
-    out = (
-        "tree/box -> box: mboxrd or mboxo, messages 1: done\n"
-        "tree/letter: one mail without a From_ line: no mail, by --no-mail\n"
-        "tree/more.zip -> more-zip: an archive of zip: left (other-kind): its name was more.zip\n...\n...\n"
-        "tree/photos.zip: an archive of zip: no mail, by --no-mail\n"
-        "2 mailboxes: 1 done, 1 left; 2 other files: no mail\n"
-    )
-    expect(words, home, 1, out)
-    (home / "tree/more.zip").unlink()
-    says = "tree/{}: no mail, by migrate --no-mail\n"
-    says = "tree/box -> box: messages 1: whole\n" + says.format("letter") + says.format("photos.zip")
-    expect("verify --all M tree", home, 0, says + "1 mailbox: 1 whole; 2 other files: no mail\n")
-    # a file that stands for mail by then is a mailbox
-    mailbox(home / "tree/photos.zip", TWO)
-    out = (
-        "tree/letter: one mail without a From_ line: no mail, by --no-mail\n"
-        "tree/photos.zip -> photos-zip: mboxrd or mboxo, messages 1: done, its name was photos.zip\n"
-        "2 mailboxes: 1 done, 1 done before; 1 other file: no mail\n"
-    )
-    expect(words, home, 0, out)
 
 
 def nothing_outside(home: Path) -> None:
@@ -385,41 +220,6 @@ def nothing_outside(home: Path) -> None:
     equal("its command", run_printed(row.command, home).status, 0)
     equal("what the link leads to", there.read_bytes(), mail)
     equal("the folders", subjects(home / "M/.Letters"), ["one", "one"])
-
-
-def passed_over_later(home: Path) -> None:
-    """`verify` and `dates` name what --no-mail passed over, and leave it out as long as it has its path and bytes."""
-    for name, text in (("notes", b"hello\n"), ("notes.mbox", ONE), ("x/b.junk", b"\0\1")):
-        mailbox(home / "tree" / name, text)
-    mailbox(home / "alone", b"hello\n")
-    words = [
-        "migrate",
-        "--all",
-        "--no-mail",
-        "*.junk",
-        "--no-mail",
-        "notes",
-        "--no-mail",
-        "alone",
-        "M",
-        "tree",
-        "alone",
-    ]
-    status, out, _ = run(words, home)
-    equal("it is done", (status, out.splitlines()[-1]), (0, "1 mailbox: 1 done; 3 other files: no mail"))
-    says = "".join(
-        f"mbox2maildir-admin: {name}: left out: no mail, by migrate --no-mail\n"
-        for name in ("tree/notes", "tree/x/b.junk", "alone")
-    )
-    whole = "tree/notes.mbox -> notes: messages 1: whole\n"
-    rows = says.replace("mbox2maildir-admin: ", "").replace("left out: ", "")
-    sums = "1 mailbox: 1 whole; 3 other files: no mail\n"
-    expect("verify --all M tree alone", home, 0, f"{whole}{rows}{sums}")
-    expect("dates M tree alone", home, 0, "tree/notes.mbox: messages 1, dated 1\n", says)
-    mailbox(home / "tree/x/b.junk", ONE[1:])
-    left = "tree/x/b.junk: left (not-known): no From line at the start\n...\n...kind tree/x/b.junk\n"
-    sums = "2 mailboxes: 1 whole, 1 left; 1 other file: no mail\n"
-    expect("verify --all M tree", home, 1, whole + left + rows.splitlines(True)[0] + sums)
 
 
 def make_profile(path: Path) -> None:
@@ -538,118 +338,6 @@ def profile_of_one_account(home: Path) -> None:
     equal("no profile", sorted(row["folder"] for row in rows), ["Mail/c/Inbox", "notes"])
 
 
-def two_names(home: Path) -> None:
-    """Each name of a file is a folder of its own, as two names were to its people, whichever is named how. A row names
-    the others."""
-    sent = mailbox(home / "tree/Sent", ONE)
-    (home / "tree/old").mkdir()
-    for name in ("tree/old/Trash", "other"):
-        os.link(sent, home / name)
-    done = "mboxrd or mboxo, messages 1: done"
-    out = f"tree/Sent -> Sent: {done}, also named tree/old/Trash\n"
-    out += f"tree/old/Trash -> old/Trash: {done}, also named tree/Sent\n"
-    expect("migrate --all M tree", home, 0, out + "2 mailboxes: 2 done\n")
-    equal("the folders", [subjects(home / "M" / name) for name in (".Sent", ".old.Trash")], [["one"]] * 2)
-    expect("migrate --all M tree", home, 0, "2 mailboxes: 2 done before\n")
-    expect("verify --all M tree", home, 0, None)
-    # what is named by itself is one of them, and a symbolic link is none
-    os.symlink("tree", home / "link")
-    names = "other", "tree/Sent", "tree/old/Trash"
-    also = [" and ".join(other for other in names if other != name) for name in names]
-    out = "".join(
-        f"{name} -> {folder}: {done}, also named {others}\n"
-        for name, folder, others in zip(names, ("INBOX", "Sent", "old/Trash"), also)
-    )
-    last = "3 mailboxes: 3 done; 2 other files: no mail\n"
-    expect("migrate --all N other tree link", home, 0, out + last)
-    grow(sent, TWO)
-    run("migrate --all M tree", home)
-    equal("after it grew", [subjects(home / "M" / name) for name in (".Sent", ".old.Trash")], [["one", "two"]] * 2)
-
-
-def in_two_commands(home: Path) -> None:
-    """Two trees with a mailbox of the same name. One command leaves the second one; after two commands one folder has
-    both, and the second one's row says so, once."""
-    one, two = mailbox(home / "old/Sent", ONE), mailbox(home / "older/Sent", TWO)
-    done = "mboxrd or mboxo, messages 1: done"
-    left = "older/Sent: left (no-folder): another mailbox goes into Sent too\n" + RUN
-    left += "mbox2maildir-admin migrate --folder NAME M older/Sent\n"
-    out = f"old/Sent -> Sent: {done}\n{left}2 mailboxes: 1 done, 1 left\n"
-    expect("migrate --all M old older", home, 1, out)
-    out = f"older/Sent -> Sent: {done}, its folder has mail of .../old/Sent too\n1 mailbox: 1 done\n"
-    expect("migrate --all M older", home, 0, out)
-    grow(two, THREE)
-    out = "older/Sent -> Sent: mboxrd or mboxo, messages 2: done, it grew by 1 message\n1 mailbox: 1 done\n"
-    expect("migrate --all M older", home, 0, out)
-    # whoever names the folder knows it, and so does whoever has moved the first mailbox away
-    expect(["migrate", "--folder", "Sent", "M", mailbox(home / "Sent", TWO)], home, 0, None)
-    assert "its folder has mail of" not in run("migrate --all --dry-run --folder Sent N Sent", home)[1]
-    expect("migrate N old", home, 0, None)
-    os.rename(one, home / "gone")
-    shutil.rmtree(home / "old")
-    os.unlink(home / "gone")
-    out = "older/Sent -> Sent: mboxrd or mboxo, messages 2: done\n1 mailbox: 1 done\n"
-    expect("migrate --all N older", home, 0, out)
-    # of INBOX this is said of each that comes to it
-    mailbox(home / "tree/Inbox", TWO)
-    out = f"tree/Inbox -> INBOX: {done}, INBOX has the mail of {home}/first too\n1 mailbox: 1 done\n"
-    expect(["migrate", "O", mailbox(home / "first", ONE)], home, 0, None)
-    expect("migrate --all O tree", home, 0, out)
-
-
-def exported(home: Path) -> None:
-    """A mailbox that Apple Mail exported becomes the folder of its name, also if it is named itself. If nothing else is
-    named, it goes into INBOX, as a file does; beside other mail only if a human says so."""
-    work, sent = "export/Work.mbox", "export/Sent.Messages.mbox"
-    for name, text in ((work, ONE), (sent, TWO)):
-        mailbox(home / name / "mbox", text)
-    done = "mboxrd or mboxo, messages 1: done"
-    rows = f"{work}/mbox -> Work: {done}\n{sent}/mbox -> Sent-Messages: {done}, its name was Sent.Messages\n"
-    expect(["migrate", "--all", "M", work, sent], home, 0, rows + "2 mailboxes: 2 done\n")
-    expect("migrate --all M export", home, 0, "2 mailboxes: 2 done before\n")
-    expect(["migrate", "--all", "N", work], home, 0, f"{work}/mbox -> INBOX: {done}\n1 mailbox: 1 done\n")
-    expect(["verify", "--all", "N", work], home, 0, f"{work}/mbox -> INBOX: messages 1: whole\n...\n")
-    expect("migrate --all N export", home, 0, "...\n2 mailboxes: 1 done, 1 done before\n")
-    equal("the folders", [subjects(home / "N" / name) for name in ("", ".Sent-Messages")], [["one"], ["two"]])
-    mailbox(home / "Other.mbox/mbox", THREE)
-    row = by_json("migrate N Other.mbox", home).row
-    equal("what joins no other mail unasked", row.commands[0].split()[2:4], ["--folder", "Other"])
-
-
-def in_question(home: Path) -> None:
-    """What lacks its folder is left for that first, whatever is to be asked about it. Its command gives it a folder,
-    and asks."""
-    deleted = TWO.replace(b"\n\n", b"\nX-Mozilla-Status: 0009\n\n", 1)
-    for name, text in (("twice", ONE), ("twice.mbox", deleted)):
-        mailbox(home / "tree" / name, text)
-    ran = by_json("migrate M tree", home)
-    left = ("no-folder", "another mailbox goes into twice too")
-    equal("what lacks its folder", (ran.status, [(row["reason"], row["says"]) for row in ran.rows]), (1, [left] * 2))
-    equal("how many", ran.sums["left"], [{"reason": "no-folder", "count": 2}])
-    command = ran.of("tree/twice.mbox").command
-    equal("its command", command, "mbox2maildir-admin migrate --folder NAME M tree/twice.mbox")
-    asked = run_printed(command.replace("NAME", "Once"), home, "--json")
-    equal(f"by its command: {asked.out}", (asked.status, len(asked.row.answers)), (1, 2))
-
-
-def into_another_folder(home: Path) -> None:
-    """A mailbox that is done, and gets another folder: its mail is in both, which the row says once, with the command
-    that removes the first. Nothing is said of a folder that no longer has it."""
-    box = mailbox(home / "box", ONE + TWO)
-    expect("migrate --folder A M box", home, 0, None)
-    undo = "mbox2maildir-admin migrate --undo --folder A M box"
-    out = "box -> B: mboxrd or mboxo, messages 2: done, 2 messages of it went into A too\n"
-    out += f"    this removes what it placed there:\n        {undo}\n1 mailbox: 1 done\n"
-    expect("migrate --all --folder B M box", home, 0, out)
-    expect("migrate --all --folder B M box", home, 0, "1 mailbox: 1 done before\n")
-    expect(undo.split()[1:], home, 0, None)
-    equal("what the command left", [subjects(home / "M" / name) for name in (".A", ".B")], [[], ["one", "two"]])
-    grow(box, THREE)
-    shutil.rmtree(home / "M/.B")
-    out = "box -> C: mboxrd or mboxo, messages 3: done\n1 mailbox: 1 done\n"
-    expect("migrate --all --folder C M box", home, 0, out)
-
-
 def of_a_user(home: Path) -> None:
     """What others put beside a mailbox, in a spool where anybody may write, keeps its user from nothing. A link in
     place of a folder of the user's Maildir is not followed."""
@@ -673,26 +361,174 @@ def of_a_user(home: Path) -> None:
         )
 
 
+# what is passed over by a pattern, what is said then, and the same by paths
+JUNK = "--no-mail *.junk --no-mail none M tree"
+OF_JUNK = (
+    "tree/a.junk: {0}\ntree/c.junk: left (other-kind): its name was c.junk\ntree/d.junk: {1}...\n"
+    "tree/e: left (not-known)...\ntree/x/b.junk: {0}"
+)
+ZIPPED, LETTER = b"PK\3\4" + bytes(40), ONE.split(b"\n", 1)[1]
+PATHS = "tree/photos.zip", "tree/letter", "tree/box", "more.zip", "tree/none"
+BY_PATHS = " ".join([*(f"--no-mail {path}" for path in PATHS), "M tree"])
+OF_PATHS = "tree/box: {1}\ntree/letter: {0}\ntree/more.zip: left (other-kind): its name was more.zip"
+HAUS, MBOX = "tree/.inbox.directory/Haus", "tree/Sent/mbox"
+BOTH = f"{HAUS}: done before\n{MBOX}: done before"
+# what --no-mail passes over
+BY_WORD, BY_RECORD = "no mail: by --no-mail", "no mail: by migrate --no-mail"
+WORK, SENT = "export/Work.mbox/mbox", "export/Sent.Messages.mbox/mbox"
+OF_TWO = "left (no-folder): another mailbox goes into twice too"
+DELETED = TWO.replace(b"\n\n", b"\nX-Mozilla-Status: 0009\n\n", 1)
+UNDO_IN_A = "migrate --undo --folder A M box"
+STORIES: dict[str, list[Step]] = {
+    # where the folders are that a tree would name otherwise, and what somebody else has put in the place of one
+    "what_was_done_by_hand_stays": [
+        *((HAUS, ONE), f"migrate --folder Haus M {HAUS}", (MBOX, ONE), f"migrate --folder Sent/mbox M {MBOX}"),
+        *(("migrate M tree", BOTH), (MBOX, ONE + TWO)),
+        ("migrate M tree", f"{HAUS}: done before\n{MBOX}: done: it grew by 1 message"),
+        *("= Haus/one Sent.mbox/one Sent.mbox/two", ("verify M tree", f"{HAUS}: whole\n{MBOX}: whole")),
+        f"!mbox2maildir-admin dates M tree | grep '^{MBOX}: messages 2, dated 2$'",
+        *((MBOX, THREE), ("verify M tree", f"{HAUS}: whole\n{MBOX}: not whole: nowhere 1")),
+        ("migrate M tree", f"{HAUS}: done before\n{MBOX}: done: it grew by 1 message; 2 messages gone from it ..."),
+        *(
+            ("migrate M tree", BOTH),
+            "!rm M/mbox2maildir-record",
+            "migrate N tree",
+            "!test -d N/.INBOX.Haus -a -d N/.Sent",
+        ),
+    ],
+    # also if a symbolic link leads to it
+    "what_was_left_is_done_by_hand": [
+        *(("hand/twice", ONE), ("hand/twice.mbox", TWO), ("else/box", THREE), "!ln -s ../else/box hand/link"),
+        ("migrate M hand", "hand/link: left (link)...\nhand/twice.mbox: left (...\nhand/twice: left (no-folder)..."),
+        *("migrate --folder One M hand/twice", "migrate --folder INBOX M hand/twice.mbox"),
+        *("migrate --folder Linked M else/box", ("else/box", THREE + ONE)),
+        (
+            "migrate M hand",
+            "hand/link: done: it grew by 1 message\nhand/twice.mbox: done before\nhand/twice: done before",
+        ),
+        "= Linked/one Linked/three One/one two",
+    ],
+    "links_that_are_named": [
+        *(
+            ("else/box", ONE),
+            ("tree/work", TWO),
+            "!ln -s else/box box; ln -s ../else/box tree/below; ln -s tree folder",
+        ),
+        *(("migrate M box", "box: done"), "= one", "!rm -r M"),
+        ("migrate M folder", "folder/below: left (link): it is a symbolic link to ../else/box...\nfolder/work: done"),
+        "= work/two",
+    ],
+    # it is not left by passes over its tree, nor on the day
+    **{
+        f"a_link_was_prepared_by_hand_{number}": [
+            *(("tree/box", ONE), ("else/old", TWO), "!ln -s ../else/old tree/link"),
+            ("migrate --prepare --unread M tree", "tree/box: prepared\ntree/link: left (link): ..."),
+            f"migrate --prepare --unread --folder linked M {path}",
+            ("migrate --prepare --unread M tree", "tree/box: prepared: ...\ntree/link: prepared: ..."),
+            ("migrate --dry-run M tree", "tree/box: would be done: ...\ntree/link: would be done: ..."),
+            ("migrate M tree", "tree/box: done: ...\ntree/link: done: ..."),
+            *(("migrate M tree", "tree/box: done before\ntree/link: done before"), "= box/one linked/two"),
+        ]
+        for number, path in enumerate(("else/old", "tree/link"))
+    },
+    # only unknown kinds are, and later without the word, until their bytes change
+    "passed_over_by_a_pattern": [
+        *(("tree/a.junk", b"hello\n"), ("tree/x/b.junk", b"\0\1"), ("tree/c.junk", b"!BDN"), ("tree/d.junk", ONE)),
+        *(("tree/e", b"hello\n"), (f"migrate --dry-run {JUNK}", OF_JUNK.format(BY_WORD, "would be done"))),
+        *("!test ! -e M", (f"migrate {JUNK}", OF_JUNK.format(BY_WORD, "done"))),
+        *(("migrate M tree", OF_JUNK.format(BY_RECORD, "done before")), "!test $(grep -c ^no-mail M/*-record) = 2"),
+        ("tree/a.junk", b"hello once more\n"),
+        ("migrate M tree", OF_JUNK.format(BY_RECORD, "done before").replace(BY_RECORD, "left (not-known)...", 1)),
+    ],
+    # whatever is no mbox text is, until it stands for mail; `verify` and `dates` leave it out
+    "passed_over_by_path": [
+        *(("tree/photos.zip", ZIPPED), ("tree/more.zip", ZIPPED), ("tree/box", ONE), ("tree/letter", LETTER)),
+        (f"migrate {BY_PATHS}", f"{OF_PATHS.format(BY_WORD, 'done')}\ntree/photos.zip: {BY_WORD}"),
+        "!rm tree/more.zip",
+        ("verify M tree", f"tree/box: whole\ntree/letter: {BY_RECORD}\ntree/photos.zip: {BY_RECORD}"),
+        "!mbox2maildir-admin dates M tree 2>said; grep 'tree/letter: left out: no mail, by migrate --no-mail$' said",
+        ("tree/photos.zip", TWO),
+        (f"migrate {BY_PATHS}", f"tree/box: done before\ntree/letter: {BY_WORD}\ntree/photos.zip: done: its name ..."),
+        ("tree/letter", ONE[1:]),
+        ("verify M tree", "tree/box: whole\ntree/letter: left (not-known): ...\ntree/photos.zip: whole"),
+    ],
+    # as two names were to its people; what is named by itself is one of them, and a symbolic link is none
+    "two_names": [
+        *(("tree/Sent", ONE), "!mkdir tree/old; ln tree/Sent tree/old/Trash; ln tree/Sent other; ln -s tree link"),
+        ("migrate M tree", "tree/Sent: done: also named tree/old/Trash\ntree/old/Trash: done: also named tree/Sent"),
+        *(
+            "= Sent/one old.Trash/one",
+            ("migrate M tree", SAME := "tree/Sent: done before\ntree/old/Trash: done before"),
+        ),
+        *(("verify M tree", SAME.replace("done before", "whole")), ("tree/Sent", ONE + TWO), "migrate M tree"),
+        *("= Sent/one Sent/two old.Trash/one old.Trash/two", "!rm -r M"),
+        (
+            "migrate M other tree link",
+            "link/Sent: no mail: the same file as tree/Sent\nlink/old/Trash: no mail: the same file as tree/old/Trash\n"
+            "other: done: also named tree/Sent and tree/old/Trash\ntree/Sent: done: also named other and ...\n"
+            "tree/old/Trash: done: also named other and tree/Sent",
+        ),
+    ],
+    # one command leaves the second one; after two, one folder has both, which the second one's row says, once
+    "two_trees_with_the_same_name": [
+        *(("old/Sent", ONE), ("older/Sent", TWO)),
+        ("migrate M old older", "old/Sent: done\nolder/Sent: left (no-folder): another mailbox goes into Sent too"),
+        *(("migrate M older", "older/Sent: done: its folder has mail of old/Sent too"), ("older/Sent", TWO + THREE)),
+        *(("migrate M older", "older/Sent: done: it grew by 1 message"), ("Sent", TWO)),
+        # whoever names the folder knows it, and so does whoever has moved the first mailbox away
+        *(("migrate --folder Sent M Sent", "Sent: done: 1 message there already, from older/Sent"), "!rm -r M"),
+        *("migrate M old", "!rm -r old", ("migrate M older", "older/Sent: done"), "!rm -r M"),
+        *(("tree/Inbox", TWO), ("first", ONE), "migrate M first"),
+        ("migrate M tree", "tree/Inbox: done: INBOX has the mail of first too"),
+    ],
+    # it has its name also if it is named itself, and goes into INBOX if nothing else is named, nor other mail there
+    "exported_by_apple": [
+        *((WORK, ONE), (SENT, TWO)),
+        (
+            "migrate M export/Work.mbox export/Sent.Messages.mbox",
+            f"{SENT}: done: its name was Sent.Messages\n{WORK}: done",
+        ),
+        *(
+            "= Sent-Messages/two Work/one",
+            ("migrate M export", f"{SENT}: done before\n{WORK}: done before"),
+            "!rm -r M",
+        ),
+        *(("migrate M export/Work.mbox", f"{WORK}: done"), ("verify M export/Work.mbox", f"{WORK}: whole"), "= one"),
+        *("migrate M export", "= Sent-Messages/two one", ("Other.mbox/mbox", THREE)),
+        ("migrate M Other.mbox", "Other.mbox/mbox: left (no-folder): ..."),
+        "!mbox2maildir-admin migrate --now M Other.mbox | grep -e '--folder Other '",
+    ],
+    # it lacks its folder first, whatever is to be asked about it; its command gives it one, and asks
+    "in_question": [
+        *(
+            ("tree/twice", ONE),
+            ("tree/twice.mbox", DELETED),
+            ("migrate M tree", f"tree/twice.mbox: {OF_TWO}\ntree/twice: {OF_TWO}"),
+        ),
+        "!mbox2maildir-admin migrate --all M tree | grep 'admin migrate --folder NAME M tree/twice.mbox$'",
+        """!mbox2maildir-admin migrate --json M tree | grep '"reason": "no-folder", "count": 2'""",
+        ("migrate --folder Once M tree/twice.mbox", "tree/twice.mbox: left (unclear): ..."),
+    ],
+    # its mail is in both, which is said once; nothing is said of a folder that no longer has it
+    "into_another_folder": [
+        *(("box", ONE + TWO), "migrate --folder A M box"),
+        ("migrate --folder B M box", "box: done: 2 messages of it went into A too"),
+        *(("migrate --folder B M box", "box: done before"), f"!mbox2maildir-admin {UNDO_IN_A}", "= B/one B/two"),
+        *("!rm -r M/.B", ("box", ONE + TWO + THREE), ("migrate --folder C M box", "box: done")),
+    ],
+}
+
+
 if __name__ == "__main__":
-    check_all(
+    run_stories(
+        STORIES,
         trees,
         folders_of_messages,
-        stays,
-        links_that_are_named,
-        prepared_by_hand,
-        passed_over,
         patterns,
         commands_of_rehearsals,
-        passed_over_by_path,
         nothing_outside,
-        passed_over_later,
         profile,
         what_cannot_be_read,
         profile_of_one_account,
-        two_names,
-        in_two_commands,
-        exported,
-        in_question,
-        into_another_folder,
         of_a_user,
     )

@@ -241,10 +241,10 @@ def interrupted(home: Path) -> None:
     record, ledger = home / "M" / RECORD, home / "M" / LEDGER
     before, brought = record.read_bytes(), ledger.read_bytes()
     expect(UNDO, home, 0, None)
-    lines = record.read_bytes()[len(before) :].splitlines(True)
-    equal("its lines", [line.split(b"\t")[0] for line in lines], [b"undoing", b"undone"])
-    record.write_bytes(before + lines[0])
-    ledger.write_bytes(brought)
+    lines = ledger.read_bytes()[len(brought) :].splitlines(True)
+    equal("its lines", [line.split(b"\t")[0] for line in lines], [b"<", b"-"])
+    record.write_bytes(before)
+    ledger.write_bytes(brought + lines[0])
     expect("migrate --all M twin", home, 0, "1 mailbox: 1 done before\n")
     out = run("migrate --all M box", home)[1]
     match_in(

@@ -1,9 +1,9 @@
 """Lists of mistakes that no generator makes.
 
-A mistake of a list is: `in:`, a place, for all that follow; `old:`, a text that stands once there; `new:`, the mistake
-in its place; `harm:`, what a user would suffer; and `seen:`, the test that sees it. One that nobody would notice has
-`harmless:`, the reason, in place of the last two. `same:` is the text of lines that have no mistake, with the reason. A
-line that begins with `#` is a comment.
+A mistake of a list is: `in:`, a place, for all that follow; `old:`, a text that stands once there, if it is another one
+than that of the mistake before; `new:`, the mistake in its place; `harm:`, what a user would suffer; and `seen:`, the
+test that sees it. One that nobody would notice has `harmless:`, the reason, in place of the last two. `same:` is the
+text of lines that have no mistake, with the reason. A line that begins with `#` is a comment.
 """
 from pathlib import Path
 from typing import Optional, TypeVar
@@ -64,11 +64,13 @@ def listed(path: Path, of: type[AnyPlanted]) -> tuple[list[AnyPlanted], dict[str
             text, _, reason = value.rpartition(" | ")
             same[text] = reason
         else:
-            if key == "old" and one is None:
+            if one is None:
                 one = of(place)
+                if key == "new" and found:
+                    one.set("old", found[-1].pairs[-1][0])
                 found.append(one)
                 one.number = len(found)
-            if one is None or not one.set(key, value):
+            if not one.set(key, value):
                 raise SystemExit(f"line {number} of the list: {line}")
     for one in found:
         if not one.harmless and not (one.harm and one.seen):

@@ -2,10 +2,11 @@
 and where the pages are installed; what a page names by its path is there, also by its path within a crate; code that it
 shows is in the sources, each file of which begins with a line that says what is in it; docs/PROMISES.md names what is
 in the files that it has a reader read, and each file that reaches the machine; the texts that the program tells are
-those of the page of the manual and of docs/LEFT.md, and so are the reasons of the companion, with the words of its
-schema, its options, and what it calls files that are not mbox text; the pages of the manual please mandoc;
-docs/PROMISES.md names the kit of `rt version`; README.md has the best and the worst of docs/COMPARISON.md; and pages
-have what the tests of machines type from them. What wants a tool that is missing is left out."""
+those of the page of the manual; the reasons of the companion are those of docs/LEFT.md, of its page of the manual and
+of its schema, and that page has its options, and what it calls files that are not mbox text; the pages of the manual
+please mandoc; docs/PROMISES.md names the kit of `rt version`; README.md has the best and the worst of
+docs/COMPARISON.md; and pages have what the tests of machines type from them. What wants a tool that is missing is left
+out."""
 import importlib
 import json
 import os
@@ -17,7 +18,7 @@ from collections.abc import Callable, Iterator, Sequence
 from pathlib import Path
 
 from tests.support.cases import LeftOut, find_nothing
-from tests.support.checks import TOP, match_in, text_of
+from tests.support.checks import TOP, differ, match_in, text_of
 from tests.support.machine import page as machine
 from tests.support.sources import files_to_read
 
@@ -28,7 +29,7 @@ MANUAL_OF_ADMIN = TOP / "docs/mbox2maildir-admin.1"
 MANUALS = sorted(TOP.glob("docs/*.1"))
 # the files that say something about a package
 PACKAGED = [TOP / "packaging/package", TOP / "debian/control", TOP / "debian/README.source"]
-LEFT = TOP / "docs/LEFT.md"
+LEFT, SCHEMA = TOP / "docs/LEFT.md", TOP / "docs/rows.schema.json"
 INSTALLED = "/usr/share/doc/mbox2maildir"
 LINK = re.compile(r"\]\(([^)#]*)(?:#([^)]*))?\)")
 # an anchor that a row of a table has
@@ -49,19 +50,17 @@ BEGIN = re.compile(r'^told text = codes "(.*?)" \+\+ text', re.MULTILINE)
 REPORT = re.compile(r"^report_line report = (.*?)^$", re.DOTALL | re.MULTILINE)
 PART = re.compile(r'codes "(.*?)(?:\\n)?"|decimal (?:\w+\.)?(\w)')
 DIAGNOSTIC = re.compile(r'^\.It "(.*)"$', re.MULTILINE)
-ERRORS = re.compile(r"^## Errors of mbox2maildir$.*?(?=^## )", re.DOTALL | re.MULTILINE)
 REASONS = re.compile(r"^## Reasons why .*?(?=^#)", re.DOTALL | re.MULTILINE)
-REASON = re.compile(r'^\| <a id="([a-z-]+)"></a>`\1` \| ([^|]+) \| [^|]+ \|$', re.MULTILINE)
+ROW_OF_REASON = re.compile(r"^\| <a id=.*", re.MULTILINE)
 REMARK = re.compile(r'\bRemark\("([a-z-]+)"')
 LATER = re.compile(r"^If nothing is left but what is (.*), the status is 75\.", re.MULTILINE)
-SYNOPSIS = re.compile(r"^\.Sh SYNOPSIS$(.*?)^\.Sh ", re.DOTALL | re.MULTILINE)
-OF_COMMAND = re.compile(r"^\.Cm (\w+)\n((?:(?!\.Nm\n).*\n)*)", re.MULTILINE)
+OF_COMMAND = re.compile(r"^\.Ss (\w+).*\n((?:(?!\.S[hs] ).*\n)*)", re.MULTILINE)
 OPTION = re.compile(r"(?<= -)[a-z][\w-]+")
 ITEM_OF_OPTIONS = re.compile(r"^\.It Fl .*", re.MULTILINE)
 OPTION_OF_HELP = re.compile(r"^  --([\w-]+)", re.MULTILINE)
 KINDS = re.compile(r"^\.Sh KINDS$(.*?)^\.Sh ", re.DOTALL | re.MULTILINE)
-REASON_ITEM = re.compile(r"^\.It Li (\S+)\n((?:[^.].*\n)+)", re.MULTILINE)
-ERROR = re.compile(r"^\| `([^`]*)`", re.MULTILINE)
+WORDS_OF_REASONS = re.compile(r"^\.Sh REASONS$(.*?)^\.Sh ", re.DOTALL | re.MULTILINE)
+LINE_OF_WORDS = re.compile(r"^\.Li (.*)$", re.MULTILINE)
 KILLED = re.compile(r"^## Killed, .*?(?=^## )", re.DOTALL | re.MULTILINE)
 WHY = re.compile(r"^## Why not another tool$.*?(?=^## )", re.DOTALL | re.MULTILINE)
 ROWS = re.compile(r"^\| .*", re.MULTILINE)
@@ -188,13 +187,9 @@ def wrong_texts() -> Iterator[str]:
     specs = "\n".join(text_of(path) for path in sorted(TOP.glob("crates/maildir_commands/specs/**/*.antt")))
     told = {*(said(text, lambda _: "n") for text in FAULT_TEXT.findall(specs)), *TOLD.findall(specs)}
     manual = text_of(MANUAL)
-    errors = match_in(ERRORS, text_of(LEFT))[0]
-    for name, page in (
-        ("the page of the manual", set(DIAGNOSTIC.findall(manual))),
-        ("docs/LEFT.md", {re.sub(r"\b\d+\b", "n", text) for text in ERROR.findall(errors)}),
-    ):
-        yield from (f"{name} does not tell of: {text}" for text in sorted(told - page))
-        yield from (f"{name} tells of what the program does not tell: {text}" for text in sorted(page - told))
+    page = set(DIAGNOSTIC.findall(manual))
+    yield from (f"the page of the manual does not tell of: {text}" for text in sorted(told - page))
+    yield from (f"the page of the manual tells of what nothing tells: {text}" for text in sorted(page - told))
     lines = [".Dq " + begin.replace(" ", r"\~") + " ." for begin in BEGIN.findall(specs)]
     lines += [".Dl " + said(report, str.upper) for report in REPORT.findall(specs)]
     if len(lines) != 2:
@@ -203,23 +198,19 @@ def wrong_texts() -> Iterator[str]:
 
 
 def wrong_reasons() -> Iterator[str]:
-    """The reasons have the words and the sentences of the companion."""
+    """The reasons have the words of the companion and, in docs/LEFT.md, what `explain` says of them."""
     reasons = importlib.import_module("mbox2maildir_admin.faults").Reason
-    told = [(reason.word, reason.says) for reason in reasons]
-    manual = [(word, " ".join(says.split())) for word, says in REASON_ITEM.findall(text_of(MANUAL_OF_ADMIN))]
-    tables = "".join(REASONS.findall(text_of(LEFT)))
-    schema = json.loads(text_of(TOP / "docs/rows.schema.json"))["$defs"]["reason"]["enum"]
-    words = [word for word, _ in told]
-    if schema != words:
-        yield f"docs/rows.schema.json has the reasons {schema}, and the companion has {words}"
-    for name, found in (("the page of the manual", manual), ("docs/LEFT.md", REASON.findall(tables))):
-        yield from (f"{name} does not tell of the reason {one}" for one in told if found.count(one) != 1)
-        yield from (f"{name} tells of a reason that the companion has not: {one}" for one in found if one not in told)
-    meanings = importlib.import_module("mbox2maildir_admin.meanings")
-    for reason in reasons:
-        row = f'| <a id="{reason.word}"></a>`{reason.word}` | {reason.says} | {meanings.TO_DO[reason]} |'
-        if row not in tables.splitlines():
-            yield f"docs/LEFT.md has not this row, which `explain` has: {row}"
+    to_do = importlib.import_module("mbox2maildir_admin.meanings").TO_DO
+    words = [reason.word for reason in reasons]
+    lines = LINE_OF_WORDS.findall(match_in(WORDS_OF_REASONS, text_of(MANUAL_OF_ADMIN))[1])
+    rows = [f'| <a id="{one.word}"></a>`{one.word}` | {one.says} | {to_do[one]} |' for one in reasons]
+    for name, found, wanted in (
+        ("docs/rows.schema.json", json.loads(text_of(SCHEMA))["$defs"]["reason"]["enum"], words),
+        ("the page of the manual", re.findall(r"[a-z-]+", " ".join(lines)), words),
+        ("docs/LEFT.md", sorted(ROW_OF_REASON.findall("".join(REASONS.findall(text_of(LEFT))))), sorted(rows)),
+    ):
+        if found != wanted:
+            yield f"{name} has other reasons than the companion:\n" + differ("\n".join(found), "\n".join(wanted))
     later = [reason.word for reason in reasons if reason.status == 75]
     if SPAN.findall(match_in(LATER, text_of(LEFT))[1]) != later:
         yield f"docs/LEFT.md: another run settles {later}"
@@ -228,7 +219,7 @@ def wrong_reasons() -> Iterator[str]:
 def wrong_remarks() -> Iterator[str]:
     """The schema has the words of remarks that the companion has, and no module has another one."""
     words = list(importlib.import_module("mbox2maildir_admin.meanings").REMARKS)
-    schema = json.loads(text_of(TOP / "docs/rows.schema.json"))["$defs"]["remark"]["enum"]
+    schema = json.loads(text_of(SCHEMA))["$defs"]["remark"]["enum"]
     if schema != words:
         yield f"docs/rows.schema.json has the remarks {schema}, and the companion has {words}"
     for path in sorted(TOP.glob("admin/mbox2maildir_admin/**/*.py")):
@@ -255,16 +246,15 @@ def printed_by(*words: str) -> str:
 
 
 def wrong_options() -> Iterator[str]:
-    """The synopsis of the companion has the options of each command's help, and each of them has an item."""
-    manual, named = text_of(MANUAL_OF_ADMIN), {}  # type: str, dict[str, set[str]]
-    for command, options in OF_COMMAND.findall(match_in(SYNOPSIS, manual)[1]):
-        named.setdefault(command, set()).update(OPTION.findall(options))
-    described = set(OPTION.findall("\n".join(ITEM_OF_OPTIONS.findall(manual))))
-    for command, options in sorted(named.items()):
+    """The sections of a command have an item for each option of its help, and for no other."""
+    commands = importlib.import_module("mbox2maildir_admin.commands.words").COMMANDS
+    described = {command.name: set[str]() for command in commands}
+    for command, section in OF_COMMAND.findall(text_of(MANUAL_OF_ADMIN)):
+        described[command].update(OPTION.findall("\n".join(ITEM_OF_OPTIONS.findall(section))))
+    for command, options in described.items():
         told = set(OPTION_OF_HELP.findall(printed_by(str(TOP / "admin/mbox2maildir-admin"), command, "--help")))
-        yield from (f"the synopsis of {command} lacks --{option}" for option in sorted(told - options))
+        yield from (f"--{option} of {command} is not described" for option in sorted(told - options))
         yield from (f"{command} has no --{option}" for option in sorted(options - told))
-        yield from (f"--{option} of {command} is not described" for option in sorted(options - described))
 
 
 def wrong_kit() -> Iterator[str]:

@@ -178,20 +178,28 @@ def other_beginnings() -> None:
             equal(f"{umask:03o}: status of\n{printed}", running.returncode, 0)
 
 
-def the_list() -> None:
-    """The list has each case of a test, and wants no program that is built."""
-    words = [sys.executable, "-B", str(TOP / "tests/run"), "--list"]
+def listed(*words: str) -> str:
+    """What tests/run lists of these words, where no program is built."""
+    command = [sys.executable, "-B", str(TOP / "tests/run"), "--list", *words]
     env = {**os.environ, "MBOX2MAILDIR": "/none"}
     # it does not end if a test becomes another program before it has told its cases
-    ran = subprocess.run(words, env=env, check=True, stdout=subprocess.PIPE, text=True, timeout=PATIENCE)
-    names = {line for line in ran.stdout.splitlines() if not line.startswith(" ")}
+    return subprocess.run(command, env=env, check=True, stdout=subprocess.PIPE, text=True, timeout=PATIENCE).stdout
+
+
+def the_list() -> None:
+    """The list has each case of a test, and `make test` runs each test."""
+    told = listed()
+    names = [line for line in told.splitlines() if not line.startswith(" ")]
     for wanted in (
         "pages/runner\n    endless_cases\n",
         "\nprogram/lock\n    ",
         "\ncompanion/units/test_terminal\n    TerminalTest.",
     ):
-        assert wanted in ran.stdout, f"{wanted!r} is not in: {ran.stdout}"
-    equal("tests without a case", [name for name in names if f"{name}\n    " not in ran.stdout], [])
+        assert wanted in told, f"{wanted!r} is not in: {told}"
+    equal("tests without a case", [name for name in names if f"{name}\n    " not in told], [])
+    gate = subprocess.run(["make", "-n", "test"], cwd=TOP, check=True, stdout=subprocess.PIPE, text=True).stdout
+    words = " ".join(re.findall(r"(?m)^tests/run (.+)$", gate)).split()
+    equal("what make test runs", listed(*words), told)
 
 
 if __name__ == "__main__":

@@ -178,11 +178,18 @@ def script(path: Path, text: str) -> None:
     path.chmod(0o755)
 
 
-def fake(home: Path, converts: str) -> None:
-    """A program that converts by this script, and does all else as the real one."""
+def fake(home: Path, does: str, word: str = "convert") -> None:
+    """A script in place of the program, which may run that as `"$real"`: it does this for one of its words, or for all
+    if that is empty."""
     if not (home / "real").exists():
-        os.rename(home / "bin/mbox2maildir", home / "real")
-    script(home / "bin/mbox2maildir", f'test "$1" = convert || exec "{home}/real" "$@"\n{converts}')
+        (home / "bin/mbox2maildir").rename(home / "real")
+    others = f'test "$1" = {word} || exec "$real" "$@"\n' if word else ""
+    script(home / "bin/mbox2maildir", f'real="{home}/real"\n{others}{does}')
+
+
+def restore(home: Path) -> None:
+    """Puts the program back in its place."""
+    (home / "real").rename(home / "bin/mbox2maildir")
 
 
 def doing_first(code: str, programs: Path) -> Path:

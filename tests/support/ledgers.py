@@ -7,10 +7,10 @@ from pathlib import Path
 RECORD, LEDGER = "mbox2maildir-record", "mbox2maildir-messages"
 # a line which says that what a batch brought was verified
 END = re.compile(rb"=\t\d+\n")
-# what is another one in each run: the number of a ledger, when a step was taken, and when names in `tmp`, `new` and
-# `cur` had changed
+# what is another one in each run: the number of a ledger, with its size, when a step was taken, when a batch was begun,
+# and when names in `tmp`, `new` and `cur` had changed
 CHANCE = re.compile(
-    rb"(?m)(?<=^mbox2maildir\t2\t)[0-9a-f]{32}|\b[0-9a-f]{32}(?=-\d+$)|\t\d+-\d+-\d+T[\d:]+Z|\b\d+,\d+,\d+\b"
+    rb"(?m)(?<=^mbox2maildir\t3\t)[0-9a-f]{32}|\b[0-9a-f]{32}-\d+(?=-\d+$)|\t\d+-\d+-\d+T[\d:]+Z|\b\d+\t\d+,\d+,\d+\b"
 )
 
 
@@ -36,7 +36,7 @@ def as_if_killed(maildir: Path) -> None:
     """Takes back that any mailbox of a Maildir is done, as if its run had been killed once all mail was there."""
     record = maildir / RECORD
     first, *lines = record.read_bytes().splitlines(True)
-    record.write_bytes(first + b"".join(line for line in lines if line.startswith(b"begun\t")))
+    record.write_bytes(first + b"".join(line for line in lines if not line.startswith(b"done\t")))
     take_back_ends(maildir)
 
 

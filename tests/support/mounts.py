@@ -34,8 +34,8 @@ def take_own_mounts() -> None:
 
 @contextmanager
 def small_disk(at: Path, size: str = "6m") -> Iterator[Path]:
-    """A disk in memory of this size, at a place that is made for it."""
-    at.mkdir()
+    """A disk in memory of this size, perhaps with further options, at a place that is made for it."""
+    at.mkdir(exist_ok=True)
     mount("none", str(at), "tmpfs", options=f"size={size}")
     try:
         yield at

@@ -6,7 +6,7 @@ import time
 from collections.abc import Callable, Iterator
 from contextlib import suppress
 from pathlib import Path
-from typing import NamedTuple
+from typing import NamedTuple, Optional
 
 from tests.support.checks import PATIENCE
 
@@ -14,11 +14,11 @@ from tests.support.checks import PATIENCE
 CLEAN_UP, GO = 5.0, 60.0
 
 
-def wait_for(is_so: Callable[[], bool], child: "subprocess.Popen[bytes]") -> bool:
+def wait_for(is_so: Callable[[], bool], child: "Optional[subprocess.Popen[bytes]]" = None) -> bool:
     """Waits until something is so, or until a child has ended. Returns whether it is so."""
     end = time.monotonic() + PATIENCE
     while not is_so():
-        if child.poll() is not None:
+        if child and child.poll() is not None:
             return is_so()
         assert time.monotonic() < end, "it neither gets there nor ends"
         time.sleep(0.002)

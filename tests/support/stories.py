@@ -7,15 +7,16 @@ from typing import Union
 
 from tests.support.cases import run_cases
 from tests.support.checks import equal, matches
-from tests.support.homes import at_home, by_json, mail_in, mailbox, run_printed
+from tests.support.homes import at_home, by_json, fake, mail_in, mailbox, restore, run_printed
 from tests.support.running import Row, Run
 
 # A mailbox is written; a command of the companion says this of its rows; one is run, by the companion or after `!` by a
-# shell, `>` is the first command that was printed last; after `=` stands the mail that is there then.
+# shell, `>` is the first command that was printed last; after `@` stands what converts in place of the program, which
+# is `"$real"` there; after `=` stands the mail that is there then.
 Step = Union[tuple[str, bytes], tuple[str, str], str]
 LIST = "mbox2maildir-prepared"
-# the program, once another one was in its place
-RESTORED = "!mv real bin/mbox2maildir"
+# the program is in its place again
+RESTORED = "@"
 
 
 def steps(*several: Step) -> list[Step]:
@@ -23,20 +24,13 @@ def steps(*several: Step) -> list[Step]:
     return [*several]
 
 
-def in_place(script: str) -> list[Step]:
-    """Has a script convert in place of the program, which it may run as `"$real"`."""
-    text = f'#!/bin/sh\nreal=${{0%/bin/*}}/real\n[ "$1" = convert ] || exec "$real" "$@"\n{script}\n'
-    made = "!test -e real || mv bin/mbox2maildir real"
-    return [made, ("bin/mbox2maildir", text.encode()), "!chmod +x bin/mbox2maildir"]
-
-
 # the last call of the program fails, which is a sync
-SYNC_FAILS = in_place('"$real" "$@"; echo "mbox2maildir: folder call 9 failed" >&2; exit 1')
+SYNC_FAILS = '@"$real" "$@"; echo "mbox2maildir: folder call 9 failed" >&2; exit 1'
 
 
 def killed(words: str) -> list[Step]:
     """Runs a command that is killed once the program has placed everything."""
-    return [*in_place('"$real" "$@"; kill -9 $PPID'), words, RESTORED]
+    return ['@"$real" "$@"; kill -9 $PPID', words, RESTORED]
 
 
 def said_of(row: Row) -> str:
@@ -78,6 +72,10 @@ def take(several: Iterable[Step], home: Path) -> Run:
             last = ran(given, home, last)
             said = "\n".join(sorted(said_of(row).replace(f"{home}/", "") for row in last.rows))
             matches(f"{given}: {last.err}", said, wanted)
+        elif step == RESTORED:
+            restore(home)
+        elif step.startswith("@"):
+            fake(home, step[1:])
         elif step.startswith("!"):
             equal(step, run_printed(step[1:], home).status, 0)
         elif step.startswith("="):

@@ -20,9 +20,7 @@ UNCLEAR = ONE + b"From Tuesday on we are here\n\nbye\n\n"
 RUN = "    run this next:\n        "
 HELP = "mbox2maildir-admin: run this next: mbox2maildir-admin {}--help\n".format
 COMMANDS = "kind", "quote", "dates", "migrate", "verify", "back", "explain"
-TIED, ONE_FILE = "--text and --begin need --as and --of, ...", "--text and --begin need exactly one MAILBOX, ..."
-UNDO = "--undo goes only with --dry-run, --folder, --now, --json and --report"
-LIST = "--list needs --users, and goes with neither --json nor --report"
+ONE_FILE = "--text needs exactly one MAILBOX, which is a file"
 # words that are wrong, or do not go together, and what is said of them; the help of the command is next
 REFUSED = [
     ("", "the command is missing: kind, quote, dates, migrate, verify, back, explain"),
@@ -42,8 +40,8 @@ REFUSED = [
     ("quote --as mbox -o copy box", "--as mbox: no such word: it takes mboxrd, ..."),
     ("quote --as mboxo --text x --of 9-a -o copy box", "--text and --begin take line numbers, separated by commas"),
     ("quote --as mboxo --text 0 --of 9-a -o copy box", "--text and --begin take line numbers, separated by commas"),
-    ("quote --text 7 --of 9-a -o copy box", "--text and --begin need --as and --of, ..."),
-    ("quote --of 9-a -o copy box", "--of needs --as or --drop-deleted, ..."),
+    ("quote --text 7 --of 9-a -o copy box", "--text needs --as"),
+    ("quote --of 9-a -o copy box", "--of needs --as or --drop-deleted"),
     ("quote --as mboxo --text 7 --begin 7 --of 9-a -o copy box", "line 7 is named by --text and by --begin"),
     ("migrate", "MAILDIR and MAILBOX are missing"),
     ("migrate M", "MAILBOX is missing"),
@@ -61,39 +59,42 @@ REFUSED = [
         "migrate M box --folder a.b/c",
         "--folder a.b/c: the name has a dot: give a/b/c for folders in one another, or a-b/c",
     ),
-    ("migrate M box --tree mail", "--maildir, --tree and --names need --users"),
+    ("migrate M box --tree mail", "--tree needs --users"),
     ("migrate M box --jobs 0", "--jobs 0: it takes a number from 1 on"),
     ("migrate M box -1", "-1: no such option"),
     ("migrate --folder x M box old", "--folder needs a MAILBOX that is a file"),
-    ("migrate --names - M box", "--maildir, --tree and --names need --users"),
+    ("migrate --names - M box", "--names needs --users"),
     ("migrate --undo M old", "--undo needs exactly one MAILBOX, which is a file"),
     ("migrate --undo M box two", "--undo needs exactly one MAILBOX, which is a file"),
-    *((f"migrate --undo {word} M box", UNDO) for word in ("--again", "--dovecot", "--no-mail=*", "--as=mboxo")),
-    ("migrate --list M box", LIST),
+    *(
+        (f"migrate --undo {word} M box", f"--undo does not go with {word.partition('=')[0]}")
+        for word in ("--again", "--dovecot", "--no-mail=*", "--as=mboxo")
+    ),
+    ("migrate --list M box", "--list needs --users"),
     ("migrate --unread M box", "--unread needs --prepare"),
-    ("migrate --prepare --again M box", "--prepare goes with neither --again nor --labels"),
+    ("migrate --prepare --again M box", "--prepare does not go with --again"),
     ("migrate --label x=none M box", "--label needs --labels"),
     (
         "migrate --labels --label x M box",
         "--label x: it takes NAME=WHAT, and WHAT is one of none, folder, read, unread, starred",
     ),
-    ("migrate --labels --folder x M box", "--labels does not go with --folder and --dovecot"),
+    ("migrate --labels --folder x M box", "--labels does not go with --folder"),
     ("migrate --labels M old", "--labels needs a MAILBOX that is a file"),
     ("migrate --labels=two M box", "..."),
-    ("migrate --as mboxo --text 6 M box", TIED),
+    ("migrate --as mboxo --text 6 M box", "--text needs --of"),
     ("migrate --as mboxo --text 6 --of 1-a M box two", ONE_FILE),
     ("migrate --as mboxo --text 6 --of 1-a M old", ONE_FILE),
 ]
 # the same, if root gives them
 BY_ROOT = [
-    ("migrate --undo --users old", UNDO),
-    ("migrate --list --users --json old", LIST),
-    ("migrate --list --users --report none old", LIST),
+    ("migrate --undo --users old", "--undo does not go with --users"),
+    ("migrate --list --users --json old", "--list does not go with --json"),
+    ("migrate --list --users --report none old", "--list does not go with --report"),
     ("migrate --users --maildir /etc old", "/etc: --maildir and --tree take a name below each home"),
     ("migrate --users --tree a/../.. old", "a/../..: --maildir and --tree take a name below each home"),
-    ("migrate --users --folder a old", "--folder does not go with --users"),
-    ("migrate --users --labels old", "--labels does not go with --users"),
-    ("migrate --users --as mboxo --text 6 --of 1-a old", "--text and --begin do not go with --users"),
+    ("migrate --users --folder a old", "--users does not go with --folder"),
+    ("migrate --users --labels old", "--users does not go with --labels"),
+    ("migrate --users --as mboxo --text 6 --of 1-a old", "--users does not go with --text"),
     ("migrate --users --drop-deleted old", "--drop-deleted needs --of to go with --users"),
 ]
 # what a command says of what is there, and what is to be done next: a command, a task, or nothing. Each says what

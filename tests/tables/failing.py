@@ -1,12 +1,16 @@
 """What is said if `mbox2maildir convert` fails: in its place a program does something, and prints what it says then."""
 from tests.support.mail import ONE, TWO
-from tests.support.stories import Step, in_place, killed, run_stories
+from tests.support.stories import RESTORED, Step, killed, run_stories, steps
 
 ONCE = "the system reported an error, but the same works now: read the system's log, and run this again"
 SYNC_FAILED = "a: left (sync-failed): its sync failed: read the system's log and mount the disk again before you ..."
 SECOND_IS_THERE: list[Step] = [("a", TWO), "!mbox2maildir convert M a", ("a", ONE + TWO)]
 ALL_IS_THERE: list[Step] = [("a", TWO), *killed("migrate M a")]
-SILENT = "a: left (convert-failed): convert said nothing, and ended with status 3; 1 of 2 messages are there"
+# programs that say nothing
+SILENT = {
+    "exit 3": "a: left (convert-failed): convert said nothing, and ended with status 3; 1 of 2 messages are there",
+    "kill -9 $$": "a: left (convert-failed): convert was killed by signal 9; 1 of 2 messages are there",
+}
 ALL = '"$real" "$@"; '
 # what it does, what it says, and what is said of a mailbox of two messages, of which one is there already
 FAILS = {
@@ -51,7 +55,7 @@ FAILS = {
 def story(begun: list[Step], words: str, does: str, says: str, wanted: str) -> list[Step]:
     """A program that fails in this way, for a mailbox that was begun and is migrated by these words."""
     wanted = wanted if wanted == SYNC_FAILED else f"a: left (convert-failed): mbox2maildir: {wanted}"
-    return [*begun, *in_place(f'{does}echo "mbox2maildir: {says}" >&2; exit 1'), (words, wanted)]
+    return [*begun, f'@{does}echo "mbox2maildir: {says}" >&2; exit 1', (words, wanted)]
 
 
 # where nothing is to be placed, the program only removes what a killed one has left
@@ -67,7 +71,11 @@ SWEEPS = {
 if __name__ == "__main__":
     run_stories(
         {
-            "it_says_nothing": [*SECOND_IS_THERE, *in_place("exit 3"), ("migrate --again M a", SILENT)],
+            "it_says_nothing": [
+                one
+                for does, says in SILENT.items()
+                for one in steps("!rm -rf M", *SECOND_IS_THERE, f"@{does}", ("migrate --again M a", says), RESTORED)
+            ],
             **{name: story(SECOND_IS_THERE, "migrate --again M a", *row) for name, row in FAILS.items()},
             **{name: story(ALL_IS_THERE, "migrate M a", *row) for name, row in SWEEPS.items()},
         }

@@ -113,10 +113,11 @@ def made_by(what: str, home: Path, before: str, place: Path) -> str:
 
 
 def what_is_there(home: Path) -> None:
-    """Each mailbox has an object with its counts, and with what is nowhere, has other bytes or is there twice."""
-    for name, text in (("a", ONE + TWO), ("b", TWO)):
+    """Each mailbox has an object with its counts, and with what is nowhere, has other bytes or is there twice.
+    An empty one has no mail."""
+    for name, text in (("a", ONE + TWO), ("b", TWO), ("empty", b"")):
         mailbox(home / "old" / name, text)
-    expect("migrate --all --now M old", home, 0, "...\n...\n2 mailboxes: 2 done\n")
+    expect("migrate --all --now M old", home, 0, "...\n...\n...\n3 mailboxes: 3 done\n")
     *whole, _ = objects(["verify", "M", "old"], home)
     equal(
         "if all is there",
@@ -124,6 +125,7 @@ def what_is_there(home: Path) -> None:
         [
             ("old/a", "a", "whole", 2, sum(map(len, bodies_of(ONE + TWO)))),
             ("old/b", "b", "whole", 1, *map(len, bodies_of(TWO))),
+            ("old/empty", None, "no mail", None, None),
         ],
     )
     first, second = sorted(files_of(home / "M/.a").values())

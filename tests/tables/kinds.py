@@ -279,6 +279,7 @@ COPIES = [
     ),
     (A + b"\nhello\n\n\0\0" + B, "--as mboxrd --begin 7 --of {of}", A + b"\nhello\n\n" + B),
     (A + b"\nhello" + B, "--as mboxrd --begin 5 --of {of}", A + b"\nhello\n" + B),
+    (A + b"\n" + X * b"x" + B, "--as mboxrd --begin 5 --of {of}", A + b"\n" + X * b"x" + b"\n" + B),
     (A + b"\n>From a\n", "--as mboxrd --text 5,4 --of {of}", NOTHING),
     (A + b"\n>From a\n", "--as mboxrd --text 1 --of {of}", NOTHING),
     (

@@ -4,9 +4,9 @@ from pathlib import Path
 
 from tests.support.checks import equal
 from tests.support.homes import by_json, expect, mailbox
-from tests.support.mail import C, ONE, THREE, TWO
+from tests.support.mail import C, ONE, THREE, TWO, numbered
 from tests.support.running import Desk, Kill, Run
-from tests.support.stories import RESTORED, SYNC_FAILS, Step, in_place, killed, run_stories, steps
+from tests.support.stories import RESTORED, SYNC_FAILS, Step, killed, run_stories, steps
 
 FIRST, RECORD, LEDGER = "migrate --prepare --unread M a", "M/mbox2maildir-record", "M/mbox2maildir-messages"
 NUMBERED = ONE.replace(b"\n\n", b"\nX-IMAPbase: 1700000000 0000000009\nX-UID: 3\n\n", 1)
@@ -15,25 +15,38 @@ BEGIN_ANEW = (
     "a: left (sync-failed): its sync failed: read the system's log and mount the disk again before you believe "
     "anything there, then remove what is prepared, and begin anew"
 )
+
+
 # leaves room in the record for one more line like the last, and not for two
 FILL = f"""!set -- $(tail -n 1 {RECORD} | wc -c) $(stat -c %s {RECORD})
-head -c $(((1 << 23) - $2 - $1 * 3 / 2)) /dev/zero | tr '\\0' x >>{RECORD}; echo >>{RECORD}"""
+head -c $(((1 << 23) - $2 - $1 * 3 / 2)) /dev/zero | tr '\\0' '#' >>{RECORD}; echo >>{RECORD}"""
+# the ledger of INBOX is not to be trusted any more, once the program is done in another folder, or at once
+NO_LEDGER = "left (ledger): M/mbox2maildir-messages: it does not belong to you, or others may write to it: ..."
+SPOILT = '@case $PWD in */.c) chmod 620 ../mbox*messages;; esac; "$real" "$@"'
+UNNOTED = '@"$real" "$@"; chmod 620 mbox*messages; echo "mbox2maildir: folder call 9 failed" >&2; exit 1'
+# the date that a message has, by its From_ line, and a program that ends with the first message
+DATED = "!test $(($(stat -c %Y $(grep -l two M/new/*)) % 60)) = 2"
+FIRST_ALONE = '@"$real" convert . ../placed && kill -9 $PPID'
+CAME_BACK = "a: done: ...up to ... deleted or moved came back..."
+CUT = "From d Mon Mar  3 12:00:00 2025\\nSubject: four\\n\\nhe"
+OF_NOBODY, BEFORE = "a: done: 2 messages there already, by no mailbox", "a: done before"
 # what is done to a mailbox once it was converted, whose row waits for the sync of the disk
 CHANGES = {"grows": "echo more >>$a", "goes": "rm $a", "is_replaced": "cp -p $a $a.x; mv $a.x $a"}
+IN_CRLF = (ONE + TWO).replace(b"\n", b"\r\n")
 STORIES: dict[str, list[Step]] = {
     "the_sync_of_a_first_pass_fails": [
-        *(("a", ONE), *SYNC_FAILS, (FIRST, BEGIN_ANEW), RESTORED, (FIRST, BEGIN_ANEW), ("migrate M a", BEGIN_ANEW)),
+        *(("a", ONE), SYNC_FAILS, (FIRST, BEGIN_ANEW), RESTORED, (FIRST, BEGIN_ANEW), ("migrate M a", BEGIN_ANEW)),
     ],
     # the program numbers equal messages, so it gets those that are there too; of the others none comes back
     "what_is_deleted_once_it_was_looked_at": [
         *(("a", ONE + THREE), "!mbox2maildir convert M a", ("a", ONE + TWO + ONE + THREE + FOUR)),
-        *in_place('test -e ../gone || rm $(grep -l one new/*); : >../gone; "$real" "$@"'),
+        '@test -e ../gone || rm $(grep -l one new/*); : >../gone; "$real" "$@"',
         ("migrate --again M a", "a: done: placed 3 messages; ...; up to 1 message that had been deleted or moved ..."),
         "= four one one three two",
     ],
     "what_is_deleted_and_nothing_equals": [
         *(("a", TWO), "!mbox2maildir convert M a", ("a", ONE + TWO + THREE)),
-        *in_place('test -e ../gone || rm new/*; : >../gone; "$real" "$@"'),
+        '@test -e ../gone || rm new/*; : >../gone; "$real" "$@"',
         *(("migrate --again M a", "a: done: placed 2 messages; 1 message there already, by no mailbox"), "= one three"),
     ],
     # the program removes it, though nothing is to be placed
@@ -43,7 +56,7 @@ STORIES: dict[str, list[Step]] = {
     ],
     # its mail is as good as removed
     "the_undo_of_another_mailbox_was_killed": [
-        *(("a", ONE + TWO), "migrate M a", f"!sed -i 's/^done\\(\t.*\\)$/done\\1\\nundoing\\1/' {RECORD}"),
+        *(("a", ONE + TWO), "migrate M a", f"!printf '<\\t%s\\n' $PWD/a >>{LEDGER}"),
         *("!rm $(grep -l two M/new/*)", ("b", TWO), ("migrate M b", "b: done: INBOX has the mail of a too")),
         *("= one two", "migrate --undo M a", "= two"),
     ],
@@ -53,22 +66,27 @@ STORIES: dict[str, list[Step]] = {
         ("migrate M d", "d: done: ...up to 2 messages that had been deleted or moved came back"),
     ],
     "the_record_takes_no_more_of_several": [
-        *(("old/0", ONE), "!for n in 1 2 3 4 5; do cp -p old/0 old/$n; done", "migrate M old/0", FILL),
-        "migrate --jobs 3 M old",
+        *(("old/0", NUMBERED), "!for n in 1 2 3 4 5; do cp -p old/0 old/$n; done", "migrate --dovecot M old/0", FILL),
+        "migrate --dovecot --jobs 3 M old",
         f"!test $(stat -c %s {RECORD}) -le $((1 << 23))",
     ],
-    "the_record_takes_no_more": [
-        *(("a", ONE), "migrate M a", FILL, ("a", ONE + TWO)),
-        (
-            "migrate M a",
-            "a: left (record): ...: it is full: move it away; the ledgers in the folders say what was brought",
-        ),
+    # what one sync has served is noted at once: of a folder of which it cannot be, each mailbox is left, and no other
+    "the_ledger_takes_no_end": [
+        *(("a", ONE), ("b", TWO), ("old/c", THREE), SPOILT),
+        ("migrate --jobs 1 M a b old", f"a: {NO_LEDGER}\nb: {NO_LEDGER}\nold/c: done"),
+        *(RESTORED, f"!chmod 600 {LEDGER}", "migrate M a b old", "= c/three one two"),
     ],
-    "the_record_cannot_note_that_a_sync_failed": [
-        *steps(("a", ONE), "migrate M a", FILL, ("a", ONE + TWO), *SYNC_FAILS),
+    # its index is found in the ledgers
+    "the_record_takes_no_more": [
+        *(("a", ONE), "migrate M a", FILL, ("a", ONE + TWO), "migrate M a", ("a", ONE + TWO + THREE), "migrate M a"),
+        "!mbox2maildir-admin migrate M a 2>&1 | grep 'it is full: move it away; the ledgers in the folders say'",
+        *(f"!rm {RECORD}", ("migrate M a", "a: done before"), "= one three two"),
+    ],
+    "the_ledger_cannot_note_that_a_sync_failed": [
+        *(("a", ONE), UNNOTED),
         (
             "migrate M a",
-            "a: left (sync-failed): its sync failed: ...; note this yourself, because the record could not be ...",
+            "a: left (sync-failed): its sync failed: ...; note this yourself, because the ledger could not be ...",
         ),
     ],
     "a_damaged_ledger": [
@@ -97,6 +115,12 @@ STORIES: dict[str, list[Step]] = {
         *steps(("a", ONE + TWO), *killed("migrate M a"), ("a", TWO)),
         *(("migrate M a", "a: done: 1 message gone from it that it had brought"), "= one two"),
     ],
+    # it came back twice, and is one
+    "a_message_is_deleted_after_two_runs_that_were_killed": [
+        *steps(("a", ONE), *killed("migrate M a"), "!rm M/new/*", *killed("migrate M a"), "!rm M/new/*"),
+        ("migrate M a", "a: done: up to 1 message that had been deleted or moved came back"),
+        ("migrate M a", "a: done before: when its mail was placed, up to 1 message that had been deleted or moved ..."),
+    ],
     "a_mailbox_was_begun_and_moved": [
         *steps(("a", ONE), *killed("migrate M a"), "!mv a b", ("migrate --dry-run M b", "b: would be done")),
         *(("migrate M b", "b: done"), "= one"),
@@ -105,6 +129,35 @@ STORIES: dict[str, list[Step]] = {
         *(("a", NUMBERED), "migrate --dovecot M a", ("more", TWO), "!mv a b; cat more >>b"),
         ("migrate --dovecot M b", "b: done: it grew by 1 message; Dovecot gives what is new its UIDs"),
     ],
+    "a_mailbox_was_edited_as_a_whole": [
+        *(("a", numbered("first", 5)), "migrate M a", ("a", numbered("second", 5))),
+        ("migrate M a", "a: left (rewritten): 5 messages that it brought are gone from it, and as many are new: ..."),
+        "!mbox2maildir-admin migrate --now --dry-run M a | grep 'migrate --dry-run --now --again M a$'",
+    ],
+    "the_copy_of_a_mailbox_is_converted_while_it_grows": [
+        *(("a", IN_CRLF), """@"$real" "$@"; printf 'more\\r\\n\\r\\n' >>../a"""),
+        *(("migrate M a", "a: left (changed): it changed while it was converted: ..."), f"!! grep ^= {LEDGER}"),
+    ],
+    # nobody is left to say so, and no line has the file that was cut
+    "a_mailbox_is_written_to_while_a_run_is_killed": [
+        *(("a", ONE + TWO), f'@printf \'{CUT}\' >>../a; kill -9 $PPID; exec "$real" "$@"', "migrate M a", RESTORED),
+        *(f"!flock {RECORD} true", ("more", b"llo\n\n" + THREE), "!cat more >>a; touch -d '2 hours ago' a"),
+        *(("migrate M a", "a: left (cut): ..."), ">", "migrate M a", "= four one three two"),
+    ],
+    # nobody knows why only some of it is there
+    "it_was_converted_by_hand": [
+        *(("a", ONE + TWO), "!mbox2maildir convert M a", ("migrate M a", OF_NOBODY), DATED, ("migrate M a", BEFORE)),
+        *(
+            "!rm -r M; mbox2maildir convert M a; rm $(grep -l one M/new/*)",
+            ("migrate M a", "a: left (partly-there): ..."),
+        ),
+        "!mbox2maildir-admin migrate --now M a | grep 'it brings back mail that was deleted, and doubles mail that '",
+        f"!! grep ^@ {LEDGER}",
+    ],
+    "it_was_converted_by_hand_and_a_run_was_killed": [
+        *(("a", ONE + TWO), "!mbox2maildir convert M a", "@kill -9 $PPID", "migrate M a", RESTORED),
+        *(("migrate M a", OF_NOBODY), DATED),
+    ],
     "a_mailbox_was_moved_and_grew": [
         *(("a", ONE), "migrate M a", ("more", TWO), f"!mv a b; cat more >>b; cat {LEDGER} {RECORD} >kept"),
         *(("migrate --dry-run M b", "b: would be done: it grew by 1 message"), f"!cat {LEDGER} {RECORD} | cmp - kept"),
@@ -112,11 +165,23 @@ STORIES: dict[str, list[Step]] = {
     ],
 }
 
+# with or without what Dovecot keeps
+STORIES.update(
+    {
+        f"it_was_begun{first.replace(' --', '_by_')}": [
+            *steps(("a", ONE + TWO + THREE), ("placed", ONE), FIRST_ALONE, f"migrate{first} M a", RESTORED),
+            (f"migrate{then} M a", f"a: left (another-reading): its conversion was begun {how} --dovecot"),
+            *("= one", "!rm M/new/*; cp -a M N", (">", CAME_BACK), "= one three two", "!rm -r M; mv N M"),
+            *((f"migrate{then} M a", CAME_BACK), "= one three two"),
+        ]
+        for first, then, how in (("", " --dovecot", "without"), (" --dovecot", "", "with"))
+    }
+)
 STORIES.update(
     {
         f"a_mailbox_{name}_before_its_disk_is_synced": [
             *(("old/a", ONE), ("old/b", TWO)),
-            *in_place(f'a=../../old/a; case $PWD in */.b) {change};; esac; "$real" "$@"'),
+            f'@a=../../old/a; case $PWD in */.b) {change};; esac; "$real" "$@"',
             ("migrate --jobs 1 M old", "old/a: left (changed): it changed in the meantime: stop the ...\nold/b: done"),
         ]
         for name, change in CHANGES.items()

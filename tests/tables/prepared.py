@@ -189,7 +189,7 @@ STORIES: dict[str, list[Step]] = {
         *(("a", ONE + TWO + ONE + ONE), FIRST, (LAST, "a: done: 4 prepared before"), "= one one one two"),
     ],
     "the_sync_of_a_last_pass_failed": [
-        *steps(("a", ONE), FIRST, ("a", ONE + TWO), *SYNC_FAILS, (LAST, SYNC_FAILED), RESTORED),
+        *steps(("a", ONE), FIRST, ("a", ONE + TWO), SYNC_FAILS, (LAST, SYNC_FAILED), RESTORED),
         *((LAST, SYNC_FAILED), (FIRST, SYNC_FAILED), "migrate --again M a", "= one two"),
     ],
     # a last pass was killed, and the mailbox may be another one by then
@@ -203,7 +203,7 @@ STORIES: dict[str, list[Step]] = {
     ],
     "killed_and_its_ledger_is_gone": [
         *steps(("a", ONE + TWO), FIRST, ("a", ONE + TWO + THREE), *KILLED, f"!rm {LEDGER}", ("a", ONE)),
-        *((LAST, "a: left (ledger): the ledger of its folder is missing, so nothing shows which ..."), "= one two M+"),
+        *((LAST, "a: done: 1 prepared before, 1 message removed"), "= one"),
     ],
     "killed_and_its_ledger_is_damaged": [
         *steps(("a", ONE), FIRST, ("a", ONE + TWO), *KILLED, f"!echo damage >>{LEDGER}", ("a", THREE)),

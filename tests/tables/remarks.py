@@ -44,7 +44,8 @@ NUMBERED = fields(ONE, BASE, UID)
 # the last command of each story prints rows with these words
 STORIES: list[tuple[list[Step], set[str]]] = [
     ([("old/a.b", ONE), "migrate M old"], {"name-before"}),
-    ([("a", ONE), "migrate --dovecot M a"], {"no-uids"}),
+    # mboxo keeps both `>` of `>>From `, so that no line loses one
+    ([("a", QUOTED), "migrate --dovecot --as mboxo M a"], {"no-uids"}),
     ([("a", PSEUDO + ONE), "migrate --dovecot M a"], {"first-appears"}),
     (
         [("a", NUMBERED), "migrate --dovecot M a", ("a", NUMBERED + TWO), "migrate --dovecot M a"],

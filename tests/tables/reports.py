@@ -1,14 +1,13 @@
 """The file that `migrate --report` writes: what is in it, and what becomes of it if it cannot be written."""
 import json
 import stat
-import subprocess
 from pathlib import Path
 from typing import Any
 
 from tests.support.checks import equal
 from tests.support.homes import check_all, expect, mailbox, run, want_users
 from tests.support.mail import ONE, TWO
-from tests.support.mounts import mount
+from tests.support.mounts import small_disk
 from tests.support.schema import wrong
 
 SAYS = "mbox2maildir-admin: {} already exists\n    name a file that is not there\n"
@@ -70,22 +69,16 @@ def on_a_full_disk(home: Path) -> None:
     want_users()
     for number in range(40):
         mailbox(home / f"old/{number}", ONE)
-    (home / "disk").mkdir()
-    mount("none", str(home / "disk"), "tmpfs", options="size=8k")
-    try:
+    with small_disk(home / "disk", "8k") as disk:
         for number, is_full in enumerate((False, True)):
-            (home / "disk/filler").write_bytes(b"x" * 8192 * is_full)
+            (disk / "filler").write_bytes(b"x" * 8192 * is_full)
             status, out, err = run(["migrate", "--all", "--now", "--report", "disk/r", f"M{number}", "old"], home)
             says = "mbox2maildir-admin: disk/r: the report could not be written: No space left on device\n"
             equal("status, and what is said", (status, err), (1, says))
             equal("the last line", out.splitlines()[-1], "40 mailboxes: 40 done")
-            text = b"" if is_full else (home / "disk/r").read_bytes()
-            equal(
-                "what is there", (b'"verdict": "done"' in text, (home / "disk/r").exists()), (not is_full, not is_full)
-            )
-            (home / "disk/r").unlink(missing_ok=True)
-    finally:
-        subprocess.run(["umount", "-l", home / "disk"], check=True)
+            text = b"" if is_full else (disk / "r").read_bytes()
+            equal("what is there", (b'"verdict": "done"' in text, (disk / "r").exists()), (not is_full, not is_full))
+            (disk / "r").unlink(missing_ok=True)
 
 
 if __name__ == "__main__":

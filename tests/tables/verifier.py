@@ -8,7 +8,7 @@ from pathlib import Path
 
 from tests.support.cases import LeftOut, run_cases
 from tests.support.checks import LATER, equal, matches
-from tests.support.homes import at_home, expect, mailbox, run, script
+from tests.support.homes import at_home, expect, fake, mailbox, restore, run, script
 from tests.support.ledgers import ends_in
 from tests.support.mail import ONE, THREE, TWO
 from tests.support.running import Desk
@@ -57,10 +57,8 @@ LISTS = {
 def other_lists(home: Path) -> None:
     """What the program lists is compared with what is read here, before anything is placed."""
     mailbox(home / "box", ONE + TWO + THREE)
-    shutil.move(str(home / "bin/mbox2maildir"), str(home / "real"))
     for deed, why in LISTS.items():
-        does = deed.replace("REAL", f"{home}/real list")
-        script(home / "bin/mbox2maildir", f'test "$1" = list || exec {home}/real "$@"\n{does}')
+        fake(home, deed.replace("REAL", '"$real" list'), "list")
         status, out, _ = run("migrate --all --now M box", home)
         matches(deed, out.split("): ", 1)[-1], f"{why}\n1 mailbox: 1 left\n")
         equal(f"{deed}: what is there", (status, [*(home / "M").glob("*/*")]), (1, []))
@@ -103,10 +101,8 @@ def is_left(deed: str, why: str, home: Path) -> None:
 
 def plant(home: Path, deed: str) -> None:
     """Makes a mailbox, and lets the program do this after it has delivered."""
-    box, program = mailbox(home / "box", ONE + TWO + THREE), home / "bin/mbox2maildir"
-    shutil.move(str(program), str(home / "real"))
-    does = f'{home}/real "$@" || exit\ntest "$1" != convert || {{ set -- new/*; {deed}; }}'
-    script(program, does.replace("BOX", str(box)))
+    box = mailbox(home / "box", ONE + TWO + THREE)
+    fake(home, f'"$real" "$@" || exit\nset -- new/*; {deed}'.replace("BOX", str(box)))
 
 
 def a_copy(home: Path) -> None:
@@ -119,7 +115,7 @@ def a_copy(home: Path) -> None:
 def comes_back(home: Path) -> None:
     """What is nowhere after it was converted is placed by the next run, and not taken for deleted."""
     is_left(*CASES["gone"], home)
-    shutil.move(str(home / "real"), str(home / "bin/mbox2maildir"))
+    restore(home)
     says = "up to 1 message that had been deleted or moved came back"
     expect(
         "migrate --all M box", home, 0, f"box -> INBOX: mboxrd or mboxo, messages 3: done, {says}\n1 mailbox: 1 done\n"

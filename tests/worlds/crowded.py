@@ -37,6 +37,7 @@ class Crowded(Trees):
                 self.migrate(kill=self.moment() if self.draw.random() < 0.8 else NEVER)
                 self.likely = 0.0
                 if self.draw.random() < 0.5:
+                    self.empty()
                     self.happens({read_some: 1})
             self.empty()
             self.end()

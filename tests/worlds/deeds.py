@@ -96,7 +96,7 @@ def read_some(tree: History) -> None:
 
 def read_flags(tree: History, path: Path, flags: str = "S") -> None:
     """A file gets these flags."""
-    tree.stage.move(path, path.parent.parent / "cur" / f"{path.name.split(':')[0]}:2,{flags}")
+    tree.stage.rename(path, path.parent.parent / "cur" / f"{path.name.split(':')[0]}:2,{flags}")
 
 
 def read_one(tree: History, path: Path) -> None:
@@ -109,13 +109,13 @@ def read_one(tree: History, path: Path) -> None:
     elif deed == "read":
         read_flags(tree, path)
     elif deed == "rename":
-        tree.stage.move(path, cur / f"1700{tree.draw.randint(0, 9999)}.host:2,S")
+        tree.stage.rename(path, cur / f"1700{tree.draw.randint(0, 9999)}.host:2,S")
     elif deed == "copy":
         copy = cur / f"1701{tree.draw.randint(0, 9999)}.host:2,S"
         shutil.copy(path, copy)
         tree.steps.append(f"$ cp {tree.stage.shown(path)} {tree.stage.shown(copy)}")
     elif others:
-        tree.stage.move(path, tree.draw.choice(others) / read)
+        tree.stage.rename(path, tree.draw.choice(others) / read)
 
 
 def delivered(tree: History) -> None:

@@ -192,7 +192,9 @@ class History:
                 self.oracle.take(name, mail)
                 self.is_disturbed = True
             elif path.parent.name == "new":
-                path.rename(path.parent.parent / "cur" / (path.name.split(":")[0] + ":2,S"))
+                read = path.parent.parent / "cur" / (path.name.split(":")[0] + ":2,S")
+                if not read.exists():
+                    path.rename(read)
 
     def ways(self, box: Box) -> list[Reading]:
         """How a mailbox may be read."""

@@ -142,7 +142,7 @@ def copied(path: bytes, word: str, mail: frozenset[int], begin: frozenset[int]) 
             reading = Reading(word, frozenset(map(Line, mail)), frozenset(map(Line, begin)))
             quoter = Quoter(reading, mailbox, Offset(0))
             copy = b"".join(quoter.run())
-            quoter.check(len(copy), quoter.counts().messages)
+            quoter.check(len(copy), quoter.messages)
         except Fault:
             return None
     return copy

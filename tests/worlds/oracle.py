@@ -284,8 +284,10 @@ class Oracle:
             # a mailbox that was moved in its tree goes into two folders, and its row says so
             said += sum(owed.values()) * any(re.search(r"\btoo\b", texts_of(row)) for row in mine)
             is_settled = bool(mine) and all(row["verdict"] != "left" for row in mine)
+            # a message may have come back in several runs
+            most = sum(row["messages"] or 0 for row in mine)
             for what, count in list(owed.items()):
-                if count and said < count and is_settled:
+                if count and said < min(count, most) and is_settled:
                     yield f"{count} {what} in {name or 'all'}, unsaid"
                 if said >= count or is_settled:
                     owed[what] = 0

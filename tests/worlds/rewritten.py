@@ -128,7 +128,7 @@ class Rewritten(History):
             elif path and deed == "take":
                 self.stage.remove(path)
             elif path and deed == "read" and path.parent.name == "new":
-                self.stage.move(path, path.parent.parent / "cur" / (path.name.split(":")[0] + ":2,S"))
+                self.stage.rename(path, path.parent.parent / "cur" / (path.name.split(":")[0] + ":2,S"))
             time.sleep(QUIET)
         self.oracle.look()
 

@@ -139,9 +139,9 @@ class Shared(History):
         for _, path in [*self.oracle.files()]:
             deed, cur = self.draw.random(), path.parent.parent / "cur"
             if deed < self.way.renamed:
-                self.stage.move(path, cur / f"17{self.draw.randint(0, 99999)}.host:2,S")
+                self.stage.rename(path, cur / f"17{self.draw.randint(0, 99999)}.host:2,S")
             elif deed < 0.4 and path.parent.name == "new":
-                self.stage.move(path, cur / (path.name + ":2,S"))
+                self.stage.rename(path, cur / (path.name + ":2,S"))
             elif deed > 1 - self.way.deleted:
                 self.stage.remove(path)
         self.oracle.look()

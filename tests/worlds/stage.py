@@ -74,6 +74,11 @@ class Stage:
         path.rename(new)
         self.steps.append(f"$ mv {self.shown(path)} {self.shown(new)}")
 
+    def rename(self, path: Path, new: Path) -> None:
+        """A mail program gives a file of mail a name that none has."""
+        if not new.exists():
+            self.move(path, new)
+
     def users(self) -> Accounts:
         """The users. Without them the world is left out."""
         want_users()

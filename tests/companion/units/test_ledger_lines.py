@@ -10,6 +10,7 @@ from mbox2maildir_admin.ledger.lines import (
     BATCH,
     CUT,
     END,
+    FAILED,
     FOREIGN,
     HEAD,
     LOST,
@@ -17,6 +18,7 @@ from mbox2maildir_admin.ledger.lines import (
     NAMELESS,
     PLACED,
     SHARED,
+    UNDOING,
     UNDONE,
     Brought,
     Head,
@@ -34,12 +36,13 @@ from mbox2maildir_admin.units import Size
 A, B = b"\xaa" * 16, b"\xbb" * 16
 HEXA, HEXB, SHA = b"aa" * 16, b"bb" * 16, "c" * 64
 NAME = b"aa" * 32 + b".1"
-TEXT = Head(3, 2, 1, (7, 8, -9), (10, SHA), "mboxo text=7,9 crlf", "/a b/\u00e4\\x0a", 5)
-BEGINS = b"@\t12\t3\t2\t1\t7,8,-9\t10-" + b"c" * 64 + b"-5\tmboxo text=7,9 crlf\t" + "/a b/\u00e4\\x0a".encode()
+TEXT = Head(3, 2, 1, (7, 8, -9), (10, SHA), "mboxo text=7,9 crlf", "/a b/\u00e4\\x0a", 5, 70)
+BEGINS = b"@\t12\t3\t2\t1\t70\t7,8,-9\t10-" + b"c" * 64 + b"-5\tmboxo text=7,9 crlf\t" + "/a b/\u00e4\\x0a".encode()
 WHEN = "2025-03-03T10:00:00Z"
-STEP = Entry(Step.DONE, Key(b".a\\b", Size(10), SHA), 3, WHEN, "/b\\x0a", "mboxo text=7,9", "0" * 32, 1234)
+STEP = Entry(Step.DONE, Key(b".a\\b", Size(10), SHA), 3, WHEN, "/b\\x0a", "mboxo text=7,9", "0" * 32, 1234, 5)
 NOTED = b".a\\b\t10\t" + b"c" * 64 + b"\t3\t2025-03-03T10:00:00Z\t/b\\x0a"
-DONE = b"done\t" + NOTED + b"\tmboxo text=7,9\t" + b"0" * 32 + b"-1234"
+DONE = b"done\t" + NOTED + b"\tmboxo text=7,9\t" + b"0" * 32 + b"-1234-5"
+PLAIN = STEP._replace(ledger="", size=0, number=0)
 ORIGIN = Origin((7, SHA), (1, 7, 2), 2, "mboxrd", "/home/mail", "/home/mail/box")
 BEGAN = b"@\t7-" + b"c" * 64 + b"\t1,7,2\t2\tmboxrd\t/home/mail\t/home/mail/box"
 REMARKS = Remark("loses-quote", "`>>From ` loses a `>` in 2 lines"), Remark("no-line-end", "\u00e9", 3)
@@ -73,8 +76,8 @@ ROWS: tuple[tuple[Callable[[bytes], object], Any, bytes], ...] = (
     (head_of, TEXT, BEGINS),
     (head_of, TEXT._replace(times=(), inode=0), BEGINS.replace(b"7,8,-9", b"").replace(b"c-5", b"c")),
     (Entry.parse, STEP, DONE),
-    (Entry.parse, STEP._replace(what=Note.ANSWERED, ledger="", size=0), b"answered\t" + NOTED + b"\tmboxo text=7,9"),
-    (Entry.parse, STEP._replace(what=Note.NO_MAIL, plan=None, ledger="", size=0), b"no-mail\t" + NOTED),
+    (Entry.parse, PLAIN._replace(what=Note.ANSWERED), b"answered\t" + NOTED + b"\tmboxo text=7,9"),
+    (Entry.parse, PLAIN._replace(what=Note.NO_MAIL, plan=None), b"no-mail\t" + NOTED),
     (origin_of, ORIGIN, BEGAN),
     (as_read_of, AsRead(3, 2, "mboxrd or mboxo"), b"&\t3\t2\tmboxrd or mboxo"),
     (
@@ -84,7 +87,7 @@ ROWS: tuple[tuple[Callable[[bytes], object], Any, bytes], ...] = (
     ),
 )
 # lines of ledgers and of lists that say something else
-OTHERS = (b"mbox2maildir\t2\t" + b"0" * 32, b"=\t123", b"+\t7", b">\t/old\t/new", b"-\t/box")
+OTHERS = (b"mbox2maildir\t3\t" + b"0" * 32, b"=\t12", b"!\t3", b"+\t7", b">\t/a\t/b", b"<\t/box", b"-\t4\t/box")
 LISTED = (b"mbox2maildir-prepared\t1", b">\t7", b"t\t70", b"=", b"!", b"/", b"p\t" + NAME, FILE)
 # lines that say nothing
 WRONG = (
@@ -108,6 +111,7 @@ WRONG = (
     (Entry.parse, b"done\t" + NOTED + b"\t"),
     (Entry.parse, DONE.replace(b"0" * 32, b"0" * 31)),
     (Entry.parse, DONE.replace(b"-1234", b"-")),
+    (Entry.parse, DONE.replace(b"-1234-5", b"-1234")),
     (Entry.parse, DONE.replace(b"mboxo text=7,9", b"")),
     (Entry.parse, DONE.replace(b"/b\\x0a", b"")),
     (Entry.parse, DONE.replace(b"done", b"froot")),
@@ -119,7 +123,7 @@ WRONG = (
 
 def says(line: bytes) -> bool:
     """Whether a line of a ledger, or of a record, says something."""
-    found = [pattern.match(line) for pattern in (HEAD, BATCH, END, ALL_PLACED, MOVED, UNDONE)]
+    found = [pattern.match(line) for pattern in (HEAD, BATCH, END, FAILED, ALL_PLACED, MOVED, UNDOING, UNDONE)]
     return any(found) or any(read(line) is not None for read in (message_of, Entry.parse, origin_of, as_read_of))
 
 

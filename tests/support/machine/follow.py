@@ -1,5 +1,6 @@
 """Follows the pages in a machine, from the rehearsal until nothing is left, while mail arrives in each phase. What is
 typed are the lines of the pages. The word says who delivers."""
+import collections
 import contextlib
 import os
 import re
@@ -45,6 +46,8 @@ PASSWORD = "$1$mail$HgxvIOKf2hbaCBNB2BqUs1"
 HARMLESS = SERVER.span("isn't a valid mbox file")
 # longer than what the page says to wait, in seconds
 QUIET = 61
+# the row of a mailbox that is left, or the first line of a group of them
+LEFT = re.compile(r"^(?:[^ ].*: left \(([a-z-]+)\)|([a-z-]+): (\d+) mailbox(?:es)?(?: \(|: [A-Z]))", re.MULTILINE)
 # a first pass over all users
 PASS = REFERENCE.line("mbox2maildir-admin migrate --users --tree mail --dovecot --prepare /var/mail")
 
@@ -175,7 +178,7 @@ class Follower:
         root(SERVER.line("mv /var/mail/mia /var/mail/mia.old"))
         owner("mia", SERVER.line("mv ~/mail ~/mail.old"))
         for part in ("migrate --dry-run ~/Maildir", "migrate ~/Maildir /var/mail/mia.old ~/mail.old"):
-            said = owner("mia", SERVER.line(part).replace("migrate ", "migrate --dovecot ", 1))
+            said = owner("mia", SERVER.line(part).replace("migrate ", "migrate --all --dovecot ", 1))
             equal(f"what is left: {said}", reasons(said), {})
             equal("whose inbox was prepared", prepared(said), {"/var/mail/mia.old"})
             self.letters.send("mia")
@@ -229,13 +232,13 @@ class Follower:
         root(SERVER.line("mkdir -m 711 /var/mail.old && mv"))
         dry, line = SERVER.line("--dry-run /var/mail.old"), SERVER.line("--dovecot /var/mail.old")
         equal("what would be left", reasons(root(dry, 1)), self.left)
-        said = root(line, 1)
+        said = root(line.replace("migrate ", "migrate --all ", 1), 1)
         equal("what is left", reasons(said), self.left)
         equal("whose inbox was prepared", prepared(said), set(others))
         self.deal_with(said, line)
         equal("folders that are only prepared", root(REFERENCE.line("find /home -name")), "")
         said = root(SERVER.line("verify --users"))
-        equal(f"who is to be looked at: {said}", re.findall(r"(?m)^(\S+): not whole: ", said), [])
+        equal(f"whether somebody is to be looked at: {said}", "not whole" in said, False)
         self.machine.set_maildirs()
         self.list.forget()
         if self.machine.way == "lmtp":
@@ -260,7 +263,7 @@ class Follower:
         path = Path("/home/emil/.procmailrc")
         if path.exists():
             before, recipe = (REFERENCE.cells(name)[-1] for name in ("procmail", "procmail's recipes"))
-            equal("procmail's rows", ("3.22" in before, "/.lists.sheds/" in recipe), (True, True))
+            equal("procmail's rows", ("~/.procmailrc" in before, "/.lists.sheds/" in recipe), (True, True))
             text = (
                 path.read_text(encoding="utf-8")
                 .replace(":0:", ":0")
@@ -289,9 +292,11 @@ def install() -> None:
 
 
 def reasons(said: str) -> dict[str, int]:
-    """How many rows are left for each reason."""
-    found = re.findall(r"(?m)^[^ ].*: left \(([a-z-]+)\)", said)
-    return {reason: found.count(reason) for reason in found}
+    """How many mailboxes are left for each reason, by their rows and by the groups of the last block."""
+    found = collections.Counter[str]()
+    for row, group, number in LEFT.findall(said):
+        found[row or group] += int(number or 1)
+    return dict(found)
 
 
 def prepared(said: str) -> set[str]:

@@ -1,5 +1,4 @@
-"""What the companion does on the disk whose power is cut. The record on the disk, not marks, says what must be
-there."""
+"""What the companion does on the disk whose power is cut. Ledgers on the disk, not marks, say what must be there."""
 import os
 import shutil
 import subprocess
@@ -9,15 +8,15 @@ from contextlib import ExitStack
 from pathlib import Path
 
 from tests.support import accounts
+from tests.support.ledgers import LEDGER
 from tests.support.powercut.mailboxes import UNSEEN, Made, numbered, shared, tree, two
 from tests.support.powercut.recording import Recorder
 from tests.support.powercut.workloads import Owed, Workload
 
-RECORD = "mbox2maildir-record"
-# the beginning of a line of a finished mailbox, and the place of the size in it
-DONE, SIZE = "done", 2
+# what the lines begin with of a batch and of its end, and the place of what the first says of the mailbox
+BATCH, END, KEY = "@", "=", 7
 # what a line of an undone mailbox begins with, and what is said if none is done any more
-UNDONE, NOTHING_OF_IT = "undone", "no ledger has it"
+UNDONE, NOTHING_OF_IT = "-", "no ledger has it"
 USERS = ["mia", "nora"]
 
 
@@ -42,10 +41,9 @@ class Migrate(Workload):
         del mailbox
         return self.folder(at)
 
-    def record_of(self, mailbox: Made, at: str) -> str:
-        """The path of the record that has a mailbox."""
-        del mailbox
-        return os.path.join(self.folder(at), RECORD)
+    def ledger_of(self, mailbox: Made, at: str) -> str:
+        """The path of the ledger that has a mailbox."""
+        return os.path.join(self.place(mailbox, at), LEDGER)
 
     def all_owed(self, at: str) -> Owed:
         return [(self.place(mailbox, at), mailbox.messages) for mailbox in self.mailboxes]
@@ -54,7 +52,7 @@ class Migrate(Workload):
         return [
             (self.place(mailbox, at), mailbox.messages)
             for mailbox in self.mailboxes
-            if os.path.getsize(mailbox.path) in sizes_of(self.record_of(mailbox, at))
+            if os.path.getsize(mailbox.path) in sizes_of(self.ledger_of(mailbox, at))
         ]
 
     def dated(self, at: str, marks: Sequence[str]) -> Owed:
@@ -64,23 +62,25 @@ class Migrate(Workload):
         return [folder for folder, _ in self.owed(at, marks)] if "--dovecot" in self.options else []
 
 
-def lines_of(record: str) -> list[list[str]]:
-    """The words of the lines of a record."""
+def lines_of(ledger: str) -> list[list[str]]:
+    """The words of the lines of a ledger."""
     try:
-        with open(record, encoding="utf-8", errors="replace") as file:
+        with open(ledger, encoding="utf-8", errors="replace") as file:
             return [line.split("\t") for line in file.read().split("\n")[:-1]]
     except OSError:
         return []
 
 
-def sizes_of(record: str) -> list[int]:
-    """The sizes of the mailboxes that a record has as done."""
-    return [int(line[SIZE]) for line in lines_of(record) if line[0] == DONE]
+def sizes_of(ledger: str) -> list[int]:
+    """The sizes of the mailboxes whose batches have ended in a ledger."""
+    lines = lines_of(ledger)
+    ended = [line[1:] for line in lines if line[0] == END]
+    return [int(line[KEY].split("-")[0]) for line in lines if line[0] == BATCH and line[1:2] in ended]
 
 
-def words_of(record: str) -> list[str]:
-    """The first words of the lines of a record."""
-    return [line[0] for line in lines_of(record)]
+def words_of(ledger: str) -> list[str]:
+    """The first words of the lines of a ledger."""
+    return [line[0] for line in lines_of(ledger)]
 
 
 def of_one(mailboxes: Sequence[Made], owed: Owed) -> Owed:
@@ -159,7 +159,7 @@ class Undone(Migrate):
         return [(self.folder(at), [one for one in self.mailboxes[0].messages if one.base not in kept])]
 
     def undone(self, at: str) -> Owed:
-        return self.all_undone(at) if UNDONE in words_of(self.record_of(self.mailboxes[0], at)) else []
+        return self.all_undone(at) if UNDONE in words_of(self.ledger_of(self.mailboxes[0], at)) else []
 
 
 class Tree(Migrate):
@@ -205,9 +205,6 @@ class Users(Migrate):
 
     def place(self, mailbox: Made, at: str) -> str:
         return os.path.join(at, "home", os.path.basename(mailbox.path), "Maildir")
-
-    def record_of(self, mailbox: Made, at: str) -> str:
-        return os.path.join(self.place(mailbox, at), RECORD)
 
 
 class Dates(Migrate):

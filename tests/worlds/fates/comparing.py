@@ -28,9 +28,9 @@ def migrate(world: World, desk: Desk, options: Sequence[str] = ()) -> Run:
 class Comparison:
     """A run, and what is wrong with it."""
 
-    def __init__(self, world: World, ran: Run, done: str = FIRST, already: Sequence[Thing] = ()) -> None:
-        # what is done is said by this word, unless it was done already
-        self.world, self.ran, self.done, self.already = world, ran, done, already
+    def __init__(self, world: World, ran: Run, done: str = FIRST) -> None:
+        # what is done is said by this word
+        self.world, self.ran, self.done = world, ran, done
         # the rows of each thing, and those of nothing that was made
         self.rows: dict[Thing, list[Row]] = collections.defaultdict(list)
         self.strange: list[Row] = []
@@ -84,8 +84,7 @@ class Comparison:
     def done_words(self, thing: Thing) -> set[str]:
         """The words that may be said of what must be done. No record has a mailbox without mail, so it is done
         anew."""
-        done = AGAIN if thing in self.already else self.done
-        return {done} | ({FIRST} if done == AGAIN and not thing.messages else set())
+        return {self.done} | ({FIRST} if self.done == AGAIN and not thing.messages else set())
 
     def wrong_sum(self) -> Iterator[str]:
         """What is wrong with the sums."""
