@@ -29,8 +29,9 @@ SYNC_FAILS = '@"$real" "$@"; echo "mbox2maildir: folder call 9 failed" >&2; exit
 
 
 def killed(words: str) -> list[Step]:
-    """Runs a command that is killed once the program has placed everything."""
-    return ['@"$real" "$@"; kill -9 $PPID', words, RESTORED]
+    """Runs a command that is killed once the program has placed everything, and the kernel's clock has ticked: what a
+    person does within a tick, no time shows."""
+    return ['@"$real" "$@"; sleep 0.05; kill -9 $PPID', words, RESTORED]
 
 
 def said_of(row: Row) -> str:
