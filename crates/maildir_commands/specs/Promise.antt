@@ -4,11 +4,12 @@
 -- of the mailbox undone, and without the line `From `. The base is the front of its file name: the digest of the body, a dot, and the message's number
 -- among those of its text with this digest. So a message that stands once in each of two texts has the same base in both, and is the same file.
 --
--- All is said of the messages whose bases are `spared`. With the file of such a message other programs do two things only, at any time: they move it from
--- `new` to `cur`, and rename it in `cur`. The base stays the same; the flags behind it may change, also while it is moved. (What is in `tmp` they may
--- remove.) A message that somebody deletes, edits, files elsewhere, gives a second name, moves back to `new` or restores from a backup is not spared, and
--- nothing is said of it.
--- The program never sees `spared`: whoever applies the law chooses it, also afterwards.
+-- All is said of the messages whose bases are `spared`. (`spared` has two parts: these bases, and `whole`, which says that a power cut keeps or loses each
+-- rename as one change. With `whole` more is asked of the machine; without it, of each power cut.) With the file of such a message other programs do two
+-- things only, at any time: they move it from `new` to `cur`, and rename it in `cur`. The base stays the same; the flags behind it may change, also while
+-- it is moved. (What is in `tmp` they may remove.) A message that somebody deletes, edits, files elsewhere, gives a second name, moves back to `new` or
+-- restores from a backup is not spared, and nothing is said of it. (A history that begins after that may spare it again: the next status 0 brings a deleted
+-- message back.) The program never sees `spared`: whoever applies the law chooses it, also afterwards.
 --
 -- These terms are defined in other files. Where they speak of messages and bases, they speak of the spared ones, but for AreFit and HasItsMessages.
 -- In maildir_commands/specs, Machines:
@@ -16,12 +17,13 @@
 --   HasItsMessages  the text has fewer than 2^63 bytes, and its messages are those of its bytes, in order, by their bodies and bases; it has none if it is
 --                   no mbox text
 --   IsSoundFor      each message is missing, or in exactly one file of `new` or `cur`, with exactly its body; and the messages are intact (AreIntact)
---   AreAllSafe      each message is in exactly one file of `new` or `cur`, with exactly its body; in whatever a power cut may leave, a file there has its
---                   base and its body; and the Maildir survives a power cut, if there is any text
---   OthersStay      messages that fit with these texts, their own or others, are still sound, in their file and safe from a power cut, if they were so before
+--   AreAllSafe      each message is in exactly one file of `new` or `cur`, with exactly its body; in whatever a power cut may leave, at least one file has
+--                   its base and its body; and the Maildir survives a power cut, if there is any text
+--   OthersStay      all messages that fit with these texts, their own too, are still sound, in their file and safe from a power cut, if they were so before
 --   GivesTexts      these are the texts of the files that are named, in order. If none is named, it is one text: it begins with what was read of standard
 --                   input, and is exactly that if nothing was left. So it must be known what standard input had. There is always at least one text.
---   HeldMaildir     a Maildir at one moment: its `files`; `may_leave`, what a power cut may leave of them; `rooted`: the Maildir survives a power cut
+--   HeldMaildir     a Maildir at one moment: its `files`; `may_leave`, what a power cut may leave of them; `rooted`: the Maildir survives a power cut.
+--                   (This page does not need `touched`.)
 --   Rests           only other programs acted on the Maildir, and they spared these messages; or nobody did
 -- In Seen, Report and Words, beside it:
 --   SeenMachine     what is seen of a machine at one moment (`at`). The page needs the next four of it:
@@ -65,8 +67,8 @@ pub record Promised (spared : Spared) (texts : List Mailbox) (episodes : List Ep
   -- The Maildir is sound for all of the texts: each message is missing, or in exactly one file of `new` or `cur`, with exactly its body.
   pub sound : IsSoundFor spared texts maildir
   -- What a command left of its texts is still so, however long ago that was. After status 0 each message is safe; after status 1 it is, if it is known
-  -- that the line of its text was begun. A command that was killed (a shell says status 137) counts as one with status 1. The last episode may be a power
-  -- cut: after it, too, each safe message is in exactly one file.
+  -- (`Some`) that the line of its text was begun. Whoever saw the line knows it. A command that was killed (a shell says status 137) counts as one with
+  -- status 1. The last episode may be a power cut: after it, too, each safe message is in exactly one file.
   pub left : (these : List Mailbox) (status : ℕ) (before after : Option (List ℕ)) → Contains episodes (Conversion these status before after)
       → LeftByCommand spared these status before after maildir
   -- Right after status 0 `tmp` is swept.
@@ -80,11 +82,13 @@ pub record AnyCommands {M : Type 0} (spared : Spared) (at : M → SeenMachine) (
     (old new : M) : Type 0 where
   -- At first the machine does as assumed, and other programs spare these messages. For later moments the episodes say so.
   pub as_assumed : (at old).honest spared
-  -- Each text has its messages, and no two messages of the texts have the same base but different bodies. The law `texts_fit` says when this is so.
+  -- Each text has its messages, and no two messages of the texts have the same base but different bodies. The law `texts_fit` says when this is so. If it
+  -- fails for one pair, nothing is said of any message. Two messages of one text never make it fail: they have different numbers.
   pub fit : AreFit texts
   -- At first the Maildir is sound for the texts, as one is that is new to them.
   pub sound : IsSoundFor spared texts ((at old).maildir_at path)
-  -- Each episode leads from one moment to the next. One command at a time is at work in this Maildir; other programs may act at any time.
+  -- Each episode leads from one moment to the next. It is assumed that one command at a time is at work in this Maildir: the lock is no part of the proof.
+  -- Other programs may act at any time.
   pub history : IsHistory spared at path texts episodes old new
 
 -- The Maildir has none of the messages of the texts. If a power cut may bring some back that were deleted, it brings them back whole. `AnyCommands` has no
@@ -117,7 +121,7 @@ pub record IsThereOnce (text : Mailbox) (maildir : HeldMaildir) : Type 0 where
 pub record OncePromised (text : Mailbox) (episodes : List Episode) (maildir : HeldMaildir) : Type 0 where
   -- Each message is missing, or in exactly one file of `new` or `cur`, with exactly its body.
   pub sound : All (IsSoundAt maildir.files) text.messages
-  -- After a status 0 of a command that was given this text once, however long ago, each is there once.
+  -- After a status 0 of a command whose words name this text once, however long ago, each is there once.
   pub safe : (before after : Option (List ℕ)) → Contains episodes (Conversion (text ∷ []) 0 before after) → IsThereOnce text maildir
   -- So it is after a status 1 of such a command, if it is known that it printed anything.
   pub printed : (before line : List ℕ) → Contains episodes (Conversion (text ∷ []) 1 (Some before) (Some (before ++ line))) → line ≢ []
