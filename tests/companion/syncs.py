@@ -8,9 +8,8 @@ import sys
 from collections.abc import Sequence
 from pathlib import Path
 
-from tests.support.cases import LeftOut
 from tests.support.checks import equal
-from tests.support.homes import ADMIN, check_all, expect, mailbox
+from tests.support.homes import ADMIN, check_all, expect, mailbox, want_strace
 from tests.support.mail import ONE, TWO
 from tests.support.running import Desk
 
@@ -30,6 +29,16 @@ PART = "M/tmp/mbox2maildir-admin-dovecot-uidlist"
 LISTED = [f"write {PART}", f"sync {PART}", "link M/dovecot-uidlist", f"remove {PART}", "sync M"]
 REPLACED = [f"write {LOCK}", f"sync {LOCK}", "rename M/dovecot-uidlist", "sync M"]
 UIDS = "--dovecot M"
+# mail that goes back: the copy beside the mailbox, the ledger, the mailbox, each on the disk before the next one
+BESIDE, LIST = "M/.a/mbox2maildir-back", "mail/.subscriptions"
+RETURNED = [
+    *[f"write {BESIDE}.new"] * 2,
+    *(f"sync {BESIDE}.new", f"rename {BESIDE}", "sync M/.a"),
+    *("write M/.a/mbox2maildir-messages", "sync M/.a/mbox2maildir-messages"),
+    *("write mail/a", "sync mail/a", f"remove {BESIDE}", "sync M/.a"),
+    *("write M/.a/mbox2maildir-messages", "sync M/.a/mbox2maildir-messages"),
+]
+SUBSCRIBED = [f"write {LIST}.mbox2maildir-back", f"sync {LIST}.mbox2maildir-back", f"rename {LIST}", "sync mail"]
 FLAGS = ["sync M/cur", "sync M/new"]
 FLAGGED = ONE.replace(b"\nSubject", b"\nX-Mozilla-Status: 0001\nSubject")
 # the mailbox before, and the words of a first run of `migrate`; the mailbox, the words, and what the run calls then
@@ -70,7 +79,7 @@ def called(home: Path, words: Sequence[str]) -> list[str]:
 def named(home: Path, name: str, words: str) -> str:
     """A call by its name and path; empty if it is of a file that is elsewhere or has no name. All files of messages
     have one name here."""
-    found = re.findall(r'<([^<>]*)>|"((?:/|M)[^"]*)"', words if name != "write" else words.split(",")[0])
+    found = re.findall(r'<([^<>]*)>|"((?:/|M|mail)[^"]*)"', words if name != "write" else words.split(",")[0])
     path = os.path.relpath(os.path.join(home, "".join(found[-1])), home) if found else ".."
     path = re.sub(r"M/(new|cur)/[0-9a-f]{64}\S*", lambda its: its[1].upper(), path)
     return "" if path.startswith("..") or "#" in path else f"{NAMES.get(name, name)} {path}"
@@ -78,8 +87,7 @@ def named(home: Path, name: str, words: str) -> str:
 
 def runs(home: Path) -> None:
     """Nothing is done to a Maildir before what it needs is on the disk."""
-    if not shutil.which("strace") or Desk(home).run(["/usr/bin/env", "strace", "-qq", "true"]).status:
-        raise LeftOut("strace is not here, or may not look")
+    want_strace()
     for before, first, text, words, wanted in RUNS:
         shutil.rmtree(home / "M", ignore_errors=True)
         if before:
@@ -89,5 +97,18 @@ def runs(home: Path) -> None:
         equal(f"{before!r}, {words}", called(home, ["migrate", "--now", *words.split(), "box"]), wanted)
 
 
+def returns(home: Path) -> None:
+    """A mailbox and the list of a tree are whole, whatever ends `back`."""
+    want_strace()
+    mailbox(home / "mail/a", ONE)
+    (home / LIST).write_bytes(b"")
+    expect(["migrate", "--dovecot", "--now", "M", "mail"], home, 0, None)
+    (home / "M/.a/new/1.a.b").write_bytes(TWO.split(b"\n", 1)[1])
+    with open(home / "M/subscriptions", "a", encoding="ascii") as file:
+        file.write("a\n")
+    calls = [one for one in called(home, ["back", "--dovecot", "M", "mail"]) if ".lock" not in one]
+    equal("calls", calls, [*RETURNED, *SUBSCRIBED, INDEX])
+
+
 if __name__ == "__main__":
-    check_all(runs)
+    check_all(runs, returns)
