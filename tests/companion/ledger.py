@@ -41,6 +41,20 @@ def rule_1_killed_under_a_name_that_it_had(home: Home) -> None:
     home.has(0)
 
 
+def rule_1_killed_and_renamed(home: Home) -> None:
+    """A run is killed once it has placed what is new. Another program renames that file, and mail programs write into
+    the mailbox: the message is there once, and no row says that it came back."""
+    for then in home.each(([0, 1], [0, 0], [0, 1, 2])):
+        home.bring(OLD=letters(0))
+        home.bring(OLD=letters(*then))
+        home.forget_end()
+        for number, path in enumerate(home.files()):
+            path.rename(path.parent.parent / f"cur/1700{number}.host:2,S")
+        row = home.bring(OLD=letters(*then, fields=RO))["OLD"]
+        home.has(*then)
+        want_unsaid(row, "came back")
+
+
 def rule_1_killed_again(home: Home) -> None:
     """A run with --again is killed that has nothing to place. The mailbox gets one more of a message that it has twice,
     whose last two have the names of the files that are there: it is there three times, also if another program has

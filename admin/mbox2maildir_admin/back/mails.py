@@ -5,7 +5,7 @@ one: IMAP keeps some names and changes others. Any further file is new, also a c
 """
 import collections
 import os
-from collections.abc import Callable, Iterable, Iterator, Sequence
+from collections.abc import Iterable, Iterator, Sequence
 from typing import NamedTuple, Optional
 
 from .. import ADMIN
@@ -83,79 +83,42 @@ class Sorted(NamedTuple):
     returned: Sequence[Mail] = ()
 
 
-class Sorting:
-    """Finds the file of each message that mailboxes brought."""
+def sorted_by(lines: Iterable[tuple[bytes, list[Line]]], mails: Iterable[Mail]) -> Sorted:
+    """Finds the file of each message that mailboxes brought, by the lines about each folder, and the files of all: by
+    its name, or by its core, in the folder; then in other folders."""
+    left = {mail.path: mail for mail in mails}
+    homes: collections.defaultdict[bytes, dict[bytes, bytes]] = collections.defaultdict(dict)
+    for mail in left.values():
+        homes[mail.folder][mail.before] = mail.path
+    several = (Slot(folder, file) for folder, its in lines for file in files_of(its, homes[folder]))
+    slots = [slot for slot in several if slot.file.is_held or went_back(slot.file)]
+    slots.sort(key=lambda slot: not slot.file.is_held)
+    found = [(left.pop(homes[slot.folder][slot.file.name]), slot) for slot in slots if slot.file.name]
+    for way in range(len(forms_by(b"", b"", b""))):
+        free = by_form((forms_by(mail.folder, mail.before, mail.core)[way], path) for path, mail in left.items())
+        for slot in slots:
+            form = forms_by(slot.folder, slot.file.lines[0].message.name, slot.core)[way]
+            if slot.file.name is None and slot.file.find(free, form):
+                found.append((left.pop(slot.file.name or b""), slot))
+    return Sorted(
+        sorted(left.values(), key=lambda mail: (mail.time, mail.name, mail.folder)),
+        [(mail, slot) for mail, slot in found if mail.folder != slot.folder],
+        [slot for mail, slot in found if mail.core != slot.core],
+        [slot for slot in slots if slot.file.is_held and slot.file.name is None],
+        frozenset(path for slot in slots for path in slot.paths),
+        [mail for mail, slot in found if mail.folder == slot.folder and slot.is_returned],
+    )
 
-    def __init__(self, lines: Iterable[tuple[bytes, list[Line]]], mails: Iterable[Mail]) -> None:
-        """Takes the lines about each folder, and the files of all."""
-        self.mails: collections.defaultdict[bytes, dict[bytes, Mail]] = collections.defaultdict(dict)
-        for mail in mails:
-            self.mails[mail.folder][mail.before] = mail
-        self.gone: list[Slot] = []
-        self.moved: list[tuple[Mail, Slot]] = []
-        self.changed: list[Slot] = []
-        self.returned: list[Mail] = []
-        self.paths: set[str] = set()
-        for folder, several in lines:
-            self.take_home(folder, several)
 
-    def run(self) -> Sorted:
-        """Finds them: by the name and by the core in the folder, then in other folders."""
-        self.gone.sort(key=lambda slot: not slot.file.is_held)
-        self.take_moved(lambda mail: own_base(mail.before), lambda slot: own_base(slot.file.lines[0].message.name))
-        self.take_moved(lambda mail: mail.core, lambda slot: slot.core)
-        new = sorted(self.left(), key=lambda mail: (mail.time, mail.name, mail.folder))
-        deleted = [slot for slot in self.gone if slot.file.is_held]
-        return Sorted(new, self.moved, self.changed, deleted, frozenset(self.paths), self.returned)
-
-    def left(self) -> Iterator[Mail]:
-        """The files that stand for no message."""
-        return (mail for mails in self.mails.values() for mail in mails.values())
-
-    def take_home(self, folder: bytes, lines: list[Line]) -> None:
-        """Takes the files that a folder has of the messages that were brought there."""
-        mails = self.mails[folder]
-        slots = [Slot(folder, file) for file in files_of(lines, mails) if file.is_held or went_back(file)]
-        self.paths.update(path for slot in slots for path in slot.paths)
-        found = [slot for slot in slots if slot.file.name]
-        for slot in found:
-            self.take(slot, mails.pop(slot.file.name or b""))
-        free = by_form((mail.core, before) for before, mail in mails.items())
-        missing = [slot for slot in slots if not slot.file.name]
-        for slot in sorted(missing, key=lambda slot: not slot.file.is_held):
-            if slot.file.find(free, slot.core):
-                self.take(slot, mails.pop(slot.file.name or b""))
-            else:
-                self.gone.append(slot)
-
-    def take(self, slot: Slot, mail: Mail) -> None:
-        """Takes the file of a message."""
-        if mail.core != slot.core:
-            self.changed.append(slot)
-        if mail.folder != slot.folder:
-            self.moved.append((mail, slot))
-        elif slot.is_returned:
-            self.returned.append(mail)
-
-    def take_moved(self, form: Callable[[Mail], bytes], form_of: Callable[[Slot], bytes]) -> None:
-        """Takes the files that other folders have of messages that are gone from theirs."""
-        at = {mail.path: mail for mail in self.left()}
-        free = by_form((form(mail), path) for path, mail in at.items())
-        for slot in self.gone:
-            if slot.file.find(free, form_of(slot)):
-                mail = at[slot.file.name or b""]
-                self.take(slot, self.mails[mail.folder].pop(mail.before))
-        self.gone = [slot for slot in self.gone if slot.file.name is None]
+def forms_by(folder: bytes, name: bytes, core: bytes) -> Sequence[bytes]:
+    """By what a file is found that does not have the name of its message: by its core in the folder; in another one by
+    the name that this program gave, or by its core."""
+    return folder + core, name if BASE.fullmatch(name) else b"", core
 
 
 def went_back(file: File) -> bool:
     """Whether a file went back to a mailbox, which no longer has its message."""
     return any(line.state is State.FORMER and line.message.word == RETURNED for line in file.lines)
-
-
-def own_base(name: bytes) -> bytes:
-    """The base that a name is, which this program gave; nothing for any other name."""
-    return name if BASE.fullmatch(name) else b""
 
 
 def lines_about(root: bytes) -> Iterator[tuple[bytes, list[Line]]]:
@@ -224,6 +187,6 @@ def core_in(path: bytes) -> Optional[bytes]:
 def sorted_mail(root: bytes, say: Say = silent) -> Sorted:
     """Which mail of a Maildir is new, and what became of the rest. Raises Fault if nothing shows that."""
     try:
-        return Sorting(lines_about(root), mails_of(root, say)).run()
+        return sorted_by(lines_about(root), mails_of(root, say))
     except OSError as error:
         raise PlaceFault("%s: %s" % (named(error.filename or root), error.strerror), Reason.ERROR) from error

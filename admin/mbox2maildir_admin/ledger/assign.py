@@ -11,21 +11,23 @@ import bisect
 import collections
 from collections.abc import Container, Iterable, Iterator, Mapping
 from enum import IntEnum
-from typing import Optional
+from typing import NamedTuple, Optional
 
 from .batches import Line, State
-from .lines import NAMELESS, SHARED
+from .lines import FOREIGN, NAMELESS, SHARED, Brought
 
 
-class Offer(IntEnum):
+class Why(IntEnum):
     """Why a file may stand for a new message of a mailbox, in the order in which files are taken: a run of the mailbox
-    that was killed has placed it, or found it; another mailbox brought it, and it is there; or it is gone; or the
-    mailbox brought it once, or some run that was killed."""
+    that was killed has placed it, or found it; another mailbox brought it, and it is there; or it is gone; the mailbox
+    brought it once, or some run that was killed; or nobody did. With --again, any file may."""
 
     BEGUN = 0
     SHARED = 1
     GONE = 2
     ONCE = 3
+    NOBODYS = 4
+    ANY = 5
 
 
 # the states of what a mailbox brought, whether it has it still or not
@@ -119,27 +121,35 @@ def files_named(lines: list[Line], name: Optional[bytes]) -> Iterator[File]:
         yield File(turns[turn], name if is_newest else None, is_newest)
 
 
-def offers(files: list[File], path: str, bare: bytes) -> list[tuple[Offer, File, Line]]:
-    """What may stand for new messages of the mailbox at a path that have a bare form, with a line about it, in the
-    order in which it is to be taken. A file may be offered for several reasons."""
-    found: list[tuple[Offer, File, Line]] = []
-    for file in files:
-        own = file.line_of(path)
-        if own and own.state not in BROUGHT and own.message.word == SHARED and own.message.bare != bare:
-            # what a killed run has only shared, it shared in that form
-            own = None
-        others = [line for line in reversed(file.lines) if line.path != path and line.message.bare == bare]
-        brought = sorted((one for one in others if one.state in BROUGHT), key=lambda one: one.state is State.FORMER)
-        if own and file.name and own.state is State.OPEN and own.message.word != SHARED:
-            found.append((Offer.BEGUN, file, own))
-        if brought:
-            found.append((Offer.GONE if file.is_gone else Offer.SHARED, file, brought[0]))
-        once = [own] if own else [line for line in others if line not in brought]
-        if once and file.name:
-            found.append((Offer.ONCE, file, once[0]))
-    # what is in another form may stand for a message in that form; and what another mailbox no longer has in this form,
-    # it may have in another one
-    return sorted(
-        found,
-        key=lambda one: (one[2].message.bare != bare, one[0], one[2].path != path and one[2].state is State.FORMER),
-    )
+def nobodys(name: bytes, core: bytes, bare: bytes) -> File:
+    """A file of a name that no mailbox brought, which holds a message of these forms."""
+    return File([Line("", State.DROPPED, Brought(FOREIGN, name, core, bare))], name)
+
+
+class Offer(NamedTuple):
+    """A file that may stand for a new message, by a line about it, and why; and whether it may stand for one in another
+    form than that of the line, too."""
+
+    why: Why
+    file: File
+    line: Line
+    in_any_form: bool = False
+
+
+def offers_of(files: Iterable[File], path: str) -> list[Offer]:
+    """What may stand for new messages of the mailbox at a path, in the order in which it is to be taken. A file may be
+    offered for several reasons."""
+    several = [one for file in files for line in reversed(file.lines) for one in offers_by(file, line, path)]
+    return sorted(several, key=lambda one: (one.why, one.line.path != path, one.line.state is State.FORMER))
+
+
+def offers_by(file: File, line: Line, path: str) -> Iterator[Offer]:
+    """What a file may stand for by a line about it."""
+    is_brought = line.state in BROUGHT
+    # what a killed run has only shared, it shared in that form
+    in_any_form = line.path == path and (is_brought or line.message.word != SHARED)
+    if is_brought and line.path != path:
+        yield Offer(Why.GONE if file.is_gone else Why.SHARED, file, line)
+    if file.name and line.state is not State.HELD:
+        why = Why.BEGUN if in_any_form and line.state is State.OPEN else Why.ONCE
+        yield Offer(why if line.path else Why.NOBODYS, file, line, in_any_form)

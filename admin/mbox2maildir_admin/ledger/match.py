@@ -8,18 +8,18 @@ deleted counts for no message that is not.
 import array
 import collections
 import itertools
-from collections.abc import Callable, Iterable, Iterator, Sequence
+from collections.abc import Callable, Container, Iterable, Iterator, Sequence
 
 from ..maildir.hashes import Hashes
 from ..mbox.bases import is_own
 from ..mbox.core import SHORT
 from ..mbox.inventory import Inventory
 from ..units import Place, Say, silent
-from .assign import BROUGHT, File, Offer, files_of, offers
+from .assign import BROUGHT, File, Offer, Unnamed, Why, by_form, files_of, nobodys, offers_of
 from .batches import Line, State
 from .files import Files
 from .ledger import Ledger
-from .lines import FOREIGN, NAMELESS, SHARED, Brought, counted_in, word_for_others
+from .lines import FOREIGN, NAMELESS, Brought, counted_in, word_for_others
 
 # tells whether a message is marked as deleted in its mailbox
 IsDeleted = Callable[[Place], bool]
@@ -82,25 +82,84 @@ class Match:
         return self
 
     def serve(self, groups: dict[bytes, list[int]]) -> list[int]:
-        """Finds what stands for new messages, whose places are given by their bare forms. Returns the places of the
-        rest."""
-        most, known, needed = self.ledger.most(self.path, groups), self.known(groups), []
-        cores: collections.defaultdict[bytes, list[bytes]] = collections.defaultdict(list)
-        for bare, places in groups.items():
-            cores[self.inventory.core(places[0])].append(bare)
-        for core, bares in cores.items():
+        """Finds what stands for new messages, whose places are given by their cores. Returns the places of the rest."""
+        bares = set(map(self.inventory.bare, itertools.chain.from_iterable(groups.values())))
+        most, needed = self.ledger.most(self.path, bares), []
+        most.subtract(self.known(bares))
+        for core, places in groups.items():
             files = files_of(self.lines.get(core, ()), self.present)
+            unnamed = self.unnamed(files, places)
+            # first what the mailbox has: each counts for one message only
+            for file in sorted(files, key=lambda one: (not one.is_held_by(self.path), not one.is_held)):
+                if any(line.state in BROUGHT for line in file.lines):
+                    file.find(unnamed, file.bare)
+            files += [nobodys(name, core, bare) for bare, names in unnamed.items() for name in names]
             served = {one for one in files if self.is_mine(one.name or b"") or one.is_held_by(self.path)}
-            for bare in bares:
-                serving = Serving(self, groups[bare], files, served)
-                serving.take_offers(most[bare] - known[bare])
-                serving.take_strangers()
-                needed += serving.end()
+            needed += self.take(places, offers_of(files, self.path), served, most)
         return needed
 
+    def unnamed(self, files: Iterable[File], places: Iterable[int]) -> Unnamed:
+        """The files that may hold messages at these places, and that no line about some files names."""
+        names, inventory = {line.message.name for file in files for line in file.lines}, self.inventory
+        forms = dict.fromkeys((inventory.bare(place), inventory.table.digest(place)) for place in places)
+        found: dict[tuple[bytes, bytes], None] = {}
+        for bare, digest in forms:
+            several = itertools.chain(self.files.own_names(digest), self.strangers.get(bare, ()))
+            found.update(((bare, name), None) for name in several if name not in names and not self.is_mine(name))
+        return by_form(found)
+
+    def take(
+        self, places: Iterable[int], offers: Sequence[Offer], served: set[File], most: collections.Counter[bytes]
+    ) -> list[int]:
+        """Takes what is offered for new messages at these places, which have the same core: first for those in its
+        form. Some files stand for messages already, and other mailboxes brought at most so many in each form. Returns
+        the places of what is nowhere."""
+        waiting: dict[bytes, list[int]] = {}
+        counts: collections.Counter[bytes] = collections.Counter()
+        for place in places:
+            waiting.setdefault(self.inventory.bare(place), []).append(place)
+        for one, is_same in [*((one, True) for one in offers), *((one, False) for one in offers if one.in_any_form)]:
+            bare = one.file.bare if one.why is Why.ANY else one.line.message.bare
+            is_trashed = one.line.message.name in self.files.trashed
+            is_enough = one.why in (Why.SHARED, Why.GONE) and counts[bare] >= most[bare]
+            its = itertools.chain.from_iterable([waiting.get(bare, [])] if is_same else waiting.values())
+            may_have = (place for place in its if not is_trashed or self.is_deleted(Place(place)))
+            found = None if one.file in served or is_enough else next(may_have, None)
+            if found is not None:
+                served.add(one.file)
+                waiting[self.inventory.bare(found)].remove(found)
+                counts[self.inventory.bare(found)] += 1
+                self.note(one, found)
+        rest = list(itertools.chain.from_iterable(waiting.values()))
+        refused = {one.file for one in offers if one.line.message.name in self.files.trashed} - served
+        self.seen.marked += min(len(refused), len(rest))
+        lines = self.lines.get(self.inventory.core(rest[0]), ()) if rest else ()
+        theirs = (one for one in lines if one.path != self.path and one.state is State.HELD)
+        forms = {one.message.bare for one in theirs if one.message.name in self.present}
+        self.seen.other_form += sum(bool(forms) and self.inventory.bare(place) not in forms for place in rest)
+        return rest
+
+    def note(self, offer: Offer, place: int) -> None:
+        """Notes that a file stands for a message. What this program has placed and no run has finished gets dates and
+        flags too."""
+        why, (path, state, its, *_), seen = offer.why, offer.line, self.seen
+        word = its.word if path == self.path else word_for_others(its.word)
+        self.found[place] = Brought(word, its.name, self.inventory.core(place), self.inventory.bare(place))
+        is_there = its.name == offer.file.name and is_own(its.name)
+        self.fresh.update([place] if is_there and why in (Why.BEGUN, Why.NOBODYS) else ())
+        if not path:
+            seen.foreign.append(its.name)
+        elif why is not Why.ANY:
+            seen.shared.update([path] if path != self.path else ())
+            seen.gone.update([path] if why is Why.GONE else ())
+            seen.regained += why is Why.ONCE and (path, state) == (self.path, State.FORMER)
+
     def find_strangers(self) -> None:
-        """Finds the files that no line explains. At first sight they may be in another form, and all lines count."""
-        ledger, is_first = self.ledger, self.path not in self.ledger.sources
+        """Finds the files that no line explains. At first sight, and after a killed run, they may be in another form,
+        and all lines count."""
+        ledger, path = self.ledger, self.path
+        # what a killed run has placed may have another name, and the text other bytes
+        is_first = path not in ledger.sources or ledger.pending(path) is not None
         several = ledger.messages({*ledger.ended, *ledger.open} if is_first else ())
         named = (one.name for number, one in several if number in ledger.ended or one.word != FOREIGN)
         known = Hashes(itertools.chain(self.taken(), self.names_of_lines(), named))
@@ -122,9 +181,10 @@ class Match:
             groups[inventory.core(place)].append(place)
         needed: list[int] = []
         for core, places in groups.items():
-            serving = Serving(self, places, files_of(self.lines.get(core, ()), self.present), set())
-            serving.take_any(unnamed.get(core, ()))
-            needed += serving.end()
+            files = sorted(files_of(self.lines.get(core, ()), self.present), key=lambda one: not one.line_of(path))
+            files += [nobodys(name, core, bare) for bare, name in unnamed.get(core, ())]
+            offers = [Offer(Why.ANY, one, one.line_of(path) or one.lines[-1], True) for one in files if one.name]
+            needed += self.take(places, offers, set(), collections.Counter())
         self.need = array.array("Q", sorted(needed))
         self.dropped = [one.message for one in self.own_lines() if one.state is State.HELD]
         return self
@@ -197,8 +257,8 @@ class Match:
         return {line.message.name for lines in self.lines.values() for line in lines} - {NAMELESS}
 
     def groups(self) -> tuple[dict[bytes, list[int]], list[int]]:
-        """The places of the new messages for which a file or a line may stand, by their bare forms, and the places of
-        the others."""
+        """The places of the new messages for which a file or a line may stand, by their cores, and the places of the
+        others."""
         groups: collections.defaultdict[bytes, list[int]] = collections.defaultdict(list)
         others: list[int] = []
         digest_at, files = self.inventory.table.digest, self.files
@@ -206,14 +266,14 @@ class Match:
         for place in self.new if self.lines or has_files else ():
             core, bare = self.inventory.core(place), self.inventory.bare(place)
             is_known = core in self.lines or bare in self.strangers or files.has_digest(digest_at(place))
-            (groups[bare] if is_known else others).append(place)
+            (groups[core] if is_known else others).append(place)
         return groups, others if groups else list(self.new)
 
-    def known(self, groups: dict[bytes, list[int]]) -> collections.Counter[bytes]:
+    def known(self, bares: Container[bytes]) -> collections.Counter[bytes]:
         """How often the mailbox has each of these bare forms among the messages that it had before."""
-        new = set(self.new) if groups else ()
-        places = (place for place in range(len(self.inventory)) if place not in new) if groups else ()
-        return collections.Counter(bare for bare in map(self.inventory.bare, places) if bare in groups)
+        new = set(self.new) if bares else ()
+        places = (place for place in range(len(self.inventory)) if place not in new) if bares else ()
+        return collections.Counter(bare for bare in map(self.inventory.bare, places) if bare in bares)
 
     def drop(self) -> None:
         """Finds the lines of what the mailbox no longer has: first forms that it has not, then files that are gone."""
@@ -234,106 +294,6 @@ class Match:
     def is_known(self) -> bool:
         """Whether the mailbox has nothing new."""
         return not (self.found or any(self.mine) or len(self.need))
-
-
-class Serving:
-    """Looks for what stands for some new messages, which have the same core."""
-
-    def __init__(self, match: Match, places: Sequence[int], files: list[File], served: set[File]) -> None:
-        """Takes the files that lines about this core are about, and those of them that stand for a message."""
-        self.match, self.waiting, self.places, self.files, self.served = match, list(places), places, files, served
-        self.bare = match.inventory.bare(places[0])
-        # files that are marked as deleted, and stand for none
-        self.refused: set[bytes] = set()
-        # what stands for messages though it is gone, unless it was renamed, with the paths of those that brought it
-        self.gone: dict[File, str] = {}
-
-    def take(self, word: bytes, name: bytes, places: Iterable[int], is_fresh: bool = False) -> bool:
-        """Takes a file for one of these messages, which wait, if it may stand for it. Returns whether it does. What
-        this program has placed and no run has finished gets dates and flags too."""
-        match, is_trashed = self.match, name in self.match.files.trashed
-        place = next((one for one in places if not is_trashed or match.is_deleted(Place(one))), None)
-        if place is None:
-            self.refused |= {name} if is_trashed else set()
-            return False
-        self.refused.discard(name)
-        self.waiting.remove(place)
-        match.fresh.update([place] if is_fresh and is_own(name) else ())
-        match.found[place] = Brought(word, name, match.inventory.core(place), match.inventory.bare(place))
-        return True
-
-    def take_file(self, file: File, line: Line, places: Iterable[int], is_fresh: bool = False) -> bool:
-        """Takes a file for one of these messages, by a line about it, unless it stands for another message."""
-        one, is_mine = line.message, line.path == self.match.path
-        word = one.word if is_mine and one.word != SHARED else word_for_others(one.word)
-        if file in self.served or not self.take(word, one.name, places, is_fresh):
-            return False
-        self.served.add(file)
-        return True
-
-    def take_offers(self, count: int) -> None:
-        """Takes what lines offer. Other mailboxes brought so many of these messages, without those that this one has
-        begun."""
-        for offer, file, line in offers(self.files, self.match.path, self.bare):
-            is_shared = offer in (Offer.SHARED, Offer.GONE)
-            is_enough = is_shared and len(self.places) - len(self.waiting) >= count
-            if is_enough or not self.take_file(file, line, self.waiting, offer is Offer.BEGUN):
-                continue
-            self.match.seen.shared.update([line.path] if line.path != self.match.path else ())
-            self.gone.update({file: line.path} if offer is Offer.GONE else {})
-            self.match.seen.regained += offer is Offer.ONCE and line[:2] == (self.match.path, State.FORMER)
-
-    def unnamed(self) -> collections.deque[bytes]:
-        """The files of this form that no line names. Those come last that may stand for a message that waits."""
-        names = {line.message.name for file in self.files for line in file.lines}
-        digest_at = self.match.inventory.table.digest
-        digests = dict.fromkeys(map(digest_at, sorted(self.places, key=set(self.waiting).__contains__)))
-        own = (name for digest in digests for name in self.match.files.own_names(digest))
-        several = dict.fromkeys(itertools.chain(own, self.match.strangers.get(self.bare, ())))
-        return collections.deque(name for name in several if name not in names and not self.match.is_mine(name))
-
-    def take_strangers(self) -> None:
-        """Takes files that no line names. They stand first for messages of this form whose files are gone: somebody
-        renamed them."""
-        if not (self.waiting or self.gone):
-            return
-        match, unnamed = self.match, self.unnamed()
-        missing = [file for file in self.files if file.name is None and (file.is_held or file in self.gone)]
-        for file in sorted(missing, key=lambda one: (not one.line_of(match.path), one not in self.gone)):
-            if file.bare == self.bare:
-                file.find({self.bare: unnamed}, self.bare)
-        match.seen.gone.update(path for file, path in self.gone.items() if file.name is None)
-        for place in list(self.waiting):
-            its = {*match.files.own_names(match.inventory.table.digest(place)), *match.strangers.get(self.bare, ())}
-            name = next((one for one in unnamed if one in its and self.take(FOREIGN, one, [place], True)), None)
-            if name:
-                unnamed.remove(name)
-                match.seen.foreign.append(name)
-
-    def take_any(self, unnamed: Sequence[tuple[bytes, bytes]]) -> None:
-        """Takes any files with the core of the messages, first for those in the same form: those of the mailbox's own
-        lines, then those of others, then those without a line, whose forms and names are given."""
-        path, rest = self.match.path, list(unnamed)
-        files = [file for file in sorted(self.files, key=lambda one: not one.line_of(path)) if file.name]
-        for is_same in (True, False):
-            for file in files:
-                line = file.line_of(path) or file.lines[-1]
-                self.take_file(file, line, self.waiting_in(file.bare, is_same))
-            rest = [one for one in rest if not self.take(FOREIGN, one[1], self.waiting_in(one[0], is_same))]
-        self.match.seen.foreign += [name for bare, name in unnamed if (bare, name) not in rest]
-
-    def waiting_in(self, bare: bytes, is_same: bool) -> Iterator[int]:
-        """The messages in a bare form that wait, or all that wait."""
-        return (place for place in self.waiting if not is_same or self.match.inventory.bare(place) == bare)
-
-    def end(self) -> list[int]:
-        """The places of the messages that are nowhere."""
-        match = self.match
-        lines = (line for file in self.files for line in file.lines if line.message.name in match.present)
-        forms = {one.message.bare for one in lines if one.path != match.path and one.state is State.HELD}
-        match.seen.marked += min(len(self.refused), len(self.waiting))
-        match.seen.other_form += sum(bool(forms) and match.inventory.bare(place) not in forms for place in self.waiting)
-        return self.waiting
 
 
 def cores_of(inventory: Inventory) -> collections.Counter[bytes]:

@@ -3,7 +3,7 @@ import unittest
 from collections import deque
 from collections.abc import Sequence
 
-from mbox2maildir_admin.ledger.assign import Offer, by_form, files_of, offers
+from mbox2maildir_admin.ledger.assign import Why, by_form, files_of, nobodys, offers_of
 from mbox2maildir_admin.ledger.batches import Line, State
 from mbox2maildir_admin.ledger.lines import NAMELESS, PLACED, SHARED, Brought
 
@@ -62,7 +62,7 @@ class FilesTest(unittest.TestCase):
 
 class OffersTest(unittest.TestCase):
     def test_their_order(self) -> None:
-        names = [b"%d" % number for number in range(6)]
+        names = [b"%d" % number for number in range(7)]
         several = [
             line(names[0], 1, OTHER, state=State.DROPPED),
             line(names[1], 2, state=State.FORMER),
@@ -71,18 +71,20 @@ class OffersTest(unittest.TestCase):
             line(names[4], 5, is_new=True, state=State.OPEN),
             line(names[5], 6, OTHER, state=State.OPEN),
         ]
-        files = files_of(several, [*names[:2], *names[3:5]])
+        files = [nobodys(names[6], C, C), *files_of(several, [*names[:2], *names[3:5]])]
         wanted = [
-            (Offer.BEGUN, 5),
-            (Offer.SHARED, 4),
-            (Offer.GONE, 3),
-            (Offer.ONCE, 1),
-            (Offer.ONCE, 2),
-            (Offer.ONCE, 5),
+            (Why.BEGUN, 5),
+            (Why.SHARED, 4),
+            (Why.GONE, 3),
+            (Why.ONCE, 2),
+            (Why.ONCE, 1),
+            # what no mailbox has any more may be nobody's
+            (Why.ONCE, 4),
+            (Why.NOBODYS, 0),
         ]
-        self.assertEqual([(offer, its.number) for offer, _, its in offers(files, BOX, C)], wanted)
+        self.assertEqual([(one.why, one.line.number) for one in offers_of(files, BOX)], wanted)
         # another form of other mailboxes serves nobody
-        self.assertEqual([its.path for _, _, its in offers(files, BOX, D)], [BOX] * 3)
+        self.assertEqual({one.line.path for one in offers_of(files, BOX) if one.in_any_form}, {BOX})
 
 
 if __name__ == "__main__":
