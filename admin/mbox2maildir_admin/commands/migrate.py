@@ -6,7 +6,7 @@ from collections.abc import Iterator, Sequence
 from .. import ADMIN
 from ..faults import Left, Reason, Status
 from ..looks import is_folder, is_surely, is_there
-from ..maildir.folders import folder_of, on_disk, why_no_folder
+from ..maildir.folders import why_no_folder
 from ..migration.block import Typed
 from ..migration.outcomes import Row, row_left
 from ..migration.rows import Reporter, Shows
@@ -96,11 +96,10 @@ def undo(maildir: bytes, name: bytes, options: Options, reporter: Reporter) -> N
     """Undoes a mailbox."""
     from ..labels.noted import has_labels
     from ..takeouts.undoing import undo_takeout
-    from ..undoing.undo import How, undo_own
+    from ..undoing.undo import undo_own
 
-    folder = None if options.folder is None else on_disk(folder_of(options.folder))
-    undo_it = undo_takeout if folder is None and has_labels(maildir, name) else undo_own
-    undo_it(maildir, name, How(options.dry, options.now, folder), reporter)
+    undo_it = undo_takeout if options.folder is None and has_labels(maildir, name) else undo_own
+    undo_it(maildir, name, options, reporter)
 
 
 def migrate_named(maildir: bytes, names: Sequence[bytes], options: Options, reporter: Reporter) -> None:

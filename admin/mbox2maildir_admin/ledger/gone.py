@@ -1,16 +1,20 @@
-"""What is gone of the mail that mailboxes brought into a folder, and what came back. People delete mail, and others may
-too. So this is only said."""
+"""Where a folder and its ledger differ: what is gone of the mail that mailboxes brought, and what came back. People
+delete mail, and others may too. So this is only said. And files that have names which only this program gives, though
+no ledger has them."""
 import array
 import collections
+import contextlib
 
+from ..faults import Fault
 from ..maildir.files import names_of
+from ..maildir.folders import folders_in
 from ..maildir.traces import Traces, times_of
-from ..mbox.bases import Table, base_in, before_info
+from ..mbox.bases import BASE, Table, base_in, before_info, is_own
 from ..mbox.core import SHORT
 from ..nexts import Remark
 from ..units import counted
 from .ledger import Ledger
-from .lines import LOST, digest_at
+from .lines import LOST, digest_at, pieces_in
 from .match import Match
 
 GONE = "%d of the %d messages that were placed in its folder are gone, or another program renamed them"
@@ -77,3 +81,30 @@ def gone_of(ledger: Ledger, number: int, begun_at: int) -> collections.Counter[b
     if len(after):
         gone += [places[1][place] for place in Traces(ledger.folder, after, batch.head.times, begun_at).may_be_gone()]
     return collections.Counter(digest_at(batch.cores, at) for at in gone)
+
+
+def unexplained(root: bytes, match: Match) -> set[bytes]:
+    """The bases of files that stand for messages of a mailbox, and that no ledger of the Maildir explains. People may
+    have moved the others from the folders of mailboxes."""
+    names = {found[0] for found in map(BASE.match, match.seen.foreign) if found}
+    for folder in folders_in(root) if names else ():
+        try:
+            ledger = Ledger(folder)
+            # an undo may have kept files
+            names.difference_update(ledger.names(ledger.undone))
+        except (Fault, OSError):
+            # what cannot be read explains nothing
+            continue
+    return names
+
+
+def without_line(root: bytes, folder: bytes) -> set[bytes]:
+    """The names of this program's that files of a folder have, and no line of a ledger of the Maildir, whatever became
+    of its batch. So the ledger of the folder is older than these files."""
+    names = set(filter(is_own, (before_info(name) for name, _ in names_of(folder))))
+    for place in (folder, *folders_in(root)):
+        # what cannot be read explains nothing
+        with contextlib.suppress(Fault, OSError):
+            for _, several in pieces_in(place) if names else ():
+                names.difference_update(several.names if several else ())
+    return names

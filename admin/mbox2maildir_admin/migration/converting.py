@@ -1,5 +1,5 @@
-"""The conversion of those messages of a mailbox that have no file, why one fails, and what is noted once a mailbox was
-verified."""
+"""The conversion of those messages of a mailbox that have no file, and why one fails; the dates and flags that messages
+get then, and their check; and what is noted once a mailbox was verified."""
 import collections
 import contextlib
 import os
@@ -15,15 +15,18 @@ from ..ledger.lines import note_failed as note_batch_failed
 from ..ledger.placing import Placing
 from ..ledger.prepared_lines import drop_list, finish_list, note_failed
 from ..ledger.record import Record, Verified
+from ..maildir.checking import Check
+from ..maildir.dating import Dating
 from ..maildir.space import what_fails, why_not_listed
-from ..mbox.bases import base_in
+from ..mbox.bases import base_in, before_info, is_own
 from ..mbox.mailbox import Mailbox
+from ..nexts import Remark
 from ..program import Converted, Failed, Program
 from ..readings.unnamed import copy_of_some
 from ..terminal import spelled
-from ..units import Offset
+from ..units import Offset, Place
 from .outcomes import Ended, Fate, Row
-from .steps import Contents, Opened
+from .steps import Bringing, Contents, Extra, Opened
 
 CHANGED_MEANWHILE = "it changed in the meantime: stop the program that writes to it, and run this again"
 SYNC_FAILED = (
@@ -159,6 +162,32 @@ class Conversion:
             noted = "%s; note this yourself, because the ledger could not be written: %s" % (SYNC_FAILED, fault)
             return Left(noted, Reason.SYNC_FAILED)
         return Left(SYNC_FAILED, Reason.SYNC_FAILED)
+
+
+def finish(one: Bringing, extra: Extra) -> list[Remark]:
+    """Takes the steps after the conversion, and returns what is to be said of them. Raises Left unless each message
+    that was brought is there once."""
+    folder, text, remarks = one.opened.folder, one.contents.text, extra.run(one)
+    check, dating = Check(one.part, say=one.opened.mailbox.say), Dating(text, one.part)
+
+    def look_first(place: Place, number: int, state: os.stat_result) -> Optional[bytes]:
+        """Gives a file its date, and finds its digest by its text."""
+        dating.give(place, number, state)
+        return one.digest_by(place, number, state)
+
+    check.look_first = look_first
+    # they were written just now, so each is compared faster than it is handed over
+    check.threads = 1
+    check.look(folder)
+    # it was decided what From_ lines hold, or they hold no mail: otherwise nothing would have been converted
+    check.doubts = ()
+    # what other programs have there is no second copy of this one
+    check.doubles = [path for path in check.doubles if is_own(before_info(os.path.basename(path)))]
+    if not check.is_right():
+        raise Left(check.report(), Reason.NOT_VERIFIED)
+    if one.opened.has_changed(text):
+        raise Left(CHANGED_MEANWHILE, Reason.CHANGED)
+    return [*dating.remarks(), *remarks]
 
 
 @contextlib.contextmanager

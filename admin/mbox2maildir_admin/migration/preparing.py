@@ -13,6 +13,7 @@ from typing import Optional
 
 from ..faults import Left, Reason
 from ..ledger.files import hides_none
+from ..ledger.gone import unexplained
 from ..ledger.history import Note, names_of
 from ..ledger.ledger import Ledger, has_failed
 from ..ledger.match import Match
@@ -20,7 +21,6 @@ from ..ledger.placing import Placing
 from ..ledger.prepared import Prepared
 from ..ledger.prepared_lines import Origin, in_milliseconds, milliseconds_since
 from ..ledger.record import Verified, unspelled
-from ..ledger.strangers import unexplained
 from ..looks import is_there
 from ..maildir.mounts import want_syncs
 from ..nexts import Does, Next, Remark
@@ -31,8 +31,7 @@ from ..readings.texts import Choice
 from ..terminal import named
 from ..units import Place, counted
 from .answers import note_answer
-from .converting import CHANGED_MEANWHILE, PREPARED_SYNC_FAILED, SYNC_FAILED, Conversion
-from .finishing import finish
+from .converting import CHANGED_MEANWHILE, PREPARED_SYNC_FAILED, SYNC_FAILED, Conversion, finish
 from .outcomes import Fate, Row
 from .replica import Plain, empty, forget, reader_in, signs_of, take_prepared, tree_above
 from .steps import Bringing, Contents, How, Opened

@@ -8,13 +8,12 @@ from typing import Any, Optional
 
 from ..faults import Fault, Left, Reason
 from ..kinds.look import Look, Read
-from ..ledger.gone import BACK, back_in, gone_before, gone_from
+from ..ledger.gone import BACK, back_in, gone_before, gone_from, unexplained
 from ..ledger.ledger import Ledger, count_in, has_failed
 from ..ledger.lines import Head
 from ..ledger.match import Match
 from ..ledger.placing import Placing
 from ..ledger.record import Record, Verified, unspelled
-from ..ledger.strangers import unexplained
 from ..looks import is_folder
 from ..maildir.mounts import want_syncs
 from ..maildir.space import Need, want_room
@@ -26,9 +25,8 @@ from ..readings.reading import UNDECIDED
 from ..readings.texts import AtOnce, Choice, choice_of, disk_of, read_messages
 from ..units import counted
 from .answers import AS_ANSWERED, answer_to, note_answer, note_empty, noted_last
-from .converting import SYNC_FAILED, Conversion
+from .converting import SYNC_FAILED, Conversion, finish
 from .cut import names_of_no_line, names_that_may_be_cut, want_none_cut
-from .finishing import finish
 from .known import Known
 from .otherwise import as_before, contradicted, want_same_reading
 from .outcomes import Fate, Row, row_left

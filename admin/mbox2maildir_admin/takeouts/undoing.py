@@ -18,16 +18,16 @@ from ..migration.steps import Opened, Options
 from ..nexts import Remark
 from ..readings.reading import Reading
 from ..terminal import named
-from ..undoing.undo import How, Undo
+from ..undoing.undo import Undo
 from ..units import Say, silent
 
 
-def undo_takeout(root: bytes, path: bytes, how: How, observer: Observer) -> None:
+def undo_takeout(root: bytes, path: bytes, options: Options, observer: Observer) -> None:
     """Undoes a Takeout in a Maildir of the user who runs this."""
     root = real_place(root)
-    refuse(root, [path], Options(how.dry, now=how.now, undo=True))
-    with Record.open(root, not how.dry) as record:
-        rows = TakeoutUndo(root, record, how).rows(path, functools.partial(observer.progress, named(path)))
+    refuse(root, [path], Options(options.dry, now=options.now, undo=True))
+    with Record.open(root, not options.dry) as record:
+        rows = TakeoutUndo(root, record, options).rows(path, functools.partial(observer.progress, named(path)))
         for row in rows:
             observer.total += 1
             observer.begin()
@@ -37,24 +37,24 @@ def undo_takeout(root: bytes, path: bytes, how: How, observer: Observer) -> None
 class TakeoutUndo(Undo):
     """Undoes a Takeout, whose messages are the same for each folder."""
 
-    def __init__(self, root: bytes, record: Record, how: How = How()) -> None:
-        super().__init__(root, record, how)
+    def __init__(self, root: bytes, record: Record, options: Options) -> None:
+        super().__init__(root, record, options)
         # how often it has each core as it was read
         self.known: dict[Reading, collections.Counter[bytes]] = {}
 
     def rows(self, path: bytes, say: Say = silent) -> Iterator[Row]:
         """Undoes it folder by folder. What was undone by a run that was killed has no row."""
         try:
-            with open_mailbox(path, say=say, follow=True, quiet=not self.how.now) as mailbox:
+            with open_mailbox(path, say=say, follow=True, quiet=not self.options.now) as mailbox:
                 line, is_left, count = line_of(self.record, mailbox), False, 0
                 for opened in self.folders_of(Opened(mailbox, b"", b""), line):
                     row = self.row_of(opened)
                     is_left, count = is_left or row.fate is Fate.LEFT, count + 1
                     yield row
-                if line and not is_left and not self.how.dry:
+                if line and not is_left and not self.options.dry:
                     note_nothing(self.record, line)
                 if not count:
-                    fate = Fate.WOULD_UNDO if self.how.dry else Fate.UNDONE
+                    fate = Fate.WOULD_UNDO if self.options.dry else Fate.UNDONE
                     yield Row(path, b"", "", 0, fate, remarks=(Remark("removed", "nothing of it was placed"),))
         except (Fault, OSError) as fault:
             yield row_left(path, b"", fault)

@@ -19,6 +19,7 @@ from ..flags.renaming import sync_names
 from ..ledger.assign import File, Unnamed, by_form, files_of
 from ..ledger.batches import Line, State
 from ..ledger.files import forms_in
+from ..ledger.gone import without_line
 from ..ledger.history import Step, names_of
 from ..ledger.ledger import Ledger, count_in
 from ..ledger.lines import END_LINE, LOST, NOBODYS, Brought, Head
@@ -26,11 +27,10 @@ from ..ledger.match import cores_of
 from ..ledger.prepared import Prepared
 from ..ledger.prepared_lines import has_list
 from ..ledger.record import Record, is_gone, unspelled
-from ..ledger.strangers import without_line
 from ..looks import is_there
 from ..maildir.files import digest_of
 from ..maildir.files import names_of as mail_in
-from ..maildir.folders import INBOX, folder_named, folder_path, folders_in, name_given, name_of
+from ..maildir.folders import INBOX, folder_named, folder_of, folder_path, folders_in, name_of, on_disk
 from ..maildir.making import RECORD
 from ..maildir.roots import real_place
 from ..mbox.bases import DIGEST, base_in, before_info, is_own
@@ -46,7 +46,7 @@ from ..nexts import Remark, Todo, task
 from ..readings.earlier import messages_then, plan_then
 from ..readings.reading import Reading, with_deleted
 from ..readings.texts import content_of, disk_of
-from ..terminal import named, text_of
+from ..terminal import named
 from ..units import Say, counted, silent
 
 NOT_RECORDED = "no ledger has it, so nothing shows which files are its own"
@@ -72,15 +72,6 @@ SIGNS = "st_dev", "st_ino", "st_size", "st_mtime_ns", "st_ctime_ns"
 MAY_HAVE, HAVE = (State.HELD, State.OPEN), (State.HELD,)
 # how often there is each core
 Cores = collections.Counter[bytes]
-
-
-class How(NamedTuple):
-    """How a mailbox is undone: whether nothing is removed, whether no quiet minute is waited for, and which folder of
-    the Maildir it is in, by its name on the disk."""
-
-    dry: bool = False
-    now: bool = False
-    folder: Optional[bytes] = None
 
 
 class Why(enum.Enum):
@@ -113,15 +104,16 @@ class Planned(NamedTuple):
 class Undo:
     """Undoes mailboxes of a Maildir."""
 
-    def __init__(self, root: bytes, record: Record, how: How = How()) -> None:
-        self.root, self.record, self.how = root, record, how
+    def __init__(self, root: bytes, record: Record, options: Options) -> None:
+        self.root, self.record, self.options = root, record, options
 
     def run(self, path: bytes, say: Say = silent) -> Row:
         """Undoes a mailbox, and returns its row. `say` takes the progress."""
-        name, size = self.how.folder or b"", None
+        folder = folder_in(self.options)
+        name, size = folder or b"", None
         try:
-            name = self.folder_of(path) if self.how.folder is None else self.how.folder
-            with open_mailbox(path, say=say, follow=True, quiet=not self.how.now) as mailbox:
+            name = self.folder_of(path) if folder is None else folder
+            with open_mailbox(path, say=say, follow=True, quiet=not self.options.now) as mailbox:
                 size = mailbox.size
                 return self.undo(Opened.into(self.root, self.record.name_now(name, path), mailbox))
         except (Fault, OSError) as fault:
@@ -136,7 +128,7 @@ class Undo:
 
     def undo(self, opened: Opened) -> Row:
         """Undoes an open mailbox."""
-        mailbox, dry = opened.mailbox, self.how.dry
+        mailbox, dry = opened.mailbox, self.options.dry
         ledger = Ledger(opened.folder, dry=dry)
         if ledger.damage:
             raise Left(DAMAGED % ledger.damage, Reason.UNDO)
@@ -169,7 +161,7 @@ class Undo:
 
     def cores_now(self, opened: Opened, ledger: Ledger, path: str) -> Cores:
         """How often the mailbox has each core now, as it was read when it was migrated."""
-        words, disk = ledger.words_of(path), disk_of(self.root, self.how.dry)
+        words, disk = ledger.words_of(path), disk_of(self.root, self.options.dry)
         reading = Reading.of_words(words)
         extra = Dovecot(self.record) if reading.bare else Extra()
         with content_of(opened.mailbox, disk) as text:
@@ -193,21 +185,25 @@ class Undo:
             return counts
 
 
-def undo_own(root: bytes, path: bytes, how: How, observer: Observer) -> None:
+def folder_in(options: Options) -> Optional[bytes]:
+    """The folder of the Maildir that options name, by its name on the disk."""
+    return None if options.folder is None else on_disk(folder_of(options.folder))
+
+
+def undo_own(root: bytes, path: bytes, options: Options, observer: Observer) -> None:
     """Undoes a mailbox in a Maildir of the user who runs this."""
     if os.geteuid() == 0:
         # a symbolic link above it may lead elsewhere by then
         root = real_place(root)
-    name = None if how.folder is None else text_of(name_given(how.folder))
-    refuse(root, [path], Options(how.dry, folder=name, now=how.now, undo=True))
+    refuse(root, [path], Options(options.dry, folder=options.folder, now=options.now, undo=True))
     if not is_there(os.path.join(root, RECORD)):
         raise PlaceFault("%s: it has no record, so nothing was migrated into it" % named(root), Reason.UNDO)
     observer.total += 1
-    with Record.open(root, not how.dry) as record:
+    with Record.open(root, not options.dry) as record:
         observer.begin()
         say = functools.partial(observer.progress, named(path))
-        row = undo_prepared(root, record, path, how.folder, how.dry, say)
-        observer.row(row or Undo(root, record, how).run(path, say))
+        row = undo_prepared(root, record, path, folder_in(options), options.dry, say)
+        observer.row(row or Undo(root, record, options).run(path, say))
 
 
 def want_whole(known: Known) -> None:
