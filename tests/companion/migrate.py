@@ -11,7 +11,7 @@ from collections.abc import Callable, Iterator, Sequence
 from functools import partial
 from pathlib import Path
 
-from tests.support.checks import LATER, TOP, equal, match_in, matches, text_of, without_work
+from tests.support.checks import LATER, equal, matches
 from tests.support.homes import (
     check_all,
     expect,
@@ -127,12 +127,6 @@ def last_line(home: Path) -> None:
     equal("where one was done before", out, "1 mailbox: 1 done before\n")
     _, out, _ = run_whole("migrate --all N old/nothing", home)
     matches("where nothing was to be done", out.splitlines()[-1], "1 mailbox: 1 done; 0 messages, 0 bytes in ... s")
-    _, out, _ = run_whole("migrate --all N old/one", home)
-    page = text_of(TOP / "docs/mbox2maildir-admin.1")
-    words = shlex.split(match_in(r"(?m)^\.Dl (sed .*messages.*)$", page)[1])
-    cut = subprocess.run(words, input=out.encode(), stdout=subprocess.PIPE, check=True)
-    equal("what the manual page cuts away", cut.stdout.decode(), without_work(out))
-    assert cut.stdout.endswith(b"\n1 mailbox: 1 done\n"), cut.stdout
 
 
 def copies_beside(home: Path) -> None:

@@ -8,8 +8,9 @@ line. What the pages say of a server is followed by `tests/world/machine.py`: Po
 defer_transports, Exim's dc_localdelivery with maildir_home, Dovecot's separator, auth-deny.conf.ext, and a list of
 users with result_success. `tests/companion/dovecot.py` tries Dovecot's mail_control_path, mail_index_path and
 mailbox_list_layout. The rest was tried by hand: Postfix's mailbox_command, virtual_transport and transport_maps, Exim's
-queue_only, OpenSMTPD's local_mail, maildrop's settings, Dovecot's quotas, a public namespace, mailbox_list_utf8, users
-who wait, and another glibc on Debian 11.11. Exim's maildir_format by itself was not tried.
+queue_only, with either dc_use_split_config, OpenSMTPD's local_mail, maildrop's settings, Dovecot's quotas, a public
+namespace, mailbox_list_utf8, users who wait, and another glibc on Debian 11.11. Exim's maildir_format by itself was not
+tried.
 """
 import gzip
 import io

@@ -49,7 +49,7 @@ QUIET = 61
 # the row of a mailbox that is left, or the first line of a group of them
 LEFT = re.compile(r"^(?:[^ ].*: left \(([a-z-]+)\)|([a-z-]+): (\d+) mailbox(?:es)?(?: \(|: [A-Z]))", re.MULTILINE)
 # a first pass over all users
-PASS = REFERENCE.line("mbox2maildir-admin migrate --users --tree mail --dovecot --prepare /var/mail")
+PASS = SERVER.line("--prepare /var/mail")
 
 
 class Follower:
@@ -177,8 +177,8 @@ class Follower:
         time.sleep(QUIET)
         root(SERVER.line("mv /var/mail/mia /var/mail/mia.old"))
         owner("mia", SERVER.line("mv ~/mail ~/mail.old"))
-        for part in ("migrate --dry-run ~/Maildir", "migrate ~/Maildir /var/mail/mia.old ~/mail.old"):
-            said = owner("mia", SERVER.line(part).replace("migrate ", "migrate --all --dovecot ", 1))
+        for part in ("migrate --dovecot --dry-run ~/Maildir", "migrate --dovecot ~/Maildir"):
+            said = owner("mia", SERVER.line(part).replace("migrate ", "migrate --all ", 1))
             equal(f"what is left: {said}", reasons(said), {})
             equal("whose inbox was prepared", prepared(said), {"/var/mail/mia.old"})
             self.letters.send("mia")
@@ -228,10 +228,9 @@ class Follower:
         self.machine.stop()
         time.sleep(QUIET)
         self.letters.send(*others)
-        root(f"{SERVER.span('mkdir -m 711 /var/mail.alone')} && mv /var/mail/mia.old /var/mail.alone")
+        root(SERVER.span("mkdir -m 711 /var/mail.alone"))
         root(SERVER.line("mkdir -m 711 /var/mail.old && mv"))
-        dry, line = SERVER.line("--dry-run /var/mail.old"), SERVER.line("--dovecot /var/mail.old")
-        equal("what would be left", reasons(root(dry, 1)), self.left)
+        line = SERVER.line("--dovecot /var/mail.old")
         said = root(line.replace("migrate ", "migrate --all ", 1), 1)
         equal("what is left", reasons(said), self.left)
         equal("whose inbox was prepared", prepared(said), set(others))

@@ -114,7 +114,7 @@ class Machine:
 
     def stop(self) -> None:
         """Stops both servers, by the page's command."""
-        root(REFERENCE.span("systemctl stop dovecot postfix").replace("postfix", self.agent))
+        root(SERVER.line("systemctl stop dovecot postfix").replace("postfix", self.agent))
 
     def answers(self) -> None:
         """Waits until Dovecot answers."""
@@ -141,7 +141,7 @@ class Machine:
         elif self.way == "exim":
             setting, path, *commands = spans(REFERENCE.cells(rows[self.way])[0])
             change(Path(path), "^dc_localdelivery=.*", setting)
-            root(" && ".join([*commands, "/etc/init.d/exim4 reload"]))
+            root(" && ".join(commands))
         else:
             root(" && ".join(spans(REFERENCE.cells(rows[self.way])[0])))
 
