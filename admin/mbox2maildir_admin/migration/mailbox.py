@@ -28,20 +28,20 @@ from .converting import Conversion
 from .outcomes import BY_NO_MAIL, BY_RECORD, Ended, Fate, Row, row_left
 from .preparing import FirstPass, LastPass
 from .replica import is_free, is_prepared, note_begun, reader_in, take_back
-from .steps import How, Opened
+from .steps import Opened, Options
 from .transfer import Transfer
 from .unchanged import row_unchanged
 
 WITH_LABELS = "it was migrated with --labels, so its mail is in the folders of its labels"
 
 # makes the transfer of an open mailbox into a folder with a ledger
-Making = Callable[[Conversion, How, Opened, Ledger], Transfer]
+Making = Callable[[Conversion, Options, Opened, Ledger], Transfer]
 
 
 class Migration:
     """Migrates mailboxes into the folders of a Maildir. One is done once the disk of its folder was synced as well."""
 
-    def __init__(self, program: Program, root: bytes, record: Record, how: How = How()) -> None:
+    def __init__(self, program: Program, root: bytes, record: Record, how: Options = Options()) -> None:
         self.program, self.root, self.record, self.how = program, root, record, how
         self.conversion = Conversion(program, root, record)
         # raises Left if the disk has no space for a mailbox; others at work may count on the same space
@@ -117,7 +117,7 @@ class Migration:
     def migrate(self, opened: Opened, making: Optional[Making] = None) -> Ended:
         """Does what is left to do, and returns what became of the mailbox."""
         if not self.how.is_labelled and line_of(self.record, opened.mailbox):
-            undo = self.how._replace(is_labelled=True).undo(self.root, opened)
+            undo = self.how._replace(is_labelled=True).undo_command(self.root, opened)
             left = Left(WITH_LABELS, Reason.ANOTHER_READING, (Answer(undo),))
             return Ended(row_left(opened.mailbox.path, b"", left, None, opened.mailbox.size))
         verified, ledger, self.kept = self.verified[opened.name], self.kept, None
@@ -136,7 +136,9 @@ class Migration:
         return ended
 
 
-def transfer_of(conversion: Conversion, how: How, opened: Opened, ledger: Ledger, verified: Container[int]) -> Transfer:
+def transfer_of(
+    conversion: Conversion, how: Options, opened: Opened, ledger: Ledger, verified: Container[int]
+) -> Transfer:
     """The way of a mailbox into its folder, which may be prepared, or is to be. These batches of the ledger were
     verified by this run, and their disk is not synced yet."""
     record, prepared = conversion.record, Prepared.read(opened.folder)

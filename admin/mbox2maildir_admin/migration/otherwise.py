@@ -21,7 +21,7 @@ from ..units import counted
 from .dovecot import names_in
 from .known import Known
 from .remarks import remarks_on_lost
-from .steps import Contents, Extra, How, Opened
+from .steps import Contents, Extra, Opened, Options
 
 CONTRADICTED = "it was read as %s, and %s gives other messages"
 READ_OTHERWISE = (
@@ -56,14 +56,14 @@ def as_before(opened: Opened, ledger: Ledger, path: str, by: By) -> Optional[tup
             return contents.words, list(remarks_on_lost(match))
 
 
-def contradicted(how: How, root: bytes, opened: Opened, line: Entry) -> tuple[list[Remark], Next]:
+def contradicted(how: Options, root: bytes, opened: Opened, line: Entry) -> tuple[list[Remark], Next]:
     """What is to be said of a mailbox that is done if a decision that is given now gives other messages, and the
     command that undoes it."""
     if not contradicts(opened.mailbox, line, how.decision, (disk_of(root, how.dry), how.extra)):
         return [], NOTHING
     says = CONTRADICTED % (Reading.of_words(line.plan).of_text.words(), " ".join(how.decision.options()))
     # a word for several mailboxes is about those that are not done
-    then = (Answer(how.undo(root, opened), Does.UNDO),) if how.decision.alone else NOTHING
+    then = (Answer(how.undo_command(root, opened), Does.UNDO),) if how.decision.alone else NOTHING
     return [Remark("contradicted", says)], then
 
 
@@ -116,7 +116,7 @@ class Before(NamedTuple):
         return brought_by(self.source, is_by_word) | brought_by(self.batch, is_by_word)
 
 
-def want_same_reading(how: How, known: Known, choice: Choice, contents: Contents) -> None:
+def want_same_reading(how: Options, known: Known, choice: Choice, contents: Contents) -> None:
     """Raises Left if more of what the ledger has of a mailbox is in it as it was read then, with what to run."""
     before, root, opened = Before.of(known, contents.reading), known.root, known.opened
     command = how.command(root, opened, again=how.again, dovecot=before.reading.bare)
@@ -140,7 +140,7 @@ def want_same_reading(how: How, known: Known, choice: Choice, contents: Contents
     # what a human says of single lines holds by the other reading too
     decision = decision_by(choice.mailbox, plan, how.decision)
     if how.decision.word and is_done or not is_enough(choice.mailbox, decision, disk_of(root, how.dry)):
-        command = how.undo(root, opened)
+        command = how.undo_command(root, opened)
     else:
         command = how.command(root, opened, again=how.again, decision=decision)
     raise Left(says, Reason.ANOTHER_READING, (Answer(command),))

@@ -21,7 +21,7 @@ from ..readings.reading import UNDECIDED, Reading
 from ..readings.texts import is_mbox
 from ..terminal import named, operand, option
 from .outcomes import Ended
-from .steps import How, Options
+from .steps import Options
 
 ENDINGS = (COPY, *COMPRESSED)
 ELSEWHERE = "its mail is in %s: the ledger there says so, and the record does not"
@@ -205,12 +205,12 @@ class Pairs(NamedTuple):
         return one.left(Left("%s beside it" % names, Reason.COPY, then))
 
 
-def into_inbox(one: Planned, ended: Ended, how: How, root: bytes) -> Next:
+def into_inbox(one: Planned, ended: Ended, how: Options, root: bytes) -> Next:
     """The command that puts a mailbox, one of several Inboxes, into INBOX instead, and reads it in the same way."""
     # a word decides nothing about one of several that contradicts it, but all about one that is named
     decision, read = how.decision, Reading.of_words(ended.verified.plan) if ended.verified else how.decision
     decision = decision if decision.word in ("", read.word) else UNDECIDED._replace(drop=decision.drop)
-    options, paths = how.options._replace(decision=decision), [operand(root), operand(one.path)]
+    options, paths = how.of_next()._replace(decision=decision), [operand(root), operand(one.path)]
     into = line_of([ADMIN, "migrate", *options.words(), "--folder", "INBOX", *paths])
     undo = [ADMIN, "migrate", "--undo", *Options(now=options.now).words(), *words_of(ended.row.folder), *paths]
     return in_shell(into if options.dry else "%s && %s" % (line_of(undo), into), Does.INTO_INBOX)

@@ -34,7 +34,7 @@ from .answers import note_answer
 from .converting import CHANGED_MEANWHILE, PREPARED_SYNC_FAILED, SYNC_FAILED, Conversion, finish
 from .outcomes import Fate, Row
 from .replica import Plain, empty, forget, reader_in, signs_of, take_prepared, tree_above
-from .steps import Bringing, Contents, How, Opened
+from .steps import Bringing, Contents, Opened, Options
 from .transfer import PARTLY_THERE, Transfer
 from .unchanged import Same, note_state, same_as_prepared, text_of
 
@@ -50,7 +50,9 @@ STAYS = "%d prepared before stay, whatever the mailbox has now"
 class LastPass(Transfer):
     """A mailbox on its way into a folder that is prepared."""
 
-    def __init__(self, conversion: Conversion, how: How, opened: Opened, ledger: Ledger, prepared: Prepared) -> None:
+    def __init__(
+        self, conversion: Conversion, how: Options, opened: Opened, ledger: Ledger, prepared: Prepared
+    ) -> None:
         super().__init__(conversion, how, opened, ledger)
         self.prepared = prepared
         # what stands for the text, if the mailbox is as it was prepared
@@ -192,7 +194,9 @@ class LastPass(Transfer):
 class FirstPass(LastPass):
     """A mailbox that is prepared in a folder, while people use it."""
 
-    def __init__(self, conversion: Conversion, how: How, opened: Opened, ledger: Ledger, prepared: Prepared) -> None:
+    def __init__(
+        self, conversion: Conversion, how: Options, opened: Opened, ledger: Ledger, prepared: Prepared
+    ) -> None:
         super().__init__(conversion, how, opened, ledger, prepared)
         # a first pass writes nothing into the ledger
         ledger.is_dry = True

@@ -29,7 +29,7 @@ from .mailbox import Migration
 from .outcomes import Ended, Fate, Observer, Row, row_left, seen, with_name
 from .places import Pairs, Planned, UserHome, as_named, has_record, into_inbox, recorded
 from .servers import Place, locations, want_unread
-from .steps import Extra, How, Options
+from .steps import Extra, Options
 from .trees import NamesMet, Tree, also_named, identity, link_left, other_names
 
 # tells a row
@@ -93,8 +93,8 @@ def run_all(
     with Record.to_migrate(root, options.dry) as record:
         spared = functools.partial(is_spared, options.no_mail, [home.path] if home else names)
         extra = Dovecot(record) if options.dovecot else Extra()
-        how = How.of(options, names, home.path if home else None)._replace(extra=extra, is_spared=spared)
-        several = Several(Migration(program, root, record, how), names, observer, home, options)
+        how = options._replace(extra=extra, is_spared=spared, names=names, home=home.path if home else b"")
+        several = Several(Migration(program, root, record, how), observer, home)
         leftovers = Leftovers(record, root, names, options)
         for row in leftovers.rows(several.migrate(options.folder)):
             observer.row(row)
@@ -104,16 +104,9 @@ def run_all(
 class Several:
     """The mailboxes of some names. A name that is a folder stands for a tree of mailboxes."""
 
-    def __init__(
-        self,
-        migration: Migration,
-        names: Sequence[bytes],
-        observer: Observer,
-        home: Optional[UserHome],
-        options: Options,
-    ) -> None:
+    def __init__(self, migration: Migration, observer: Observer, home: Optional[UserHome]) -> None:
+        how, names = migration.how, migration.how.names
         self.migration, self.names, self.observer, self.own = migration, names, observer, home is not None
-        self.jobs = options.jobs
         self.tell, self.syncs = observer.progress, Syncs(self.settle, home.sync_one if home else None)
         # an Inbox of a user's tree is not the user's inbox, if that is or was another mailbox
         is_taken = home and (home.has_inbox or migration.record.last_steps(INBOX))
@@ -121,9 +114,9 @@ class Several:
         # the symbolic links that are followed: those that were named
         self.links = {one for one in names if not self.own and is_link(one)}
         # the subscriptions of trees that are to be written, and the rows of files without mail
-        trees = filter(self.is_tree, names) if options.dovecot and not options.prepare else ()
+        trees = filter(self.is_tree, names) if how.dovecot and not how.prepare else ()
         self.subscriptions = {os.path.join(tree.rstrip(b"/") or b"/", OLD_SUBSCRIPTIONS): tree for tree in trees}
-        self.pairs = Pairs(migration.record, migration.root, migration.how.options, names if self.own else None)
+        self.pairs = Pairs(migration.record, migration.root, how.of_next(), names if self.own else None)
         self.found: dict[bytes, Row] = {}
         # a name that is given has its fate by that name, even if a tree has the same file; the other names of files
         self.met: NamesMet = {}
@@ -137,7 +130,7 @@ class Several:
         self.observer.total += len(plan)
         # a symbolic link may give a folder two names, and it has one ledger
         groups = groups_of([one.folder and real_path(one.folder_in(self.migration.root)) for one in plan])
-        jobs, rows = min(jobs_of(self.jobs, len(groups)), len(groups)), InOrder(self.observer.row)
+        jobs, rows = min(jobs_of(how.jobs, len(groups)), len(groups)), InOrder(self.observer.row)
         try:
             if jobs > 1 and has_record(plan, self.migration.record, how.dry):
                 self.observer.at_once = jobs
@@ -247,7 +240,7 @@ class Several:
                 if folder is None:
                     one = self.pairs.judged(recorded(one, record))
                 else:
-                    one = as_named(one, self.migration.record, self.migration.how.options)
+                    one = as_named(one, self.migration.record, self.migration.how.of_next())
                 self.taken.add(one.folder)
                 yield one
 

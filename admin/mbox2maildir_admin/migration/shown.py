@@ -16,7 +16,7 @@ from ..readings.texts import Choice, content_of, disk_of
 from ..units import Line
 from .known import Known
 from .otherwise import Before, want_same_reading
-from .steps import Contents, How
+from .steps import Contents, Options
 
 AS_BROUGHT = Remark("as-brought", "as the messages show that it brought")
 # how often a mailbox has brought each core
@@ -32,7 +32,7 @@ class Given(NamedTuple):
     is_shown: bool
 
 
-def answer_shown(how: How, known: Known, question: Question) -> Optional[Reading]:
+def answer_shown(how: Options, known: Known, question: Question) -> Optional[Reading]:
     """The one answer by which all lines in question are in messages that a mailbox has brought, if each other answer
     gives fewer of the messages that it brought; None if a human must answer."""
     had = Before.of(known, how.decision).had()
@@ -46,7 +46,7 @@ def answer_shown(how: How, known: Known, question: Question) -> Optional[Reading
     return best[0].decision if len(best) == 1 and best[0].is_shown else None
 
 
-def given_by(how: How, known: Known, text: Mailbox, lines: Iterable[Line]) -> Given:
+def given_by(how: Options, known: Known, text: Mailbox, lines: Iterable[Line]) -> Given:
     """What the answer gives by which this mailbox would be migrated."""
     choice, had = Choice(text, plan_of(text, decision=how.decision)), Before.of(known, how.decision).had()
     with choice.text(disk_of(known.root, how.dry)) as whole:
@@ -71,7 +71,7 @@ def places_at(inventory: Inventory, line: Line) -> range:
     return range(first, last + 1)
 
 
-def goes_on(how: How, known: Known, choice: Choice, contents: Contents) -> bool:
+def goes_on(how: Options, known: Known, choice: Choice, contents: Contents) -> bool:
     """Whether a mailbox that is read so goes on as it was read before."""
     try:
         want_same_reading(how, known, choice, contents)

@@ -184,9 +184,10 @@ class Extra:
 
 
 class Options(NamedTuple):
-    """How mailboxes are migrated: whether nothing is made; whether all that is nowhere is placed; whether with
-    Dovecot's files; the folder for mailboxes that are files; paths and patterns of files without mail; whether
-    no quiet minute is waited for; and what is decided about how they are read."""
+    """How mailboxes are migrated, in the words of the command: whether nothing is made; whether all that is nowhere is
+    placed; whether with Dovecot's files; the folder for mailboxes that are files; paths and patterns of files without
+    mail; whether no quiet minute is waited for; and what is decided about how they are read. And what follows from
+    these words."""
 
     dry: bool = False
     again: bool = False
@@ -209,6 +210,15 @@ class Options(NamedTuple):
     # whether mail is only prepared, and whether nobody reads it
     prepare: bool = False
     unread: bool = False
+    # what is done besides mail and dates; and whether a file that is not mbox text is passed over, by its path and
+    # whether its kind is known
+    extra: Extra = Extra()
+    is_spared: Callable[[bytes, bool], bool] = lambda path, is_known: False
+    # the names that are migrated, the home of the user whose mail it is, if it is not the one who runs this, and
+    # whether a mailbox goes into the folders of its labels
+    names: Sequence[bytes] = ()
+    home: bytes = b""
+    is_labelled: bool = False
 
     def words(self) -> list[str]:
         """The options, as words of a command."""
@@ -234,46 +244,12 @@ class Options(NamedTuple):
         stay = stay._replace(prepare=self.prepare, unread=self.unread)
         return stay._replace(dry=self.dry, dovecot=self.dovecot, no_mail=self.no_mail, now=self.now)
 
-
-class How(NamedTuple):
-    """How mailboxes are migrated: whether nothing is made; whether everything that is nowhere is placed; what is done
-    besides; whether a file that is not mbox text is passed over, by its path and whether its kind is known; whether no
-    quiet minute is waited for; what is decided about how they are read; the options of the next command; the names that
-    are migrated; and the home of the user whose mail it is."""
-
-    dry: bool = False
-    again: bool = False
-    extra: Extra = Extra()
-    is_spared: Callable[[bytes, bool], bool] = lambda path, is_known: False
-    now: bool = False
-    decision: Reading = UNDECIDED
-    options: Options = Options()
-    names: Sequence[bytes] = ()
-    home: bytes = b""
-    # whether everything that is nowhere is converted of mailboxes that were rewritten since
-    again_rewritten: bool = False
-    # whether a disk will do on which a power cut could take mail away
-    any_disk: bool = False
-    # what is decided about questions that have one of its ties
-    answer: Reading = UNDECIDED
-    # whether the mailbox goes into the folders of its labels
-    is_labelled: bool = False
-    # whether mail is only prepared
-    prepare: bool = False
-
-    @classmethod
-    def of(cls, options: Options, names: Sequence[bytes], home: Optional[bytes] = None) -> "How":
-        """How options say it of mailboxes of these names; the mail is that of a home, or of the user who runs this."""
-        home = os.fsencode(os.path.expanduser("~")) if home is None else home
-        how = cls(options.dry, options.again, now=options.now, decision=options.decision, options=options.of_next())
-        how = how._replace(again_rewritten=options.again_rewritten, any_disk=options.any_disk, prepare=options.prepare)
-        return how._replace(names=names, home=home, answer=options.answer)
-
     def where(self, root: bytes, opened: Opened) -> Where:
         """Where the next command puts a file of which it makes a mailbox for a folder of this Maildir."""
         path = opened.mailbox.path
         top = next((name for name in self.names if path != name and is_below(path, name)), b"")
-        where = Where.of(path, top, self.home, may_write)._replace(wants_file=self.is_labelled)
+        home = self.home or os.fsencode(os.path.expanduser("~"))
+        where = Where.of(path, top, home, may_write)._replace(wants_file=self.is_labelled)
         # what a symbolic link leads to is outside of what was named
         if (top or path in self.names) and may_write(os.path.dirname(path) or b"."):
             return where
@@ -284,7 +260,7 @@ class How(NamedTuple):
         """The command for a mailbox of a folder of this Maildir, or for the one at a path, with the options that were
         given, and their changes."""
         given: dict[str, Any] = {"decision": self.decision, **changes}
-        options = self.options._replace(**given)
+        options = self.of_next()._replace(**given)
         # with labels, a mailbox has all of its folders
         folder = [] if self.is_labelled or opened.name == INBOX else words_of(opened.name)
         paths = operand(root), operand(path or opened.mailbox.path)
@@ -296,7 +272,7 @@ class How(NamedTuple):
         left = Left(str(question), question.reason, then, question.quotes)
         return left.known(question.kind, question.messages, question.most)
 
-    def undo(self, root: bytes, opened: Opened, path: bytes = b"") -> Command:
+    def undo_command(self, root: bytes, opened: Opened, path: bytes = b"") -> Command:
         """The command that undoes a mailbox, or the one at a path."""
         given = {"decision": UNDECIDED, "dovecot": False, "no_mail": (), "any_disk": False, "labels": None}
         return self.command(root, opened, path, undo=True, **given)

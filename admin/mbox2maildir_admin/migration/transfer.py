@@ -32,7 +32,7 @@ from .otherwise import as_before, contradicted, want_same_reading
 from .outcomes import Fate, Row, row_left
 from .remarks import remarks_on, remarks_on_dropped, remarks_on_joined, remarks_on_lost
 from .shown import AS_BROUGHT, answer_shown
-from .steps import Bringing, Contents, How, Opened
+from .steps import Bringing, Contents, Opened, Options
 
 # how many bytes a line of the ledger may have that names a file of this program
 LONGEST_LINE = 140
@@ -49,7 +49,7 @@ OLDER = "the ledger of its folder is older than its record, and lacks %s of it: 
 class Transfer:
     """One mailbox, which is open, on its way into a folder."""
 
-    def __init__(self, conversion: Conversion, how: How, opened: Opened, ledger: Ledger) -> None:
+    def __init__(self, conversion: Conversion, how: Options, opened: Opened, ledger: Ledger) -> None:
         self.conversion, self.how, self.opened, self.ledger = conversion, how, opened, ledger
         self.again = how.again
         # raises Left if the disk has no space for a mailbox; others at work may count on the same space
@@ -210,7 +210,9 @@ class Transfer:
     def want_ended(self) -> None:
         """Raises Left if an undo was interrupted, or if a sync failed."""
         if self.path in self.ledger.leaving:
-            raise Left("its undo was interrupted", Reason.UNDO, (Answer(self.how.undo(self.root, self.opened)),))
+            raise Left(
+                "its undo was interrupted", Reason.UNDO, (Answer(self.how.undo_command(self.root, self.opened)),)
+            )
         if self.has_failed() and not self.again:
             raise Left(SYNC_FAILED, Reason.SYNC_FAILED)
 
@@ -237,7 +239,7 @@ class Transfer:
     def left_to_store(self, why: str, reason: Reason, contents: Contents, match: Match) -> Left:
         """Why it is left, with the command that stores what is nowhere: without what could not be done besides then."""
         hindrance = self.how.extra.hindrance(self.bringing(contents, match, Placing(match)))
-        stays = self.how.options.dovecot and not hindrance
+        stays = self.how.dovecot and not hindrance
         then = self.command(Does.DOUBLES, len(match.need), again=True, dovecot=stays)
         return Left("%s; %s" % (why, hindrance) if hindrance else why, reason, then)
 
@@ -288,7 +290,7 @@ class Transfer:
         self.remarks += remarks_on_joined(self.known.joined(self.how.names))
         then = self.command(Does.BRINGS_BACK, again=True) if sum(match.seen.gone.values()) else NOTHING
         for there in (self.opened._replace(name=one.folder) for one in elsewhere if one.is_moved):
-            then += (Answer(self.how.undo(self.root, there), Does.UNDO_THERE),)
+            then += (Answer(self.how.undo_command(self.root, there), Does.UNDO_THERE),)
         if self.how.dry:
             self.remarks += self.how.extra.foresee(one)
             return self.row(choice.plan, then)

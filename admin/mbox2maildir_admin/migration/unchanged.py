@@ -26,7 +26,7 @@ from ..units import Offset, Say
 from .outcomes import Fate, Row
 from .remarks import remarks_on_dropped
 from .replica import reader_in, signs_of
-from .steps import Contents, How, Opened
+from .steps import Contents, Opened, Options
 
 
 class Same(NamedTuple):
@@ -36,7 +36,7 @@ class Same(NamedTuple):
     contents: Contents
 
 
-def same_as_prepared(prepared: Prepared, how: How, opened: Opened) -> Optional[Same]:
+def same_as_prepared(prepared: Prepared, how: Options, opened: Opened) -> Optional[Same]:
     """What stands for the text of a mailbox that has the bytes from which its folder was prepared, if the folder has
     all of that and nothing else; None for any other one."""
     origin, as_read, mailbox = prepared.origin, prepared.noted.as_read, opened.mailbox
@@ -84,7 +84,7 @@ def note_state(prepared: Prepared, origin: Origin) -> None:
         prepared.append(origin.line(), prepared.noted.as_read.line(), WHOLE + b"\n")
 
 
-def row_unchanged(record: Record, how: How, path: bytes, name: bytes, folder: bytes, say: Say) -> Optional[Row]:
+def row_unchanged(record: Record, how: Options, path: bytes, name: bytes, folder: bytes, say: Say) -> Optional[Row]:
     """The row of a mailbox that is prepared, and whose file has not changed since; None if it is to be read. Nothing
     counts as done by that."""
     began, prepared = time.monotonic(), Prepared.read(folder)

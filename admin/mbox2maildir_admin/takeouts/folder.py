@@ -20,7 +20,7 @@ from ..migration.converting import Conversion
 from ..migration.known import Elsewhere, Known
 from ..migration.outcomes import Row
 from ..migration.remarks import GONE, NO_LONGER
-from ..migration.steps import Bringing, Contents, Extra, How, Opened
+from ..migration.steps import Bringing, Contents, Extra, Opened, Options
 from ..migration.transfer import Transfer
 from ..nexts import NOTHING, Next, Remark
 from ..readings.plans import Plan
@@ -90,7 +90,7 @@ class KnownPart(Known):
 class FolderTransfer(Transfer):
     """One folder of a Takeout."""
 
-    def __init__(self, source: Source, conversion: Conversion, how: How, opened: Opened, ledger: Ledger) -> None:
+    def __init__(self, source: Source, conversion: Conversion, how: Options, opened: Opened, ledger: Ledger) -> None:
         self.source, self.places = source, source.sorted.places[opened.name]
         super().__init__(conversion, how._replace(extra=OfLabels(source.sorted.kept.at(self.places))), opened, ledger)
         reading = source.choice.plan.reading._replace(part=word_of(self.places))

@@ -26,7 +26,7 @@ from ..migration.mailbox import Migration
 from ..migration.outcomes import Ended, Fate, Observer, Row, row_left, seen
 from ..migration.replica import is_prepared
 from ..migration.several import refuse
-from ..migration.steps import How, Opened, Options
+from ..migration.steps import Opened, Options
 from ..nexts import Answer
 from ..program import Program, find_program
 from ..progress import Beat
@@ -50,7 +50,7 @@ def migrate_takeouts(root: bytes, names: Sequence[bytes], options: Options, obse
     refuse(root, names, options)
     os.umask(0o077)
     with Record.to_migrate(root, options.dry) as record:
-        how = How.of(options, names)._replace(is_labelled=True)
+        how = options._replace(names=names, is_labelled=True)
         migration = Migration(Program(find_program()), root, record, how)
         observer.total += len(names)
         for name in names:
@@ -122,7 +122,7 @@ class Takeout:
             # before a list has what a pass reads, nothing is placed
             if prepared.origin and is_prepared(self.record, name, Ledger(folder), prepared):
                 how, path = self.how._replace(is_labelled=False), unspelled(prepared.origin.path)
-                undo = how.undo(self.root, opened._replace(name=name), path)
+                undo = how.undo_command(self.root, opened._replace(name=name), path)
                 raise Left(ONLY_PREPARED % named(folder), Reason.PREPARED, (Answer(undo),))
 
     def want_labelled(self, opened: Opened, line: Optional[Entry]) -> None:
@@ -135,7 +135,7 @@ class Takeout:
             lines = self.record.lines_of(*mailbox.key())
             folders = [one.key.folder for one in lines if is_gone(one.path)]
         if folders:
-            undo = self.how._replace(is_labelled=False).undo(self.root, opened._replace(name=folders[-1]))
+            undo = self.how._replace(is_labelled=False).undo_command(self.root, opened._replace(name=folders[-1]))
             raise Left(WITHOUT_LABELS, Reason.ANOTHER_READING, (Answer(undo),))
 
     def chosen(self, opened: Opened, noted: Optional[Noted]) -> Choosing:
@@ -145,7 +145,7 @@ class Takeout:
             return before
         is_other = noted is not None and (before.word == ONE) != (now.word == ONE)
         if is_other or any(before.gives(label) not in ("", gives) for label, gives in now.given):
-            undo = self.how.undo(self.root, opened)
+            undo = self.how.undo_command(self.root, opened)
             says = OTHERWISE % " ".join(before.words())
             raise Left(says, Reason.ANOTHER_READING, (Answer(undo),))
         return before.with_given(*now.given)._replace(word=now.word or before.word)
