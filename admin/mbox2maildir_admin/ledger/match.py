@@ -120,7 +120,7 @@ class Match:
             waiting.setdefault(self.inventory.bare(place), []).append(place)
         for one, is_same in [*((one, True) for one in offers), *((one, False) for one in offers if one.in_any_form)]:
             bare = one.file.bare if one.why is Why.ANY else one.line.message.bare
-            is_trashed = one.line.message.name in self.files.trashed
+            is_trashed = one.file.name in self.files.trashed
             is_enough = one.why in (Why.SHARED, Why.GONE) and counts[bare] >= most[bare]
             its = itertools.chain.from_iterable([waiting.get(bare, [])] if is_same else waiting.values())
             may_have = (place for place in its if not is_trashed or self.is_deleted(Place(place)))
@@ -131,7 +131,7 @@ class Match:
                 counts[self.inventory.bare(found)] += 1
                 self.note(one, found)
         rest = list(itertools.chain.from_iterable(waiting.values()))
-        refused = {one.file for one in offers if one.line.message.name in self.files.trashed} - served
+        refused = {one.file for one in offers if one.file.name in self.files.trashed} - served
         self.seen.marked += min(len(refused), len(rest))
         lines = self.lines.get(self.inventory.core(rest[0]), ()) if rest else ()
         theirs = (one for one in lines if one.path != self.path and one.state is State.HELD)

@@ -16,7 +16,7 @@ from typing import NamedTuple, Optional
 
 from ..faults import Fault, Left, PlaceFault, Reason
 from ..flags.renaming import sync_names
-from ..ledger.assign import File, Unnamed, by_form, files_of
+from ..ledger.assign import File, by_form, files_of
 from ..ledger.batches import Line, State
 from ..ledger.files import forms_in
 from ..ledger.gone import without_line
@@ -137,8 +137,10 @@ class Undo:
             raise Left(NOT_RECORDED, Reason.UNDO)
         want_whole(Known(self.record, ledger, opened))
         plan = plan_of(ledger, path, self.cores_now(opened, ledger, path))
-        if any(one.why is Why.REMOVED for one in plan):
-            want_explained(self.root, opened.folder)
+        # the record is as old as the ledger then, and another mailbox may have what would be removed
+        names = without_line(self.root, opened.folder) if any(one.why is Why.REMOVED for one in plan) else ()
+        if names:
+            raise Left(WITHOUT_LINE % counted(len(names), "message"), Reason.LEDGER)
         messages = count_in(ledger, path)
         counts = remove(opened, plan, dry) if dry else self.carry_out(opened, ledger, path, plan)
         keepers = collections.Counter(one.keeper for one in plan if one.keeper)
@@ -213,14 +215,6 @@ def want_whole(known: Known) -> None:
         raise Left(OLDER % named(unspelled(lines[0].path)), Reason.UNDO)
 
 
-def want_explained(root: bytes, folder: bytes) -> None:
-    """Raises Left if a folder has files of this program that no ledger explains: the record is as old as the ledger
-    then, and another mailbox may have what would be removed."""
-    names = without_line(root, folder)
-    if names:
-        raise Left(WITHOUT_LINE % counted(len(names), "message"), Reason.LEDGER)
-
-
 def plan_of(ledger: Ledger, path: str, has: Cores) -> list[Planned]:
     """What becomes of the messages that the mailbox of a path brought. It has each core so often now, and a killed undo
     may have removed what is gone."""
@@ -272,9 +266,12 @@ def others_of(file: File, path: str, states: Container[State]) -> list[Line]:
 
 def gone_of_others(folder: bytes, files: Sequence[File], path: str, has: Cores) -> dict[bytes, list[File]]:
     """The files of other mailboxes that are gone, by the cores of their messages, as far as the mailbox of a path has
-    these. What programs have renamed is not gone, and gets its name."""
+    these. What other programs have renamed is not gone, and gets its name: their files are read, if one is missing."""
     missing = [file for file in files if file.name is None and any(line.state in MAY_HAVE for line in file.lines)]
-    unnamed = unnamed_in(folder, {line.message.name for file in files for line in file.lines}) if missing else {}
+    names = {line.message.name for file in files for line in file.lines} if missing else set()
+    several = ((before_info(name), path) for name, path in mail_in(folder)) if missing else ()
+    read = ((forms_in(path), name) for name, path in several if not is_own(name) and name not in names)
+    unnamed = by_form((forms[1], name) for forms, name in read if forms)
     found: collections.defaultdict[bytes, list[File]] = collections.defaultdict(list)
     # what stands for a file of another mailbox stays whether it is that one or not
     for file in sorted(missing, key=lambda one: not others_of(one, path, HAVE)):
@@ -282,13 +279,6 @@ def gone_of_others(folder: bytes, files: Sequence[File], path: str, has: Cores) 
         if not file.find(unnamed, file.bare) and has[core] and others_of(file, path, HAVE):
             found[core].append(file)
     return found
-
-
-def unnamed_in(folder: bytes, names: Container[bytes]) -> Unnamed:
-    """The files of other programs but those with these names, by their bare forms."""
-    several = ((before_info(name), path) for name, path in mail_in(folder))
-    read = ((forms_in(path), name) for name, path in several if not is_own(name) and name not in names)
-    return by_form((forms[1], name) for forms, name in read if forms)
 
 
 def hand_over(ledger: Ledger, plan: Sequence[Planned]) -> None:
