@@ -10,7 +10,8 @@ users with result_success. `tests/companion/dovecot.py` tries Dovecot's mail_con
 mailbox_list_layout. The rest was tried by hand: Postfix's mailbox_command, virtual_transport and transport_maps, Exim's
 queue_only, with either dc_use_split_config, OpenSMTPD's local_mail, maildrop's settings, Dovecot's quotas, a public
 namespace, mailbox_list_utf8, users who wait, and another glibc on Debian 11.11. Exim's maildir_format by itself was not
-tried.
+tried. These were Dovecot 2.3.19 and 2.4.1, Postfix 3.5.25 to 3.10.13, Debian's Exim 4.94 to 4.98, OpenSMTPD 6.8.0,
+sendmail 8.17.1, maildrop 2.9.3, procmail 3.22 and courier-imap 5.2.11, but not each line with each version.
 """
 import gzip
 import io
