@@ -30,13 +30,13 @@ class Reason(Phrase):
     the sentences and the statuses too."""
 
     OTHER = "other", "There is no word for it yet; the line says what it is."
-    ERROR = "error", "A call of the system failed."
+    ERROR = "error", "A system call failed."
     # what the file is: mail that only a human can split, mail of another kind, not known; or it is a copy, or has one
     UNCLEAR = (
         "unclear",
-        "It is an mbox text, and a human has to decide something.",
+        "The file does not show how to read it: you decide.",
     )
-    LABELS = "labels", "Not each message has Gmail's labels, or a human has to decide about a label."
+    LABELS = "labels", "Some messages lack Gmail's labels, or you have to decide about a label."
     OTHER_KIND = "other-kind", "It holds mail of another kind."
     NOT_KNOWN = (
         "not-known",
@@ -53,7 +53,7 @@ class Reason(Phrase):
     MISSING = "missing", "Nothing is at its path."
     WORDS = "words", "Its path was given as several words."
     NO_FILE = "no-file", "It is neither a regular file nor a folder."
-    HOLES = "holes", "More than 16 MB of it were never written."
+    HOLES = "holes", "It is a sparse file with more than 16 MB of holes."
     MAILDIR = "maildir", "It is a Maildir."
     MH = "mh", "It is an MH folder."
     # who is at work on it
@@ -70,7 +70,7 @@ class Reason(Phrase):
     # the folder that it would go to
     NO_FOLDER = (
         "no-folder",
-        "Another mailbox has its folder, another folder has its mail, or its name cannot be the name of a folder.",
+        "Another mailbox goes into this folder, another folder has this mail, or no folder can have this name.",
     )
     NOT_OWN = (
         "not-own",
@@ -83,24 +83,27 @@ class Reason(Phrase):
     )
     NO_SYNC = "no-sync", "The file system of its folder does not sync folders, or leaves out all syncs."
     # what is there already
-    PARTLY_THERE = "partly-there", "Some of its messages are there, and no ledger of messages says why."
-    REWRITTEN = "rewritten", "It was edited as a whole since it was done, or it is another mailbox."
-    LEDGER = "ledger", "The ledger of messages of its folder is lost, damaged, or cannot be trusted."
+    PARTLY_THERE = (
+        "partly-there",
+        "Some of its messages are there, but not in the ledger, the folder's list of messages.",
+    )
+    REWRITTEN = "rewritten", "More than a tenth of it was replaced since it was done, or it is another mailbox."
+    LEDGER = "ledger", "The ledger, the folder's list of messages, is lost, damaged, or cannot be trusted."
     ANOTHER_READING = (
         "another-reading",
         "It was begun or done with another reading, which delivers other bytes; to go on would double mail.",
     )
     CUT = "cut", "A message was converted before it was complete."
-    NUMBERED = "numbered", "Dovecot's numbers of this folder cannot be kept."
-    PREPARED = "prepared", "It cannot be prepared in its folder, or what is prepared there cannot be finished."
+    NUMBERED = "numbered", "Its UIDs cannot be kept: the folder has others, from Dovecot or another mailbox."
+    PREPARED = "prepared", "A first pass cannot store it in its folder, or what one stored there cannot be finished."
     SUBSCRIPTIONS = "subscriptions", "There is a list of subscriptions already, or it cannot be written."
     # what failed
-    WRONG_LINES = "wrong-lines", "The lines that were named do not begin as they should."
-    MISREAD = "misread", "Two readings of it differ, or one did not take all of it."
+    WRONG_LINES = "wrong-lines", "A line that `--text` or `--begin` names has no `From ` where it should."
+    MISREAD = "misread", "It was read twice with different results, or not to its end."
     CONVERT_FAILED = "convert-failed", "The program mbox2maildir failed, or is missing."
     SYNC_FAILED = "sync-failed", "A sync of the disk failed."
     NOT_VERIFIED = "not-verified", "Not every message is there exactly once."
-    NOT_HELD = "not-held", "Its form cannot hold some of the mail that would go back into it."
+    NOT_HELD = "not-held", "The mailbox's format cannot hold some of the mail that `back` would append."
     TORN = (
         "torn",
         "A run was killed while it appended mail, and another program has written behind that: a message is cut.",

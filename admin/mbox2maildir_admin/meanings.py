@@ -27,8 +27,8 @@ TO_DO = {
     Reason.LABELS: "Its command. If there is none, migrate the mailbox without `--labels`",
     Reason.OTHER_KIND: "Its command, which [makes a mailbox of it](FORMATS.md#files-of-another-format)",
     Reason.NOT_KNOWN: (
-        "Its command, `file`, says more. If it holds no mail, add `--no-mail PATTERN` once. PATTERN is its whole path, "
-        "or a shell pattern for the path below MAILBOX or the home, such as `mail/notes.txt`"
+        "Its command, or `file`, says more. If it holds no mail, add `--no-mail PATTERN` once. PATTERN is its path, or "
+        "a shell pattern for its path below the folder that you named, or the home, such as `*.txt`"
     ),
     Reason.PACKED: (
         "Find a complete copy, [unpack it](FORMATS.md#compressed-files), or install the program that the line names"
@@ -40,16 +40,13 @@ TO_DO = {
         " file itself there. If the link stands for a Maildir or a folder of mailboxes, name the real one by "
         "`--maildir` or `--tree`"
     ),
-    Reason.MISSING: (
-        "Correct the name. With `back --users`, take [that user](BACK.md) back alone, by the paths where the mailboxes "
-        "are"
-    ),
+    Reason.MISSING: "Correct the name. For `back --users`, see [BACK.md](BACK.md)",
     Reason.WORDS: "Put the path in quotes. To name the files `a` and `b` beside a file `a b`, write `./a ./b`",
     Reason.NO_FILE: "Remove it: a FIFO or a socket holds no mail",
     Reason.HOLES: "Find a complete copy",
     Reason.MAILDIR: "Its command, or move its files as the line says",
     Reason.MH: "Its command, then move the folder away",
-    Reason.LOCKED: "End that program, and run the same command again. A `.lock` file counts for 20 minutes",
+    Reason.LOCKED: "End that program, and run the same command again. A `.lock` file is ignored after 20 minutes",
     Reason.CHANGED: "Stop that program, and run the same command again",
     Reason.NO_FOLDER: "Give it a folder by `--folder NAME`, or run one of its commands",
     Reason.NOT_OWN: "Its command. If there is none, name a folder of the user's own, or run `migrate` as the owner",
@@ -59,26 +56,20 @@ TO_DO = {
         "system](LARGE.md#file-systems), or add `--any-disk`"
     ),
     Reason.PARTLY_THERE: (
-        "Restore the folder's [ledger](LEDGER.md). Otherwise its command, which stores what is nowhere, also what was"
-        " deleted"
+        "Restore `mbox2maildir-messages`, the [ledger](LEDGER.md), from a backup. Otherwise its command, which stores "
+        "each message that is missing, deleted ones too"
     ),
-    Reason.REWRITTEN: (
-        "More than a tenth of it was replaced. If it is another mailbox, give it a path of its own. Otherwise its "
-        "command"
-    ),
+    Reason.REWRITTEN: "If it is another mailbox, give it a path of its own. Otherwise its command",
     Reason.LEDGER: (
-        "Restore the newest `mbox2maildir-messages`. If others may write to it, look at it and `chmod 600` it. If "
-        "another version wrote it, finish with that version. For an undo, migrate the folder's other mailboxes first. "
-        "Otherwise its command, which brings back deleted mail"
+        "As the line says: if others may write to it, look at it and `chmod 600` it; if another version wrote it, "
+        "finish with that version; for an undo, migrate the folder's other mailboxes first. Otherwise restore the "
+        "newest `mbox2maildir-messages` from a backup, or run its command, which brings back deleted mail"
     ),
     Reason.ANOTHER_READING: (
         "Its command, which goes on as before, or undoes the mailbox. After an undo, migrate it as you meant to"
     ),
     Reason.CUT: "Its command, which removes the file of the incomplete message. Then run `migrate` again",
-    Reason.NUMBERED: (
-        "Dovecot has given the folder UIDs, or the folder has another mailbox's UIDs, while this mailbox has UIDs of "
-        "its own. Its command migrates without `--dovecot`"
-    ),
+    Reason.NUMBERED: "Its command, which migrates without `--dovecot`",
     Reason.PREPARED: "Its command. [A table](LARGE.md#prepare) has what can be prepared",
     Reason.SUBSCRIPTIONS: "Its command, which adds the missing lines",
     Reason.WRONG_LINES: "Give the numbers that `kind` prints",
@@ -96,13 +87,13 @@ TO_DO = {
         "named"
     ),
     Reason.NO_MAILDIR: (
-        "Name another Maildir, or move away what is there. For `verify`, migrate the mailbox first. `back --users` "
-        "leaves users with mailboxes who were never migrated: name all others by `--names`"
+        "Name another Maildir, or move away what is there. For `verify`, migrate the mailbox first. For `back "
+        "--users`, see [BACK.md](BACK.md)"
     ),
     Reason.RECORD: (
         "Look at `mbox2maildir-record`, and move it away if it is not yours. If its disk has no locks, migrate [onto "
         "another disk](LARGE.md#nfs). If another version wrote it, as the line says, finish with that version, or "
-        "move it away and run `migrate --again`"
+        "move it away and run `migrate --again`, which also brings back deleted mail"
     ),
     Reason.NO_USER: "Find out whose mail it is. If it is nobody's, [move it away](SERVER.md#nobodys)",
     Reason.SYSTEM_ACCOUNT: "Name it on the command line, or choose a Maildir for it, as the line says",
