@@ -9,6 +9,7 @@ It shares no code with the companion, and reads the whole text at once, line by 
               from their lines, the others are read as mboxo
     unquoted  each line `From ` that ends in a date begins a message; no line loses anything
 """
+import itertools
 import re
 from collections.abc import Callable
 from typing import NamedTuple, Optional
@@ -27,6 +28,8 @@ AFTER = r"(?:\s+\([^()]*\)|\s+remote\s+from\s+\S+)?\s*"
 DATED = re.compile(rf"From (?:.*\s)?{WEEKDAY},?\s+(?:{ASCTIME}|{OF_HEADER}){AFTER}\Z", re.DOTALL)
 INTERNAL = b"Subject: DON'T DELETE THIS MESSAGE -- FOLDER INTERNAL DATA\n"
 HEADED = re.compile(rb"[!-9;-~]+[ \t]*:|>From ")
+# a line `From ` with one word, and what rmail puts between a From_ line and the header
+ALONE, BY_RMAIL = re.compile(rb"From (\S+)\s*\Z"), re.compile(rb">+From ")
 # how long a From_ line may be
 LONGEST = 998
 LENGTH = re.compile(rb"^content-length:([^\n]*(?:\n[ \t][^\n]*)*)", re.I | re.M)
@@ -183,7 +186,7 @@ def has_sure_lengths(text: bytes) -> bool:
 
 def quoted_lines(text: bytes) -> dict[str, int]:
     """How many lines of `>` and `From ` a row speaks of, by the word that reads them in another way: those with several
-    `>`; within right lengths those with a single `>`, and all; and elsewhere those with a single one."""
+    `>`; within right lengths those with a single `>`; both of these; and elsewhere those with a single one."""
     lines = lines_of(text.lstrip(b"\0"))
     messages = messages_in(lines, lambda at: is_from(lines[at]), True)
     within = [line for one in messages for line in one.lines[: one.by_length]]
@@ -191,19 +194,20 @@ def quoted_lines(text: bytes) -> dict[str, int]:
     def count(some: list[bytes], pattern: bytes) -> int:
         return sum(re.match(pattern, line) is not None for line in some)
 
-    single = count(within, rb">From ")
+    single, several = count(within, rb">From "), count(lines, rb">>+From ")
     return {
-        "mboxo": count(lines, rb">>+From "),
+        "mboxo": several,
         "mboxcl2": single,
-        "mboxcl": count(within, rb">+From "),
+        "mboxcl": single + several,
         "unquoted": count(lines, rb">From ") - single,
     }
 
 
 def contradictions(text: bytes, word: str) -> list[int]:
     """The numbers of the lines `From ` that contradict a word, if it is said of several mailboxes. For mboxrd and mboxo
-    these are lines within a right length, or without both a date and a header after them; for mboxcl and mboxcl2 dated
-    ones with a header within a length, and elsewhere those without both; for unquoted dated ones without a header."""
+    these are lines within a right length, or without both a date and a header after them; for mboxcl and mboxcl2 those
+    within a length that look like mail, and "outside" those without both, which contradict it for one mailbox too; for
+    unquoted dated ones without a header."""
     lines, found = lines_of(text), []
     inside = set(range(1, len(lines) + 1))
     place = 1
@@ -213,7 +217,19 @@ def contradictions(text: bytes, word: str) -> list[int]:
     for number, (line, after) in enumerate(zip(lines[1:], [*lines[2:], b""]), 2):
         if is_from(line):
             dated, headed, within = is_dated(line), HEADED.match(after) is not None, number in inside
+            like_mail = within and (headed if dated else is_like_mail(lines, number, number + 2 in inside))
             by_word = {"unquoted": dated and not headed, "mboxrd": within or not (dated or headed)}
-            by_word["mboxcl"] = dated and headed if within else not (dated or headed)
+            by_word["outside"] = not within and not (dated or headed)
+            by_word["mboxcl"] = like_mail or by_word["outside"]
             found += [number] if by_word[{"mboxo": "mboxrd", "mboxcl2": "mboxcl"}.get(word, word)] else []
     return found
+
+
+def is_like_mail(lines: list[bytes], number: int, has_more: bool) -> bool:
+    """Whether a line `From ` without a date looks like mail: by an address alone, by a header after it and after the
+    lines `>From ` of rmail, or by one word alone between blank lines, if its message has more lines than these."""
+    line, before, following = lines[number - 1], lines[number - 2], lines[number:]
+    after = next(itertools.dropwhile(BY_RMAIL.match, following), b"")
+    is_between = has_more and {before, following[0]} <= {b"\n", b"\r\n"}
+    word = ALONE.match(line)
+    return HEADED.match(after) is not None or word is not None and (b"@" in word[1][1:-1] or is_between)

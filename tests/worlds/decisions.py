@@ -34,8 +34,10 @@ from tests.worlds.writers import WRITERS, Written
 SAID_QUOTES = re.compile(r"`>+From ` (?:loses|keeps) .*? in (\d+) lines? \(--as (\w+)")
 COUNTS = re.compile(r"(?m), messages (\d+)(?: to (\d+))?(?:[:;,]|$)")
 QUOTES = re.compile(rb"(?m)^>*From ")
-# a dated From_ line within a line, as a crash and a missing line end leave it: it is left whatever is said of several
-DAMAGE = re.compile(rb"[^>\s]From \S+ [^\n]*\d\d:\d\d:\d\d [^\n]*\d{4}$", re.MULTILINE)
+# a dated From_ line within a line, as a crash and a missing line end leave it, after a blank only before a header of
+# mail: it is left whatever is said of several
+DATED = rb"From \S+ [^\n]*\d\d:\d\d:\d\d [^\n]*\d{4}$"
+DAMAGE = re.compile(rb"(?m)[^>\s]%s|\w[ \t\r]%s\n(?:[^\s:]+:.*\n)*?(?i:from|return-path|date):" % (DATED, DATED))
 SAME = (("mboxrd", "mboxo"), ("mboxcl", "mboxcl2"), ("unquoted",))
 NONE: frozenset[int] = frozenset()
 
@@ -185,7 +187,7 @@ class Trial:
         look like mail: then answers are printed."""
         row = self.migrate("--as", word)
         if row["verdict"] != "done":
-            is_told = word in ("mboxcl", "mboxcl2") and contradictions(self.text, word) and answers_in(row)
+            is_told = word in ("mboxcl", "mboxcl2") and contradictions(self.text, "outside") and answers_in(row)
             if not is_told and (word != "unquoted" or begins_dated(self.text)):
                 yield f"--as {word}: {row['says']}"
             return

@@ -201,7 +201,7 @@ def git(draw: Random, mails: Sequence[Letter]) -> Written:
             b"%040x Mon Sep 17 00:00:00 2001" % draw.getrandbits(160),
             b"mairix@mairix " + asctime(one.when),
         ]
-        message = ended(one.whole).replace(b"From: carla@example.net\nSubject: pasted\n", b"")
+        message = re.sub(rb"From: carla@example.net\r?\nSubject: pasted\r?\n", b"", ended(one.whole))
         pieces.append(piece_of(b"From " + senders[form], message, message))
     return Written("unquoted", tuple(pieces))
 
