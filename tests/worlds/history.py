@@ -212,6 +212,9 @@ class History:
             row = rows.get(box.path)
             if row and row["folder"] and row["folder"] != self.target(box):
                 self.oracle.see(box.number, row["folder"], self.ways(box))
+            # or begin anew in another one; the old one keeps what it has of it
+            if row and "elsewhere" in row.remarks:
+                self.oracle.all.foreign += self.oracle.all.had[box.number]
         self.stage.told(ran, *words, kill=kill)
         if ran.is_killed:
             wait_for_lock(self.maildir)

@@ -119,6 +119,9 @@ class Kept:
             self.use(self.box(self.case.inbox, "INBOX"))
         self.case.look()
         self.case.deliver(*(mail(90 + number, self.draw.choice(LATE)) for number in range(self.draw.randint(0, 2))))
+        texts = [self.case.inbox, *(self.case.home / "mail" / name for name in self.case.folders[1:])]
+        if any(b"\0" in path.read_bytes() for path in texts):
+            raise LeftOut("Dovecot has put NUL bytes into mail, and moved its UID there")
 
 
 def one_world(stage: Stage, seed: int) -> Iterator[str]:

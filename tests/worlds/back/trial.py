@@ -16,7 +16,7 @@ from tests.worlds.back.histories import (
     tail_of,
     text_at,
 )
-from tests.worlds.back.programs import Deliver, listed_in, numbers_of
+from tests.worlds.back.programs import KEEPERS, Deliver, listed_in, numbers_of
 from tests.worlds.letters import bare, without
 from tests.worlds.stage import Stage
 
@@ -108,10 +108,10 @@ class Trial:
         return sorted(str(path) for path in self.home.maildir.glob("**/*") if path.parent.name in ("new", "cur"))
 
     def check_migrated(self, folder: str, text: bytes, ran: Run) -> None:
-        """A new Maildir has the mail of a mailbox, with its flags."""
-        history = self.history
-        keeper, place = history.keeper_of(folder), history.place_of(folder)
+        """A new Maildir has the mail of a mailbox, with its flags. Those of a program are in each message."""
+        history, place = self.history, self.history.place_of(folder)
         messages = [message for _, message in read(text, self.dialect_of(folder))]
+        keeper = next((its for its in KEEPERS.values() if None not in map(its.flags, messages)), None)
         wanted = Counter((self.as_migrated(one), flags_of(one, keeper, history.has_uids)) for one in messages)
         files = [one for one in history.files("N") if one.folder == place]
         found = Counter((bare(one.text), one.name.partition(":2,")[2]) for one in files)
