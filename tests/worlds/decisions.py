@@ -32,6 +32,8 @@ from tests.worlds.writers import WRITERS, Written
 
 # what a row says of lines whose `>` may come from the mail or from a program
 SAID_QUOTES = re.compile(r"`>+From ` (?:loses|keeps) .*? in (\d+) lines? \(--as (\w+)")
+# the kinds of mailboxes whose lines `From ` are escaped, by the pages
+ESCAPED = ("mboxrd or mboxo", "Google Groups' archive")
 COUNTS = re.compile(r"(?m), messages (\d+)(?: to (\d+))?(?:[:;,]|$)")
 QUOTES = re.compile(rb"(?m)^>*From ")
 # a dated From_ line within a line, as a crash and a missing line end leave it, after a blank only before a header of
@@ -140,7 +142,7 @@ class Trial:
             yield f"done, and merged, cut or changed: {row}: {strange[:1]}"
         elif says:
             self.stage.seen["done, and says which `>` are doubtful"] += 1
-        elif row["kind"].startswith("mboxrd or mboxo") and mail == by_word(self.text, "mboxrd"):
+        elif row["kind"].startswith(ESCAPED) and mail == by_word(self.text, "mboxrd"):
             self.stage.seen["done, as its kind says, and a `>` was the mail's own"] += 1
         else:
             yield f"done, with `>` lost or more, and nothing is said: {row}: {strange[:1]}"
