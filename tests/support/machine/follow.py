@@ -177,8 +177,8 @@ class Follower:
         time.sleep(QUIET)
         root(SERVER.line("mv /var/mail/mia /var/mail/mia.old"))
         owner("mia", SERVER.line("mv ~/mail ~/mail.old"))
-        for part in ("migrate --dovecot --dry-run ~/Maildir", "migrate --dovecot ~/Maildir"):
-            said = owner("mia", SERVER.line(part).replace("migrate ", "migrate --all ", 1))
+        for line in (SERVER.line("migrate --dovecot --dry-run ~/Maildir"), SERVER.line("migrate --dovecot ~/Maildir")):
+            said = owner("mia", line.replace("migrate ", "migrate --all ", 1))
             equal(f"what is left: {said}", reasons(said), {})
             equal("whose inbox was prepared", prepared(said), {"/var/mail/mia.old"})
             self.letters.send("mia")
@@ -261,7 +261,7 @@ class Follower:
         """Redirects procmail where a user has it, by its rows."""
         path = Path("/home/emil/.procmailrc")
         if path.exists():
-            before, recipe = (REFERENCE.cells(name)[-1] for name in ("procmail", "procmail's recipes"))
+            before, recipe = REFERENCE.cells("procmail")[-1], REFERENCE.cells("procmail's recipes")[-1]
             equal("procmail's rows", ("~/.procmailrc" in before, "/.lists.sheds/" in recipe), (True, True))
             text = (
                 path.read_text(encoding="utf-8")

@@ -135,15 +135,14 @@ class Machine:
 
     def redirect_all(self) -> None:
         """Redirects the mail of all users, or holds it if Dovecot delivers."""
-        rows = {"postfix": "Postfix", "exim": "Exim of Debian"}
         if self.by_dovecot:
             root(SERVER.line("postconf -e defer_transports=local &&"))
         elif self.way == "exim":
-            setting, path, *commands = spans(REFERENCE.cells(rows[self.way])[0])
+            setting, path, *commands = spans(REFERENCE.cells("Exim of Debian")[0])
             change(Path(path), "^dc_localdelivery=.*", setting)
             root(" && ".join(commands))
         else:
-            root(" && ".join(spans(REFERENCE.cells(rows[self.way])[0])))
+            root(" && ".join(spans(REFERENCE.cells("Postfix")[0])))
 
     def release(self) -> None:
         """Releases the mail that was held."""
