@@ -14,10 +14,9 @@ from ..mbox.inventory import Inventory
 from ..mbox.mailbox import Mailbox
 from ..migration.known import Known
 from ..program import Program
-from ..readings.earlier import plan_then
 from ..readings.plans import plan_of
 from ..readings.reading import MBOXRD, Reading
-from ..readings.texts import Choice, form_of
+from ..readings.texts import form_of, text_then
 from ..readings.unnamed import unnamed
 from .dialect import Dialect, Letter
 
@@ -114,10 +113,9 @@ def messages_by(
     given, it must list the same messages. `look` gets the text that was read, and its messages."""
     if not mailbox.size:
         return Inventory()
-    plan = plan_then(mailbox, Reading.of_words(words))
-    if not plan:
-        raise Left(NO_LONGER % words, Reason.ANOTHER_READING)
-    with Choice(mailbox, plan.bared(False)).text(disk) as text:
+    with text_then(mailbox, Reading.of_words(words)._replace(bare=False), disk) as text:
+        if not text:
+            raise Left(NO_LONGER % words, Reason.ANOTHER_READING)
         with contextlib.ExitStack() as stack:
             listing = stack.enter_context(program.listing(text.mailbox.number, text.start)) if program else None
             inventory = text.messages(listing)

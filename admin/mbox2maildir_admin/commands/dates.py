@@ -1,5 +1,6 @@
 """The command `dates`: it gives converted files the dates of their From_ lines."""
 import argparse
+import functools
 import os
 from collections.abc import Sequence
 from typing import Optional
@@ -13,7 +14,7 @@ from ..progress import say_of
 from ..readings.texts import open_text
 from ..terminal import complain, named, put
 from .files import Complaints, each, for_mailboxes
-from .recorded import Recorded
+from .recorded import reading_then
 
 # how many messages without a date are named
 UNDATED = 10
@@ -40,7 +41,7 @@ class Dates:
     def give(self, maildir: bytes, file: bytes) -> bool:
         """Gives the files of one mailbox their dates, and names those that have none. Returns whether all have one."""
         before = os.stat(file)
-        with open_text(file, maildir, say_of(file), Recorded(maildir).recorded) as text:
+        with open_text(file, maildir, say_of(file), functools.partial(reading_then, maildir)) as text:
             either = Either.of(maildir, text.messages(with_cores=False), text.mailbox, text.start)
             dating = Dating(text.mailbox, either.inventory, self.headers)
             dating.give_all(maildir)

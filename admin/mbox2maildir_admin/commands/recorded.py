@@ -1,6 +1,5 @@
 """What the record of a Maildir says of files: how mailboxes were read that are done, and which files hold no mail."""
 import os
-from typing import Optional
 
 from ..faults import Fault
 from ..ledger.history import History
@@ -8,26 +7,15 @@ from ..ledger.record import Record
 from ..looks import is_there
 from ..maildir.making import RECORD
 from ..mbox.mailbox import Mailbox
-from ..readings.earlier import plan_then
-from ..readings.plans import Plan
 from ..readings.reading import Reading
 
 
-class Recorded:
-    """How a mailbox was read when it was converted into a folder of a Maildir."""
-
-    def __init__(self, folder: bytes) -> None:
-        self.folder = folder
-        # the plan of the last mailbox that was asked for, if the record has it
-        self.plan: Optional[Plan] = None
-
-    def recorded(self, mailbox: Mailbox, text: Mailbox) -> Optional[Plan]:
-        """The plan of a mailbox that is or holds a text; None unless the record has the mailbox as done."""
-        self.plan, record = None, record_of(self.folder)
-        done = record.done(*mailbox.key()) if mailbox.size in record.sizes_done() else None
-        if done:
-            self.plan = plan_then(text, Reading.of_words(done.plan))
-        return self.plan
+def reading_then(folder: bytes, mailbox: Mailbox) -> Reading:
+    """How a mailbox was read when it was converted into a folder of a Maildir; nothing is decided unless the record has
+    the mailbox as done."""
+    record = record_of(folder)
+    done = record.done(*mailbox.key()) if mailbox.size in record.sizes_done() else None
+    return Reading.of_words(done.plan if done else None)
 
 
 def record_of(folder: bytes) -> History:

@@ -24,7 +24,7 @@ from ..terminal import NAMED
 from ..units import Place, Say
 from ..users.asked import Tally
 from .files import each, for_mailboxes
-from .recorded import Recorded, record_of, root_of
+from .recorded import reading_then, record_of, root_of
 from .running import Telling, reporter_of, run_reported
 
 # what all mailboxes together are at, and what is to be done if the output takes no more
@@ -74,11 +74,11 @@ def verifying(maildir: bytes, *files: bytes) -> Telling:
 
 def verify_file(maildir: bytes, file: bytes, program: bytes, tell: Observer, folder: bytes = INBOX) -> bool:
     """Says which messages of one mailbox are there, and returns whether each is there exactly once."""
-    say, plans = tell.say(file), Recorded(maildir)
+    say = tell.say(file)
     tell.begin()
-    with open_text(file, maildir, say, plans.recorded) as text:
+    with open_text(file, maildir, say, functools.partial(reading_then, maildir)) as text:
         check, bare = check_of(program, maildir, text, say)
-        if plans.plan:
+        if text.is_recorded:
             # it was decided then that no mail is in its From_ lines
             check.doubts = ()
         tell.row(row_of(file, folder, check, bare))
@@ -87,9 +87,10 @@ def verify_file(maildir: bytes, file: bytes, program: bytes, tell: Observer, fol
 
 def verify_takeout(maildir: bytes, file: bytes, program: bytes, noted: Noted, tell: Observer) -> bool:
     """Says the same of each folder of a Takeout that went into the folders of its labels."""
-    look, are_right = functools.partial(check_of, program), []
+    look, recorded = functools.partial(check_of, program), functools.partial(reading_then, maildir)
+    are_right = []
     tell.total += len(noted.folders) - 1
-    for folder, check, bare in checks_of(maildir, file, noted, Recorded(maildir).recorded, look, tell.say(file)):
+    for folder, check, bare in checks_of(maildir, file, noted, recorded, look, tell.say(file)):
         tell.begin()
         tell.row(row_of(file, folder, check, bare))
         are_right.append(check.is_right())

@@ -3,7 +3,7 @@ from collections.abc import Callable, Iterator
 
 from ..maildir.checking import Check
 from ..maildir.folders import folder_path
-from ..readings.texts import PlanOf, Text, disk_of, open_text
+from ..readings.texts import ReadingOf, Text, disk_of, open_text
 from ..units import Say
 from .fields import headers_in
 from .noted import Noted
@@ -15,7 +15,7 @@ Looking = Callable[[bytes, Text, Say], tuple[Check, int]]
 
 
 def checks_of(
-    maildir: bytes, file: bytes, noted: Noted, recorded: PlanOf, look: Looking, say: Say
+    maildir: bytes, file: bytes, noted: Noted, recorded: ReadingOf, look: Looking, say: Say
 ) -> Iterator[tuple[bytes, Check, int]]:
     """Looks into each folder of a Takeout, which is read as it was when it was recorded, and gives what was found."""
     with open_text(file, maildir, say, recorded) as text:

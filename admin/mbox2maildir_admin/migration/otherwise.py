@@ -14,14 +14,14 @@ from ..mbox.bases import before_info
 from ..mbox.inventory import Inventory
 from ..mbox.mailbox import Mailbox
 from ..nexts import NOTHING, Answer, Does, Next, Remark
-from ..readings.earlier import decision_by, messages_then, plan_then, text_then
 from ..readings.reading import MBOXO, UNDECIDED, UNQUOTED, Reading, with_deleted
-from ..readings.texts import Choice, choice_of, content_of, disk_of
+from ..readings.texts import Choice, StartOf, choice_of, content_of, disk_of, text_then
+from ..readings.verdict import look_at
 from ..units import counted
 from .dovecot import names_in
 from .known import Known
 from .remarks import remarks_on_lost
-from .steps import Contents, Extra, Opened, Options
+from .steps import Contents, Opened, Options
 
 CONTRADICTED = "it was read as %s, and %s gives other messages"
 READ_OTHERWISE = (
@@ -32,8 +32,8 @@ BEGUN_OTHERWISE = (
     "its conversion was begun with another reading: %d of %d messages are there as it was read then, %d of %d as it is "
     "read now"
 )
-# a folder on the disk where copies are made, and what is done for a mailbox besides mail and dates
-By = tuple[bytes, Extra]
+# a folder on the disk where copies are made, and where the messages of a text begin that are converted
+By = tuple[bytes, StartOf]
 
 
 def as_before(opened: Opened, ledger: Ledger, path: str, by: By) -> Optional[tuple[str, list[Remark]]]:
@@ -42,24 +42,21 @@ def as_before(opened: Opened, ledger: Ledger, path: str, by: By) -> Optional[tup
     source = ledger.sources.get(path)
     if not source or ledger.pending(path) is not None:
         return None
-    with content_of(opened.mailbox, by[0]) as text:
-        # mail that is marked as deleted by now, and was not brought, is new
-        plan = plan_then(text, with_deleted(Reading.of_words(source.words)))
-        if not plan:
+    # mail that is marked as deleted by now, and was not brought, is new
+    reading = with_deleted(Reading.of_words(source.words))
+    with content_of(opened.mailbox, by[0]) as text, text_then(text, reading, *by) as then:
+        if not then:
             return None
-        with text_then(text, plan, by[0], by[1].start_of) as then:
-            contents = Contents(then.mailbox, then.start, then.messages(), plan.reading, then)
-            match = Match(ledger, path, contents.inventory, lambda place: False)
-            match.compare()
-            if match.count_new():
-                return None
-            return contents.words, list(remarks_on_lost(match))
+        contents = Contents(then.mailbox, then.start, then.messages(), reading, then)
+        match = Match(ledger, path, contents.inventory, lambda place: False)
+        match.compare()
+        return None if match.count_new() else (contents.words, list(remarks_on_lost(match)))
 
 
 def contradicted(how: Options, root: bytes, opened: Opened, line: Entry) -> tuple[list[Remark], Next]:
     """What is to be said of a mailbox that is done if a decision that is given now gives other messages, and the
     command that undoes it."""
-    if not contradicts(opened.mailbox, line, how.decision, (disk_of(root, how.dry), how.extra)):
+    if not contradicts(opened.mailbox, line, how.decision, (disk_of(root, how.dry), how.extra.start_of)):
         return [], NOTHING
     says = CONTRADICTED % (Reading.of_words(line.plan).of_text.words(), " ".join(how.decision.options()))
     # a word for several mailboxes is about those that are not done
@@ -73,14 +70,11 @@ def contradicts(mailbox: Mailbox, line: Entry, decision: Reading, by: By) -> boo
         return False
     try:
         with choice_of(mailbox, by[0], decision=decision) as choice:
-            then = plan_then(choice.mailbox, Reading.of_words(line.plan))
-            if not then or choice.plan.reading.of_text == then.reading.of_text:
+            then, now = Reading.of_words(line.plan)._replace(bare=False), choice.plan.reading
+            if then.of_text == now.of_text:
                 return False
-            was, is_now = (
-                messages_then(choice.mailbox, plan, by[0], by[1].start_of).table.digests
-                for plan in (then.bared(False), choice.plan)
-            )
-            return was != is_now
+            with text_then(choice.mailbox, then, *by) as was, text_then(choice.mailbox, now, *by) as is_now:
+                return bool(was and is_now and was.messages().table.digests != is_now.messages().table.digests)
     except Fault:
         mailbox.check()
         return False
@@ -125,10 +119,10 @@ def want_same_reading(how: Options, known: Known, choice: Choice, contents: Cont
         raise Left(says, Reason.ANOTHER_READING, (Answer(command),))
     if before.reading.of_text == contents.reading.of_text:
         return
-    plan = plan_then(choice.mailbox, before.reading)
-    if not plan:
-        return
-    inventory = messages_then(choice.mailbox, plan, disk_of(root, how.dry), how.extra.start_of)
+    with text_then(choice.mailbox, before.reading, disk_of(root, how.dry), how.extra.start_of) as text:
+        if not text:
+            return
+        inventory = text.messages()
     then, now = before.counts(how.decision, inventory, contents)
     if then <= now:
         return
@@ -138,12 +132,20 @@ def want_same_reading(how: Options, known: Known, choice: Choice, contents: Cont
         says = READ_OTHERWISE % (before.reading.of_text.words(), counted(then - now, "message"))
     is_done = bool(before.source and before.source.key == tuple(opened.mailbox.key()))
     # what a human says of single lines holds by the other reading too
-    decision = decision_by(choice.mailbox, plan, how.decision)
+    decision = decision_by(choice.mailbox, before.reading, how.decision)
     if how.decision.word and is_done or not is_enough(choice.mailbox, decision, disk_of(root, how.dry)):
         command = how.undo_command(root, opened)
     else:
         command = how.command(root, opened, again=how.again, decision=decision)
     raise Left(says, Reason.ANOTHER_READING, (Answer(command),))
+
+
+def decision_by(mailbox: Mailbox, then: Reading, given: Reading) -> Reading:
+    """The decision by which a text was read, and the lines of another decision. Lines that it names are tied to the
+    text."""
+    text, begin = (then.text - given.begin) | given.text, (then.begin - given.text) | given.begin
+    found = then.decided._replace(text=text, begin=begin)
+    return look_at(mailbox).tied(found) if text or begin else found
 
 
 def has_begun(known: Known) -> bool:

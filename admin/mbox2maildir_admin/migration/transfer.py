@@ -119,7 +119,7 @@ class Transfer:
         """The row of a mailbox about which there is a question, if it was done before as it was read then, or was
         answered before, or if what it has brought answers; None if a human must."""
         if not self.again:
-            before = as_before(self.opened, self.ledger, self.path, (self.disk, self.how.extra))
+            before = as_before(self.opened, self.ledger, self.path, (self.disk, self.how.extra.start_of))
             if before:
                 words, more = before
                 return self.row_before(words, count_in(self.ledger, self.path), more)

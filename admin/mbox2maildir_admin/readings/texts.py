@@ -4,6 +4,7 @@ import array
 import bisect
 import contextlib
 import functools
+import itertools
 import os
 from collections.abc import Callable, Iterator, Sequence
 from typing import NamedTuple, Optional
@@ -19,6 +20,7 @@ from ..looks import is_folder
 from ..maildir.files import paths_of
 from ..maildir.space import trial_folder
 from ..mbox.fields import bared
+from ..mbox.files import BLOCK, Reader
 from ..mbox.inventory import Inventory, messages_of
 from ..mbox.lines import Said
 from ..mbox.mailbox import Mailbox
@@ -26,13 +28,14 @@ from ..mbox.pieces import pieces_of
 from ..mbox.plain import Marked
 from ..program import Listing, Program
 from ..units import Line, Offset, Say, silent
-from .plans import NoMail, NotKnown, OtherKind, Plan, Question, is_as_it_is, plan_of
+from .plans import NoMail, NotKnown, OtherKind, Plan, Question, is_as_it_is, plan_of, wants_copy
 from .quoting import Quoter
-from .reading import UNDECIDED, Reading
+from .reading import PLAIN, UNDECIDED, Reading
 from .unnamed import text_of
 
-# how a mailbox, which is or holds a text, was read when it was recorded, if it was
-PlanOf = Callable[[Mailbox, Mailbox], Optional[Plan]]
+# how a mailbox was read when it was recorded, if it was; and where the messages of a text begin that are converted
+ReadingOf = Callable[[Mailbox], Reading]
+StartOf = Callable[[Mailbox, Offset], Offset]
 
 
 class Full(NamedTuple):
@@ -54,6 +57,8 @@ class Text(NamedTuple):
     quoted_before: Sequence[int] = ()
     full: Optional[Full] = None
     offsets: Sequence[int] = ()
+    # whether it is read as it was when it was recorded
+    is_recorded: bool = False
 
     def bare(self, folder: bytes) -> "Text":
         """The bare copy of a text, on the disk of a folder."""
@@ -115,17 +120,55 @@ class Choice(NamedTuple):
     @contextlib.contextmanager
     def text(self, folder: bytes) -> Iterator[Text]:
         """The text itself. A copy is made on the disk of a folder."""
-        with contextlib.ExitStack() as stack:
-            text = Text(self.mailbox, self.plan.start)
-            if self.plan.is_copied:
-                quoter = Quoter(self.plan.reading, self.mailbox, self.plan.start)
-                copy = stack.enter_context(text_of(self.mailbox, quoter.run(), folder))
-                quoter.check(copy.size, quoter.messages, self.plan.messages)
-                text = Text(copy, Offset(0), quoter.lines, quoter.quoted_before)
-            if self.plan.reading.bare:
-                text = text.bare(folder)
-                stack.enter_context(text.mailbox)
+        plan = self.plan
+        reading = plan.reading if plan.is_copied else PLAIN._replace(bare=plan.reading.bare)
+        with text_by(reading, self.mailbox, plan.start, folder, plan.messages) as text:
             yield text
+
+
+@contextlib.contextmanager
+def text_by(reading: Reading, mailbox: Mailbox, start: Offset, folder: bytes, *wanted: int) -> Iterator[Text]:
+    """The text of a mailbox as it is read, with as many messages as wanted. A copy is made on the disk of a folder."""
+    with contextlib.ExitStack() as stack:
+        text = Text(mailbox, start)
+        if reading.of_text._replace(of="") != PLAIN:
+            quoter = Quoter(reading, mailbox, start)
+            copy = copy_by(quoter, folder)
+            if copy:
+                stack.enter_context(copy)
+                text = Text(copy, Offset(0), quoter.lines, quoter.quoted_before)
+            quoter.check(copy.size if copy else quoter.given, quoter.messages, *wanted)
+        if reading.bare:
+            text = text.bare(folder)
+            stack.enter_context(text.mailbox)
+        yield text
+
+
+def copy_by(quoter: Quoter, folder: bytes) -> Optional[Mailbox]:
+    """A copy of what is given of a mailbox; None if all of it is given as it is. What comes before the first difference
+    is read once more."""
+    given = quoter.run()
+    for data in given:
+        if wants_copy(quoter.how, quoter):
+            same = Reader(quoter.mailbox.number, quoter.start, quoter.start + quoter.given - len(data))
+            return text_of(quoter.mailbox, itertools.chain(iter(lambda: same.read(BLOCK), b""), [data], given), folder)
+    return None
+
+
+@contextlib.contextmanager
+def text_then(
+    mailbox: Mailbox, reading: Reading, folder: bytes, start_of: StartOf = lambda _, start: start
+) -> Iterator[Optional[Text]]:
+    """The text of a mailbox as it was read before, from the place on at which it is converted; None if that is not
+    known, or if it can't be read so any more. Raises Fault if the mailbox changes."""
+    with contextlib.ExitStack() as stack:
+        text = None
+        if reading.word:
+            try:
+                text = stack.enter_context(text_by(reading, mailbox, text_start(mailbox) or Offset(0), folder))
+            except Fault:
+                mailbox.check()
+        yield text.begun_at(start_of(*text.whole())) if text else None
 
 
 class AtOnce:
@@ -238,7 +281,7 @@ def joined(kind: str, form: Form) -> str:
 
 @contextlib.contextmanager
 def open_text(
-    path: bytes, maildir: bytes, say: Say = silent, recorded: PlanOf = lambda mailbox, text: None
+    path: bytes, maildir: bytes, say: Say = silent, recorded: ReadingOf = lambda mailbox: UNDECIDED
 ) -> Iterator[Text]:
     """Opens the text that is converted for a mailbox, without a lock, with all its header fields. It is read as it was
     when it was recorded. If the mailbox would be left, the text is the mailbox itself, or what it holds. Raises Fault
@@ -247,12 +290,12 @@ def open_text(
     with contextlib.ExitStack() as stack:
         mailbox = stack.enter_context(Mailbox.open(path, say))
         source = stack.enter_context(content_of(mailbox, where))
+        then = stack.enter_context(text_then(source, recorded(mailbox)._replace(bare=False), where))
         try:
-            plan = recorded(mailbox, source) or plan_of(source)
-            text = stack.enter_context(Choice(source, plan.bared(False)).text(where))
+            text = then or stack.enter_context(Choice(source, plan_of(source)).text(where))
         except Left:
             text = Text(source, Offset(0))
-        yield text._replace(start=after_internal(text, maildir))
+        yield text._replace(start=after_internal(text, maildir), is_recorded=then is not None)
 
 
 def disk_of(maildir: bytes, is_trial: bool = False) -> bytes:

@@ -43,9 +43,8 @@ from ..migration.replica import empty, is_prepared, take_back
 from ..migration.several import refuse
 from ..migration.steps import Extra, Opened, Options
 from ..nexts import Remark, Todo, task
-from ..readings.earlier import messages_then, plan_then
 from ..readings.reading import Reading, with_deleted
-from ..readings.texts import content_of, disk_of
+from ..readings.texts import content_of, disk_of, text_then
 from ..terminal import named
 from ..units import Say, counted, silent
 
@@ -166,12 +165,12 @@ class Undo:
         words, disk = ledger.words_of(path), disk_of(self.root, self.options.dry)
         reading = Reading.of_words(words)
         extra = Dovecot(self.record) if reading.bare else Extra()
-        with content_of(opened.mailbox, disk) as text:
-            # it still has what was marked as deleted since
-            plan = plan_then(text, with_deleted(reading))
-            if not plan:
+        # it still has what was marked as deleted since
+        reading = with_deleted(reading)
+        with content_of(opened.mailbox, disk) as text, text_then(text, reading, disk, extra.start_of) as then:
+            if not then:
                 raise Left(UNREADABLE % words, Reason.UNDO)
-            return cores_of(messages_then(text, plan, disk, extra.start_of))
+            return cores_of(then.messages())
 
     def carry_out(self, opened: Opened, ledger: Ledger, path: str, plan: Sequence[Planned]) -> Counts:
         """Removes the files that go, and notes that before and afterwards. Returns what became of the messages."""
