@@ -58,7 +58,7 @@ def without(fields: re.Pattern[bytes], data: bytes, begin: int, end: int) -> byt
 
 def bared(piece: Piece, fields: re.Pattern[bytes] = HIDDEN_FIELD) -> bytes:
     """The bare text of a piece, or that without other fields."""
-    if not piece.begins:
+    if not piece.body:
         return piece.data
     end, body = header_of(piece.data, piece.body)
     text = without(fields, piece.data, piece.body, end)

@@ -75,7 +75,7 @@ class Begun:
 
     def __init__(self, piece: Piece, with_cores: bool) -> None:
         self.offset, self.from_line, self.digests = piece.offset, piece.from_line, Digests(with_cores)
-        self.unquoted, self.read = 0, piece.body
+        self.unquoted = self.read = 0
 
     def take(self, piece: Piece) -> None:
         """Takes a piece. Of a quoted line the first `>` is left out, and of the message the blank line at its end."""
@@ -86,7 +86,7 @@ class Begun:
             mail, count = FIRST_QUOTE.subn(b"\n", b"\n" + mail)
             mail = mail[1:]
         self.digests.take(mail)
-        self.unquoted, self.read = self.unquoted + count, self.read + len(mail) + count + is_blank
+        self.unquoted, self.read = self.unquoted + count, self.read + piece.body + len(mail) + count + is_blank
 
     def message(self) -> Message:
         """The whole message."""

@@ -9,8 +9,8 @@ from .files import BLOCK, LONG
 FROM = b"From "
 # each From_ line has the word, and no search is faster; what follows it in its line is passed over
 WORD, NEVER, LINE_END, QUOTE = re.compile(rb"From [^\n]*"), re.compile(rb"(?!)"), ord(b"\n"), ord(b">")
-# up to how many bytes a line `From ` is kept in one piece, its header, and another line
-LONGEST_FROM, LONGEST_HEADER, LONGEST_LINE = 1 << 24, 1 << 22, 1 << 19
+# how many bytes are read at a time, and up to how many a header is kept in one piece, and a line
+AT_ONCE, LONGEST_HEADER, LONGEST_LINE = BLOCK >> 3, 1 << 22, 1 << 18
 # the end of a longer line, before a byte that begins nothing
 WITHIN_LINE = re.compile(rb".*[^>F\r\n\t ](?=[^>F\r\n\t ])", re.DOTALL)
 
@@ -19,7 +19,8 @@ Read = Callable[[int], bytes]
 
 
 class Piece(NamedTuple):
-    """Lines of a text. A line `From ` is only at the beginning of a piece, which then has the header that follows."""
+    """Lines of a text. A line `From ` is only at the beginning of a piece, and the piece in which it ends has the
+    header that follows."""
 
     offset: Offset
     data: bytes
@@ -29,11 +30,13 @@ class Piece(NamedTuple):
     # whether `From ` is in it elsewhere, and whether that is so after a `>`
     has_word: bool = False
     has_quote: bool = False
+    # whether it goes on with a line `From ` that is longer than a piece
+    goes_on: bool = False
 
     @property
     def body(self) -> int:
         """Where the line `From ` ends."""
-        return (self.data.find(b"\n") + 1 or len(self.data)) if self.begins else 0
+        return (self.data.find(b"\n") + 1 or len(self.data)) if self.begins or self.goes_on else 0
 
     @property
     def from_line(self) -> bytes:
@@ -44,9 +47,9 @@ class Piece(NamedTuple):
 def pieces_of(read: Read, offset: int = 0, word: re.Pattern[bytes] = WORD) -> Iterator[Piece]:
     """The pieces of a text, whose first byte has this offset. Most pieces are whole messages; a message of more than a
     block has several, the first with all of its header."""
-    data, begins, has_header, has_word, has_quote, searched = b"", False, True, False, False, 0
+    data, begins, goes_on, has_header, has_word, has_quote, searched = b"", False, False, True, False, False, 0
     while True:
-        block = read(max(BLOCK, len(data)))
+        block = read(max(AT_ONCE, len(data)))
         data, at = data + block if data else block, 0
         begins = begins or has_header and data.startswith(FROM)
         for found in word.finditer(data, searched):
@@ -54,36 +57,33 @@ def pieces_of(read: Read, offset: int = 0, word: re.Pattern[bytes] = WORD) -> It
             if place and data[place - 1] != LINE_END:
                 has_word, has_quote = True, has_quote or data[place - 1] == QUOTE
             elif place:
-                yield Piece(Offset(offset + at), data[at:place], begins, True, has_word, has_quote)
-                at, begins, has_header, has_word, has_quote = place, True, True, False, False
+                yield Piece(Offset(offset + at), data[at:place], begins, True, has_word, has_quote, goes_on)
+                at, begins, goes_on, has_header, has_word, has_quote = place, True, False, True, False, False
         offset, data = offset + at, data[at:] if at else data
         if not block:
             if data:
-                yield Piece(Offset(offset), data, begins, True, has_word, has_quote)
+                yield Piece(Offset(offset), data, begins, True, has_word, has_quote, goes_on)
             return
-        cut = place_to_cut(data, has_header) if len(data) >= BLOCK else 0
+        cut = place_to_cut(data, has_header, begins or goes_on) if len(data) >= AT_ONCE else 0
         if cut:
-            yield Piece(Offset(offset), data[:cut], begins, False, has_word, has_quote)
-            offset, data = offset + cut, data[cut:]
-            begins = has_header = False
+            yield Piece(Offset(offset), data[:cut], begins, False, has_word, has_quote, goes_on)
+            goes_on = has_header = (begins or goes_on) and data.find(b"\n", 0, cut) < 0
+            offset, data, begins = offset + cut, data[cut:], False
             has_word, has_quote = has_word and FROM in data, has_quote and FROM in data
         # a word that has begun at the end
         searched = max(0, len(data) - len(FROM) + 1)
 
 
-def place_to_cut(data: bytes, has_header: bool) -> int:
+def place_to_cut(data: bytes, has_header: bool, has_from_line: bool) -> int:
     """Where a message is cut that goes on: at the end of a line, after its header, so that something follows that is no
     line `From `. A line is cut only if it is longer than any program writes, where nothing can begin."""
-    cut = data.rfind(b"\n", 0, -1) + 1
+    cut, header = data.rfind(b"\n", 0, -1) + 1, data.find(b"\n") + 1
     if FROM.startswith(data[cut:]):
         cut = data.rfind(b"\n", 0, max(0, cut - 1)) + 1
-    if has_header and not cut and len(data) < LONGEST_FROM:
+    if has_header and (header or not has_from_line) and len(data) < LONGEST_HEADER and header_of(data, header)[1] > cut:
         return 0
     found = WITHIN_LINE.match(data, cut) if len(data) - cut >= LONGEST_LINE else None
-    if found:
-        return found.end()
-    is_in_header = has_header and len(data) < LONGEST_HEADER and header_of(data, data.find(b"\n") + 1)[1] > cut
-    return 0 if is_in_header else cut
+    return found.end() if found else cut
 
 
 def header_of(data: bytes, begin: int) -> tuple[int, int]:
