@@ -74,9 +74,12 @@ REFUSED = [
     ("migrate --unread M box", "--unread needs --prepare"),
     ("migrate --prepare --again M box", "--prepare does not go with --again"),
     ("migrate --label x=none M box", "--label needs --labels"),
-    (
-        "migrate --labels --label x M box",
-        "--label x: it takes NAME=WHAT, and WHAT is one of none, folder, read, unread, starred",
+    *(
+        (
+            f"migrate --labels --label {label} M box",
+            f"--label {label}: it takes NAME=WHAT, and WHAT is one of none, folder, read, unread, starred",
+        )
+        for label in ("x", "=folder", "x=y")
     ),
     ("migrate --labels --folder x M box", "--labels does not go with --folder"),
     ("migrate --labels M old", "--labels needs a MAILBOX that is a file"),

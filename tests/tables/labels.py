@@ -338,6 +338,19 @@ def only_a_takeout_has_labels(home: Path) -> None:
     equal("whether anything was made", (home / "M").exists(), False)
 
 
+def a_line_is_asked_about(home: Path) -> None:
+    """What is answered about a line of mail holds for later Takeouts at this path too."""
+    doubtful = "".join([message("one", "Inbox"), message("two", "Sent", body="hello\nFrom the shed\n")])
+    mailbox(home / "t.mbox", doubtful.encode())
+    (row,) = by_json(["migrate", "--labels", "M", "t.mbox"], home).rows
+    equal("the question", (row["verdict"], row["reason"], sorted(row.answers.values())), ("left", "unclear", [2, 3]))
+    run_printed(min(row.answers, key=row.answers.__getitem__), home)
+    equal("the folders", folders_in(home / "M"), {"": ["one"], ".Sent": ["two"]})
+    mailbox(home / "t.mbox", (doubtful + message("three", "Sent")).encode())
+    expect("migrate --all --labels M t.mbox", home, 0, None)
+    equal("the folders then", folders_in(home / "M"), {"": ["one"], ".Sent": ["three", "two"]})
+
+
 def a_later_takeout(home: Path) -> None:
     """One in which only marks changed places nothing, whether it takes the place of the first or stands beside it. Into
     a folder that is new for a message that message is placed, and the row counts both."""
@@ -499,6 +512,7 @@ if __name__ == "__main__":
         one_folder_for_each,
         a_label_is_asked_about,
         several_labels_are_asked_about,
+        a_line_is_asked_about,
         mail_that_was_only_prepared,
         many_lose_a_label,
         a_label_says_what_was_read,
