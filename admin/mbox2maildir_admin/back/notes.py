@@ -1,22 +1,102 @@
-"""The messages that go back into one mailbox, with what mail programs note of them in fields of their headers."""
+"""The messages that go back into one mailbox, with what mail programs note of them in fields of their headers.
+
+`migrate` reads the flags of a mail program only if each message has its fields. Those that a message has already are
+taken out only there: elsewhere they may be its sender's.
+"""
 import contextlib
+import io
 import itertools
 import os
-from collections.abc import Iterable, Iterator, Sequence
-from typing import Optional
+import re
+from collections.abc import Callable, Iterable, Iterator, Sequence
+from typing import NamedTuple, Optional
 
+from ..flags.clients import CLIENTS, EVOLUTION, THUNDERBIRD, kept_in
 from ..maildir.files import names_of
 from ..mbox.bases import before_info
+from ..mbox.core import forms_of
+from ..mbox.fields import HIDDEN, Header, pattern_of
 from ..mbox.files import open_file
 from ..mbox.inventory import Inventory
 from ..mbox.mailbox import Mailbox
 from ..nexts import Remark
 from ..terminal import named
-from ..units import Say, counted
-from .clients import Client
-from .dialect import Letter
+from ..units import Place, Say, counted
+from .dialect import Letter, parted
 from .mails import Mail
 from .numbers import Numbering
+
+# the number that Evolution gave a message, which no other one of the mailbox has
+EVOLUTION_NUMBER = re.compile(rb"^X-Evolution:[ \t]*([0-9a-f]{8})-", re.I | re.M)
+# what Gmail's numbers have fewer bits than
+THREAD_BITS = 63
+
+
+class Client(NamedTuple):
+    """The program that keeps flags in a mailbox, if one does, and the highest number that it has given."""
+
+    program: str = ""
+    last: int = 0
+
+    @classmethod
+    def of(cls, mailbox: Mailbox, inventory: Inventory) -> "Client":
+        """That of a text with these messages."""
+        kept = kept_in(mailbox, inventory) if len(inventory) else None
+        if not kept:
+            return cls()
+        headers = (Header.at(mailbox, inventory.offset(Place(place))).text for place in range(len(inventory)))
+        found = filter(None, map(EVOLUTION_NUMBER.search, headers))
+        return cls(kept.program, max((int(one[1], 16) for one in found), default=0))
+
+    def bare(self, letter: Letter) -> Letter:
+        """A message without the fields of this program, and without those by which mailboxes are read everywhere."""
+        header, gap, body = parted(letter.text)
+        fields = pattern_of((*HIDDEN, *KEPT.get(self.program, ())))
+        taken = tuple(found[0].split(b":")[0].strip() for found in fields.finditer(b"\n" + header))
+        return letter._replace(text=fields.sub(b"", b"\n" + header)[1:] + gap + body, taken=taken) if taken else letter
+
+    def fields(self, letter: Letter, number: int) -> list[bytes]:
+        """The fields for a message, which is the one of this number that goes back."""
+        return WRITERS[self.program](letter, self.last + number) if self.program else []
+
+
+def bits_of(flags: str, table: dict[int, str]) -> int:
+    """The number whose bits give these flags."""
+    return sum(bit for bit, flag in table.items() if flag in flags)
+
+
+def for_thunderbird(letter: Letter, _: int) -> list[bytes]:
+    """The fields of Thunderbird."""
+    return [b"X-Mozilla-Status: %04x" % bits_of(letter.flags, THUNDERBIRD), b"X-Mozilla-Status2: 00000000"]
+
+
+def for_evolution(letter: Letter, number: int) -> list[bytes]:
+    """The field of Evolution."""
+    return [b"X-Evolution: %08x-%04x" % (number, bits_of(letter.flags, EVOLUTION))]
+
+
+def for_takeout(letter: Letter, _: int) -> list[bytes]:
+    """The fields of Gmail. The thread is of this message alone."""
+    core = forms_of(io.BytesIO(letter.text).read)[0]
+    thread = int.from_bytes(core, "big") >> 1 & (1 << THREAD_BITS) - 1
+    labels = [b"Opened" if "S" in letter.flags else b"Unread", *[b"Starred"] * ("F" in letter.flags)]
+    return [b"X-GM-THRID: %d" % thread, b"X-Gmail-Labels: " + b",".join(labels)]
+
+
+WRITERS: dict[str, Callable[[Letter, int], list[bytes]]] = dict(
+    zip(CLIENTS, (for_thunderbird, for_evolution, for_takeout))
+)
+# the names of the fields of each, in lower case
+KEPT = dict(
+    zip(
+        CLIENTS,
+        (
+            (b"x-mozilla-keys", b"x-mozilla-status", b"x-mozilla-status2"),
+            (b"x-evolution",),
+            (b"x-gm-thrid", b"x-gmail-labels"),
+        ),
+    )
+)
 
 
 class Notes:

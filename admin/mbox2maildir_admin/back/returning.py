@@ -142,6 +142,7 @@ class Appending:
 
     def __init__(self, returning: Returning, target: Target, known: Known, read: Read) -> None:
         self.returning, self.target, self.opened, self.known = returning, target, known.opened, known
+        self.mailbox = known.opened.mailbox
         self.words, self.dialect, self.inventory, self.notes, self.gap = read
         inventory = read.inventory
         source = known.ledger.sources.get(known.path)
@@ -150,11 +151,6 @@ class Appending:
         # what it has already, and what it cannot hold
         self.there: list[Mail] = []
         self.refused: list[Mail] = []
-
-    @property
-    def mailbox(self) -> Mailbox:
-        """The mailbox."""
-        return self.opened.mailbox
 
     def run(self) -> Outcome:
         """Appends what the mailbox does not have."""

@@ -1,17 +1,21 @@
-"""Which messages of a mailbox are new to its folder, and which files stand for these.
+"""Which messages of a mailbox are new to its folder, which files stand for these, and which names the others get.
 
 Within a mailbox's history a message is known by its core. A new one that another mailbox brought as often, in the same
 bare form, is that one's too: if its file is gone, somebody deleted it. Any other one is there if a file holds it that
 counts for no message yet. What is nowhere then is to be placed. Each file counts once, and one that is marked as
 deleted counts for no message that is not.
+
+The program numbers equal messages of a text in their order, and passes over names that are taken. So of k equal
+messages it gets so many copies that exactly k of these names are free, whatever their numbers are.
 """
 import array
+import bisect
 import collections
 import itertools
 from collections.abc import Callable, Container, Iterable, Iterator, Sequence
+from typing import Optional
 
-from ..maildir.hashes import Hashes
-from ..mbox.bases import is_own
+from ..mbox.bases import FIRST, Table, base_in, is_own
 from ..mbox.core import SHORT
 from ..mbox.inventory import Inventory
 from ..units import Place, Say, silent
@@ -19,7 +23,7 @@ from .assign import BROUGHT, File, Offer, Unnamed, Why, by_form, files_of, nobod
 from .batches import Line, State
 from .files import Files
 from .ledger import Ledger
-from .lines import FOREIGN, NAMELESS, Brought, counted_in, word_for_others
+from .lines import FOREIGN, LOST, NAMELESS, PLACED, Brought, counted_in, word_for_others
 
 # tells whether a message is marked as deleted in its mailbox
 IsDeleted = Callable[[Place], bool]
@@ -304,3 +308,132 @@ def cores_of(inventory: Inventory) -> collections.Counter[bytes]:
 def bares_of(inventory: Inventory) -> collections.Counter[bytes]:
     """How often each bare form is among some messages."""
     return collections.Counter(map(inventory.bare, range(len(inventory))))
+
+
+class Placing:
+    """The messages of a text that are nowhere, the names of their files, and what the program gets for that: copies of
+    messages first, then the text itself from a place on."""
+
+    def __init__(self, match: Match) -> None:
+        self.match, self.inventory = match, match.inventory
+        # the names that differ from those that the messages have in the text, and how many more copies of a message the
+        # program gets
+        self.names: dict[int, bytes] = {}
+        self.more: collections.Counter[int] = collections.Counter()
+        self.rest = self.tail()
+        for digest, places in self.special().items():
+            taken = set(match.files.counts_of(digest))
+            self.give_names(digest, places, taken)
+            if places[-1] >= self.rest and (taken or places[0] < self.rest):
+                self.rest = Place(len(self.inventory))
+
+    def tail(self) -> Place:
+        """The place from which on all messages are nowhere."""
+        need, place = self.match.need, len(self.inventory)
+        for one in reversed(need):
+            if one != place - 1:
+                break
+            place = one
+        return Place(place)
+
+    def special(self) -> dict[bytes, list[int]]:
+        """The places of the messages that equal others, or files, by their digests."""
+        found: collections.defaultdict[bytes, list[int]] = collections.defaultdict(list)
+        table, files = self.inventory.table, self.match.files
+        has_files = bool(files.counts) or any(files.there)
+        for place in self.match.need if has_files or table.repeats else ():
+            digest = table.digest(place)
+            if table.place_of(digest + FIRST) in table.repeats or has_files and files.has_digest(digest):
+                found[digest].append(place)
+        return found
+
+    def give_names(self, digest: bytes, places: Sequence[int], taken: set[int]) -> None:
+        """Gives equal messages the first names that are free. Before each, the program gets as many copies as there are
+        names to pass over, so that messages are placed in their order."""
+        free = (count for count in itertools.count(1) if count not in taken)
+        last = 0
+        for place, count in zip(places, free):
+            name = b"%s.%d" % (digest.hex().encode(), count)
+            if name != self.inventory.table.name(place):
+                self.names[place] = name
+            self.more[place], last = count - last - 1, count
+
+    def name(self, place: int) -> bytes:
+        """The name that the file of a message gets."""
+        return self.names.get(place) or self.inventory.table.name(place)
+
+    def base(self, place: int) -> bytes:
+        """The base that the file of a message gets."""
+        return base_in(self.names[place]) or b"" if place in self.names else self.inventory.table.base(place)
+
+    def copied(self) -> list[Place]:
+        """The places of the messages of which the program gets copies first, as often as it gets them."""
+        return [Place(one) for one in self.match.need if one < self.rest for _ in range(1 + self.more[one])]
+
+    def lines(self) -> Iterator[Brought]:
+        """The lines of the batch, in the order in which messages are placed."""
+        match, inventory = self.match, self.inventory
+        yield from (one._replace(word=LOST) for one in match.dropped)
+        for place in sorted(match.found):
+            yield match.found[place]
+        for place, is_mine in enumerate(match.mine):
+            if is_mine:
+                yield Brought(PLACED, inventory.table.name(place), inventory.core(place), inventory.bare(place))
+        for place in match.need:
+            yield Brought(PLACED, self.name(place), inventory.core(place), inventory.bare(place))
+
+    def count_of_lines(self) -> int:
+        """How many lines these are."""
+        return len(self.match.dropped) + sum(self.match.mine) + len(self.match.found) + len(self.match.need)
+
+    def places(self) -> Sequence[int]:
+        """The places of what is nowhere, and of what a run has placed that was killed."""
+        match = self.match
+        if len(match.need) == len(self.inventory):
+            return match.need
+        mine = (place for place, is_mine in enumerate(match.mine) if is_mine)
+        return array.array("Q", sorted(itertools.chain(match.need, mine, match.fresh)))
+
+    def part(self, places: Sequence[int]) -> Inventory:
+        """The messages at these places, with the bases of their files."""
+        if len(places) == len(self.inventory) and not self.names and not self.match.fresh:
+            return self.inventory
+        names = (self.match.found[place].name if place in self.match.found else self.name(place) for place in places)
+        return part_of(self.inventory, places, map(base_in, names))
+
+    def whole(self) -> Inventory:
+        """All messages, with the bases of the files that stand for them as far as these have bases."""
+        if not self.names and not self.match.found:
+            return self.inventory
+        names = {**self.names, **{place: one.name for place, one in self.match.found.items()}}
+        several = range(len(self.inventory))
+        bases = [base_in(names[place]) if place in names else self.inventory.table.base(place) for place in several]
+        used = {base for place, base in enumerate(bases) if place in names}
+        for place in several:
+            own = self.inventory.table.base(place)
+            if bases[place] is None or place not in names and own in used:
+                bases[place] = own if own not in used else b"%s.%d" % (bytes(32), place + 1)
+        return part_of(self.inventory, several, bases)
+
+
+def part_of(inventory: Inventory, places: Sequence[int], bases: Iterable[Optional[bytes]]) -> Inventory:
+    """Some messages of a text, with other bases."""
+    part = Inventory()
+    part.table = Table.of(base for base in bases if base)
+    part.count_lines = lambda: (inventory.lines[place] for place in places)
+    for name in ("sizes", "offsets", "unquoted", "dates"):
+        row = getattr(inventory, name)
+        setattr(part, name, array.array(row.typecode, (row[place] for place in places)))
+    return part
+
+
+class Hashes:
+    """Names by their hashes, which rise. A name takes 8 bytes in place of some 150. Two names have the same hash once
+    in 10^19 pairs, and nobody can choose them, since Python draws anew how it hashes."""
+
+    def __init__(self, names: Iterable[bytes]) -> None:
+        self.several = array.array("q", sorted(array.array("q", map(hash, names))))
+
+    def __contains__(self, name: object) -> bool:
+        at = bisect.bisect_left(self.several, hash(name))
+        return at < len(self.several) and self.several[at] == hash(name)

@@ -12,7 +12,7 @@ from ..ledger.files import Files
 from ..ledger.history import Note
 from ..ledger.lines import note_all_placed, note_ends
 from ..ledger.lines import note_failed as note_batch_failed
-from ..ledger.placing import Placing
+from ..ledger.match import Placing
 from ..ledger.prepared_lines import drop_list, finish_list, note_failed
 from ..ledger.record import Record, Verified
 from ..maildir.checking import Check

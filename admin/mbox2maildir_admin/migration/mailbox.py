@@ -66,16 +66,18 @@ class Migration:
         try:
             if is_no_mail(path):
                 return Ended(Row(path, b"", "", None, Fate.NO_MAIL))
-            row = self.row_unchanged(path, name, say) if self.how.prepare and not why else None
-            if row:
-                return Ended(row)
+            if self.how.prepare and not why:
+                row = row_unchanged(self.record, self.how, path, name, folder_path(self.root, name), say)
+                if row:
+                    return Ended(row)
             with self.opened(path, say, follow, not (why or self.how.now)) as mailbox:
                 opened = Opened.into(self.root, name, mailbox)
                 try:
                     return Ended(self.judge(opened, why)) if why else self.migrate(opened)
                 except OtherKind as left:
                     if self.how.is_spared(path, not isinstance(left, NotKnown)):
-                        return Ended(self.spare(opened, left.kind))
+                        note_no_mail(self.record, mailbox)
+                        return Ended(Row(path, b"", left.kind, None, Fate.NO_MAIL, remarks=(BY_NO_MAIL,)))
                     if is_passed_over(self.record, mailbox):
                         return Ended(Row(path, b"", left.kind, None, Fate.NO_MAIL, remarks=(BY_RECORD,)))
                     left.put(self.how.where(self.root, opened))
@@ -84,10 +86,6 @@ class Migration:
             return Ended(Row(path, b"", found.kind, None, Fate.NO_MAIL))
         except (Fault, OSError) as fault:
             return Ended(row_left(path, name, fault))
-
-    def row_unchanged(self, path: bytes, name: bytes, say: Say) -> Optional[Row]:
-        """The row of a mailbox that is prepared, and whose file has not changed since."""
-        return row_unchanged(self.record, self.how, path, name, folder_path(self.root, name), say)
 
     def opened(self, path: bytes, say: Say, follow: bool, quiet: bool) -> Mailbox:
         """A mailbox that is open and locked or, while people use it, a copy of it."""
@@ -108,11 +106,6 @@ class Migration:
         with contextlib.suppress(Question), choice_of(mailbox, disk_of(self.root, self.how.dry), read_begun):
             pass
         return row_left(mailbox.path, b"", why, None, mailbox.size)
-
-    def spare(self, opened: Opened, kind: str) -> Row:
-        """Notes that a file that is not mbox text holds no mail by the command line, and returns its row."""
-        note_no_mail(self.record, opened.mailbox)
-        return Row(opened.mailbox.path, b"", kind, None, Fate.NO_MAIL, remarks=(BY_NO_MAIL,))
 
     def migrate(self, opened: Opened, making: Optional[Making] = None) -> Ended:
         """Does what is left to do, and returns what became of the mailbox."""

@@ -16,8 +16,7 @@ from ..ledger.files import hides_none
 from ..ledger.gone import unexplained
 from ..ledger.history import Note, names_of
 from ..ledger.ledger import Ledger, has_failed
-from ..ledger.match import Match
-from ..ledger.placing import Placing
+from ..ledger.match import Match, Placing
 from ..ledger.prepared import Prepared
 from ..ledger.prepared_lines import Origin, in_milliseconds, milliseconds_since
 from ..ledger.record import Verified, unspelled

@@ -10,8 +10,7 @@ from ..flags.renaming import sync_names
 from ..ledger.history import Note, Step
 from ..ledger.ledger import Ledger
 from ..ledger.lines import PLACED, Brought
-from ..ledger.match import Match
-from ..ledger.placing import Placing
+from ..ledger.match import Match, Placing
 from ..ledger.prepared import Prepared
 from ..ledger.prepared_lines import NEXT_LIST, aside_of, has_list, home_of, remove_aside, remove_list
 from ..ledger.record import Record, unspelled

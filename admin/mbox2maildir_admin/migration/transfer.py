@@ -11,15 +11,13 @@ from ..kinds.look import Look, Read
 from ..ledger.gone import BACK, back_in, gone_before, gone_from, unexplained
 from ..ledger.ledger import Ledger, count_in, has_failed
 from ..ledger.lines import Head
-from ..ledger.match import Match
-from ..ledger.placing import Placing
-from ..ledger.record import Record, Verified, unspelled
+from ..ledger.match import Match, Placing
+from ..ledger.record import Verified, unspelled
 from ..looks import is_folder
 from ..maildir.mounts import want_syncs
 from ..maildir.space import Need, want_room
 from ..maildir.traces import times_of
 from ..nexts import NOTHING, Answer, Does, Next, Remark
-from ..program import Program
 from ..readings.plans import Plan, Question
 from ..readings.reading import UNDECIDED
 from ..readings.texts import AtOnce, Choice, choice_of, disk_of, read_messages
@@ -51,6 +49,7 @@ class Transfer:
 
     def __init__(self, conversion: Conversion, how: Options, opened: Opened, ledger: Ledger) -> None:
         self.conversion, self.how, self.opened, self.ledger = conversion, how, opened, ledger
+        self.program, self.root, self.record = conversion.program, conversion.root, conversion.record
         self.again = how.again
         # raises Left if the disk has no space for a mailbox; others at work may count on the same space
         self.want_room: Callable[[Need], None] = want_room
@@ -58,21 +57,6 @@ class Transfer:
         # what was verified of it, which is to be noted once its disk is synced; and what is to be said of it
         self.verified: Optional[Verified] = None
         self.remarks: list[Remark] = [*opened.mailbox.remarks]
-
-    @property
-    def program(self) -> Program:
-        """The program that converts and lists."""
-        return self.conversion.program
-
-    @property
-    def root(self) -> bytes:
-        """The Maildir."""
-        return self.conversion.root
-
-    @property
-    def record(self) -> Record:
-        """The record of the Maildir."""
-        return self.conversion.record
 
     @property
     def disk(self) -> bytes:

@@ -9,9 +9,8 @@ import time
 from typing import NamedTuple, Optional
 
 from ..ledger.history import names_of
-from ..ledger.prepared import Prepared
+from ..ledger.prepared import AsRead, Prepared, Text
 from ..ledger.prepared_lines import WHOLE, Origin, milliseconds_since
-from ..ledger.prepared_messages import AsRead, Text
 from ..ledger.record import Record
 from ..mbox.dates import seconds_of
 from ..mbox.inventory import NO_DATE

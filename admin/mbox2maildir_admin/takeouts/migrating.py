@@ -106,7 +106,8 @@ class Takeout:
                 self.observer.total += len(folders) - 1
                 for folder in folders:
                     self.observer.begin(folder != folders[0])
-                    self.report(self.bring(source, Opened.into(self.root, folder, opened.mailbox)))
+                    ended = self.bring(source, Opened.into(self.root, folder, opened.mailbox))
+                    self.syncs.add(ended.maildirs, ended)
         except LabelsLeft as left:
             command = functools.partial(self.how.command, self.root, opened)
             left.next = tuple(Answer(command(labels=choosing), does) for choosing, does in left.says)
@@ -204,10 +205,6 @@ class Takeout:
             return self.migration.migrate(opened, functools.partial(FolderTransfer, source))
         except (Fault, OSError) as fault:
             return Ended(row_left(opened.mailbox.path, opened.name, fault))
-
-    def report(self, ended: Ended) -> None:
-        """Reports what became of a folder, and of all after it, once that is on the disk."""
-        self.syncs.add(ended.maildirs, ended)
 
     def settle(self, several: Sequence[tuple[Ended, Optional[OSError]]]) -> None:
         """Notes what became of folders whose disks were synced, and tells their rows."""

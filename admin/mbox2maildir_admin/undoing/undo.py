@@ -136,7 +136,7 @@ class Undo:
             raise Left(NOT_RECORDED, Reason.UNDO)
         want_whole(Known(self.record, ledger, opened))
         plan = plan_of(ledger, path, self.cores_now(opened, ledger, path))
-        # the record is as old as the ledger then, and another mailbox may have what would be removed
+        # without lines of its files, the ledger is older than its folder: another mailbox may have what would go
         names = without_line(self.root, opened.folder) if any(one.why is Why.REMOVED for one in plan) else ()
         if names:
             raise Left(WITHOUT_LINE % counted(len(names), "message"), Reason.LEDGER)

@@ -7,10 +7,9 @@ from collections.abc import Iterable, Iterator, Sequence
 from dataclasses import dataclass
 from typing import NamedTuple, Optional
 
-from ..back.keeping import Keeper
 from ..back.places import Names
 from ..back.several import bring_all, want_migrated
-from ..back.steps import How
+from ..back.steps import How, Keeper
 from ..faults import Left, Reason, naming
 from ..jobs.crew import Parent
 from ..looks import is_folder, is_link, is_there, may_be

@@ -2,7 +2,7 @@
 import unittest
 from typing import Optional
 
-from mbox2maildir_admin.back.clients import Client
+from mbox2maildir_admin.back.notes import Client
 from mbox2maildir_admin.back.dialect import LAST_TIME, Dialect, Letter, date_of, parted
 
 MAIL, HEAD = b"Subject: one\n\nFrom me\n>From you\nend\n", b"Subject: one\n"
