@@ -207,6 +207,18 @@ def rule_2_deleted(home: Home) -> None:
         want_said(row, "2 messages placed beside files that are marked as deleted")
 
 
+def rule_2_deleted_under_a_name_of_another_program(home: Home) -> None:
+    """The same if another program gave the file its name, whether a line can have that name or not."""
+    for name in home.each(("17000.1.host", "a name")):
+        home.bring(FIRST=letters(20))
+        path = home.place_file(f"{name}:2,S", mail_of(letters(0))[0])
+        home.bring(OLD=letters(0))
+        path.rename(path.with_name(f"{name}:2,ST"))
+        row = home.bring(OTHER=letters(0))["OTHER"]
+        want_undeleted(home, 0)
+        want_said(row, "1 message placed beside files that are marked as deleted")
+
+
 def rule_2_flags(home: Home) -> None:
     """Of flags the union is given, or the row counts those whose flags differ."""
     row = home.bring(OLD=letters(0, 1, 2, fields=b"Status: O\n"), READ=letters(1, 2, 3, fields=b"Status: RO\n"))["READ"]

@@ -140,7 +140,10 @@ def offers_of(files: Iterable[File], path: str) -> list[Offer]:
     """What may stand for new messages of the mailbox at a path, in the order in which it is to be taken. A file may be
     offered for several reasons."""
     several = [one for file in files for line in reversed(file.lines) for one in offers_by(file, line, path)]
-    return sorted(several, key=lambda one: (one.why, one.line.path != path, one.line.state is State.FORMER))
+    return sorted(
+        several,
+        key=lambda one: (one.why, one.file.is_renamed, one.line.path != path, one.line.state is State.FORMER),
+    )
 
 
 def offers_by(file: File, line: Line, path: str) -> Iterator[Offer]:

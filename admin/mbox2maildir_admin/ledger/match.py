@@ -119,28 +119,32 @@ class Match:
         form. Some files stand for messages already, and other mailboxes brought at most so many in each form. Returns
         the places of what is nowhere."""
         waiting: dict[bytes, list[int]] = {}
+        refused: collections.defaultdict[bytes, set[File]] = collections.defaultdict(set)
         counts: collections.Counter[bytes] = collections.Counter()
         for place in places:
             waiting.setdefault(self.inventory.bare(place), []).append(place)
         for one, is_same in [*((one, True) for one in offers), *((one, False) for one in offers if one.in_any_form)]:
             bare = one.file.bare if one.why is Why.ANY else one.line.message.bare
-            is_trashed = one.file.name in self.files.trashed
-            is_enough = one.why in (Why.SHARED, Why.GONE) and counts[bare] >= most[bare]
-            its = itertools.chain.from_iterable([waiting.get(bare, [])] if is_same else waiting.values())
-            may_have = (place for place in its if not is_trashed or self.is_deleted(Place(place)))
-            found = None if one.file in served or is_enough else next(may_have, None)
+            if one.file in served or one.why in (Why.SHARED, Why.GONE) and counts[bare] >= most[bare]:
+                continue
+            forms, is_trashed = [bare] if is_same else list(waiting), one.file.name in self.files.trashed
+            its = itertools.chain.from_iterable(waiting.get(form, ()) for form in forms)
+            found = next((at for at in its if not is_trashed or self.is_deleted(Place(at))), None)
             if found is not None:
                 served.add(one.file)
                 waiting[self.inventory.bare(found)].remove(found)
                 counts[self.inventory.bare(found)] += 1
                 self.note(one, found)
+            elif is_trashed:
+                for form in forms:
+                    refused[form].add(one.file)
         rest = list(itertools.chain.from_iterable(waiting.values()))
-        refused = {one.file for one in offers if one.file.name in self.files.trashed} - served
-        self.seen.marked += min(len(refused), len(rest))
+        beside = {file for form, left in waiting.items() if left for file in refused[form]} - served
+        self.seen.marked += min(len(beside), len(rest))
         lines = self.lines.get(self.inventory.core(rest[0]), ()) if rest else ()
         theirs = (one for one in lines if one.path != self.path and one.state is State.HELD)
-        forms = {one.message.bare for one in theirs if one.message.name in self.present}
-        self.seen.other_form += sum(bool(forms) and self.inventory.bare(place) not in forms for place in rest)
+        there = {one.message.bare for one in theirs if one.message.name in self.present}
+        self.seen.other_form += sum(bool(there) and self.inventory.bare(place) not in there for place in rest)
         return rest
 
     def note(self, offer: Offer, place: int) -> None:
