@@ -179,6 +179,13 @@ def one_is_read_in_secret(home: Home) -> None:
         os.utime(sub, ns=(changed, changed))
 
 
+def mail_comes_and_goes(home: Home) -> None:
+    """Another program delivers a message, which a reader deletes."""
+    path = home.folder() / "new/17000.1.host"
+    path.write_bytes(mail_of(letters(20))[0])
+    path.unlink()
+
+
 # what happens after a run was killed that had placed some of five messages, and how many may have come back then: if
 # the next one has no file, and if it has one in `tmp`, which shows that all before it were placed
 SINCE = (
@@ -189,6 +196,8 @@ SINCE = (
     (3, lambda home: home.take(0), 3, 1),
     (3, lambda home: home.take(2), 3, 1),
     (0, lambda home: None, 0, 0),
+    (3, lambda home: (home.folder() / "cur").rmdir(), 2, 0),
+    (0, mail_comes_and_goes, 0, 0),
     (1, lambda home: home.take(0), 5, 1),
 )  # type: tuple[tuple[int, Callable[[Home], object], int, int], ...]
 

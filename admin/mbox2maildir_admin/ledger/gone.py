@@ -58,14 +58,13 @@ def gone_before(ledger: Ledger) -> collections.Counter[bytes]:
     for path in ledger.paths():
         number = ledger.pending(path)
         if number is not None:
-            gone += gone_of(ledger, number, ledger.begun.get(path, 0))
+            gone += gone_of(ledger, number)
     return gone
 
 
-def gone_of(ledger: Ledger, number: int, begun_at: int) -> collections.Counter[bytes]:
+def gone_of(ledger: Ledger, number: int) -> collections.Counter[bytes]:
     """The cores of messages of a batch that was not ended, which have no file and may have had one: those that were
-    there when it was begun, at this time in seconds since 1970, and those that it placed. If it placed all, all had
-    one."""
+    there when it was begun, and those that it placed. If it placed all, all had one."""
     batch = ledger.open[number]
     first = len(batch.letters) - (0 if batch.is_placed else batch.head.need)
     before, after = Table(), Table()
@@ -79,7 +78,7 @@ def gone_of(ledger: Ledger, number: int, begun_at: int) -> collections.Counter[b
     there = {before.own_place(name) for name, _ in names_of(ledger.folder)} if len(before) else set()
     gone = [places[0][place] for place in range(len(before)) if place not in there]
     if len(after):
-        gone += [places[1][place] for place in Traces(ledger.folder, after, batch.head.times, begun_at).may_be_gone()]
+        gone += [places[1][place] for place in Traces(ledger.folder, after, batch.head.times).may_be_gone()]
     return collections.Counter(digest_at(batch.cores, at) for at in gone)
 
 

@@ -31,10 +31,9 @@ def times_of(folder: bytes) -> tuple[int, ...]:
 class Traces:
     """What is left in a folder of a conversion that was to place the messages of a table in their order."""
 
-    def __init__(self, folder: bytes, table: Table, before: tuple[int, ...], begun_at: int) -> None:
-        """`before` has the times at which names had last been changed when it began, if they are known, and `begun_at`
-        when it was begun, in seconds since 1970."""
-        self.folder, self.table, self.before, self.begun_at = folder, table, before, begun_at
+    def __init__(self, folder: bytes, table: Table, before: tuple[int, ...]) -> None:
+        """`before` has the times at which names had last been changed when it began."""
+        self.folder, self.table, self.before = folder, table, before
         # by place: when the file of the message was last renamed, in nanoseconds since 1970; 0 if there is none
         self.changes = array.array("q", bytes(8 * len(table)))
         for name, path in names_of(folder):
@@ -59,7 +58,7 @@ class Traces:
         if left is not None:
             return left
         placed = [place for place, change in enumerate(self.changes) if change]
-        if self.is_untouched(placed, times):
+        if times and self.is_untouched(placed, times):
             return placed[-1] if placed else 0
         return len(self.table)
 
@@ -75,9 +74,7 @@ class Traces:
     def is_untouched(self, placed: Sequence[int], times: tuple[int, ...]) -> bool:
         """Whether nobody has changed a name since the last of these was placed, or since it was begun."""
         if not placed:
-            if self.before:
-                return times[1:] == self.before[1:]
-            return bool(times) and max(times[1:]) // SECOND <= self.begun_at
+            return times[1:] == self.before[1:]
         changes = [self.changes[place] for place in placed]
         last = max(times[1:])
         # if the clock was set back, or something else was done with the file, one of them is long before the other
