@@ -70,6 +70,7 @@ def attempt(home: Path, one: Failing) -> None:
             matches(f"{one.call}: {ran.output}", line, f"... -> INBOX: mboxrd or mboxo, messages 1: {says}")
     expect([*words, "--again"], home, 0, None)
     equal("what is there", subjects(home / "M"), ["one", "two"])
+    equal("what is left in tmp", list((home / "M/tmp").iterdir()), [])
 
 
 NEW = "done\n1 mailbox: 1 done\n"

@@ -218,6 +218,9 @@ STORIES: dict[str, list[Step]] = {
             ("a", ONE), FIRST, ("a", ONE + TWO), *KILLED, ("migrate --undo M a", "a: undone: removed 1 message"), "="
         ),
     ],
+    "undone_in_the_folder_that_is_named": [
+        *(("a", ONE), FIRST, "!mv a b", ("migrate --undo --folder INBOX M b", "b: undone: removed 1 message"), "="),
+    ],
     # it had begun to write the list of UIDs
     "killed_and_undone_with_dovecot": [
         *steps(("old/a", ONE), f"{FIRST_OF_TREE} --dovecot", ("old/a", ONE + TWO)),

@@ -4,9 +4,10 @@ from pathlib import Path
 from typing import NamedTuple
 
 from tests.support.checks import equal, matches
-from tests.support.homes import by_json, check_all, fake, mailbox, want_users
+from tests.support.homes import by_json, check_all, fake, hand_over, mailbox, want_users
 from tests.support.mail import A, ONE, THREE, TWO, numbered
 from tests.support.mounts import small_disk
+from tests.support.running import OWNER, Desk
 
 COPIES = " (--dry-run and kind make copies there or where TMPDIR says, other runs on the Maildir's disk)"
 # a text of which a copy is made
@@ -51,6 +52,14 @@ def needs(home: Path) -> None:
             equal(row.words, by_json(words, home, **settings).status, 0)
 
 
+def in_a_closed_folder(home: Path) -> None:
+    """Where TMPDIR lets its user make no file, copies are made as without it."""
+    (home / "closed").mkdir(0o555)
+    hand_over(mailbox(home / "box", CRLF), home / "closed")
+    ran = Desk(home, user=OWNER, TMPDIR=str(home / "closed")).run("migrate --dry-run --now M box".split())
+    equal(ran.output, ran.status, 0)
+
+
 def of_two_at_once(home: Path) -> None:
     """Of two mailboxes that fit alone, one is done, though there was room for the other when it was looked at."""
     want_users()
@@ -63,4 +72,4 @@ def of_two_at_once(home: Path) -> None:
 
 
 if __name__ == "__main__":
-    check_all(needs, of_two_at_once)
+    check_all(needs, in_a_closed_folder, of_two_at_once)

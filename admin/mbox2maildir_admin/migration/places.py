@@ -199,7 +199,7 @@ class Pairs(NamedTuple):
         then = task(Todo.COPY_AWAY)
         if all(other.startswith(one.path) for other in others):
             folder = words_of(one.folder) if one.folder else ["--folder", "NAME"]
-            words = [*self.options.words(), *folder, operand(self.root) if self.root else "MAILDIR", operand(one.path)]
+            words = [*self.options.words(), *folder, operand(self.root), operand(one.path)]
             then += run_next(ADMIN, "migrate", *words, does=Does.KEEP_BOTH)
         names = " and ".join(map(named, others)) + (" stands" if len(others) == 1 else " stand")
         return one.left(Left("%s beside it" % names, Reason.COPY, then))
