@@ -55,7 +55,7 @@ os.setuid = with_rights
 FIELDS: dict[str, object] = {
     **{"path": "mail/a", "folder": ".a", "kind": "", "messages": 1, "fate": "left", "why": "", "reason": None},
     **{"size": None, "remarks": [], "quotes": [], "next": [], "spent": None, "is_back": False, "tie": "", "most": None},
-    **{"counts": [], "details": []},
+    **{"counts": [], "details": [], "user": None},
 }
 
 

@@ -34,7 +34,7 @@ class Complaints(Observer):
         """The function that takes the progress of the file at a path."""
         return say_of(path)
 
-    def row(self, row: Row, user: Optional[str] = None) -> None:
+    def row(self, row: Row) -> None:
         """Takes a file that was left out."""
         what = [row.fate.value] * (row.fate is not Fate.LEFT)
         complain("%s: left out: %s" % (named(row.path), ", ".join([*what, *filter(None, [row.says])])), row.below())

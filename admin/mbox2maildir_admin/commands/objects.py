@@ -3,7 +3,7 @@ import contextlib
 import json
 import os
 from collections.abc import Iterator
-from typing import Any, Optional
+from typing import Any
 
 from ..faults import PlaceFault, Reason
 from ..maildir.folders import folder_name
@@ -15,11 +15,11 @@ from ..terminal import complain, flush, is_text, named, put, shown, text_of
 from ..version import version
 
 
-def object_of(row: Row, user: Optional[str] = None) -> dict[str, Any]:
-    """The object of a row. With a user, the path is one of that user's."""
+def object_of(row: Row) -> dict[str, Any]:
+    """The object of a row."""
     return {
         "type": "row",
-        "user": user,
+        "user": row.user,
         **path_of(row.path),
         **folder_of(row.folder),
         "kind": row.kind or None,
@@ -31,7 +31,7 @@ def object_of(row: Row, user: Optional[str] = None) -> dict[str, Any]:
         "remarks": [{"remark": remark.word, "says": remark.says} for remark in row.remarks],
         "lines": [{"line": one.line, "text": one.text, "around": one.is_around} for one in row.quotes],
         # of the mailboxes of users, root runs what nobody else does
-        "next": objects_of(row.next, None if user is None else ROOT),
+        "next": objects_of(row.next, None if row.user is None else ROOT),
         **({} if row.most is None else {"most": row.most}),
         **({"counts": dict(row.counts)} if row.counts else {}),
         **({"details": [fields_of(one) for one in row.details]} if row.details else {}),
@@ -57,42 +57,39 @@ def folder_of(folder: bytes) -> dict[str, Any]:
     return {"folder": folder_name(folder) or None, "directory": shown(folder) or None}
 
 
-class ObjectReporter(Reporter):
-    """Prints an object for each row, even for those that have no line otherwise."""
+class Objects:
+    """Prints an object for each row, even for those that have no line otherwise, and one for the sums."""
 
-    def __init__(self, *given: Any, **others: Any) -> None:
-        """Takes what a reporter takes. Raises Fault, before anything is done, if the version is not known."""
-        super().__init__(*given, **others)
+    def __init__(self) -> None:
+        """Raises Fault, before anything is done, if the version is not known."""
         self.version = version()
 
-    def print_row(self, row: Row, user: Optional[str]) -> None:
+    def row(self, row: Row) -> None:
         """Prints what became of a mailbox."""
-        self.print_object(object_of(row, user))
+        self.print_object(object_of(row))
 
-    def ended(self, user: str) -> None:
-        """Prints nothing: each mailbox of the user has its object."""
-
-    def print_sums(self, line: str) -> None:
+    def end(self, sums: Reporter, line: str) -> bool:
         """Prints the sums, and the line that says them."""
-        (messages, size), last = self.amounts(*SUMMED), self.last_pass()
+        (messages, size), last = sums.amounts(*SUMMED), sums.last_pass()
         self.print_object(
             {
                 "type": "sum",
-                "verdicts": {fate.value: self.counts[fate] for fate in Fate},
-                "left": [{"reason": one.word, "count": self.reasons[one]} for one in Reason if self.reasons[one]],
+                "verdicts": {fate.value: sums.counts[fate] for fate in Fate},
+                "left": [{"reason": one.word, "count": sums.reasons[one]} for one in Reason if sums.reasons[one]],
                 "messages": messages,
-                "before": dict(zip(("messages", "bytes"), self.amounts(Fate.BEFORE))),
-                "there_already": self.there,
-                "still_there": {word: self.stand[word] for word in ("deleted", "changed")},
+                "before": dict(zip(("messages", "bytes"), sums.amounts(Fate.BEFORE))),
+                "there_already": sums.there,
+                "still_there": {word: sums.stand[word] for word in ("deleted", "changed")},
                 "bytes": size,
-                "seconds": round(self.seconds(), 3),
+                "seconds": round(sums.seconds(), 3),
                 "last_pass_seconds": None if last is None else round(last, 3),
                 "host": os.uname().nodename,
                 "version": self.version,
                 "says": line,
-                "next": objects_of(self.then),
+                "next": objects_of(sums.then),
             }
         )
+        return True
 
     def print_object(self, fields: dict[str, Any]) -> None:
         """Prints an object. No object has a byte that is not UTF-8."""
@@ -100,7 +97,7 @@ class ObjectReporter(Reporter):
         flush()
 
 
-class Report(ObjectReporter):
+class Report(Objects):
     """Writes the same objects to a new file, which only its owner may read. If it takes no more, that is said at the
     end."""
 
@@ -120,9 +117,9 @@ class Report(ObjectReporter):
             while rest:
                 rest, self.is_empty = rest[os.write(self.number, rest) :], False
 
-    def end_with(self, counts: tuple[int, int], *more: str) -> bool:
+    def end(self, sums: Reporter, line: str) -> bool:
         """Writes the sums, and syncs the file and its name. Returns whether all of it was written, and says why not."""
-        super().end_with(counts, *more)
+        super().end(sums, line)
         with self.noting():
             os.fsync(self.number)
             sync_folder(os.path.dirname(self.path) or b".")

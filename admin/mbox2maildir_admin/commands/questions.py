@@ -9,9 +9,9 @@ from typing import Any, Optional
 from ..faults import Fault, Status, complain_of
 from ..mbox.lines import AROUND, cut, texts_of
 from ..mbox.mailbox import Mailbox
-from ..migration.block import LETTERS, MIGRATE, Entry, Group, groups_of
+from ..migration.block import LETTERS, MIGRATE, Group, answers_of, groups_of
 from ..migration.outcomes import Row
-from ..migration.rows import Reporter, Run, label_of
+from ..migration.rows import Reporter, Run
 from ..nexts import BELOW, Answer, Quote
 from ..progress import say_of
 from ..readings.texts import content_of, disk_of
@@ -38,42 +38,38 @@ class Asker(Reporter):
         # the path of the mailbox whose answer is at work
         self.answered: Optional[bytes] = None
 
-    def row(self, row: Row, user: Optional[str] = None) -> None:
+    def row(self, row: Row) -> None:
         """Takes what became of a mailbox, unless it is to be asked about. All others have rows once an answer is at
         work for one."""
         if self.is_asking:
             if row.path == self.answered:
-                super().row(row, user)
-        elif not Entry(row).answers():
-            super().row(row, user)
+                super().row(row)
+        elif not answers_of(row):
+            super().row(row)
         else:
-            self.rest(label_of(row, user))
+            self.rest(row.label)
             self.asked.append(row)
 
     def ask(self, run: Run) -> None:
         """Asks one question after the other, and runs the commands of the answers. A mailbox about which it asked has
         its row when this is known."""
-        self.is_asking, groups, number = True, groups_of(map(Entry, self.asked)), 1
+        self.is_asking, groups, number = True, groups_of(self.asked), 1
         while groups and has_terminal():
             group, begun = groups.pop(0), self.clock()
             letter = letter_for(group, "question %d of %d" % (number, number + len(groups)), self.names)
             # how long somebody thinks is not the time of the work
             self.start += self.clock() - begun
             if letter == SINGLY:
-                groups[:0] = [Group([entry]) for entry in group.entries]
+                groups[:0] = [Group([row]) for row in group.rows]
                 continue
             number += 1
-            for entry in group.entries:
-                self.asked.remove(entry.row)
-                self.take_letter(entry, letter, run)
-
-    def take_letter(self, entry: Entry, letter: str, run: Run) -> None:
-        """Does for a mailbox what a letter stands for."""
-        answer = dict(zip(LETTERS, entry.answers())).get(letter)
-        if answer:
-            self.run_answer(entry.row, answer, run)
-        else:
-            super().row(entry.row)
+            for row in group.rows:
+                self.asked.remove(row)
+                answer = dict(zip(LETTERS, answers_of(row))).get(letter)
+                if answer:
+                    self.run_answer(row, answer, run)
+                else:
+                    super().row(row)
 
     def run_answer(self, row: Row, answer: Answer, run: Run) -> None:
         """Runs the command of an answer. If it can't even begin, the mailbox has the row that it had."""
@@ -98,16 +94,16 @@ class Asker(Reporter):
 def letter_for(group: Group, title: str, names: Sequence[bytes] = ()) -> str:
     """Asks about mailboxes that have the same question, and returns the letter that was typed; that of what is left if
     the input ends."""
-    entries, around = group.entries, AROUND
-    has_lines, is_one = any(one.row.quotes for one in entries), len(entries) == 1
+    rows, around = group.rows, AROUND
+    has_lines, is_one = any(one.quotes for one in rows), len(rows) == 1
     others = {
         **({MORE: "show more lines"} if has_lines else {}),
         **({} if is_one else {SINGLY: "ask about each by itself"}),
         LEAVE: "leave it" if is_one else "leave all of them",
     }
-    letters = [*LETTERS[: len(entries[0].answers())], *others]
+    letters = [*LETTERS[: len(group.answers)], *others]
     while True:
-        question, *lines = Group(entries).lines(None, True, is_one or around > AROUND)
+        question, *lines = Group(rows).lines(None, True, is_one or around > AROUND)
         put("%s: %s" % (title, question))
         for line in lines:
             put(line)
@@ -117,14 +113,13 @@ def letter_for(group: Group, title: str, names: Sequence[bytes] = ()) -> str:
         if letter != MORE:
             return letter
         around *= TIMES
-        entries = [Entry(one.row._replace(quotes=lines_of(one, around, names))) for one in group.entries]
+        rows = [one._replace(quotes=lines_of(one, around, names)) for one in group.rows]
 
 
-def lines_of(entry: Entry, around: int, names: Sequence[bytes]) -> tuple[Quote, ...]:
+def lines_of(row: Row, around: int, names: Sequence[bytes]) -> tuple[Quote, ...]:
     """The lines that a question is about, with more lines around them. The mailbox may be another one by now, which its
     answer finds out; in a tree it may be a symbolic link, and none is followed there."""
-    row = entry.row
-    maildir, path = map(bytes_of, entry.answers()[0].command.words[-2:])
+    maildir, path = map(bytes_of, answers_of(row)[0].command.words[-2:])
     asked = {quote.line: quote for quote in row.quotes if not quote.is_around}
     wanted = sorted({line for one in asked for line in range(one - around, one + around + 1)})
     try:

@@ -17,12 +17,13 @@ Telling = Callable[[Reporter, Tally], None]
 def reporter_of(
     given: argparse.Namespace, shows: Shows, steps: Mapping[str, int] = STEPS, task: str = "migrating"
 ) -> Reporter:
-    """What prints the rows of a command: objects for programs, or lines."""
+    """What prints the rows of a command: lines, or objects for programs."""
+    reporter = Reporter(steps=steps, task=task, shows=shows._replace(is_silent=given.json))
     if given.json:
-        from .objects import ObjectReporter
+        from .objects import Objects
 
-        return ObjectReporter(steps=steps, task=task)
-    return Reporter(steps=steps, task=task, shows=shows)
+        reporter.objects.append(Objects())
+    return reporter
 
 
 def run_reported(task: Telling, reporter: Reporter, report: Optional[str], after: str) -> Status:
@@ -32,7 +33,8 @@ def run_reported(task: Telling, reporter: Reporter, report: Optional[str], after
         return run_task(task, reporter, after)
     from .objects import Report
 
-    reporter.report = file = Report(os.fsencode(report))
+    file = Report(os.fsencode(report))
+    reporter.objects.insert(0, file)
     try:
         return run_task(task, reporter, after)
     finally:
@@ -51,6 +53,6 @@ def run_task(task: Telling, reporter: Reporter, after: str) -> Status:
     except OutputFault as fault:
         drop(sys.stdout)
         complain("the output could not be written: %s; %s" % (fault.cause.strerror, after))
-        if reporter.report:
-            reporter.report.end_with((reporter.total, reporter.at_once), INTERRUPTED)
+        # a report takes more
+        reporter.end(INTERRUPTED)
         return Status.LEFT

@@ -41,40 +41,35 @@ class Typed(NamedTuple):
         return Command.of(*MIGRATE, *options, *self.options, *map(operand, self.operands), *names)
 
 
-class Entry(NamedTuple):
-    """A row that has its place in the block, and its user, if it is that of one of many."""
+def name_of(row: Row) -> str:
+    """The user and the mailbox, or INBOX for that of the spool."""
+    path = named(row.path) if row.path else folder_shown(row.folder) if row.folder else ""
+    return " ".join(filter(None, [named(row.user) if row.user is not None else "", path]))
 
-    row: Row
-    user: Optional[str] = None
 
-    def name(self) -> str:
-        """The user and the mailbox, or INBOX for that of the spool."""
-        row = self.row
-        path = named(row.path) if row.path else folder_shown(row.folder) if row.folder else ""
-        return " ".join(filter(None, [named(self.user) if self.user is not None else "", path]))
+def answers_of(row: Row) -> list[Answer]:
+    """The answers to what is asked about a mailbox. There are none if nothing is asked about it."""
+    steps = (one for one in row.next if isinstance(one, Answer) and one.command.words[:2] == MIGRATE)
+    return [one for one in steps if row.reason is Reason.UNCLEAR or one.does in FOLDERS]
 
-    def answers(self) -> list[Answer]:
-        """The answers to what is asked about it. There are none if nothing is asked about it."""
-        steps = (one for one in self.row.next if isinstance(one, Answer) and one.command.words[:2] == MIGRATE)
-        return [one for one in steps if self.row.reason is Reason.UNCLEAR or one.does in FOLDERS]
 
-    def question(self) -> object:
-        """What is the same in all rows of a group: why they are left, and what is to be done or answered."""
-        row, is_asked = self.row, bool(self.answers())
-        steps = [(one.todo,) if isinstance(one, Task) else (one.does, *decided(one)[:2]) for one in row.next]
-        looks = tuple(one.word for one in row.remarks) if row.fate not in (Fate.LEFT, Fate.NOT_WHOLE) else row.fate
-        return row.left_for, looks, is_asked and row.kind, *steps
+def question_of(row: Row) -> object:
+    """What is the same in all rows of a group: why they are left, and what is to be done or answered."""
+    steps = [(one.todo,) if isinstance(one, Task) else (one.does, *decided(one)[:2]) for one in row.next]
+    looks = row.fate if row.fate in (Fate.LEFT, Fate.NOT_WHOLE) else tuple(one.word for one in row.remarks)
+    return row.left_for, looks, bool(answers_of(row)) and row.kind, *steps
 
-    def detail(self) -> str:
-        """What is said of it alone: how many messages its answers give, why it is left, and the line that this is
-        about."""
-        row, asked = self.row, [one for one in self.row.quotes if not one.is_around]
-        counts = dict.fromkeys(str(one.messages) for one in self.answers() if one.messages is not None)
-        several = ["%s messages" % " or ".join(counts)] if len(counts) > 1 else []
-        # the title says what is told by a word alone
-        says = "; ".join(filter(None, [row.why, *(one.says for one in row.remarks if one != remark_of(one.word))]))
-        line = ["%s: %s" % (says or "line %d" % one.line, one.text) for one in asked[:1]]
-        return ": ".join(filter(None, [*several, *(line or [says])]))
+
+def detail_of(row: Row) -> str:
+    """What is said of a row alone: how many messages its answers give, why it is left, and the line that this is
+    about."""
+    counts = dict.fromkeys(str(one.messages) for one in answers_of(row) if one.messages is not None)
+    several = ["%s messages" % " or ".join(counts)] if len(counts) > 1 else []
+    # the title says what is told by a word alone
+    says = "; ".join(filter(None, [row.why, *(one.says for one in row.remarks if one != remark_of(one.word))]))
+    asked = [one for one in row.quotes if not one.is_around]
+    line = ["%s: %s" % (says or "line %d" % one.line, one.text) for one in asked[:1]]
+    return ": ".join(filter(None, [*several, *(line or [says])]))
 
 
 class Decided(NamedTuple):
@@ -98,13 +93,10 @@ def decided(answer: Answer) -> Decided:
 class Group:
     """Rows with the same question, by user and path; and the groups that stand below its title too."""
 
-    def __init__(self, entries: Sequence[Entry], others: Sequence["Group"] = ()) -> None:
-        self.entries, self.others = entries, others
-
-    @property
-    def row(self) -> Row:
-        """The first row."""
-        return self.entries[0].row
+    def __init__(self, rows: Sequence[Row], others: Sequence["Group"] = ()) -> None:
+        self.rows, self.others = rows, others
+        # of the first one, the answers
+        self.answers = answers_of(rows[0])
 
     def lines(self, typed: Optional[Typed], is_asked: bool = False, has_quotes: bool = True) -> Iterator[str]:
         """The lines of the group, below its title."""
@@ -115,23 +107,23 @@ class Group:
     def own_lines(self, typed: Optional[Typed], is_asked: bool, has_quotes: bool) -> Iterator[str]:
         """The lines of its own mailboxes: of a single one with the lines of mail that it is about, of several only
         where a human asks for that. Where a human is asked, each answer has its letter."""
-        at_once = list(self.at_once(typed)) if typed and len(self.entries) > 1 else []
+        at_once = list(self.at_once(typed)) if typed and len(self.rows) > 1 else []
         steps = at_once or list(self.steps(is_asked)) or list(self.by_hand())
-        is_cut = not self.entries[0].answers() and (at_once or not any(line.startswith(COMMAND) for line in steps))
-        named_here = self.entries[: SHOWN if is_cut else None]
-        width = min(40, max(len(one.name()) for one in named_here))
+        is_cut = not self.answers and (at_once or not any(line.startswith(COMMAND) for line in steps))
+        named_here = self.rows[: SHOWN if is_cut else None]
+        width = min(40, max(len(name_of(one)) for one in named_here))
         for one in named_here:
-            yield ("%s%-*s  %s" % (WITHIN, width, one.name(), one.detail())).rstrip()
-            yield from (BELOW + each.sentence() for each in one.row.details)
-            if len(self.entries) == 1 or is_asked and has_quotes:
-                yield from lines_below(one.row.quotes if is_asked else first_of(one.row.quotes), ())
-        if len(named_here) < len(self.entries):
-            yield "%sand %d more (--all names them)" % (WITHIN, len(self.entries) - len(named_here))
+            yield ("%s%-*s  %s" % (WITHIN, width, name_of(one), detail_of(one))).rstrip()
+            yield from (BELOW + each.sentence() for each in one.details)
+            if len(self.rows) == 1 or is_asked and has_quotes:
+                yield from lines_below(one.quotes if is_asked else first_of(one.quotes), ())
+        if len(named_here) < len(self.rows):
+            yield "%sand %d more (--all names them)" % (WITHIN, len(self.rows) - len(named_here))
         yield from steps
 
     def title(self) -> str:
         """Why the rows are there, and how many they are."""
-        row, count = self.row, sum(len(one.entries) for one in (self, *self.others))
+        row, count = self.rows[0], sum(len(one.rows) for one in (self, *self.others))
         several = "%d mailbox%s" % (count, "" if count == 1 else "es")
         if not row.left_for:
             says = " ".join(REMARKS[one.word][1] for one in row.remarks)
@@ -140,24 +132,24 @@ class Group:
                 if row.fate is Fate.NOT_WHOLE
                 else ("look at: %s: %s" % (several, says)).rstrip(": ")
             )
-        if any(one.does in ON_LINES for one in self.entries[0].answers()):
+        if any(one.does in ON_LINES for one in self.answers):
             return "%s: %s (%s): does a mail begin at the line that is shown?" % (row.word, several, row.kind)
         return "%s: %s: %s" % (row.word, several, row.left_for.says)
 
     def is_below(self, before: "Group") -> bool:
         """Whether it stands below the title of the group before it: it has the same reason, and neither is asked
         about."""
-        is_same = self.row.left_for is not None and self.row.left_for is before.row.left_for
-        return is_same and not self.entries[0].answers() and not before.entries[0].answers()
+        why = self.rows[0].left_for
+        return why is not None and why is before.rows[0].left_for and not self.answers and not before.answers
 
     def at_once(self, typed: Typed) -> Iterator[str]:
         """What is to be done about all rows by one command, or by one for each answer; nothing if there is none."""
-        if self.row.reason is Reason.NOT_KNOWN and Task(Todo.PASS_OVER) in self.row.next:
+        if self.rows[0].reason is Reason.NOT_KNOWN and Task(Todo.PASS_OVER) in self.rows[0].next:
             yield BELOW + "if none of them holds mail, pass over all of them:"
             yield COMMAND + typed.command(self.no_mail()).line()
-        answers = list(zip(*(one.answers() for one in self.entries)))
+        answers = list(zip(*map(answers_of, self.rows)))
         if all(decided(one).tie for several in answers for one in several):
-            users = [text_of(one.user) for one in self.entries if one.user is not None]
+            users = [one.user for one in self.rows if one.user is not None]
             for several in answers:
                 word, drop, _ = decided(several[0])
                 ties = ",".join(dict.fromkeys(decided(one).tie for one in several))
@@ -167,19 +159,19 @@ class Group:
 
     def no_mail(self) -> Iterator[str]:
         """The options that pass over the files. Of many users they are patterns for paths below the home."""
-        for one in dict.fromkeys((entry.row.path, entry.user is None) for entry in self.entries):
-            path, is_own = one
+        for path, is_own in dict.fromkeys((one.path, one.user is None) for one in self.rows):
             yield from option("--no-mail", path if is_own else glob.escape(path))
 
     def by_hand(self) -> Iterator[str]:
         """What a human does about all rows, if no row says it."""
-        says = to_do(self.row.left_for) if self.row.left_for else ""
+        why = self.rows[0].left_for
+        says = to_do(why) if why else ""
         if says and not says.startswith(ITS_COMMAND):
             yield BELOW + says
 
     def steps(self, is_asked: bool) -> Iterator[str]:
         """What is to be done, step by step: each sentence once, with the command of each row."""
-        for letter, several in zip(LETTERS, zip(*(one.row.next for one in self.entries))):
+        for letter, several in zip(LETTERS, zip(*(one.next for one in self.rows))):
             answers = [one for one in several if isinstance(one, Answer)]
             if answers:
                 letter = "%s: " % letter if is_asked else ""
@@ -207,32 +199,18 @@ def first_of(quotes: Sequence[Quote]) -> Sequence[Quote]:
     return quotes[: min(last + AROUND + 1, asked[SHOWN_LINES])]
 
 
-def groups_of(entries: Iterable[Entry]) -> list[Group]:
+def groups_of(rows: Iterable[Row]) -> list[Group]:
     """Rows by their reasons and questions; those that only ask for a look come last."""
-    places, groups = list(Reason), dict[str, list[Entry]]()
-    for one in sorted(entries, key=lambda one: (one.user or "", one.row.path)):
-        groups.setdefault(repr(one.question()), []).append(one)
-    found = sorted(groups.values(), key=lambda several: place_of(places, several[0].row))
-    parts = [
-        several[at : at + most]
-        for several in found
-        for most in [most_of(several)]
-        for at in range(0, len(several), most)
-    ]
-    below: list[Group] = []
-    for group in map(Group, parts):
-        if below and group.is_below(below[-1]):
-            below[-1:] = [Group(below[-1].entries, (*below[-1].others, group))]
-        else:
-            below.append(group)
+    groups: dict[str, list[Row]] = {}
+    for one in sorted(rows, key=lambda one: (one.user or "", one.path)):
+        groups.setdefault(repr(question_of(one)), []).append(one)
+    reasons, below = [*Reason, None], list[Group]()
+    for several in sorted(groups.values(), key=lambda several: reasons.index(several[0].left_for)):
+        most = MOST_ALIKE if answers_of(several[0]) else len(several)
+        for at in range(0, len(several), most):
+            group = Group(several[at : at + most])
+            if below and group.is_below(below[-1]):
+                below[-1:] = [Group(below[-1].rows, (*below[-1].others, group))]
+            else:
+                below.append(group)
     return below
-
-
-def place_of(reasons: Sequence[Reason], row: Row) -> int:
-    """The place of a row among others, by its reason."""
-    return reasons.index(row.left_for) if row.left_for else len(reasons)
-
-
-def most_of(entries: Sequence[Entry]) -> int:
-    """How many of these rows are in one group at most."""
-    return MOST_ALIKE if entries[0].answers() else len(entries)

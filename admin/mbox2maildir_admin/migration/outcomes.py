@@ -60,7 +60,8 @@ class Detail(NamedTuple):
 
 
 class Row(NamedTuple):
-    """A mailbox, and what became of it."""
+    """A mailbox, and what became of it. With a user, the path is one of that user's, and empty for the mailbox of the
+    spool."""
 
     path: bytes
     # the name of its folder on the disk, if it has one
@@ -89,6 +90,14 @@ class Row(NamedTuple):
     # how many messages, files and lines there are of each sort, and what is said of the first ones
     counts: tuple[tuple[str, int], ...] = ()
     details: tuple[Detail, ...] = ()
+    # the user to whom it belongs, if it is that of one of many, as the name is printed
+    user: Optional[str] = None
+
+    @property
+    def label(self) -> str:
+        """What its line begins with: the user, and the path unless it is the mailbox of the spool."""
+        names = [named(self.user)] if self.user is not None else []
+        return " ".join([*names, *([named(self.path)] if self.path or not names else [])])
 
     @property
     def says(self) -> str:
@@ -160,8 +169,8 @@ class Observer:
     def rest(self, who: str) -> None:
         """Notes that one is no longer at work. Its row may come later."""
 
-    def row(self, row: Row, user: Optional[str] = None) -> None:
-        """Takes what became of a mailbox, which may be that of a user."""
+    def row(self, row: Row) -> None:
+        """Takes what became of a mailbox."""
 
     def leave(self, path: bytes, fault: Union[Fault, OSError]) -> None:
         """Takes why something is left."""

@@ -4,7 +4,7 @@ import math
 import time
 from collections.abc import Callable, Mapping, Sequence
 from types import MappingProxyType
-from typing import NamedTuple, Optional
+from typing import NamedTuple, Optional, Protocol
 
 from .. import ADMIN
 from ..faults import Reason, Status
@@ -14,7 +14,7 @@ from ..nexts import COMMAND, lines_below
 from ..progress import AtWork, Estimate, Progress, Task, duration, length
 from ..terminal import LINE, complain, flush, named, put
 from ..units import WAITING, counted
-from .block import Entry, Typed, groups_of
+from .block import Typed, groups_of
 from .outcomes import Fate, Observer, Row
 
 # the mailboxes whose messages and bytes are summed up
@@ -36,13 +36,24 @@ Run = Callable[[Sequence[str]], None]
 
 class Shows(NamedTuple):
     """What is printed of rows: which ones whole, or as little of each as a reader needs; whether they are of many
-    users, and whether each of these has a line once nothing follows; and the command that runs, if it may be printed
-    again with answers."""
+    users, and whether each of these has a line once nothing follows; the command that runs, if it may be printed again
+    with answers; and whether only programs read them."""
 
     whole: Optional[Callable[[Row], bool]] = None
     is_of_users: bool = False
     has_users: bool = False
     typed: Optional[Typed] = None
+    is_silent: bool = False
+
+
+class Objects(Protocol):
+    """What writes the objects of rows and of sums."""
+
+    def row(self, row: Row) -> None:
+        """Writes the object of a row."""
+
+    def end(self, sums: "Reporter", line: str) -> bool:
+        """Writes that of the sums, with their line. Returns whether all was written."""
 
 
 class Kept:
@@ -51,7 +62,7 @@ class Kept:
     mailboxes that decided about one."""
 
     def __init__(self) -> None:
-        self.entries: list[Entry] = []
+        self.rows: list[Row] = []
         self.noted: collections.Counter[str] = collections.Counter()
         self.users: dict[str, collections.Counter[Fate]] = {}
         self.ties: set[str] = set()
@@ -90,8 +101,8 @@ class Reporter(Observer):
         self.total = self.begun = 0
         # those of which it was said that they wait
         self.waiting: set[str] = set()
-        # what takes the same rows and sums, besides
-        self.report: Optional[Reporter] = None
+        # what programs read besides, or instead
+        self.objects: list[Objects] = []
 
     def begin(self, count: int = 1) -> None:
         """Notes that this many more have begun."""
@@ -119,10 +130,10 @@ class Reporter(Observer):
             self.waiting.add(who)
             complain("%s: %s" % (who, doing))
 
-    def row(self, row: Row, user: Optional[str] = None) -> None:
+    def row(self, row: Row) -> None:
         """Counts what became of a mailbox, and prints it."""
-        if self.report:
-            self.report.row(row, user)
+        for one in self.objects:
+            one.row(row)
         self.counts[row.fate] += 1
         self.kept.ties.add(row.tie)
         if row.left_for:
@@ -137,45 +148,47 @@ class Reporter(Observer):
             self.there += sum(remark.there for remark in row.remarks)
             self.estimate.add(row.spent)
         # the next mailbox of a user may have to wait too
-        self.waiting.discard(named(row.path) if user is None else named(user))
-        self.rest(label_of(row, user))
+        self.waiting.discard(named(row.path if row.user is None else row.user))
+        self.rest(row.label)
         LINE.clear()
-        self.print_row(row, user)
+        self.print_row(row)
 
     def ask(self, run: Run) -> None:
         """Asks nobody: what is left has its row."""
 
-    def print_row(self, row: Row, user: Optional[str]) -> None:
+    def print_row(self, row: Row) -> None:
         """Prints what became of a mailbox, unless it is only counted. What is left, and what asks for a look, is kept
         for the last block, but for that of a single mailbox."""
+        if self.shows.is_silent:
+            return
         if self.shows.whole:
             if self.shows.whole(row):
-                self.put_row(row, user)
+                self.put_row(row)
             return
         if row.fate is not Fate.LEFT:
             self.kept.noted.update({one.word for one in row.remarks if weight_of(one.word) is Weight.COUNT})
         row = with_looks(row)
         if self.shows.is_of_users:
-            self.kept.users.setdefault(named(user or ""), collections.Counter())[row.fate] += 1
+            self.kept.users.setdefault(row.user or "", collections.Counter())[row.fate] += 1
         elif self.total == 1 and row.is_said():
-            self.put_row(row, None)
+            self.put_row(row)
             return
         elif row.fate not in WRONG and row.is_changed():
-            self.put_row(row._replace(kind="", remarks=(), quotes=(), next=()), None)
+            self.put_row(row._replace(kind="", remarks=(), quotes=(), next=()))
         if (row.fate in WRONG or row.remarks or row.next) and row.fate is not Fate.NO_MAIL:
-            self.kept.entries.append(Entry(row, user))
+            self.kept.rows.append(row)
 
     def ended(self, user: str) -> None:
         """Prints what became of a user's mailboxes, if no terminal shows who is done."""
-        counts = self.kept.users.pop(named(user), collections.Counter())
-        if self.shows.has_users and not (self.shows.whole or self.line.is_terminal):
+        counts = self.kept.users.pop(user, collections.Counter())
+        if self.shows.has_users and not (self.shows.is_silent or self.shows.whole or self.line.is_terminal):
             put("%s: %s" % (named(user), "; ".join(sums_of(counts))))
             flush()
 
     @staticmethod
-    def put_row(row: Row, user: Optional[str]) -> None:
+    def put_row(row: Row) -> None:
         """Prints the line of a row, and what stands below it."""
-        put(line_of(row, user))
+        put(line_of(row))
         for line in row.below():
             put(line)
         flush()
@@ -184,27 +197,21 @@ class Reporter(Observer):
         """Prints the sums, and what else is to be said with them. Returns the status: all is well if there was a
         mailbox, and nothing is left."""
         LINE.clear()
-        if self.report:
-            self.report.then = self.then
-        is_reported = self.report is None or self.report.end_with((self.total, self.at_once), *more)
         sums = sums_of(self.counts, self.faults)
-        users = {one.user for one in self.kept.entries if one.user is not None and one.row.fate in WRONG}
+        users = {one.user for one in self.kept.rows if one.user is not None and one.fate in WRONG}
         sums[0] += ", of %s" % counted(len(users), "user") if users else ""
         if INTERRUPTED in more and self.total and not sum(self.counts.values()):
             sums = ["0 of %d done" % self.total]
-        self.print_sums("; ".join([*sums, *self.work(), *self.standing(), *more]))
+        line = "; ".join([*sums, *self.work(), *self.standing(), *more])
+        if not self.shows.is_silent:
+            self.print_sums(line)
+        # a report is last: it has its sums once, even if the output takes no more
+        is_reported = all([one.end(self, line) for one in reversed(self.objects)])
         has_mailbox = sum(self.counts.values()) > self.counts[Fate.NO_MAIL]
         if not (has_mailbox and is_reported) or self.counts[Fate.NOT_WHOLE]:
             return Status.LEFT
         statuses = {reason.status for reason in self.reasons.elements()}
         return Status.LEFT if Status.LEFT in statuses else max(statuses, default=Status.WELL)
-
-    def end_with(self, counts: tuple[int, int], *more: str) -> bool:
-        """The same, where another one knows how many there are, and how many are at work at the same time. Returns
-        whether all of it was written."""
-        self.total, self.at_once = counts
-        self.end(*more)
-        return True
 
     def work(self) -> list[str]:
         """How much was done, would be done, or was checked, and in which time; nothing if there was no mailbox."""
@@ -235,7 +242,7 @@ class Reporter(Observer):
 
     def print_sums(self, line: str) -> None:
         """Prints what is left, and below it the line with the sums."""
-        lines = [one for group in groups_of(self.kept.entries) for one in ("", *group.lines(self.shows.typed))]
+        lines = [one for group in groups_of(self.kept.rows) for one in ("", *group.lines(self.shows.typed))]
         for below in [*lines, *[""] * bool(lines)]:
             put(below)
         if any(one.startswith(COMMAND) and " --dry-run " in one for one in lines):
@@ -249,10 +256,10 @@ class Reporter(Observer):
         flush()
 
 
-def line_of(row: Row, user: Optional[str] = None) -> str:
+def line_of(row: Row) -> str:
     """The line of a row: the mailbox, its folder, unless it was done before its kind and how many messages it has, what
     became of it, and what is said of it."""
-    names = [label_of(row, user), folder_shown(row.folder) if row.folder else ""]
+    names = [row.label, folder_shown(row.folder) if row.folder else ""]
     way = " -> ".join(filter(None, reversed(names) if row.is_back else names))
     count = "" if row.messages is None or row.fate is Fate.BEFORE else "messages %d" % row.messages
     count += " to %d" % row.most if count and row.most is not None and row.most != row.messages else ""
@@ -268,13 +275,6 @@ def with_looks(row: Row) -> Row:
     sorts = {one.word for one in row.remarks if weight_of(one.word) is not Weight.LOOK}
     remarks = tuple(one for one in row.remarks if one.word not in sorts)
     return row._replace(remarks=remarks, details=tuple(one for one in row.details if one.word not in sorts))
-
-
-def label_of(row: Row, user: Optional[str]) -> str:
-    """What a row begins with: a path, or a user and a path unless it is the mailbox of the spool."""
-    if user is None:
-        return named(row.path)
-    return "%s %s" % (named(user), named(row.path)) if row.path else named(user)
 
 
 def sums_of(counts: collections.Counter[Fate], faults: Mapping[str, int] = MappingProxyType({})) -> list[str]:

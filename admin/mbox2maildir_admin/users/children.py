@@ -158,7 +158,11 @@ class Children(Crew):
             self.take_words(child, line)
         except WRONG:
             child.rows += 1
-            self.reporter.row(row_left(b"", b"", UNREADABLE), child.whose.name)
+            self.leave(child, UNREADABLE)
+
+    def leave(self, child: UsersChild, why: Left) -> None:
+        """Leaves something of a user."""
+        self.reporter.row(row_left(b"", b"", why)._replace(user=child.whose.name))
 
     def take_words(self, child: UsersChild, line: bytes) -> None:
         """Takes the words of a line. Raises an error of Python's if the line is not one of a child."""
@@ -177,7 +181,7 @@ class Children(Crew):
 
     def take_row(self, child: UsersChild, *words: Any) -> None:
         """Takes a row."""
-        self.reporter.row(row_of([*words], child.whose), child.whose.name)
+        self.reporter.row(row_of([*words], child.whose))
         child.rows += 1
 
     def take_progress(self, child: UsersChild, _: object, doing: str, *numbers: object) -> None:
@@ -212,8 +216,8 @@ class Children(Crew):
         """Takes out a child that has ended, and says what was wrong with its end."""
         super().end(child, status)
         child.clerk.end()
-        why, name = child.wrong_end(status), child.whose.name
+        why = child.wrong_end(status)
         if why and not (self.is_over and os.WIFEXITED(status)):
-            self.reporter.row(row_left(b"", b"", Left(why, Reason.PROCESS)), name)
-        self.reporter.rest(named(name))
-        self.reporter.ended(name)
+            self.leave(child, Left(why, Reason.PROCESS))
+        self.reporter.rest(named(child.whose.name))
+        self.reporter.ended(child.whose.name)

@@ -177,7 +177,7 @@ class Relay(Observer):
         """Tells how far a mailbox is."""
         self.parent.progress(who, doing, place, size)
 
-    def row(self, row: Row, user: Optional[str] = None) -> None:
+    def row(self, row: Row) -> None:
         """Tells a row. The mailbox of a row may be gone from the spool."""
         path = b"" if row.path in self.migrant.unnamed else os.path.relpath(row.path, self.home)
         path = row.path if row.path in self.migrant.beside or path.startswith(b"../") else path

@@ -76,12 +76,12 @@ def migrate_users(
 
 def report_left(reporter: Observer, name: bytes, left: Left) -> None:
     """Reports why root itself leaves a user."""
-    reporter.row(row_left(b"", b"", left), shown(name))
+    reporter.row(row_left(b"", b"", left)._replace(user=shown(name)))
 
 
 def report_no_mail(reporter: Observer, name: bytes) -> None:
     """Reports a name of the spool that is no mailbox."""
-    reporter.row(Row(b"", b"", "", None, Fate.NO_MAIL), shown(name))
+    reporter.row(Row(b"", b"", "", None, Fate.NO_MAIL, user=shown(name)))
 
 
 def users_of(

@@ -64,7 +64,7 @@ def row_of(words: list[Any], whose: Whose) -> Row:
     if len(words) != len(READS):
         raise ValueError("no row")
     row = Row(*(read(word) for read, word in zip(READS, words)))
-    return row._replace(next=next_of(list(row.next), row.path, whose), is_back=whose.is_back)
+    return row._replace(next=next_of(list(row.next), row.path, whose), is_back=whose.is_back, user=whose.name)
 
 
 def few(words: list[Any]) -> list[Any]:
@@ -164,5 +164,5 @@ def each(read: Callable[..., object]) -> Callable[[Any], object]:
 READS: Sequence[Callable[[Any], Any]] = (
     *(bytes_of, bytes_of, shown, perhaps(number_of), Fate, shown, perhaps(Reason.by), perhaps(number_of)),
     *(each(remark_of), each(quote_of), few, perhaps(lambda words: Spent(*map(number_of, words)))),
-    *(lambda _: False, shown, perhaps(number_of), each(count_of), each(detail_of)),
+    *(lambda _: False, shown, perhaps(number_of), each(count_of), each(detail_of), lambda _: None),
 )
