@@ -5,8 +5,9 @@ from typing import Optional
 
 from ..progress import length
 from ..terminal import complain
-from .work import Places
 
+# the places in the plan of the mailboxes that go into one folder
+Places = Sequence[int]
 # on most disks more of them would wait for each other
 MOST = 8
 # how much memory a process may take, with the programs that it runs: enough for a mailbox of 500,000 messages

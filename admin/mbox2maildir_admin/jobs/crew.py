@@ -1,43 +1,50 @@
 """Processes that are at work at the same time, and their parent. They tell it lines, of which it answers some; whoever
 takes a line decides what it may say."""
 import contextlib
+import json
 import os
 import select
 import signal
 import time
-from collections.abc import Callable, Sequence
-from typing import Any, NamedTuple, NoReturn, Optional, TypeVar, Union
+from collections.abc import Callable
+from typing import Any, NoReturn, Optional, TypeVar, Union
 
 from ..signals import INTERRUPTS, blocked
+from ..terminal import shown, text_of
 
 # for how long processes are listened to at a time, and once one of them has closed its pipe, in milliseconds
 TURN, SOON = 200, 5
 # how often a process tells how far it is, in seconds, and how much is read at a time, in bytes
 BEAT, PIECE = 0.2, 1 << 16
-# the status of a process that was interrupted
-BROKEN_OFF = 130
+# how much of a fault of a process itself is printed
+LONGEST_FAULT = 1 << 13
+# the status of a process that was interrupted, and what is said of it
+BROKEN_OFF, BROKEN = 130, "its process was interrupted"
 # the signals that are blocked
 Mask = set[Union[int, signal.Signals]]
 Own = TypeVar("Own", bound="Crew")
 
 
-class Spelling(NamedTuple):
-    """How words become a line without its end, and a line words."""
+def spelled(words: Any) -> bytes:
+    """Words as a line has them, in JSON. A byte that is not UTF-8 is a letter that JSON escapes in the same way."""
+    return json.dumps(words, ensure_ascii=False, default=plain).encode("utf-8", "backslashreplace")
 
-    write: Callable[[Sequence[Any]], bytes]
-    read: Callable[[bytes], Any]
+
+def plain(value: Any) -> Any:
+    """What JSON has no form for: a name, and the word of a table."""
+    return text_of(value) if isinstance(value, bytes) else getattr(value, "word", value.value)
 
 
 class Parent:
     """The parent as a process sees it. The process ends if its parent is gone."""
 
-    def __init__(self, told: int, alive: int, spelling: Spelling) -> None:
+    def __init__(self, told: int, alive: int) -> None:
         """Takes the pipe by which it is told, and the one by which it answers, which lives as long as it does."""
-        self.told, self.alive, self.spelling, self.next_time = told, alive, spelling, 0.0
+        self.told, self.alive, self.next_time = told, alive, 0.0
 
     def tell(self, *words: Any) -> None:
         """Tells words, which would be lost if only a part of them were told."""
-        rest = self.spelling.write(words) + b"\n"
+        rest = spelled(words) + b"\n"
         try:
             with INTERRUPTS.held():
                 while rest:
@@ -46,15 +53,15 @@ class Parent:
             raise KeyboardInterrupt from None
 
     def ask(self, *words: Any) -> Any:
-        """Tells words, and waits for the answer."""
-        self.tell(*words)
+        """Asks for something, and waits for the answer."""
+        self.tell("ask", *words)
         answer = b""
         while not answer.endswith(b"\n"):
             piece = os.read(self.alive, PIECE)
             if not piece:
                 raise KeyboardInterrupt
             answer += piece
-        return self.spelling.read(answer)
+        return json.loads(answer)
 
     def progress(self, who: str, doing: str, place: Optional[int] = None, size: Optional[int] = None) -> None:
         """Tells how far a mailbox is, now and then: also that it is at work, even if the words are the same as
@@ -87,16 +94,24 @@ class Child:
         *lines, self.rest = (self.rest + data).split(b"\n")
         return lines
 
-    def answer(self, line: bytes) -> None:
+    def answer(self, *words: Any) -> None:
         """Answers it, if it reads that. It had nothing to say while it waited."""
         self.heard = time.monotonic()
         with contextlib.suppress(OSError):
-            os.write(self.life, line + b"\n")
+            os.write(self.life, spelled(words) + b"\n")
 
     def watch(self) -> Optional[int]:
         """Its status, if it has ended."""
         pid, status = os.waitpid(self.pid, os.WNOHANG)
         return status if pid else None
+
+    def why_ended(self, status: int) -> str:
+        """Why it ended with this status before it had told all."""
+        if os.WIFSIGNALED(status):
+            return "its process was killed by signal %d" % os.WTERMSIG(status)
+        if os.WEXITSTATUS(status) == BROKEN_OFF:
+            return BROKEN
+        return "internal error: %s" % self.fault if self.fault else "its process ended early"
 
     def stop(self) -> None:
         """Has it end in order."""
@@ -113,8 +128,15 @@ class Child:
 class Crew:
     """Several processes that are at work at the same time. All of them have ended in the end."""
 
-    def __init__(self, jobs: int, spelling: Spelling) -> None:
-        self.jobs, self.spelling = jobs, spelling
+    def __init__(self, jobs: int) -> None:
+        """Takes how many are at work at most."""
+        self.jobs = jobs
+        # what takes the words of each line, by the first one of these
+        self.takes: dict[str, Callable[..., object]] = {
+            "at": self.take_progress,
+            "ask": self.take_question,
+            "failed": self.take_fault,
+        }
         # the processes, by the pipes that they tell by
         self.children: dict[int, Any] = {}
         self.poll = select.poll()
@@ -141,7 +163,7 @@ class Crew:
         with INTERRUPTS.held(), blocked() as mask:
             child.pid = os.fork()
             if not child.pid:
-                self.run(child, work, Parent(told, alive, self.spelling), mask)
+                self.run(child, work, Parent(told, alive), mask)
             os.close(told)
             os.close(alive)
             self.children[child.tells] = child
@@ -193,6 +215,18 @@ class Crew:
 
     def take(self, child: Any, line: bytes) -> None:
         """Takes a line of a process."""
+        what, *words = json.loads(line)
+        self.takes[what](child, *words)
+
+    def take_progress(self, child: Any, who: str, doing: str, *numbers: Any) -> None:
+        """Takes how far a mailbox is."""
+
+    def take_question(self, child: Any, what: str, *words: Any) -> None:
+        """Takes what a process asks for."""
+
+    def take_fault(self, child: Any, fault: object) -> None:
+        """Takes a fault of a process itself, with which it ends."""
+        child.fault = shown(str(fault)[:LONGEST_FAULT])
 
     def serve(self) -> None:
         """Does what several processes wait for."""

@@ -3,7 +3,7 @@ import os
 from collections.abc import Callable, Sequence
 from typing import Any, Optional
 
-from .work import Places
+from .count import Places
 
 
 def largest_first(groups: Sequence[Places], paths: Sequence[bytes]) -> list[Places]:

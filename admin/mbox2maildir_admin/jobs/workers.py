@@ -1,37 +1,67 @@
 """Several folders of a Maildir at the same time: each process migrates the mailboxes of one folder, then those of the
 next. It tells its parent what became of each. Only the parent writes the record, and prints."""
-import binascii
 import collections
 import os
-import pickle
 from collections.abc import Callable, Iterator, Sequence
 from typing import Any, NamedTuple, Optional
 
-from ..faults import PlaceFault, Reason
-from ..maildir.space import Need
+from ..faults import Left, PlaceFault, Reason
+from ..ledger.history import BY_WORD, Entry, Key
+from ..ledger.record import Record, Verified
+from ..maildir.space import Need, want_room
+from ..migration.outcomes import Ended, Observer, row_left
+from ..migration.places import Planned
 from ..progress import amount
 from ..signals import INTERRUPTS
 from ..terminal import complain
-from .crew import Child, Crew, Parent, Spelling
-from .work import Places, Work
+from .count import Places
+from .crew import Child, Crew, Parent
+from .telling import bytes_of, row_of
 
-# a worker is this program with the rights of its parent, which trusts it
-TRUSTED = Spelling(
-    lambda words: binascii.b2a_base64(pickle.dumps(words), newline=False),
-    lambda line: pickle.loads(binascii.a2b_base64(line)),
-)
+
+class Work:
+    """The work of a worker: it asks its parent for whatever concerns other workers too."""
+
+    def __init__(self, parent: Parent) -> None:
+        self.parent, self.progress, self.alive = parent, parent.progress, parent.alive
+
+    def groups(self) -> Iterator[Places]:
+        """The next groups of mailboxes, as long as there are any."""
+        return iter(lambda: tuple(self.parent.ask("next")), ())
+
+    def begin(self) -> None:
+        """Tells that work on a mailbox begins."""
+        self.parent.tell("begins")
+
+    def write(self, *entries: Entry) -> None:
+        """Has lines written into the record. Raises Fault if that fails."""
+        for entry in entries:
+            refusal = self.parent.ask("line", *entry)
+            if refusal:
+                raise PlaceFault(refusal[0], Reason.by(refusal[1]))
+
+    def want_room(self, need: Need) -> None:
+        """Waits until nobody else at work counts on the same space on a disk. Raises Left if the disk lacks space
+        then."""
+        self.parent.ask("needs", *need)
+        want_room(need)
+
+    def end(self, place: int, ended: Ended) -> None:
+        """Tells what became of the mailbox at a place in the plan."""
+        self.parent.next_time = 0.0
+        row, verified = ended
+        # JSON would keep no fractions of the times of a state
+        told = verified and [*verified[:5], verified.state.__reduce__()[1], *verified[6:]]
+        self.parent.tell("became", place, row, told)
 
 
 class Orders(NamedTuple):
-    """What a worker does; what writes its lines into the record; what is told that a mailbox begins, how far it is, and
-    that it is no longer at work; and what gives the row of a mailbox whose worker told none."""
+    """What a worker does for a plan, the record that it has lines written into, and who is told of it."""
 
     work: Callable[[Work], object]
-    write: Callable[[Any], None]
-    begin: Callable[[], None]
-    progress: Callable[..., None]
-    rest: Callable[[str], None]
-    leave: Callable[[int, str, Reason], Any]
+    plan: Sequence[Planned]
+    record: Record
+    observer: Observer
 
 
 class Worker(Child):
@@ -46,25 +76,18 @@ class Worker(Child):
         self.has: Optional[Need] = None
         self.wants: Optional[Need] = None
 
-    def why_ended(self, status: int) -> tuple[str, Reason]:
-        """Why a mailbox has no row whose worker ended with this status, and the word for it."""
-        if self.fault:
-            return "internal error: %s" % self.fault, Reason.DEFECT
-        if os.WIFSIGNALED(status):
-            return "its process was killed by signal %d: run this again" % os.WTERMSIG(status), Reason.PROCESS
-        return "its process was interrupted: run this again", Reason.PROCESS
-
 
 class Workers(Crew):
     """Several workers."""
 
     def __init__(self, jobs: int, groups: Sequence[Places], orders: Orders) -> None:
-        super().__init__(jobs, TRUSTED)
+        super().__init__(jobs)
+        self.takes.update(begins=lambda _: orders.observer.begin(), became=self.take_row)
         self.orders = orders
         # the mailboxes that nobody has begun with
         self.groups = collections.deque(groups)
-        # by the places of their mailboxes in the plan, until they are taken
-        self.rows: dict[int, Any] = {}
+        # what became of mailboxes, by their places in the plan, until it is taken
+        self.ended: dict[int, Ended] = {}
 
     def __exit__(self, kind: Optional[type[BaseException]], *rest: object) -> None:
         with INTERRUPTS.held():
@@ -75,7 +98,7 @@ class Workers(Crew):
             super().__exit__(kind, *rest)
 
     def turns(self) -> Iterator[None]:
-        """Lets workers do everything. After each turn, the rows that came can be taken."""
+        """Lets workers do everything. After each turn, what became of mailboxes can be taken."""
         while self.groups or self.children:
             if self.groups and len(self.children) < self.jobs:
                 # they are its own even if it ends before it asks for them, lest one after the other starts for them
@@ -88,52 +111,34 @@ class Workers(Crew):
         self.orders.work(Work(parent))
         return 0
 
-    def take(self, child: Worker, line: bytes) -> None:
-        """Takes what a worker tells or asks."""
-        what, *words = self.spelling.read(line)
-        takes: dict[str, Callable[..., object]] = {
-            "next": self.give,
-            "begins": lambda _: self.orders.begin(),
-            "at": self.progress,
-            "line": self.write,
-            "became": self.became,
-        }
-        if what == "failed":
-            (child.fault,) = words
-        elif what == "needs":
-            child.has, (child.wants,) = None, words
+    def take_question(self, worker: Worker, what: str, *words: Any) -> None:
+        """Takes what a worker asks for: the mailboxes of the next folder, of which there are none once all are begun;
+        that a line is written into the record; or space on a disk, for which it waits."""
+        if what == "next":
+            if self.groups and not worker.places:
+                worker.places += self.groups.popleft()
+            worker.answer(*worker.places)
+        elif what == "line":
+            word, (folder, *text), *others = words
+            try:
+                self.orders.record.add_entry(Entry(BY_WORD[word], Key(bytes_of(folder), *text), *others))
+            except PlaceFault as fault:
+                worker.answer(str(fault), fault.reason)
+            else:
+                worker.answer()
         else:
-            takes[what](child, *words)
+            worker.has, worker.wants = None, Need(bytes_of(words[0]), *words[1:])
 
-    def give(self, worker: Worker) -> None:
-        """Gives a worker the mailboxes of the next folder; none if all are begun."""
-        if self.groups and not worker.places:
-            worker.places += self.groups.popleft()
-        self.answer(worker, tuple(worker.places))
-
-    def progress(self, worker: Worker, who: str, doing: str, *numbers: int) -> None:
+    def take_progress(self, worker: Worker, who: str, doing: str, *numbers: int) -> None:
         """Passes on how far a mailbox is."""
         worker.who, worker.at = who, " ".join([doing, *([amount(*numbers)] if len(numbers) == 2 else [])])
-        self.orders.progress(who, doing, *numbers)
+        self.orders.observer.progress(who, doing, *numbers)
 
-    def write(self, worker: Worker, entry: object) -> None:
-        """Writes a line into the record, and says why that failed, if it did."""
-        try:
-            self.orders.write(entry)
-        except PlaceFault as fault:
-            self.answer(worker, (str(fault), fault.reason))
-        else:
-            self.answer(worker, ())
-
-    def became(self, worker: Worker, place: int, row: object) -> None:
+    def take_row(self, worker: Worker, place: int, row: Sequence[Any], told: Optional[Sequence[Any]]) -> None:
         """Takes what became of a mailbox."""
         worker.places.remove(place)
-        self.rows[place] = row
+        self.ended[place] = Ended(row_of(row), verified_of(*told) if told else None)
         self.rest(worker)
-
-    def answer(self, worker: Worker, words: Sequence[Any]) -> None:
-        """Answers a worker."""
-        worker.answer(self.spelling.write(words))
 
     def serve(self) -> None:
         """Lets workers go on that wait for space: if there is enough beside the space that others count on, or if
@@ -143,7 +148,7 @@ class Workers(Crew):
             need = worker.wants
             if need and self.has_room(need):
                 worker.has, worker.wants = need, None
-                self.answer(worker, ())
+                worker.answer()
 
     def has_room(self, need: Need) -> bool:
         """Whether a worker need not wait for others."""
@@ -156,12 +161,23 @@ class Workers(Crew):
     def rest(self, worker: Worker) -> None:
         """Notes that a worker has done a mailbox, or has ended."""
         if worker.at:
-            self.orders.rest(worker.who)
+            self.orders.observer.rest(worker.who)
         worker.at, worker.has, worker.wants = "", None, None
 
     def end(self, child: Worker, status: int) -> None:
         """Takes out a worker that has ended. Mailboxes that it told no row of are left."""
         super().end(child, status)
         self.rest(child)
+        why = child.why_ended(status)
+        left = Left(why, Reason.DEFECT) if child.fault else Left(why + ": run this again", Reason.PROCESS)
         for place in child.places:
-            self.rows[place] = self.orders.leave(place, *child.why_ended(status))
+            one = self.orders.plan[place]
+            self.ended[place] = Ended(row_left(one.path, one.folder, left))
+
+
+def verified_of(
+    key: Sequence[Any], messages: int, path: str, plan: str, folder: str, state: Sequence[Any], *others: Any
+) -> Verified:
+    """Reads what a worker told of a mailbox that it has verified."""
+    text = Key(bytes_of(key[0]), *key[1:])
+    return Verified(text, messages, bytes_of(path), plan, bytes_of(folder), os.stat_result(*state), *others)

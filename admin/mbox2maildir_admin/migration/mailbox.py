@@ -2,10 +2,9 @@
 import collections
 import contextlib
 from collections.abc import Callable, Container
-from typing import IO, Optional
+from typing import IO, TYPE_CHECKING, Optional
 
 from ..faults import Fault, Left, Reason
-from ..jobs.work import Work
 from ..kinds.named import is_no_mail
 from ..ledger.ledger import Ledger, has_failed
 from ..ledger.prepared import Prepared
@@ -32,6 +31,9 @@ from .steps import Opened, Options
 from .transfer import Transfer
 from .unchanged import row_unchanged
 
+if TYPE_CHECKING:
+    from ..jobs.workers import Work
+
 WITH_LABELS = "it was migrated with --labels, so its mail is in the folders of its labels"
 
 # makes the transfer of an open mailbox into a folder with a ledger
@@ -51,7 +53,7 @@ class Migration:
         self.verified: collections.defaultdict[bytes, set[int]] = collections.defaultdict(set)
         self.kept: Optional[Ledger] = None
 
-    def work_for(self, work: Work) -> None:
+    def work_for(self, work: "Work") -> None:
         """Makes this the migration of a worker. Its parent writes the record, and knows the space that all workers
         need."""
         self.want_room, self.program.alive = work.want_room, work.alive

@@ -2,13 +2,12 @@
 import functools
 import os
 from collections.abc import Callable, Iterator, Sequence
-from typing import Optional
+from typing import TYPE_CHECKING, Optional
 
 from .. import ADMIN
 from ..faults import Fault, Left, PlaceFault, Reason
-from ..jobs.count import groups_of, jobs_of
+from ..jobs.count import Places, groups_of, jobs_of
 from ..jobs.order import InOrder, largest_first
-from ..jobs.work import Places, Work
 from ..kinds.folders import is_maildir
 from ..kinds.making import is_below
 from ..kinds.named import is_spared
@@ -31,6 +30,9 @@ from .places import Pairs, Planned, UserHome, as_named, has_record, into_inbox, 
 from .servers import Place, locations, want_unread
 from .steps import Extra, Options
 from .trees import NamesMet, Tree, also_named, identity, link_left, other_names
+
+if TYPE_CHECKING:
+    from ..jobs.workers import Work
 
 # tells a row
 Tell = Callable[[Row], object]
@@ -151,22 +153,12 @@ class Several:
         """Migrates the mailboxes of several folders at the same time. What ends first is noted first."""
         from ..jobs.workers import Orders, Workers
 
-        def leave(place: int, why: str, reason: Reason) -> Ended:
-            return Ended(row_left(plan[place].path, plan[place].folder, Left(why, reason)))
-
-        orders = Orders(
-            functools.partial(self.work, plan),
-            self.migration.record.add_entry,
-            self.observer.begin,
-            self.observer.progress,
-            self.observer.rest,
-            leave,
-        )
+        orders = Orders(functools.partial(self.work, plan), plan, self.migration.record, self.observer)
         workers = Workers(jobs, groups, orders)
 
         def report() -> None:
-            for place in sorted(workers.rows):
-                self.report(workers.rows.pop(place), functools.partial(rows.take, place))
+            for place in sorted(workers.ended):
+                self.report(workers.ended.pop(place), functools.partial(rows.take, place))
 
         try:
             with workers:
@@ -176,7 +168,7 @@ class Several:
         finally:
             report()
 
-    def work(self, plan: Sequence[Planned], work: Work) -> None:
+    def work(self, plan: Sequence[Planned], work: "Work") -> None:
         """Does the work of a worker. Its parent syncs and reports."""
         self.syncs, self.tell = Syncs(self.settle), work.progress
         self.migration.work_for(work)

@@ -8,7 +8,8 @@ from collections.abc import Callable
 from typing import Any, Optional
 
 from ..faults import Left, Reason
-from ..jobs.crew import BROKEN_OFF, Child, Crew, Parent
+from ..jobs.crew import BROKEN, Child, Crew, Parent
+from ..jobs.telling import LONGEST, Whose, next_of, number_of, row_of
 from ..mbox.dates import reader_of_other_forms
 from ..migration.outcomes import Observer, row_left
 from ..nexts import Todo, task
@@ -19,7 +20,6 @@ from .descriptors import close_all_but
 from .disks import SYNC, Disks
 from .homes import Migrant
 from .keyring import joining
-from .telling import LONGEST, LONGEST_WHY, UNTRUSTED, Whose, next_of, number_of, row_of
 
 # how long a child may say nothing, and how long it has after a signal, in seconds
 SILENCE, GRACE = 900, 1
@@ -27,7 +27,8 @@ UNREADABLE = Left("could not read what its process reported", Reason.PROCESS, ta
 PATH = "/usr/local/sbin:/usr/local/bin:/usr/sbin:/usr/bin:/sbin:/bin"
 # for waitid; the module os has this name since Python 3.9
 STOPPED = getattr(os, "CLD_STOPPED", 5)
-BROKEN = "its process was interrupted"
+# how many remarks, lines and commands a row may have
+MOST = 64
 # what reading a line of a child may raise
 WRONG = ValueError, TypeError, AttributeError, LookupError, RecursionError, ArithmeticError
 
@@ -72,10 +73,6 @@ class UsersChild(Child):
         self.rest = self.rest[: LONGEST + 1]
         return lines
 
-    def refuse(self, refusal: Refusal) -> None:
-        """Answers what it asked for: why root did not do it, or that it did."""
-        self.answer(UNTRUSTED.write(refusal))
-
     def stop(self) -> None:
         """Has it end in order, and soon: its user may have stopped the process that it waits for."""
         self.deadline = time.monotonic() + GRACE
@@ -108,14 +105,8 @@ class UsersChild(Child):
 
     def wrong_end(self, status: int) -> Optional[str]:
         """What is wrong with an end that has this status; None if it ended well."""
-        if self.why:
-            return self.why
-        if os.WIFSIGNALED(status):
-            return "its process was killed by signal %d" % os.WTERMSIG(status)
-        if os.WEXITSTATUS(status) == BROKEN_OFF:
-            return BROKEN
-        if self.rows_told < 0:
-            return "internal error: %s" % self.fault if self.fault else "its process ended early"
+        if self.why or status or self.rows_told < 0:
+            return self.why or self.why_ended(status)
         if self.rows_told != self.rows:
             return "its process reported %d rows, but %d arrived" % (self.rows_told, self.rows)
         return None
@@ -125,7 +116,8 @@ class Children(Crew):
     """The children of several users that are at work at the same time."""
 
     def __init__(self, jobs: int, reporter: Observer) -> None:
-        super().__init__(jobs, UNTRUSTED)
+        super().__init__(jobs)
+        self.takes.update(row=self.take_row, then=self.take_next, end=self.take_end)
         self.reporter, self.join, self.disks = reporter, joining(), Disks()
         # a child may not be able to read the module
         reader_of_other_forms()
@@ -155,7 +147,9 @@ class Children(Crew):
     def take(self, child: UsersChild, line: bytes) -> None:
         """Takes a line. If it can't be read, it counts as a row of something that is left."""
         try:
-            self.take_words(child, line)
+            if len(line) > LONGEST:
+                raise ValueError("too long")
+            super().take(child, line)
         except WRONG:
             child.rows += 1
             self.leave(child, UNREADABLE)
@@ -164,49 +158,33 @@ class Children(Crew):
         """Leaves something of a user."""
         self.reporter.row(row_left(b"", b"", why)._replace(user=child.whose.name))
 
-    def take_words(self, child: UsersChild, line: bytes) -> None:
-        """Takes the words of a line. Raises an error of Python's if the line is not one of a child."""
-        if len(line) > LONGEST:
-            raise ValueError("too long")
-        what, *words = self.spelling.read(line)
-        takes: dict[str, Callable[..., object]] = {
-            "row": self.take_row,
-            "at": self.take_progress,
-            "ask": self.take_question,
-            "then": self.take_next,
-            "end": self.take_end,
-            "failed": self.take_fault,
-        }
-        takes[what](child, *words)
-
     def take_row(self, child: UsersChild, *words: Any) -> None:
         """Takes a row."""
-        self.reporter.row(row_of([*words], child.whose))
+        if any(isinstance(one, list) and len(one) > MOST for one in words):
+            raise ValueError("too many")
+        self.reporter.row(row_of(words, child.whose))
         child.rows += 1
 
-    def take_progress(self, child: UsersChild, _: object, doing: str, *numbers: object) -> None:
+    def take_progress(self, child: UsersChild, who: str, doing: str, *numbers: Any) -> None:
         """Takes how far a mailbox is. Root counts users, not mailboxes."""
+        del who
         self.reporter.progress(named(child.whose.name), shown(doing[:80]), *map(number_of, numbers[:2]))
 
-    def take_question(self, child: UsersChild, *words: Any) -> None:
+    def take_question(self, child: UsersChild, what: str, *words: Any) -> None:
         """Takes what a child asks root to do."""
-        if words[0] == SYNC:
-            self.disks.add(child.pid, number_of(words[1]), child.refuse)
+        if what == SYNC:
+            self.disks.add(child.pid, number_of(words[0]), child.answer)
         else:
-            child.refuse(child.clerk.answer([*words]))
+            child.answer(*child.clerk.answer([what, *words]))
 
     def take_next(self, child: UsersChild, then: Any) -> None:
         """Takes what is to be done once all is done, of which one word counts."""
         child.then += 1
-        self.reporter.then += next_of(then, b"", child.whose) if child.then == 1 else ()
+        self.reporter.then += next_of(then[:MOST], b"", child.whose) if child.then == 1 else ()
 
     def take_end(self, child: UsersChild, rows: object) -> None:
         """Takes it that nothing follows."""
         child.rows_told = number_of(rows)
-
-    def take_fault(self, child: UsersChild, fault: object) -> None:
-        """Takes a fault of the child itself, with which it ends."""
-        child.fault = shown(str(fault)[:LONGEST_WHY])
 
     def serve(self) -> None:
         """Syncs the disks that children wait for."""

@@ -19,7 +19,7 @@ class Waiting(NamedTuple):
     """A child that waits for a sync: the disk, and what answers it."""
 
     disk: int
-    answer: Callable[[Refusal], object]
+    answer: Callable[..., object]
 
 
 class Disks:
@@ -32,14 +32,14 @@ class Disks:
         # the disks of which a sync failed, with the errors: the system reports each only once
         self.failed: dict[int, OSError] = {}
 
-    def add(self, pid: int, number: int, answer: Callable[[Refusal], object]) -> None:
+    def add(self, pid: int, number: int, answer: Callable[..., object]) -> None:
         """Takes it that a child waits for the disk of a folder that it has open under a number. It need not be found by
         a path, which the child's user could change."""
         try:
             folder = os.open("/proc/%d/fd/%d" % (pid, number), FOLDER)
         except OSError:
             # as in a file system of the user's own: the child syncs it
-            answer(UNSEEN)
+            answer(*UNSEEN)
             return
         disk = os.fstat(folder).st_dev
         self.waiting.append(Waiting(disk, answer))
@@ -62,7 +62,7 @@ class Disks:
         waiting, self.waiting, self.opened = self.waiting, [], {}
         for one in waiting:
             fault = self.failed.get(one.disk)
-            one.answer(Refusal(fault.strerror, FAILED) if fault else Refusal())
+            one.answer(*(Refusal(fault.strerror, FAILED) if fault else Refusal()))
 
 
 def synced_by_root(parent: Parent) -> Callable[[bytes], None]:
@@ -71,7 +71,7 @@ def synced_by_root(parent: Parent) -> Callable[[bytes], None]:
     def sync(path: bytes) -> None:
         number = os.open(path, FOLDER)
         try:
-            why, word = parent.ask("ask", SYNC, number)
+            why, word = parent.ask(SYNC, number)
             if word == FAILED:
                 raise OSError(errno.EIO, why)
             if word:

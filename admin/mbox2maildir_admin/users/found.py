@@ -6,11 +6,11 @@ from collections.abc import Iterable, Iterator
 from typing import Any, NamedTuple, Optional
 
 from ..faults import Left
+from ..jobs.telling import Whose
 from ..migration.steps import Options
 from ..terminal import shown, text_of
 from .accounts import own_name
 from .homes import Home, Kind, Migrant
-from .telling import Whose
 
 
 class Found(NamedTuple):

@@ -114,7 +114,7 @@ class Asking(Keeper):
 
     def ask(self, what: str, path: bytes) -> Optional[Left]:
         """Asks root for something that it does beside an inbox. Returns why it did not."""
-        why, word = self.parent.ask("ask", what, self.places[os.path.realpath(path)])
+        why, word = self.parent.ask(what, self.places[os.path.realpath(path)])
         return Left(why, Reason.by(word)) if why else None
 
     @contextlib.contextmanager

@@ -8,6 +8,7 @@ from typing import NamedTuple, Optional, Union
 
 from ..faults import Fault, Left, Reason
 from ..jobs.crew import Parent
+from ..jobs.telling import told
 from ..ledger.prepared_lines import has_list
 from ..ledger.record import Record
 from ..looks import may_be
@@ -24,7 +25,6 @@ from ..terminal import named
 from .accounts import home_of, want_home
 from .clerks import Clerk
 from .disks import synced_by_root
-from .telling import told
 
 
 class Home(NamedTuple):

@@ -9,10 +9,10 @@ from collections.abc import Iterator, Sequence
 from typing import Any, Optional
 
 from ..faults import Left, Reason
+from ..jobs.telling import number_of
 from ..mbox.lock_file import LOCK, Spot, drop_lock, release_lock, taken
 from ..terminal import named
 from .clerks import Clerk, Refusal
-from .telling import number_of
 
 # what a child asks for
 MAKE, TAKE, RELEASE = "make", "lock", "unlock"

@@ -1,43 +1,24 @@
-"""What a child tells root, in lines of JSON. Root trusts none of it, and prints it escaped."""
-import json
+"""What a process tells its parent of a row. If it is that of a user, root trusts none of it, and prints it escaped."""
 from collections.abc import Callable, Mapping, Sequence
 from typing import Any, NamedTuple, Optional, TypeVar, Union
 
 from ..faults import Reason
-from ..jobs.crew import Spelling
 from ..kinds.making import with_aside
 from ..meanings import REMARKS
 from ..migration.outcomes import Detail, Fate, Row
 from ..nexts import WITH_FILES, Answer, Command, Does, Next, Quote, Remark, Task, Todo, task
 from ..progress import Spent
-from ..terminal import shown, text_of
+from ..terminal import shown
+from .crew import spelled
 
 # how long a line of a child may be, in bytes
 LONGEST = 1 << 16
 # how much of a reason fits into a line, whatever its letters are
 LONGEST_WHY = 1 << 13
-# how many remarks, lines and commands a row may have
-MOST = 64
 # the highest number of messages or bytes
 HIGHEST = 1 << 63
 
 One = TypeVar("One")
-
-
-def spelled(words: Any) -> bytes:
-    """Words as a child tells them. A byte that is not UTF-8 is a letter that JSON escapes in the same way."""
-    return json.dumps(words, ensure_ascii=False, default=plain).encode("utf-8", "backslashreplace")
-
-
-def plain(value: Any) -> Any:
-    """What JSON has no form for: a name, and the word of a table."""
-    if isinstance(value, bytes):
-        return text_of(value)
-    return value.value if isinstance(value, Fate) else value.word
-
-
-# root reads only words, numbers and lists, and looks at each
-UNTRUSTED = Spelling(spelled, json.loads)
 
 
 class Whose(NamedTuple):
@@ -58,25 +39,19 @@ def told(row: Row) -> Sequence[Any]:
     return told(row._replace(remarks=(), quotes=(), details=(), next=task(Todo.ASK_USER)))
 
 
-def row_of(words: list[Any], whose: Whose) -> Row:
-    """Reads a row that a child told. Each word is escaped here; names are escaped where they are printed. Raises an
-    error of Python's if it is no row."""
+def row_of(words: Sequence[Any], whose: Optional[Whose] = None) -> Row:
+    """Reads a row that a process told, which may be that of a user. Each word is escaped here; names are escaped where
+    they are printed. Raises an error of Python's if it is no row."""
     if len(words) != len(READS):
         raise ValueError("no row")
     row = Row(*(read(word) for read, word in zip(READS, words)))
-    return row._replace(next=next_of(list(row.next), row.path, whose), is_back=whose.is_back, user=whose.name)
+    row = row._replace(next=next_of(row.next, row.path, whose))
+    return row._replace(is_back=whose.is_back, user=whose.name) if whose else row
 
 
-def few(words: list[Any]) -> list[Any]:
-    """A list of a child. Raises an error if it is too long for a row."""
-    if len(words) > MOST:
-        raise ValueError("too many")
-    return words
-
-
-def next_of(steps: list[Any], path: bytes, whose: Whose) -> Next:
-    """Reads what a child told of what is to be done with a path."""
-    return tuple(step_of(one, path, whose) for one in few(steps))
+def next_of(steps: Sequence[Any], path: bytes, whose: Optional[Whose]) -> Next:
+    """Reads what a process told of what is to be done with a path."""
+    return tuple(step_of(one, path, whose) for one in steps)
 
 
 def quote_of(line: object, text: str, is_around: object) -> Quote:
@@ -104,27 +79,29 @@ def count_of(word: str, count: object) -> tuple[str, int]:
     return shown(word), number_of(count)
 
 
-def step_of(words: list[Any], path: bytes, whose: Whose) -> Union[Answer, Task]:
-    """Reads what a child told of what is to be done with a path, whoever it says is to do that. Root runs nothing of it
-    but with the rights of the child's user. What only root can do is made here, for a path that root knows."""
-    what, *rest, _ = words
+def step_of(words: Sequence[Any], path: bytes, whose: Optional[Whose]) -> Union[Answer, Task]:
+    """Reads what a process told of what is to be done with a path. Whoever it says is to do that, root runs nothing of
+    a user's but with the rights of that user. What only root can do is made here, for a path that root knows."""
+    what, *rest = words
     if isinstance(what, str):
-        (names,) = rest
-        return task_of(Todo.by(what), names, path, whose)
-    (argv, shell, _), (word,), messages = what, rest, words[-1]
-    does, count = Does.by(word), None if messages is None else number_of(messages)
+        names, user = rest
+        return task_of(Todo.by(what), names, user, path, whose)
+    (argv, shell, user), (word, messages) = what, rest
+    does, count = Does.by(word), perhaps(number_of)(messages)
     if bool(argv) == bool(shell):
         raise ValueError("no command")
-    command = Command(tuple(map(name_in, argv)), name_in(shell), whose.user)
-    mailbox = whose.mailboxes.get(path) if does is Does.MAKE_ELSEWHERE else None
+    command = Command(tuple(map(name_in, argv)), name_in(shell), whose.user if whose else user)
+    mailbox = whose.mailboxes.get(path) if whose and does is Does.MAKE_ELSEWHERE else None
     return Answer(with_aside(command, mailbox) if mailbox else command, does, count)
 
 
-def task_of(todo: Todo, names: list[str], path: bytes, whose: Whose) -> Task:
-    """Reads a task for a path that a child told. What is done with files of the child's user is done as that user, but
-    only root can move what is in the spool."""
-    is_roots = todo not in WITH_FILES or todo is Todo.COPY_AWAY and path in whose.mailboxes
-    found = Task(todo, tuple(map(name_in, names)), None if is_roots else whose.user)
+def task_of(todo: Todo, names: list[str], user: Optional[str], path: bytes, whose: Optional[Whose]) -> Task:
+    """Reads a task for a path that a process told. What is done with files of a user is done as that user, but only
+    root can move what is in the spool."""
+    if whose:
+        is_roots = todo not in WITH_FILES or todo is Todo.COPY_AWAY and path in whose.mailboxes
+        user = None if is_roots else whose.user
+    found = Task(todo, tuple(map(name_in, names)), user)
     # a sentence has as many places as there are names
     assert found.sentence()
     return found
@@ -157,12 +134,12 @@ def perhaps(read: Callable[[Any], One]) -> Callable[[Any], Optional[One]]:
 
 def each(read: Callable[..., object]) -> Callable[[Any], object]:
     """Reads a list of lists."""
-    return lambda words: tuple(read(*one) for one in few(words))
+    return lambda words: tuple(read(*one) for one in words)
 
 
-# how each field of a row is read that a child tells; root itself knows which way mail goes, and what is next needs more
+# how each field of a row is read; what is next needs more, and root itself knows which way mail goes, and whose it is
 READS: Sequence[Callable[[Any], Any]] = (
     *(bytes_of, bytes_of, shown, perhaps(number_of), Fate, shown, perhaps(Reason.by), perhaps(number_of)),
-    *(each(remark_of), each(quote_of), few, perhaps(lambda words: Spent(*map(number_of, words)))),
-    *(lambda _: False, shown, perhaps(number_of), each(count_of), each(detail_of), lambda _: None),
+    *(each(remark_of), each(quote_of), list, perhaps(lambda words: Spent(*map(number_of, words)))),
+    *(lambda word: word is True, shown, perhaps(number_of), each(count_of), each(detail_of), lambda _: None),
 )
