@@ -8,7 +8,7 @@ from ..migration.outcomes import Row
 from ..migration.rows import Reporter, Shows
 from ..migration.steps import Options
 from ..users.asked import Tally
-from ..users.going_back import Way, back_users
+from ..users.going_back import back_users
 from .of_users import jobs_in
 from .running import reporter_of, run_reported
 from .spools import spool_of
@@ -16,15 +16,15 @@ from .spools import spool_of
 
 def do_back(given: argparse.Namespace) -> Status:
     """Brings mail back, and says whether all of it is in the mailboxes."""
-    way = Way(How(given.dry_run, given.now, given.dovecot))
     options = Options(dry=given.dry_run, now=given.now, dovecot=given.dovecot, jobs=jobs_in(given.jobs))
 
     def back(reporter: Reporter, tally: Tally) -> None:
         if given.users:
-            back_users(*spool_of(given), options, way, reporter, tally)
+            back_users(*spool_of(given), options, reporter, tally)
         else:
             root, *names = given.operands
-            reporter.then = bring_back(root, names, way.how, reporter)
+            how = How(options.dry, options.now, options.dovecot)
+            reporter.then = bring_back(root, names, how, reporter)
 
     shows = Shows(Row.is_said if given.all else None, given.users, not given.dry_run)
     reporter = reporter_of(given, shows, {}, "bringing mail back")

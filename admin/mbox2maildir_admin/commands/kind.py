@@ -6,6 +6,7 @@ import os
 import pwd
 import stat
 from collections.abc import Sequence
+from typing import Optional
 
 from .. import ADMIN
 from ..faults import Left, Status
@@ -50,30 +51,24 @@ def kind_below(path: bytes, tell: Observer) -> bool:
         tell.row(row_found(path, "a Maildir", task(Todo.LEAVE)))
         return False
     tree, plan = read_tree(path)
-    right = each([one.path for one in plan], lambda file: kind_in(tree, file, tell), tell)
+    right = each([one.path for one in plan], lambda file: kind_of(file, tell, tree), tell)
     right = say_left_out((without_mail(row, trial_folder(), History()) for row in tree.rows), tell) and right
     if plan:
         tell.row(row_found(path, "a folder of mailboxes", (Answer(migrate(path)),)))
     return right
 
 
-def kind_in(tree: Tree, path: bytes, tell: Observer) -> bool:
-    """Prints what a file of a tree is. Returns whether it can be converted as it is, or holds no mail."""
+def kind_of(path: bytes, tell: Observer, tree: Optional[Tree] = None) -> bool:
+    """Prints what a file is. Returns whether it can be converted as it is or, in a tree, holds no mail."""
     with Mailbox.open(path, say_of(path)) as mailbox:
         verdict = look_at(mailbox)
-        if verdict.holds == Holds.NO_MAIL:
+        if tree and verdict.holds == Holds.NO_MAIL:
             tree.pass_over(path, kind=verdict.kind.partition(": ")[2])
             return True
-        return say_kind_in(mailbox, verdict, tell, tree.old)
+        return say_kind_in(mailbox, verdict, tell, tree.old if tree else b"")
 
 
-def kind_of(path: bytes, tell: Observer) -> bool:
-    """Prints what a file is. Returns whether it can be converted as it is."""
-    with Mailbox.open(path, say_of(path)) as mailbox:
-        return say_kind_in(mailbox, look_at(mailbox), tell)
-
-
-def say_kind_in(mailbox: Mailbox, verdict: Verdict, tell: Observer, top: bytes = b"") -> bool:
+def say_kind_in(mailbox: Mailbox, verdict: Verdict, tell: Observer, top: bytes) -> bool:
     """The same for a file that may be packed: it prints what is in it, and a packed file cannot be converted as it is.
     `top` is the folder of mailboxes that it is in, if it is in one."""
     if not form_of(mailbox):

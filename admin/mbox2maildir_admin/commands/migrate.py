@@ -35,9 +35,10 @@ def do_migrate(given: argparse.Namespace) -> Status:
     """Migrates mailboxes, or lists the users whom a run would take. Returns the status."""
     task, reporter = task_of(given), printer_of(given)
     if given.list:
-        from .spools import list_spool
+        from ..users.listing import list_users
+        from .spools import spool_of
 
-        return Status.of(list_spool(given))
+        return Status.of(list_users(*spool_of(given)))
 
     def migrate(reporter: Reporter, tally: Tally) -> None:
         tally.notes += [ONLY_PREPARED] * given.prepare
@@ -59,9 +60,10 @@ def task_of(given: argparse.Namespace) -> Telling:
 
     def task(reporter: Reporter, tally: Tally) -> None:
         if given.users:
-            from .spools import migrate_spool
+            from ..users.spool import migrate_users
+            from .spools import spool_of
 
-            migrate_spool(given, options, reporter, tally)
+            migrate_users(*spool_of(given), options, reporter, tally)
         elif given.undo:
             undo(target, names[0], options, reporter)
         elif not leave_unquoted(given.operands, options, reporter):

@@ -1,5 +1,6 @@
 """How a command runs that tells what becomes of mailboxes: its rows, its report and its last line."""
 import argparse
+import contextlib
 import os
 import sys
 from collections.abc import Callable, Mapping
@@ -29,21 +30,11 @@ def reporter_of(
 def run_reported(task: Telling, reporter: Reporter, report: Optional[str], after: str) -> Status:
     """Does a task whose rows a reporter gets, and a new file if one is named. Returns the status. `after` says what to
     do if the output takes no more."""
-    if report is None:
-        return run_task(task, reporter, after)
-    from .objects import Report
+    tally, written = Tally(), contextlib.ExitStack()
+    if report is not None:
+        from .objects import Report
 
-    file = Report(os.fsencode(report))
-    reporter.objects.insert(0, file)
-    try:
-        return run_task(task, reporter, after)
-    finally:
-        file.close()
-
-
-def run_task(task: Telling, reporter: Reporter, after: str) -> Status:
-    """Does a task whose rows a reporter gets, and returns the status."""
-    tally = Tally()
+        reporter.objects.insert(0, written.enter_context(contextlib.closing(Report(os.fsencode(report)))))
     try:
         task(reporter, tally)
         return reporter.end(*tally.words())
@@ -56,3 +47,5 @@ def run_task(task: Telling, reporter: Reporter, after: str) -> Status:
         # a report takes more
         reporter.end(INTERRUPTED)
         return Status.LEFT
+    finally:
+        written.close()

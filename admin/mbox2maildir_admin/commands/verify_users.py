@@ -12,7 +12,7 @@ from ..migration.steps import Options
 from ..migration.trees import Tree, link_left
 from ..program import Program
 from ..users.asked import Tally
-from ..users.homes import Kind, Migrant, Relay
+from ..users.homes import Migrant, Relay
 from ..users.spool import migrate_users
 from .files import for_planned
 from .of_users import jobs_in
@@ -26,13 +26,15 @@ def verifying_users(given: argparse.Namespace) -> Telling:
     (spool, asked), options = spool_of(given), Options(jobs=jobs_in(given.jobs))
 
     def verify(reporter: Reporter, tally: Tally) -> None:
-        migrate_users(spool, asked, options, reporter, tally, Kind(Verifier, "verify"))
+        migrate_users(spool, asked, options, reporter, tally, Verifier)
 
     return verify
 
 
 class Verifier(Migrant):
     """A user whose mailboxes are compared with the Maildir in the home."""
+
+    command = "verify"
 
     def has_more(self, root: bytes) -> bool:
         """There is nothing else to compare."""

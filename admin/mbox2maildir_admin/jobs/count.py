@@ -25,21 +25,14 @@ def available() -> Optional[int]:
     return int(found.group(1)) << 10 if found else None
 
 
-def jobs_for(count: int, memory: Optional[int]) -> int:
-    """How many of `count` are at work at the same time: at most eight, and no more than this memory allows, but at
-    least one."""
-    most = min(MOST, count)
-    return max(1, most if memory is None else min(most, memory // NEED))
-
-
 def jobs_of(asked: Optional[int], count: int) -> int:
-    """How many of `count` are at work at the same time: as many as were asked for, otherwise as many as memory allows.
-    Says so if memory allows fewer."""
+    """How many of `count` are at work at the same time: as many as were asked for, otherwise eight, or as many as
+    memory allows, which is said."""
     if asked is not None or count < 2:
         return asked or 1
-    memory = available()
-    jobs = jobs_for(count, memory)
-    if memory is not None and jobs < min(MOST, count):
+    memory, jobs = available(), min(MOST, count)
+    if memory is not None and memory // NEED < jobs:
+        jobs = max(1, memory // NEED)
         complain("only %s of memory are free, so %d at a time; --jobs N sets another number" % (length(memory), jobs))
     return jobs
 

@@ -111,34 +111,34 @@ class Workers(Crew):
         self.orders.work(Work(parent))
         return 0
 
-    def take_question(self, worker: Worker, what: str, *words: Any) -> None:
+    def take_question(self, child: Worker, what: str, *words: Any) -> None:
         """Takes what a worker asks for: the mailboxes of the next folder, of which there are none once all are begun;
         that a line is written into the record; or space on a disk, for which it waits."""
         if what == "next":
-            if self.groups and not worker.places:
-                worker.places += self.groups.popleft()
-            worker.answer(*worker.places)
+            if self.groups and not child.places:
+                child.places += self.groups.popleft()
+            child.answer(*child.places)
         elif what == "line":
             word, (folder, *text), *others = words
             try:
                 self.orders.record.add_entry(Entry(BY_WORD[word], Key(bytes_of(folder), *text), *others))
             except PlaceFault as fault:
-                worker.answer(str(fault), fault.reason)
+                child.answer(str(fault), fault.reason)
             else:
-                worker.answer()
+                child.answer()
         else:
-            worker.has, worker.wants = None, Need(bytes_of(words[0]), *words[1:])
+            child.has, child.wants = None, Need(bytes_of(words[0]), *words[1:])
 
-    def take_progress(self, worker: Worker, who: str, doing: str, *numbers: int) -> None:
+    def take_progress(self, child: Worker, who: str, doing: str, *numbers: int) -> None:
         """Passes on how far a mailbox is."""
-        worker.who, worker.at = who, " ".join([doing, *([amount(*numbers)] if len(numbers) == 2 else [])])
+        child.who, child.at = who, " ".join([doing, *([amount(*numbers)] if len(numbers) == 2 else [])])
         self.orders.observer.progress(who, doing, *numbers)
 
-    def take_row(self, worker: Worker, place: int, row: Sequence[Any], told: Optional[Sequence[Any]]) -> None:
+    def take_row(self, child: Worker, place: int, row: Sequence[Any], told: Optional[Sequence[Any]]) -> None:
         """Takes what became of a mailbox."""
-        worker.places.remove(place)
+        child.places.remove(place)
         self.ended[place] = Ended(row_of(row), verified_of(*told) if told else None)
-        self.rest(worker)
+        self.rest(child)
 
     def serve(self) -> None:
         """Lets workers go on that wait for space: if there is enough beside the space that others count on, or if

@@ -9,7 +9,7 @@ from ..maildir.folders import folder_shown
 from ..mbox.lines import AROUND
 from ..meanings import ITS_COMMAND, REMARKS, remark_of, to_do
 from ..nexts import BELOW, COMMAND, Answer, Command, Does, Quote, Task, Todo, lines_below
-from ..terminal import named, operand, option, text_of
+from ..terminal import named, operand, option
 from .outcomes import Fate, Row
 
 # how many mailboxes one answer is for at most, so that a human looks at each of them

@@ -206,9 +206,9 @@ class Reporter(Observer):
         if not self.shows.is_silent:
             self.print_sums(line)
         # a report is last: it has its sums once, even if the output takes no more
-        is_reported = all([one.end(self, line) for one in reversed(self.objects)])
+        written = [one.end(self, line) for one in reversed(self.objects)]
         has_mailbox = sum(self.counts.values()) > self.counts[Fate.NO_MAIL]
-        if not (has_mailbox and is_reported) or self.counts[Fate.NOT_WHOLE]:
+        if not (has_mailbox and all(written)) or self.counts[Fate.NOT_WHOLE]:
             return Status.LEFT
         statuses = {reason.status for reason in self.reasons.elements()}
         return Status.LEFT if Status.LEFT in statuses else max(statuses, default=Status.WELL)

@@ -1,11 +1,9 @@
 """Whose mailboxes are migrated, and where the names of the users came from."""
-import contextlib
-import sys
-from collections.abc import Iterable, Iterator, Sequence
-from typing import IO, Optional
+from collections.abc import Iterable, Sequence
+from typing import Optional
 
 from ..faults import PlaceFault, naming
-from ..terminal import named
+from ..terminal import INPUT, named
 
 COMMAND_LINE, STANDARD_INPUT, SPOOL, ACCOUNTS = (
     "from the command line",
@@ -44,7 +42,7 @@ def names_in(path: bytes) -> list[bytes]:
     """The names of a list, one per line, each up to a tab. Raises Fault if the list has none, since that would have
     meant all users."""
     place = "standard input" if path == DASH else named(path)
-    with naming(path), opened(path) as file:
+    with naming(path), open(INPUT if path == DASH else path, "rb", closefd=path != DASH) as file:
         text = file.read(LONGEST_LIST + 1)
     if len(text) > LONGEST_LIST:
         raise PlaceFault("%s: it is longer than 16 MB, so it is not a list of names" % place)
@@ -52,16 +50,6 @@ def names_in(path: bytes) -> list[bytes]:
     if not names:
         raise PlaceFault("%s: it contains no name" % place)
     return names
-
-
-@contextlib.contextmanager
-def opened(path: bytes) -> Iterator[IO[bytes]]:
-    """Opens a list."""
-    if path == DASH:
-        yield sys.stdin.buffer
-        return
-    with open(path, "rb") as file:
-        yield file
 
 
 class Tally:

@@ -9,13 +9,12 @@ from typing import Any, Optional
 
 from ..faults import Left, Reason
 from ..jobs.crew import BROKEN, Child, Crew, Parent
-from ..jobs.telling import LONGEST, Whose, next_of, number_of, row_of
+from ..jobs.telling import LONGEST, next_of, number_of, row_of
 from ..mbox.dates import reader_of_other_forms
 from ..migration.outcomes import Observer, row_left
 from ..nexts import Todo, task
 from ..signals import ENDING, INTERRUPTS
 from ..terminal import named, shown
-from .clerks import Clerk, Refusal
 from .descriptors import close_all_but
 from .disks import SYNC, Disks
 from .homes import Migrant
@@ -58,9 +57,9 @@ def become(account: pwd.struct_passwd, kept: tuple[int, ...], join: Callable[[],
 class UsersChild(Child):
     """A child as root sees it: what it tells is only printed, and never trusted."""
 
-    def __init__(self, whose: Whose, account: pwd.struct_passwd, clerk: Clerk) -> None:
+    def __init__(self, migrant: Migrant) -> None:
         super().__init__()
-        self.whose, self.account, self.clerk = whose, account, clerk
+        self.whose, self.account, self.clerk = migrant.whose(), migrant.account, migrant.clerk()
         # how many rows came, how often it told what is next, and how many rows it says it told: -1 before it ends
         self.rows, self.then, self.rows_told = 0, 0, -1
         # why it was killed, and when it must have ended if it was told to
@@ -128,11 +127,11 @@ class Children(Crew):
             self.reporter = Observer()
         super().__exit__(kind, *rest)
 
-    def add(self, whose: Whose, migrant: Migrant) -> None:
+    def add(self, migrant: Migrant) -> None:
         """Starts the child of a user. If as many as allowed are at work, it waits until one has ended."""
         while len(self.children) >= self.jobs:
             self.turn()
-        self.start(UsersChild(whose, migrant.account, migrant.clerk()), migrant.work)
+        self.start(UsersChild(migrant), migrant.work)
 
     def wait(self) -> None:
         """Waits until all have ended."""

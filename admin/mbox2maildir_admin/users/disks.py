@@ -2,7 +2,6 @@
 import errno
 import os
 from collections.abc import Callable
-from typing import NamedTuple
 
 from ..faults import Reason
 from ..jobs.crew import Parent
@@ -15,18 +14,12 @@ FOLDER = os.O_RDONLY | os.O_DIRECTORY | os.O_CLOEXEC
 FAILED, UNSEEN = Reason.SYNC_FAILED.word, Refusal("root cannot open it", Reason.ERROR.word)
 
 
-class Waiting(NamedTuple):
-    """A child that waits for a sync: the disk, and what answers it."""
-
-    disk: int
-    answer: Callable[..., object]
-
-
 class Disks:
     """Syncs disks for children, as root."""
 
     def __init__(self) -> None:
-        self.waiting: list[Waiting] = []
+        # the disks for which children wait, with what answers each
+        self.waiting: list[tuple[int, Callable[..., object]]] = []
         # the folders by which the disks are synced, by the numbers of these
         self.opened: dict[int, int] = {}
         # the disks of which a sync failed, with the errors: the system reports each only once
@@ -42,7 +35,7 @@ class Disks:
             answer(*UNSEEN)
             return
         disk = os.fstat(folder).st_dev
-        self.waiting.append(Waiting(disk, answer))
+        self.waiting.append((disk, answer))
         if disk in self.opened:
             os.close(folder)
         else:
@@ -60,9 +53,9 @@ class Disks:
             finally:
                 os.close(folder)
         waiting, self.waiting, self.opened = self.waiting, [], {}
-        for one in waiting:
-            fault = self.failed.get(one.disk)
-            one.answer(*(Refusal(fault.strerror, FAILED) if fault else Refusal()))
+        for disk, answer in waiting:
+            fault = self.failed.get(disk)
+            answer(*(Refusal(fault.strerror, FAILED) if fault else Refusal()))
 
 
 def synced_by_root(parent: Parent) -> Callable[[bytes], None]:

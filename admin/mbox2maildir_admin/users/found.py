@@ -6,11 +6,6 @@ from collections.abc import Iterable, Iterator
 from typing import Any, NamedTuple, Optional
 
 from ..faults import Left
-from ..jobs.telling import Whose
-from ..migration.steps import Options
-from ..terminal import shown, text_of
-from .accounts import own_name
-from .homes import Home, Kind, Migrant
 
 
 class Found(NamedTuple):
@@ -28,18 +23,6 @@ class Found(NamedTuple):
     others: tuple[bytes, ...] = ()
     # how many bytes the mailbox has
     size: int = 0
-
-    def whose(self, kind: Kind) -> Whose:
-        """The user as root knows it."""
-        mailboxes = {b"": self.mailbox} if self.mailbox else {}
-        mailboxes.update({one: one for one in self.beside})
-        return Whose(shown(self.name), text_of(own_name(self.account)), mailboxes, kind.is_back)
-
-    def migrant(self, kind: Kind, home: Home, options: Options, program: bytes) -> Migrant:
-        """The user whose child migrates this; if there is a reason why not, only the mailbox."""
-        home = home._replace(tree=None) if self.why_not else home
-        known = self.account, self.mailbox, home, options, program, self.is_left, self.why_not, self.beside
-        return kind.migrant(*known, self.place, self.others)
 
 
 class Queue(Iterable[Found]):

@@ -1,11 +1,9 @@
 """The way back of one user: the mail that is new in the Maildir in the home goes into the inbox of the spool and into
 the mailboxes of the home, with the user's rights."""
 import contextlib
-import functools
 import os
 from collections.abc import Iterable, Iterator, Sequence
-from dataclasses import dataclass
-from typing import NamedTuple, Optional
+from typing import Optional
 
 from ..back.places import Names
 from ..back.several import bring_all, want_migrated
@@ -25,8 +23,8 @@ from ..program import Program
 from .accounts import home_of
 from .asked import Sources, Tally
 from .clerks import Clerk
-from .homes import Kind, Migrant, Relay, is_recorded
-from .inboxes import MAKE, RELEASE, TAKE, Inboxes
+from .homes import Migrant, Relay, is_recorded
+from .inboxes import MAKE, RELEASE, TAKE, InboxClerk, Inboxes
 from .spool import Spool, migrate_users
 
 
@@ -34,36 +32,28 @@ from .spool import Spool, migrate_users
 NO_INBOX = "the mailbox of the spool is left"
 
 
-class Way(NamedTuple):
-    """How the mail of users goes back, and the folder of their inboxes, unless nothing is written."""
-
-    how: How = How()
-    inboxes: Optional[Inboxes] = None
-
-
-@dataclass(frozen=True)
 class Returner(Migrant):
     """A user whose mail goes back."""
 
-    way: Way = Way()
+    command, is_back = "back", True
 
     @property
     def unnamed(self) -> tuple[Optional[bytes], ...]:
         """The paths that are not named beside the user: the mailbox of the spool, even if it is not there, and the
         home."""
-        return self.place, home_of(self.account)
+        return self.user.place, home_of(self.account)
 
     @property
     def boxes(self) -> tuple[bytes, ...]:
         """The mailboxes that the spool has of the user, or would have."""
-        return (*([] if self.is_left else [self.place]), *self.others)
+        return (*([] if self.user.is_left else [self.user.place]), *self.user.others)
 
     def clerk(self) -> Clerk:
         """What root does for the child: it makes the inbox, and FILE.lock, which the child may not."""
-        if not self.way.inboxes:
+        if not self.home.inboxes:
             return Clerk()
         owner = b"%d %s" % (self.account.pw_uid, self.home.maildir)
-        return self.way.inboxes.clerk(self.account, tuple(map(os.path.basename, self.boxes)), owner)
+        return InboxClerk(self.home.inboxes, self.account, tuple(map(os.path.basename, self.boxes)), owner)
 
     def has_more(self, root: bytes) -> bool:
         """Whether there is a Maildir, even if no mailbox is there: its mail is left then."""
@@ -78,13 +68,13 @@ class Returner(Migrant):
         """Brings the mail of a Maildir back into the mailboxes at these paths."""
         if not is_there(root) and all(map(is_bare, names)):
             return
-        has_none = not self.mailbox and names == [self.place]
+        has_none = not self.mailbox and names == [self.user.place]
         # what is there came from no old mailbox if its user has none
         if not has_none or has_own_names(root):
             want_migrated(root)
-        paths = [one for one in names if one not in self.others or is_recorded(root, one)]
-        keeper = Asking(relay.parent, self.boxes)
-        how = self.way.how._replace(keeper=keeper)
+        paths = [one for one in names if one not in self.user.others or is_recorded(root, one)]
+        options = self.options
+        how = How(options.dry, options.now, options.dovecot, Asking(relay.parent, self.boxes))
         names_back = Names(paths, self.tree, NO_INBOX)
         relay.next(bring_all(program, root, names_back, how, relay))
 
@@ -153,15 +143,13 @@ class Asking(Keeper):
         super().drop_locks([path for path in paths if os.path.realpath(path) not in self.places], owner)
 
 
-def back_users(
-    spool: Spool, asked: Optional[Sources], options: Options, way: Way, observer: Observer, tally: Tally
-) -> None:
+def back_users(spool: Spool, asked: Optional[Sources], options: Options, observer: Observer, tally: Tally) -> None:
     """Brings the mail of the users of a spool back."""
     with contextlib.ExitStack() as stack:
-        if not way.how.dry:
+        if not options.dry:
             with naming(spool.path):
-                way = way._replace(inboxes=stack.enter_context(Inboxes.open(spool.path)))
-        kind = Kind(functools.partial(Returner, way=way), "back", True)
-        migrate_users(spool, asked, options, observer, tally, kind)
+                inboxes = stack.enter_context(Inboxes.open(spool.path))
+            spool = spool._replace(home=spool.home._replace(inboxes=inboxes))
+        migrate_users(spool, asked, options, observer, tally, Returner)
         # users end in any order
         observer.then = tuple(sorted(observer.then, key=str))

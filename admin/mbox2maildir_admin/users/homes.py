@@ -1,14 +1,12 @@
 """The mailboxes of one user, migrated with that user's rights into the user's home."""
 import os
-import pwd
 import stat
-from collections.abc import Callable, Iterator, Sequence
-from dataclasses import dataclass
+from collections.abc import Iterator, Sequence
 from typing import NamedTuple, Optional, Union
 
 from ..faults import Fault, Left, Reason
 from ..jobs.crew import Parent
-from ..jobs.telling import told
+from ..jobs.telling import Whose, told
 from ..ledger.prepared_lines import has_list
 from ..ledger.record import Record
 from ..looks import may_be
@@ -21,38 +19,43 @@ from ..migration.several import refuse, run_all
 from ..migration.steps import Options
 from ..nexts import Next
 from ..program import Program
-from ..terminal import named
-from .accounts import home_of, want_home
+from ..terminal import named, shown, text_of
+from .accounts import home_of, own_name, want_home
 from .clerks import Clerk
 from .disks import synced_by_root
+from .found import Found
+from .inboxes import Inboxes
 
 
 class Home(NamedTuple):
-    """The names of the Maildir and of the folder of mailboxes in each home."""
+    """The names of the Maildir and of the folder of mailboxes in each home, and what else is the same for all users."""
 
     maildir: bytes
     tree: Optional[bytes]
     # where Dovecot looks for mail, if that was asked for
     locations: Optional[Sequence[str]] = None
+    # the folder of the inboxes into which mail goes back, unless nothing is written
+    inboxes: Optional[Inboxes] = None
 
 
-@dataclass(frozen=True)
 class Migrant:
     """A user whose mailboxes are migrated: the one in the spool, if there is one, with the files beside it that may be
     copies of it, and those in the home. Root may have left what the spool has. If there is a reason why not, the
     mailbox only goes on if the record has it."""
 
-    account: pwd.struct_passwd
-    mailbox: Optional[bytes]
-    home: Home
-    options: Options
-    program: bytes
-    is_left: bool = False
-    why_not: Optional[Left] = None
-    beside: tuple[bytes, ...] = ()
-    # where the spool has the mailbox, or would have it, and further mailboxes of the same account
-    place: bytes = b""
-    others: tuple[bytes, ...] = ()
+    # the command that does this, and whether mail is on the way back: then each home is looked at, even if the spool
+    # has nothing of its user
+    command, is_back = "migrate", False
+
+    def __init__(self, user: Found, home: Home, options: Options, program: bytes) -> None:
+        self.user, self.home, self.options, self.program = user, home, options, program
+        self.account, self.mailbox = user.account, user.mailbox
+
+    def whose(self) -> Whose:
+        """The user as root knows it."""
+        mailboxes = {one: one for one in self.user.beside}
+        mailboxes.update({b"": self.mailbox} if self.mailbox else {})
+        return Whose(shown(self.user.name), text_of(own_name(self.account)), mailboxes, self.is_back)
 
     def path_of(self, name: bytes) -> bytes:
         """The path of this name in the home."""
@@ -61,7 +64,7 @@ class Migrant:
     @property
     def tree(self) -> Optional[bytes]:
         """The path of the folder of mailboxes, if one is asked for."""
-        return self.path_of(self.home.tree) if self.home.tree else None
+        return self.path_of(self.home.tree) if self.home.tree and not self.user.why_not else None
 
     def clerk(self) -> Clerk:
         """What root does for the child."""
@@ -79,8 +82,8 @@ class Migrant:
             want_home(self.account)
         except Left as left:
             # the home belongs to what is left of the spool; otherwise it is the user that has one row
-            of_home = self.tree if self.is_left and self.tree else home_of(self.account)
-            for path in [self.mailbox, *self.beside] if self.mailbox else [of_home]:
+            of_home = self.tree if self.user.is_left and self.tree else home_of(self.account)
+            for path in [self.mailbox, *self.user.beside] if self.mailbox else [of_home]:
                 relay.leave(path, left)
         else:
             self.work_on(list(self.names(relay)), relay, Program(self.program, parent.alive))
@@ -91,7 +94,7 @@ class Migrant:
         """The paths that are to be migrated. If the folder of mailboxes can't be looked for, it is left."""
         if self.mailbox:
             yield self.mailbox
-            yield from self.beside
+            yield from self.user.beside
         yield from self.names_of_home(relay)
 
     def names_of_home(self, relay: "Relay") -> Iterator[bytes]:
@@ -129,8 +132,8 @@ class Migrant:
             refuse(root, names)
             if self.options.prepare:
                 want_unread(Place(root, home_of(self.account)), self.home.locations, self.options.unread)
-            if self.why_not and not is_recorded(root, names[0]):
-                relay.leave_rest(names, self.why_not)
+            if self.user.why_not and not is_recorded(root, names[0]):
+                relay.leave_rest(names, self.user.why_not)
                 return
             self.run(root, names, relay, program)
         except (Fault, OSError) as fault:
@@ -144,17 +147,8 @@ class Migrant:
 
     def run(self, root: bytes, names: list[bytes], relay: "Relay", program: Program) -> None:
         """Migrates the mailboxes at these paths into a Maildir."""
-        home = UserHome(home_of(self.account), bool(self.mailbox) or self.is_left, synced_by_root(relay.parent))
+        home = UserHome(home_of(self.account), bool(self.mailbox) or self.user.is_left, synced_by_root(relay.parent))
         run_all(self.options, root, names, relay, program, home)
-
-
-class Kind(NamedTuple):
-    """What is done for each user, by which command, and whether that is the way back: then each home is looked at, even
-    if the spool has nothing of its user."""
-
-    migrant: Callable[..., Migrant] = Migrant
-    command: str = "migrate"
-    is_back: bool = False
 
 
 def is_recorded(maildir: bytes, mailbox: bytes) -> bool:
@@ -180,7 +174,7 @@ class Relay(Observer):
     def row(self, row: Row) -> None:
         """Tells a row. The mailbox of a row may be gone from the spool."""
         path = b"" if row.path in self.migrant.unnamed else os.path.relpath(row.path, self.home)
-        path = row.path if row.path in self.migrant.beside or path.startswith(b"../") else path
+        path = row.path if row.path in self.migrant.user.beside or path.startswith(b"../") else path
         self.told.add(row.path)
         self.rows += 1
         self.parent.tell("row", *told(row._replace(path=path)))

@@ -97,14 +97,10 @@ class Inboxes:
             os.close(number)
             beside.unlink()
 
-    def clerk(self, account: pwd.struct_passwd, names: Sequence[bytes], owner: bytes) -> "InboxClerk":
-        """What root does for the child of an account whose inboxes have these names. No other run is at work for the
-        owner of the locks at the same time."""
-        return InboxClerk(self, account, names, owner)
-
 
 class InboxClerk(Clerk):
-    """Makes the inboxes of one user, and their locks."""
+    """Makes the inboxes of one user, and their locks. No other run is at work for the owner of the locks at the same
+    time."""
 
     def __init__(self, inboxes: Inboxes, account: pwd.struct_passwd, names: Sequence[bytes], owner: bytes) -> None:
         self.inboxes, self.account, self.names, self.owner = inboxes, account, names, owner

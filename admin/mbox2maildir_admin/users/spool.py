@@ -21,7 +21,7 @@ from .accounts import Accounts, first_uid, home_of, is_users, own_name, size_of_
 from .asked import ACCOUNTS, SPOOL, Sources, Tally
 from .children import Children
 from .found import Found, Queue
-from .homes import Home, Kind
+from .homes import Home, Migrant
 from .loading import load_for_children
 
 # an account, however many names it has: its number and its home
@@ -37,7 +37,7 @@ class Spool(NamedTuple):
     path: bytes
     home: Home
     options: Options = Options()
-    kind: Kind = Kind()
+    kind: type[Migrant] = Migrant
 
     @property
     def is_of_homes(self) -> bool:
@@ -51,7 +51,7 @@ def migrate_users(
     options: Options,
     reporter: Observer,
     tally: Tally,
-    kind: Kind = Kind(),
+    kind: type[Migrant] = Migrant,
 ) -> None:
     """Migrates the mailboxes of a spool, and a folder of mailboxes of each home, user by user; or does something else
     with them."""
@@ -70,7 +70,7 @@ def migrate_users(
                 reporter.begin()
                 # if there are fewer users than jobs, several folders of a user are at work
                 options = options._replace(jobs=share_of(jobs, at_once, place))
-                children.add(one.whose(kind), one.migrant(kind, spool.home, options, program))
+                children.add(kind(one, spool.home, options, program))
             children.wait()
 
 
