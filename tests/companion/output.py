@@ -85,7 +85,7 @@ def modules(home: Path) -> None:
         equal(f"{word} --help: rooms", {name for name in found if name.split(".")[0] in rooms and "." in name}, light)
     mailbox(home / "box", ONE)
     slow = {"concurrent", "difflib", "email", "multiprocessing", "pathlib", "tempfile", "urllib", "zipfile"}
-    slow |= {"jobs.workers", "takeouts", "undoing", "users.spool"}
+    slow |= {"migration.workers", "takeouts", "undoing", "users.spool"}
     for words, others in (
         (["kind", "box"], {"commands.migrate", "migration.mailbox"}),
         (

@@ -1,6 +1,7 @@
 """The words of each command: its operands and its help. What it does is in the module of its name, which is loaded only
 then: a help needs none of the rooms."""
 import argparse
+import gc
 import importlib
 
 from .. import ADMIN
@@ -112,4 +113,7 @@ COMMANDS = (
 def do_command(name: str, given: argparse.Namespace) -> Status:
     """Does what the command of this name does."""
     module = importlib.import_module("%s.%s" % (__package__, name))
+    # what is loaded stays: nobody looks through it for garbage, and processes that begin as copies share it for longer
+    gc.freeze()
+    gc.enable()
     return Status(getattr(module, "do_" + name)(given))

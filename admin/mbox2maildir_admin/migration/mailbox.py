@@ -32,7 +32,7 @@ from .transfer import Transfer
 from .unchanged import row_unchanged
 
 if TYPE_CHECKING:
-    from ..jobs.workers import Work
+    from .workers import Work
 
 WITH_LABELS = "it was migrated with --labels, so its mail is in the folders of its labels"
 

@@ -32,7 +32,7 @@ from .steps import Extra, Options
 from .trees import NamesMet, Tree, also_named, identity, link_left, other_names
 
 if TYPE_CHECKING:
-    from ..jobs.workers import Work
+    from .workers import Work
 
 # tells a row
 Tell = Callable[[Row], object]
@@ -151,7 +151,7 @@ class Several:
 
     def migrate_at_once(self, plan: Sequence[Planned], groups: Sequence[Places], jobs: int, rows: InOrder) -> None:
         """Migrates the mailboxes of several folders at the same time. What ends first is noted first."""
-        from ..jobs.workers import Orders, Workers
+        from .workers import Orders, Workers
 
         orders = Orders(functools.partial(self.work, plan), plan, self.migration.record, self.observer)
         workers = Workers(jobs, groups, orders)

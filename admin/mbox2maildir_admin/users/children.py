@@ -9,7 +9,7 @@ from typing import Any, Optional
 
 from ..faults import Left, Reason
 from ..jobs.crew import BROKEN, Child, Crew, Parent
-from ..jobs.telling import LONGEST, next_of, number_of, row_of
+from ..migration.telling import LONGEST, next_of, number_of, row_of
 from ..mbox.dates import reader_of_other_forms
 from ..migration.outcomes import Observer, row_left
 from ..nexts import Todo, task

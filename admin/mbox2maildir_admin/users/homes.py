@@ -6,7 +6,7 @@ from typing import NamedTuple, Optional, Union
 
 from ..faults import Fault, Left, Reason
 from ..jobs.crew import Parent
-from ..jobs.telling import Whose, told
+from ..migration.telling import Whose, told
 from ..ledger.prepared_lines import has_list
 from ..ledger.record import Record
 from ..looks import may_be

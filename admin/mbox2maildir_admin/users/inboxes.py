@@ -9,7 +9,7 @@ from collections.abc import Iterator, Sequence
 from typing import Any, Optional
 
 from ..faults import Left, Reason
-from ..jobs.telling import number_of
+from ..migration.telling import number_of
 from ..mbox.lock_file import LOCK, Spot, drop_lock, release_lock, taken
 from ..terminal import named
 from .clerks import Clerk, Refusal

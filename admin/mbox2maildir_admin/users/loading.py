@@ -1,5 +1,6 @@
 """The modules that are loaded when they are needed, and that a child may need: Python may load them from where users
 can't read, so they are loaded before there is a child."""
+import gc
 import importlib
 
 from ..maildir.folders import folder_of
@@ -19,7 +20,7 @@ OF_PYTHON = (
     "tempfile",
     "urllib.parse",
 )
-OF_PACKAGE = ("flags.gmail", "jobs.workers", "labels.remark", "readings.unpacking")
+OF_PACKAGE = ("flags.gmail", "migration.workers", "labels.remark", "readings.unpacking")
 
 
 def load_for_children() -> None:
@@ -32,3 +33,4 @@ def load_for_children() -> None:
     # what these load when they are called first
     folder_of("\u00e4")
     call_of_system()
+    gc.freeze()

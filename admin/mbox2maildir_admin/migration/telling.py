@@ -3,13 +3,13 @@ from collections.abc import Callable, Mapping, Sequence
 from typing import Any, NamedTuple, Optional, TypeVar, Union
 
 from ..faults import Reason
+from ..jobs.crew import spelled
 from ..kinds.making import with_aside
 from ..meanings import REMARKS
-from ..migration.outcomes import Detail, Fate, Row
 from ..nexts import WITH_FILES, Answer, Command, Does, Next, Quote, Remark, Task, Todo, task
 from ..progress import Spent
 from ..terminal import shown
-from .crew import spelled
+from .outcomes import Detail, Fate, Row
 
 # how long a line of a child may be, in bytes
 LONGEST = 1 << 16

@@ -6,16 +6,16 @@ from collections.abc import Callable, Iterator, Sequence
 from typing import Any, NamedTuple, Optional
 
 from ..faults import Left, PlaceFault, Reason
+from ..jobs.count import Places
+from ..jobs.crew import Child, Crew, Parent
 from ..ledger.history import BY_WORD, Entry, Key
 from ..ledger.record import Record, Verified
 from ..maildir.space import Need, want_room
-from ..migration.outcomes import Ended, Observer, row_left
-from ..migration.places import Planned
 from ..progress import amount
 from ..signals import INTERRUPTS
 from ..terminal import complain
-from .count import Places
-from .crew import Child, Crew, Parent
+from .outcomes import Ended, Observer, row_left
+from .places import Planned
 from .telling import bytes_of, row_of
 
 
