@@ -95,6 +95,20 @@ STORIES: dict[str, list[Step]] = {
         *(("migrate --dry-run --again M a", "a: would be done: would place 1 message..."), f"!cmp {LEDGER} kept"),
         *(("migrate --again M a", "a: done: placed 1 message..."), "= one two", ("migrate M a", "a: done before")),
     ],
+    # the folder has another name by now, and only its ledger could say so
+    "the_record_is_lost_and_a_ledger_cannot_be_read": [
+        *(("a", ONE), "migrate --folder A M a", f"!rm {RECORD}; mv M/.A M/.B; cd M/.B; mv mbox*s ../../kept"),
+        *("!mkdir M/.B/mbox2maildir-messages", ("b", TWO), "migrate --folder A M a b", "= B/one"),
+        "!mbox2maildir-admin migrate --now M b 2>&1 | grep '/.B/.*: Is a directory: .*: correct this, or move it away'",
+        "!rmdir M/.B/mbox2maildir-messages; mv kept M/.B/mbox2maildir-messages",
+        ("migrate --folder A M a", "a: left (no-folder): its mail is in B: the ledger there says so, and ..."),
+        *("!chmod 620 M/.B/mbox2maildir-messages", ("migrate M b", "b: done"), "= B/one two"),
+    ],
+    "the_record_is_lost_and_a_ledger_is_damaged": [
+        *(("a", ONE), "migrate --folder A M a", f"!rm {RECORD}; mv M/.A M/.B; echo hello >>M/.B/mbox2maildir-messages"),
+        ("migrate --folder A M a", "a: left (no-folder): its mail is in B: the ledger there says so, and ..."),
+        *(("migrate --folder B M a", "a: done before"), "= B/one"),
+    ],
     # a line that was torn, and one of NULs
     "a_torn_ledger": [
         *(("a", ONE), "migrate M a", f"!cp {LEDGER} kept; printf '=\\t1' >>{LEDGER}", ("a", ONE + TWO)),

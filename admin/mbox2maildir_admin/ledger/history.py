@@ -207,6 +207,10 @@ class History:
         """The last line with a step of each text of a folder, in their order."""
         return list(self._steps[folder].values()) if folder in self._steps else []
 
+    def names_folder(self, folder: bytes) -> bool:
+        """Whether a step was ever noted of a mailbox in a folder."""
+        return folder in self._steps
+
     def name_now(self, folder: bytes, path: bytes) -> bytes:
         """The name that a folder has now which was named for the mailbox of a path. Raises OSError if the path can't be
         looked at."""

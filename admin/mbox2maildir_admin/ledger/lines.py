@@ -9,7 +9,7 @@ import stat
 from collections.abc import Container, Iterable, Iterator, Sequence
 from typing import NamedTuple, Optional, Union
 
-from ..faults import Fault, PlaceFault, Reason
+from ..faults import PlaceFault, Reason
 from ..maildir.making import LEDGER
 from ..mbox.core import SHORT
 from ..mbox.locks import WITHOUT_LOCKS
@@ -288,10 +288,7 @@ def want_trusted(path: bytes, state: os.stat_result) -> None:
 
 
 def number_in(folder: bytes) -> str:
-    """The number of the ledger in a folder; none if it has none, or one that cannot be trusted."""
-    try:
-        whole = (line for line in lines_in(folder) if not line.endswith(CUT) and b"\0" not in line)
-        found = HEAD.match(next(whole, b""))
-    except (Fault, OSError):
-        return ""
+    """The number of the ledger in a folder; none if it has none. Raises Fault if others may have written to it."""
+    whole = (line for line in lines_in(folder) if not line.endswith(CUT) and b"\0" not in line)
+    found = HEAD.match(next(whole, b""))
     return found[1].decode() if found else ""

@@ -13,10 +13,10 @@ import re
 import stat
 import time
 from collections.abc import Callable, Container, Iterator
-from typing import NamedTuple, Optional
+from typing import NamedTuple, Optional, Union
 
-from ..faults import Fault, PlaceFault, Reason
-from ..looks import is_there
+from ..faults import Fault, PlaceFault, Reason, fault_of
+from ..looks import is_there, may_be
 from ..maildir.folders import folder_path, folders_in, name_of
 from ..maildir.making import LEDGER, RECORD, SyncNames, has_begun, sync_folder, synced_once
 from ..maildir.roots import make_alone
@@ -28,6 +28,10 @@ from .ledger import Ledger, count_in
 from .lines import BY_ANOTHER, CUT, number_in
 
 MADE_MEANWHILE = "another migrate has made %s meanwhile: run the same command again"
+UNREAD = (
+    "%s: the record does not name its folder, so mail of its mailboxes could come a second time: correct this, or move "
+    "it away"
+)
 # the first line says which version has written it
 VERSION_LINE = b"mbox2maildir-record\t2"
 # what lines of the index say
@@ -67,6 +71,8 @@ class Record(History):
         self._number: Optional[int] = None
         self.size, self.is_cut, self.has_head = 0, False, False
         self._gone: dict[str, list[Entry]] = {}
+        # why ledgers could not be read, by their paths
+        self.unread: dict[bytes, Union[Fault, OSError]] = {}
         # the lines that wait for the file to be made; and whether lines stay in memory
         self.waiting: list[Entry] = []
         self.is_dry = False
@@ -102,7 +108,17 @@ class Record(History):
             make_alone(maildir)
         with cls.open(maildir, is_open) as record:
             record.is_dry = dry
+            record.want_known()
             yield record
+
+    def want_known(self) -> None:
+        """Raises Fault if a ledger cannot be read, and no line of the index names its folder: a mailbox that it has
+        would come a second time, into another folder."""
+        for path, fault in self.unread.items():
+            folder = name_of(self.maildir, os.path.dirname(path))
+            if not self.names_folder(folder) and may_be(is_there, path):
+                fault = fault_of(fault, path)
+                raise PlaceFault(UNREAD % fault, Reason.LEDGER, fault.next)
 
     @property
     def number(self) -> int:
@@ -223,32 +239,44 @@ class Record(History):
 
     def look(self) -> None:
         """Looks which folders have which ledgers."""
-        numbers = ((name_of(self.maildir, folder), number_in(folder)) for folder in folders_in(self.maildir))
-        self.numbers = {name: number for name, number in numbers if number}
+        self.numbers, self.unread = {}, {}
+        for folder in folders_in(self.maildir):
+            with self.noting_unread(folder):
+                number = number_in(folder)
+                self.numbers.update({name_of(self.maildir, folder): number} if number else {})
         self.folders = {number: name for name, number in reversed([*self.numbers.items()])}
+
+    @contextlib.contextmanager
+    def noting_unread(self, folder: bytes) -> Iterator[None]:
+        """Notes it if the ledger of a folder cannot be read, which is said where it is needed."""
+        try:
+            yield
+        except (Fault, OSError) as fault:
+            self.unread[os.path.join(folder, LEDGER)] = fault
 
     def changes(self, is_found: bool = False) -> Iterator[Entry]:
         """The lines that the index lacks of the ledgers that have changed. If it was just read, mailboxes of ledgers
-        that no line names are found. What cannot be read is said where it is needed."""
+        that no line names are found."""
         if not is_found:
             self.look()
         # of two copies of a folder, that one counts which the index has
         its = {(one.ledger, one.key.folder) for one in self.lines()}
         self.folders.update((number, name) for name, number in self.numbers.items() if (number, name) in its)
         for number, name in self.folders.items():
-            with contextlib.suppress(Fault, OSError):
-                folder = folder_path(self.maildir, name)
+            folder = folder_path(self.maildir, name)
+            with self.noting_unread(folder):
                 if os.stat(os.path.join(folder, LEDGER)).st_size != self.seen.get(number):
                     is_new, lines = is_found and number not in self.seen, self.changes_in(name, Ledger(folder))
                     yield from lines
                     yield from (one._replace(what=Note.FOUND) for one in lines if is_new)
 
     def changes_in(self, name: bytes, ledger: Ledger) -> list[Entry]:
-        """The lines that the index lacks of the mailboxes of a folder, as far as its ledger has all that it had."""
+        """The lines that the index lacks of the mailboxes of a folder, as far as its ledger has all that it had. What
+        damage has left of one that no line names shows which mailboxes it has."""
         several = [*self._undone[ledger.number].values(), *self.last_steps(name)]
         last = {one.path: one for one in several if one.ledger == ledger.number}
         found = []
-        for path, number in [] if ledger.damage else ledger.lasts.items():
+        for path, number in [] if ledger.damage and ledger.number in self.seen else ledger.lasts.items():
             before, now = last.get(path), self.entry_of(name, ledger, path)
             is_known = before is not None and number >= before.number and now.says() != before.says()
             if is_known or before is None and now.what is not Step.UNDONE:
