@@ -121,6 +121,14 @@ STORIES: dict[str, list[Step]] = {
         *(("migrate --dry-run M b", "b: done before"), f"!cat {LEDGER} {RECORD} | cmp - kept"),
         *(("migrate M b", "b: done before"), ("a", TWO), ("migrate M a", "a: done: INBOX has the mail of b too")),
     ],
+    # the index knows the bytes that the first one had, though it has others by now
+    "a_mailbox_was_moved_and_another_one_has_its_path": [
+        *(("old/a", ONE + TWO), "migrate M old", "!mv old/a old/b; touch old/b.lock", ("old/a", THREE)),
+        ("migrate M old", "old/a: done: it grew by 1 ...\nold/b.lock: no mail\nold/b: left (locked): ..."),
+        "!rm old/b.lock",
+        ("migrate M old", "old/a: done before...\nold/b: done: 2 messages of it went into a too, from old/a"),
+        "= a/one a/three a/two b/one b/two",
+    ],
     "a_human_chose_the_folder_of_another": [
         *(("old/a", ONE), ("old/a.mbox", TWO), "migrate --folder a M old/a.mbox"),
         ("migrate M old", "old/a.mbox: done before\nold/a: left (no-folder): another mailbox goes into a too"),

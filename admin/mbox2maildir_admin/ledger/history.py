@@ -122,19 +122,17 @@ class History:
         # how many bytes each ledger had that a line names, and its last number
         self.seen: dict[str, int] = {}
         self.last_numbers: dict[str, int] = {}
-        # by folders: the last line with a step of each text at each path, the last of all at the end
-        self._steps: collections.defaultdict[bytes, dict[tuple[Key, str], Entry]] = collections.defaultdict(dict)
+        # the index: by folders and paths the last line about each mailbox, the last of all at the end
+        self._index: collections.defaultdict[bytes, dict[str, Entry]] = collections.defaultdict(dict)
         # the folders that a path had; and the names that such folders have now, by those that they had for a path
         self._folders: collections.defaultdict[str, dict[bytes, None]] = collections.defaultdict(dict)
         self._names: dict[tuple[bytes, str], bytes] = {}
         # the sizes of the texts that have a step: a mailbox of another size is not read to find out whether it has one
         self.sizes: set[int] = set()
-        # the last lines with a step, by the size and the SHA-256 of the text
-        self._texts: collections.defaultdict[tuple[int, str], dict[tuple[Key, str], Entry]] = collections.defaultdict(
+        # the same of each text that a mailbox was, by its size and its SHA-256
+        self._texts: collections.defaultdict[tuple[int, str], dict[tuple[bytes, str], Entry]] = collections.defaultdict(
             dict
         )
-        # the lines of mailboxes that were undone and have brought nothing since, by the numbers of ledgers and by paths
-        self._undone: collections.defaultdict[str, dict[str, Entry]] = collections.defaultdict(dict)
         # the mailbox that a folder was prepared from last, until something of the folder is done
         self._prepared: dict[bytes, Entry] = {}
         # whether anything was ever prepared
@@ -146,18 +144,20 @@ class History:
         """Takes the next line."""
         entry = self.where_it_is_now(entry)
         folder = entry.key.folder
-        if entry.what is Step.UNDONE:
-            self.forget(folder, entry.path)
-            self._undone[entry.ledger][entry.path] = entry
-        elif isinstance(entry.what, Step):
-            steps = self._steps[folder]
-            self.sizes.add(entry.key.size)
-            steps.pop((entry.key, entry.path), None)
-            steps[entry.key, entry.path] = self._texts[entry.key[1:]][entry.key, entry.path] = entry
-            self._undone[entry.ledger].pop(entry.path, None)
+        if isinstance(entry.what, Step):
+            self._index[folder].pop(entry.path, None)
+            self._index[folder][entry.path] = entry
             self._folders[entry.path].pop(folder, None)
+            self.forget_notes(folder, entry.path, Note.FOUND)
+        if entry.what is Step.UNDONE:
+            self.forget_notes(folder, entry.path, Note.NUMBERED, Note.ANSWERED)
+            for several in self._texts.values():
+                several.pop((folder, entry.path), None)
+        elif isinstance(entry.what, Step):
+            self.sizes.add(entry.key.size)
+            self._texts[entry.key[1:]][folder, entry.path] = entry
             self._folders[entry.path][folder] = None
-            self.forget_notes(folder, entry.path, Note.FOUND, *([Note.EMPTY] if entry.messages else []))
+            self.forget_notes(folder, entry.path, *([Note.EMPTY] if entry.messages else []))
         else:
             self._notes[entry.what, folder].append(entry)
         if entry.what is Note.PREPARED:
@@ -188,28 +188,19 @@ class History:
         """The folders that were prepared last from one of some paths, and of which nothing is done since."""
         return [folder for folder, entry in self._prepared.items() if entry.path in names]
 
-    def forget(self, folder: bytes, path: str) -> None:
-        """Forgets a mailbox in a folder, all of which was undone."""
-        steps = self._steps[folder]
-        self._steps[folder] = {one: entry for one, entry in steps.items() if one[1] != path}
-        for key, _ in steps:
-            self._texts[key[1:]].pop((key, path), None)
-        self._folders[path].pop(folder, None)
-        self.forget_notes(folder, path, Note.NUMBERED, Note.ANSWERED, Note.FOUND)
-
     def forget_notes(self, folder: bytes, path: str, *several: Note) -> None:
         """Forgets what is noted of a mailbox in a folder."""
         for note in several:
             notes = self._notes[note, folder]
             notes[:] = [one for one in notes if one.path != path]
 
-    def last_steps(self, folder: bytes) -> list[Entry]:
-        """The last line with a step of each text of a folder, in their order."""
-        return list(self._steps[folder].values()) if folder in self._steps else []
+    def index_of(self, folder: bytes) -> list[Entry]:
+        """The lines of the index about a folder, in their order, also those of mailboxes that were undone."""
+        return [*self._index.get(folder, {}).values()]
 
-    def names_folder(self, folder: bytes) -> bool:
-        """Whether a step was ever noted of a mailbox in a folder."""
-        return folder in self._steps
+    def last_steps(self, folder: bytes) -> list[Entry]:
+        """The lines about the mailboxes that a folder has, in their order."""
+        return [one for one in self.index_of(folder) if one.what is not Step.UNDONE]
 
     def name_now(self, folder: bytes, path: bytes) -> bytes:
         """The name that a folder has now which was named for the mailbox of a path. Raises OSError if the path can't be
@@ -244,11 +235,11 @@ class History:
         return list(dict.fromkeys(folder for name in names for folder in self._folders.get(name, {})))
 
     def lines(self) -> Iterator[Entry]:
-        """The last line with a step of each text in any folder."""
-        return (entry for steps in self._steps.values() for entry in steps.values())
+        """The lines about the mailboxes of all folders."""
+        return (entry for folder in self._index for entry in self.last_steps(folder))
 
     def lines_of(self, size: int, digest: str) -> list[Entry]:
-        """The last lines with a step of the texts of this size and SHA-256, in any folder."""
+        """The lines about the mailboxes that had this size and SHA-256, in any folder."""
         return list(self._texts.get((size, digest), {}).values())
 
     def done(self, size: int, digest: str) -> Optional[Entry]:
@@ -258,7 +249,8 @@ class History:
 
     def sizes_done(self) -> set[int]:
         """The sizes of the texts that are done."""
-        return {entry.key.size for entry in self.lines() if entry.what is Step.DONE}
+        several = ((key[0], its.values()) for key, its in self._texts.items())
+        return {size for size, entries in several if any(one.what is Step.DONE for one in entries)}
 
     def numbered(self, folder: bytes) -> Optional[Entry]:
         """The line of the mailbox whose numbers a folder has, if it has any."""

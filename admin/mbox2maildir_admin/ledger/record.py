@@ -116,7 +116,7 @@ class Record(History):
         would come a second time, into another folder."""
         for path, fault in self.unread.items():
             folder = name_of(self.maildir, os.path.dirname(path))
-            if not self.names_folder(folder) and may_be(is_there, path):
+            if not self.index_of(folder) and may_be(is_there, path):
                 fault = fault_of(fault, path)
                 raise PlaceFault(UNREAD % fault, Reason.LEDGER, fault.next)
 
@@ -226,11 +226,10 @@ class Record(History):
             self.take(entry)
 
     def gone(self, place: str) -> list[Entry]:
-        """The last lines of those mailboxes in a folder that were gone from it when this was asked first."""
+        """The lines about those mailboxes in a folder that were gone from it when this was asked first."""
         if place not in self._gone:
             lines = (line for line in self.lines() if os.path.dirname(line.path) == place)
-            last = {(line.key.folder, line.path): line for line in lines}
-            self._gone[place] = [line for line in last.values() if is_gone(line.path)]
+            self._gone[place] = [line for line in lines if is_gone(line.path)]
         return self._gone[place]
 
     def add(self, what: What, key: Key, messages: int, path: bytes, plan: Optional[str] = None) -> None:
@@ -273,8 +272,7 @@ class Record(History):
     def changes_in(self, name: bytes, ledger: Ledger) -> list[Entry]:
         """The lines that the index lacks of the mailboxes of a folder, as far as its ledger has all that it had. What
         damage has left of one that no line names shows which mailboxes it has."""
-        several = [*self._undone[ledger.number].values(), *self.last_steps(name)]
-        last = {one.path: one for one in several if one.ledger == ledger.number}
+        last = {one.path: one for one in self.index_of(name) if one.ledger == ledger.number}
         found = []
         for path, number in [] if ledger.damage and ledger.number in self.seen else ledger.lasts.items():
             before, now = last.get(path), self.entry_of(name, ledger, path)
@@ -297,9 +295,12 @@ class Record(History):
     def unknown_to(self, name: bytes, ledger: Ledger) -> list[Entry]:
         """The last line about each mailbox of a folder of which the ledger there lacks something: the folder had
         another one, or it was longer once."""
-        several = [*self.last_steps(name), *self._undone[ledger.number].values()]
-        last = {one.path: one for one in several}.values()
-        return [one for one in last if one.ledger != ledger.number or ledger.lasts.get(one.path, 0) < one.number]
+
+        def is_unknown(one: Entry) -> bool:
+            is_longer = ledger.lasts.get(one.path, 0) < one.number
+            return is_longer if one.ledger == ledger.number else one.what is not Step.UNDONE
+
+        return list(filter(is_unknown, self.index_of(name)))
 
     def add_entry(self, *entries: Entry) -> None:
         """The same for lines, at once."""
