@@ -20,7 +20,7 @@ from ..units import counted
 from .dovecot import names_in
 from .outcomes import Fate, Row, row_left
 from .places import Planned
-from .replica import empty, is_prepared, take_back
+from .replica import empty, is_prepared, remove_all
 from .steps import Options
 from .transfer import TENTH
 
@@ -68,11 +68,6 @@ class Leftovers:
         # the first pass may have been killed before the record had it
         record.has_prepared = record.has_prepared or any(map(has_list, folders_in(root)))
 
-    @property
-    def dry(self) -> bool:
-        """Whether nothing is removed."""
-        return self.options.dry
-
     def rows(self, plan: Iterable[Planned]) -> Iterator[Row]:
         """The rows of these folders. Where the mailbox is gone, everything that was prepared is removed if no more than
         a tenth of its tree is gone. All others are left: nobody is to read there."""
@@ -112,15 +107,17 @@ class Leftovers:
     def clear_unused(self, went: Container[bytes]) -> None:
         """Removes the lists that passes have left that were killed before they placed anything, and the folders that
         were made for these, or were removed."""
-        for path in [] if self.dry or self.options.prepare else asides_in(self.root):
+        if self.options.dry or self.options.prepare:
+            return
+        for path in asides_in(self.root):
             with contextlib.suppress(OSError):
                 remove_aside(path)
-        for folder in folders_in(self.root) if not (self.dry or self.options.prepare) else ():
+        for folder in folders_in(self.root):
             name = name_of(self.root, folder)
             with contextlib.suppress(Fault, OSError):
                 # what cannot be read stays
                 if name not in went and has_list(folder) and not origin_in(folder):
-                    empty(self.record, name, Ledger(folder, dry=self.dry), Prepared.read(folder))
+                    empty(self.record, name, Ledger(folder), Prepared.read(folder))
 
     def is_open(self, one: Listed) -> bool:
         """Whether a folder is only prepared still."""
@@ -134,13 +131,8 @@ class Leftovers:
     def emptied(self, one: Listed) -> Row:
         """The row of a folder from which everything that was prepared is removed."""
         folder = folder_path(self.root, one.name)
-        ledger, prepared = Ledger(folder, dry=self.dry), Prepared.read(folder)
-        if prepared.batch:
-            take_back(self.record, one.name, ledger, prepared, self.dry)
-        prepared.look()
-        count = prepared.unwanted()
-        if not self.dry:
-            empty(self.record, one.name, ledger, prepared)
-        fate, word = (Fate.WOULD_UNDO, "would remove") if self.dry else (Fate.UNDONE, "removed")
+        dry, prepared = self.options.dry, Prepared.read(folder)
+        count = remove_all(self.record, one.name, Ledger(folder, dry=dry), prepared)
+        fate, word = (Fate.WOULD_UNDO, "would remove") if dry else (Fate.UNDONE, "removed")
         remarks = Remark("mailbox-gone", MAILBOX_GONE), Remark("removed", "%s %s" % (word, counted(count, "message")))
         return Row(unspelled(one.path), one.name, "", None, fate, remarks=remarks)

@@ -150,7 +150,7 @@ def transfer_of(
         and not has_failed(ledger)
         and not reader_in(record, opened.name, opened.folder, prepared)
     ):
-        take_back(record, opened.name, ledger, prepared, how.dry)
+        take_back(record, opened.name, ledger, prepared)
     if how.prepare:
         return FirstPass(conversion, how, opened, ledger, prepared)
     is_noted = record.prepared(opened.name) is not None and not ledger.sources

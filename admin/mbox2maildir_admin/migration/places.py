@@ -122,12 +122,12 @@ def beside(path: bytes) -> list[bytes]:
     return [name for name in names if is_file(name) and not is_no_mail(name)]
 
 
-def has_record(plan: Iterable[Planned], record: Record, dry: bool) -> bool:
+def has_record(plan: Iterable[Planned], record: Record) -> bool:
     """Whether there is a record, which several processes need from the beginning. It is made if a mailbox can be read.
     A dry run needs none."""
     if any(is_mbox(one.target or one.path) for one in plan):
         record.make()
-    return dry or record.is_open
+    return record.is_dry or record.is_open
 
 
 class Pairs(NamedTuple):

@@ -21,6 +21,7 @@ from ..maildir.making import LEDGER, MARK, PREPARED, SUBFOLDERS, sync_folder
 from ..mbox.bases import base_in, before_info, own_base_in
 from ..nexts import Remark
 from ..terminal import spelled
+from ..units import Say, silent
 from .dovecot import KEYWORDS, LIST, Dovecot, names_in, remove_part
 from .steps import Bringing, Extra, Opened
 
@@ -117,32 +118,26 @@ def note_begun(ledger: Ledger, prepared: Prepared) -> None:
             prepared.note(base)
 
 
-def take_back(record: Record, name: bytes, ledger: Ledger, prepared: Prepared, dry: bool) -> None:
+def take_back(record: Record, name: bytes, ledger: Ledger, prepared: Prepared) -> None:
     """Takes back what a `migrate` that was killed has done in a folder, of each mailbox: flags, lists of UIDs, and what
     it noted. Afterwards the folder is only prepared."""
-    folder, paths = ledger.folder, ledger.paths()
-    if dry:
-        take_back_lines(record, name, ledger, paths)
-        return
-    note_begun(ledger, prepared)
-    give_names_back(folder, prepared)
-    for file in names_in(folder):
-        if Dovecot(record).is_own_in(name, folder, file):
-            os.unlink(os.path.join(folder, file))
-    for file in (KEYWORDS, LIST):
-        remove_part(folder, file)
-    if all(is_folder(os.path.join(folder, sub)) for sub in (b"new", b"cur")):
-        # a run may have been killed before it made them
-        sync_names(folder)
-    take_back_lines(record, name, ledger, paths)
-    prepared.take_back()
-
-
-def take_back_lines(record: Record, name: bytes, ledger: Ledger, paths: Sequence[str]) -> None:
-    """Notes that nothing is known of mailboxes in a folder."""
-    for path in paths:
+    folder = ledger.folder
+    if not record.is_dry:
+        note_begun(ledger, prepared)
+        give_names_back(folder, prepared)
+        for file in names_in(folder):
+            if Dovecot(record).is_own_in(name, folder, file):
+                os.unlink(os.path.join(folder, file))
+        for file in (KEYWORDS, LIST):
+            remove_part(folder, file)
+        if all(is_folder(os.path.join(folder, sub)) for sub in (b"new", b"cur")):
+            # a run may have been killed before it made them
+            sync_names(folder)
+    for path in ledger.paths():
         ledger.undo(path)
     record.add_entry(*record.changes_in(name, ledger))
+    if not record.is_dry:
+        prepared.take_back()
 
 
 def give_names_back(folder: bytes, prepared: Prepared) -> None:
@@ -156,6 +151,18 @@ def give_names_back(folder: bytes, prepared: Prepared) -> None:
             target = os.path.join(folder, home[:3], before_info(name) + home[3:])
             if not is_there(target):
                 os.rename(path, target)
+
+
+def remove_all(record: Record, name: bytes, ledger: Ledger, prepared: Prepared, say: Say = silent) -> int:
+    """Removes what is prepared in a folder, and what a `migrate` that was killed has done there. Returns how many files
+    that is, which a dry run only counts."""
+    if prepared.batch:
+        take_back(record, name, ledger, prepared)
+    prepared.look(say)
+    count = prepared.unwanted()
+    if not record.is_dry:
+        empty(record, name, ledger, prepared)
+    return count
 
 
 def empty(record: Record, name: bytes, ledger: Ledger, prepared: Prepared) -> None:

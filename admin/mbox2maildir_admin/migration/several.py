@@ -134,7 +134,7 @@ class Several:
         groups = groups_of([one.folder and real_path(one.folder_in(self.migration.root)) for one in plan])
         jobs, rows = min(jobs_of(how.jobs, len(groups)), len(groups)), InOrder(self.observer.row)
         try:
-            if jobs > 1 and has_record(plan, self.migration.record, how.dry):
+            if jobs > 1 and has_record(plan, self.migration.record):
                 self.observer.at_once = jobs
                 self.migrate_at_once(plan, largest_first(groups, [one.target or one.path for one in plan]), jobs, rows)
             else:

@@ -39,7 +39,7 @@ from ..mbox.mailbox import Mailbox
 from ..migration.dovecot import Dovecot, remove_lists
 from ..migration.known import Known
 from ..migration.outcomes import Fate, Observer, Row, row_left
-from ..migration.replica import empty, is_prepared, take_back
+from ..migration.replica import is_prepared, remove_all
 from ..migration.several import refuse
 from ..migration.steps import Extra, Opened, Options
 from ..nexts import Remark, Todo, task
@@ -379,12 +379,7 @@ def undo_prepared(
         ledger, prepared = Ledger(place, dry=dry), Prepared.read(place)
         if not is_prepared(record, name, ledger, prepared):
             return None
-        if prepared.batch:
-            take_back(record, name, ledger, prepared, dry)
-        prepared.look(say)
-        counts: Counts = collections.Counter({Why.REMOVED: prepared.unwanted()})
-        if not dry:
-            empty(record, name, ledger, prepared)
+        counts: Counts = collections.Counter({Why.REMOVED: remove_all(record, name, ledger, prepared, say)})
         counts[Why.EDITED] = len(prepared.edited)
         fate, remarks = Fate.WOULD_UNDO if dry else Fate.UNDONE, tuple(remarks_on(counts, collections.Counter(), dry))
         return Row(path, name, "", prepared.origin.messages if prepared.origin else None, fate, remarks=remarks)
