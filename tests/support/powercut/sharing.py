@@ -96,7 +96,8 @@ class BroughtAgain(Deleted):
         return made
 
     def words(self, at: str, mailboxes: Sequence[Made]) -> list[str]:
-        return [self.tools.admin, "migrate", "--again", "--now", self.folder(at), self.mailboxes[0].path]
+        # with --all, the row says how many messages were placed
+        return [self.tools.admin, "migrate", "--again", "--all", "--now", self.folder(at), self.mailboxes[0].path]
 
     def did_something(self, said: str) -> bool:
         return "placed 0 messages" not in said
