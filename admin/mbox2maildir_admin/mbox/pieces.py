@@ -9,7 +9,7 @@ from .files import BLOCK, LONG
 FROM = b"From "
 # each From_ line has the word, and no search is faster; what follows it in its line is passed over
 WORD, NEVER, LINE_END, QUOTE = re.compile(rb"From [^\n]*"), re.compile(rb"(?!)"), ord(b"\n"), ord(b">")
-# how many bytes are read at a time, and up to how many a header is kept in one piece, and a line
+# how many bytes are read at a time, and up to how many a line `From ` with its header is kept in one piece, and a line
 AT_ONCE, LONGEST_HEADER, LONGEST_LINE = BLOCK >> 3, 1 << 22, 1 << 18
 # the end of a longer line, before a byte that begins nothing
 WITHIN_LINE = re.compile(rb".*[^>F\r\n\t ](?=[^>F\r\n\t ])", re.DOTALL)
@@ -64,7 +64,7 @@ def pieces_of(read: Read, offset: int = 0, word: re.Pattern[bytes] = WORD) -> It
             if data:
                 yield Piece(Offset(offset), data, begins, True, has_word, has_quote, goes_on)
             return
-        cut = place_to_cut(data, has_header, begins or goes_on) if len(data) >= AT_ONCE else 0
+        cut = place_to_cut(data, has_header) if len(data) >= AT_ONCE else 0
         if cut:
             yield Piece(Offset(offset), data[:cut], begins, False, has_word, has_quote, goes_on)
             goes_on = has_header = (begins or goes_on) and data.find(b"\n", 0, cut) < 0
@@ -74,13 +74,13 @@ def pieces_of(read: Read, offset: int = 0, word: re.Pattern[bytes] = WORD) -> It
         searched = max(0, len(data) - len(FROM) + 1)
 
 
-def place_to_cut(data: bytes, has_header: bool, has_from_line: bool) -> int:
+def place_to_cut(data: bytes, has_header: bool) -> int:
     """Where a message is cut that goes on: at the end of a line, after its header, so that something follows that is no
     line `From `. A line is cut only if it is longer than any program writes, where nothing can begin."""
     cut, header = data.rfind(b"\n", 0, -1) + 1, data.find(b"\n") + 1
     if FROM.startswith(data[cut:]):
         cut = data.rfind(b"\n", 0, max(0, cut - 1)) + 1
-    if has_header and (header or not has_from_line) and len(data) < LONGEST_HEADER and header_of(data, header)[1] > cut:
+    if has_header and len(data) < LONGEST_HEADER and header_of(data, header)[1] > cut:
         return 0
     found = WITHIN_LINE.match(data, cut) if len(data) - cut >= LONGEST_LINE else None
     return found.end() if found else cut
