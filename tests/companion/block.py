@@ -37,6 +37,14 @@ def one_mailbox(home: Path) -> None:
     equal("two questions", shown[1:15], [*map(str, range(2, 9)), "..", *map(str, range(15, 21))])
 
 
+def one_of_a_kind(home: Path) -> None:
+    """What stands alone in a group has its own command, and none for all of them."""
+    for name, text in (("sound", ONE), ("notes", b"milk\nbread\n")):
+        mailbox(home / "old" / name, text)
+    (group,) = groups_in(run("migrate --now M old", home)[1])
+    equal("its commands", group.commands, ["file old/notes"])
+
+
 def groups(home: Path) -> None:
     """Each mailbox that changed has a bare row, with its folder's name for people. What is left stands in the block
     once: by its reason and its question, by its path, with one command for all of a group."""
@@ -185,4 +193,13 @@ def output_that_ends(home: Path) -> None:
 
 
 if __name__ == "__main__":
-    check_all(one_mailbox, groups, one_answer_for_many, many_of_one_kind, of_users, words_of_rows, output_that_ends)
+    check_all(
+        one_mailbox,
+        one_of_a_kind,
+        groups,
+        one_answer_for_many,
+        many_of_one_kind,
+        of_users,
+        words_of_rows,
+        output_that_ends,
+    )

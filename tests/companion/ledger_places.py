@@ -883,6 +883,8 @@ def rule_9_mail_of_other_programs(home: Home) -> None:
     home.place_file("17001.host:2,S", mail_of(letters(7))[0])
     home.bring(OLD=letters(*FIVE, 7))
     home.has(*FIVE, 7, 20)
+    home.bring(OTHER=letters(0))
+    home.has(*FIVE, 7, 20)
     home.undo("OLD")
     home.has(0, 1, 2, 7, 20)
 

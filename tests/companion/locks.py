@@ -254,6 +254,19 @@ def holes(home: Path) -> None:
     equal("between data", (row["reason"], row["says"]), ("holes", says))
 
 
+def rehearsed(home: Path) -> None:
+    """What a rehearsal of `back` finds locked is left, as in a run, and it keeps nobody from reading."""
+    mailbox(home / "old/box", ONE)
+    expect("migrate --now M old", home, 0, None)
+    (home / "M/.box/new/1.h").write_bytes(b"Subject: new\n\nhello\n")
+    with (home / "old/box").open("rb") as file:
+        fcntl.flock(file, fcntl.LOCK_SH)
+        equal("while another reads", row_of(by_json("back --dry-run --now M old", home))["verdict"], "would go back")
+    mailbox(home / "old/box.lock", b"17\n", 0)
+    for words in ("--dry-run --now", "--now"):
+        equal(words, row_of(by_json(f"back {words} M old", home))["reason"], "locked")
+
+
 def locks_of_back(home: Path) -> None:
     """A lock that another program takes away meanwhile, or makes its own, is not removed; where none can be made, and
     on a disk without locks, mail comes back too."""
@@ -291,5 +304,6 @@ if __name__ == "__main__":
         prepared_meanwhile,
         locked_for_ten_seconds,
         holes,
+        rehearsed,
         locks_of_back,
     )

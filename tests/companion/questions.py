@@ -365,6 +365,7 @@ def a_folder_is_asked_for(home: Path) -> None:
     equal(
         "status and folders", (status, subjects(home / "M"), subjects(home / "M/.sent")), (0, ["mbox", "mia"], ["sent"])
     )
+    expect("migrate --now M sent mia mbox", home, 0, "3 mailboxes: 3 done before\n")
 
 
 def each_has_one_row(home: Path) -> None:

@@ -469,6 +469,9 @@ STORIES: dict[str, list[Step]] = {
             "tree/old/Trash: done: also named other and tree/Sent",
         ),
     ],
+    "an_empty_file_of_the_same_name": [
+        *(("tree/a", ONE), ("tree/a.mbox", b""), ("migrate M tree", "tree/a.mbox: no mail\ntree/a: done"), "= a/one"),
+    ],
     # one command leaves the second one; after two, one folder has both, which the second one's row says, once
     "two_trees_with_the_same_name": [
         *(("old/Sent", ONE), ("older/Sent", TWO)),

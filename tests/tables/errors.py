@@ -129,6 +129,7 @@ ERRORS = [
     ),
     ("dates M mistyped", "mistyped: No such file or directory", RUN + "ls .\n"),
     ("migrate --undo There box", "There: it has no record, so nothing was migrated into it", ""),
+    ("migrate --dry-run Linked box", "Linked/mbox2maildir-record: it is a symbolic link", ""),
 ]
 
 
@@ -140,8 +141,9 @@ def words_and_files(home: Path) -> None:
     whole. The row of a mailbox has its command below it."""
     for name in ("box", "two", "old/a"):
         mailbox(home / name, ONE)
-    for name in ("empty", "There/cur", "There/new", "There/tmp"):
+    for name in ("empty", "There/cur", "There/new", "There/tmp", "Linked/cur", "Linked/new", "Linked/tmp"):
         (home / name).mkdir(parents=True)
+    (home / "Linked/mbox2maildir-record").symlink_to("box")
     os.mkfifo(home / "pipe")
     there = sorted(home.iterdir())
     for line, says in [*REFUSED, *(BY_ROOT if is_root() else ())]:

@@ -54,6 +54,11 @@ STORIES: dict[str, list[Step]] = {
         *(("a", ONE), *killed("migrate M a"), "!cp M/new/* M/tmp", ("migrate M a", "a: done"), "!rmdir M/tmp"),
         *("!rm -r M", FIRST, "!cp M/new/* M/tmp", "migrate M a", "!rmdir M/tmp"),
     ],
+    "what_is_edited_once_a_first_pass_has_looked_at_it": [
+        *(("a", ONE), FIRST, ("a", ONE + TWO)),
+        '@test -e ../gone || echo more >>$(grep -l one new/*); : >../gone; "$real" "$@"',
+        (FIRST, "a: left (not-verified): there 1, under another name 0, other bytes 1, nowhere 0; with other ..."),
+    ],
     # its mail is as good as removed
     "the_undo_of_another_mailbox_was_killed": [
         *(("a", ONE + TWO), "migrate M a", f"!printf '<\\t%s\\n' $PWD/a >>{LEDGER}"),

@@ -66,6 +66,10 @@ STORIES: dict[str, list[Step]] = {
         (LAST, "a: done: 1 prepared before, 1 message removed; 1 message there already, by no mailbox; 1 message ..."),
         "= one two",
     ],
+    "what_others_delivered_before": [
+        *(("one", ONE), "!mkdir -p M/new M/cur M/tmp; sed '1d;$d' one >M/new/17000.M1.host", ("a", ONE + TWO)),
+        *(FIRST, "= one two M+"),
+    ],
     "flags_come_on_the_day": [
         *(("a", SEEN), FIRST, "= one M+"),
         (LAST, "a: done: 1 prepared before; 1 message with flags of Thunderbird"),
@@ -173,6 +177,10 @@ STORIES: dict[str, list[Step]] = {
         *(("migrate --dry-run M a", "a: done before"), "= one two M+", (LAST, "a: done before"), "= one two"),
         *(f"!cp -p kept {LIST}", ("a", TWO + THREE), FIRST, "= one two"),
         *(f"!cp -p kept {LIST}", LAST, "= one three two"),
+    ],
+    "the_list_comes_from_a_backup_and_the_ledger_is_lost": [
+        *(("a", ONE + TWO), FIRST, f"!cp {LIST} kept", LAST, f"!cp -p kept {LIST}; rm {LEDGER}", ("a", TWO)),
+        *(LAST, "= one two M+"),
     ],
     "a_sync_failed": [
         *(("a", ONE), FIRST, f"!echo '!' >>{LIST}", ("a", TWO), (FIRST, SYNC_FAILED), (LAST, SYNC_FAILED), "= one M+"),
