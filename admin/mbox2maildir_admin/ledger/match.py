@@ -116,31 +116,34 @@ class Match:
         self, places: Iterable[int], offers: Sequence[Offer], served: set[File], most: collections.Counter[bytes]
     ) -> list[int]:
         """Takes what is offered for new messages at these places, which have the same core: first for those in its
-        form. Some files stand for messages already, and other mailboxes brought at most so many in each form. Returns
-        the places of what is nowhere."""
+        form. Some files stand for messages already, and other mailboxes brought at most so many more in each form,
+        which are counted down. Returns the places of what is nowhere."""
         waiting: dict[bytes, list[int]] = {}
-        refused: collections.defaultdict[bytes, set[File]] = collections.defaultdict(set)
-        counts: collections.Counter[bytes] = collections.Counter()
+        refused: list[tuple[bytes, File]] = []
         for place in places:
             waiting.setdefault(self.inventory.bare(place), []).append(place)
         for one, is_same in [*((one, True) for one in offers), *((one, False) for one in offers if one.in_any_form)]:
             bare = one.file.bare if one.why is Why.ANY else one.line.message.bare
-            if one.file in served or one.why in (Why.SHARED, Why.GONE) and counts[bare] >= most[bare]:
+            if one.file in served or one.why in (Why.SHARED, Why.GONE) and most[bare] <= 0:
                 continue
             forms, is_trashed = [bare] if is_same else list(waiting), one.file.name in self.files.trashed
-            its = itertools.chain.from_iterable(waiting.get(form, ()) for form in forms)
-            found = next((at for at in its if not is_trashed or self.is_deleted(Place(at))), None)
+            waits = (at for form in forms for at in waiting.get(form, ()))
+            found = next((at for at in waits if not is_trashed or self.is_deleted(Place(at))), None)
             if found is not None:
                 served.add(one.file)
                 waiting[self.inventory.bare(found)].remove(found)
-                counts[self.inventory.bare(found)] += 1
+                most[self.inventory.bare(found)] -= 1
                 self.note(one, found)
             elif is_trashed:
-                for form in forms:
-                    refused[form].add(one.file)
-        rest = list(itertools.chain.from_iterable(waiting.values()))
-        beside = {file for form, left in waiting.items() if left for file in refused[form]} - served
-        self.seen.marked += min(len(beside), len(rest))
+                refused += [(form, one.file) for form in forms]
+        return self.counted(
+            [*itertools.chain(*waiting.values())], {file for form, file in refused if waiting.get(form)} - served
+        )
+
+    def counted(self, rest: list[int], marked: set[File]) -> list[int]:
+        """Counts what is said of messages that are nowhere, which have the same core, and returns their places: for how
+        many a file is there that is marked as deleted, and how many another mailbox brought in another form alone."""
+        self.seen.marked += min(len(marked), len(rest))
         lines = self.lines.get(self.inventory.core(rest[0]), ()) if rest else ()
         theirs = (one for one in lines if one.path != self.path and one.state is State.HELD)
         there = {one.message.bare for one in theirs if one.message.name in self.present}
@@ -180,8 +183,8 @@ class Match:
         """Looks for what is nowhere, whoever had it before. A message is there if any file has its core. All lines of
         the mailbox are written anew."""
         self = cls(ledger, path, inventory, is_deleted, say)
-        source = ledger.sources.get(path)
-        self.lost = source.has() if source else self.lost
+        if path in ledger.sources:
+            self.lost = ledger.sources[path].has()
         self.look()
         unnamed = self.files.by_core(self.names_of_lines())
         groups: collections.defaultdict[bytes, list[int]] = collections.defaultdict(list)
