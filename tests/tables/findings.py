@@ -121,11 +121,11 @@ def what_is_there(home: Path) -> None:
     *whole, _ = objects(["verify", "M", "old"], home)
     equal(
         "if all is there",
-        [(one["path"], one["folder"], one["verdict"], one["messages"], one["bytes"]) for one in whole],
+        [[one[name] for name in ("path", "folder", "directory", "verdict", "messages", "bytes")] for one in whole],
         [
-            ("old/a", "a", "whole", 2, sum(map(len, bodies_of(ONE + TWO)))),
-            ("old/b", "b", "whole", 1, *map(len, bodies_of(TWO))),
-            ("old/empty", None, "no mail", None, None),
+            ["old/a", "a", ".a", "whole", 2, sum(map(len, bodies_of(ONE + TWO)))],
+            ["old/b", "b", ".b", "whole", 1, *map(len, bodies_of(TWO))],
+            ["old/empty", None, None, "no mail", None, None],
         ],
     )
     first, second = sorted(files_of(home / "M/.a").values())
