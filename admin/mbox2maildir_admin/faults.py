@@ -95,7 +95,7 @@ class Reason(Phrase):
     )
     CUT = "cut", "A message was converted before it was complete."
     NUMBERED = "numbered", "Its UIDs cannot be kept: the folder has others, from Dovecot or another mailbox."
-    PREPARED = "prepared", "A first pass cannot store it in its folder, or what one stored there cannot be finished."
+    PREPARED = "prepared", "A first pass (`--prepare`) cannot store it in its folder, or cannot be finished."
     SUBSCRIPTIONS = "subscriptions", "There is a list of subscriptions already, or it cannot be written."
     # what failed
     WRONG_LINES = "wrong-lines", "A line that `--text` or `--begin` names has no `From ` where it should."
@@ -106,9 +106,9 @@ class Reason(Phrase):
     NOT_HELD = "not-held", "The mailbox's format cannot hold some of the mail that `back` would append."
     TORN = (
         "torn",
-        "A run was killed while it appended mail, and another program has written behind that: a message is cut.",
+        "A run was killed while it appended a message, and another program has written behind this cut message.",
     )
-    UNDO = "undo", "It cannot be undone without harm to other mail, or its undo was interrupted."
+    UNDO = "undo", "Its undo would harm other mail, or was interrupted."
     # what is wrong with the Maildir or its record
     NO_MAILDIR = (
         "no-maildir",

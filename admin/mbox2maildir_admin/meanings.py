@@ -28,7 +28,7 @@ TO_DO = {
     Reason.OTHER_KIND: "Its command, which [makes a mailbox of it](FORMATS.md#files-of-another-format)",
     Reason.NOT_KNOWN: (
         "Its command, or `file`, says more. If it holds no mail, add `--no-mail PATTERN` once. PATTERN is its path, or "
-        "a shell pattern for its path below the folder that you named, or the home, such as `*.txt`"
+        "a shell pattern such as `*.txt` for its path below the home or the folder that you named"
     ),
     Reason.PACKED: (
         "Find a complete copy, [unpack it](FORMATS.md#compressed-files), or install the program that the line names"
@@ -36,8 +36,8 @@ TO_DO = {
     Reason.COPY: "[Move the copy away](FORMATS.md#copies). If neither is a copy, its command",
     Reason.LEFT_BEHIND: "Remove it",
     Reason.LINK: (
-        "[Migrate what it leads to](FORMATS.md#symbolic-links). If it leads nowhere, remove it. In the spool, put the"
-        " file itself there. If the link stands for a Maildir or a folder of mailboxes, name the real one by "
+        "[Migrate what it leads to](FORMATS.md#symbolic-links). If it leads nowhere, remove it. In the spool, "
+        "replace it by its file. If the link stands for a Maildir or a folder of mailboxes, name the real one by "
         "`--maildir` or `--tree`"
     ),
     Reason.MISSING: "Correct the name. For `back --users`, see [BACK.md](BACK.md)",
@@ -61,9 +61,9 @@ TO_DO = {
     ),
     Reason.REWRITTEN: "If it is another mailbox, give it a path of its own. Otherwise its command",
     Reason.LEDGER: (
-        "As the line says: if others may write to it, look at it and `chmod 600` it; if another version wrote it, "
-        "finish with that version; for an undo, migrate the folder's other mailboxes first. Otherwise restore the "
-        "newest `mbox2maildir-messages` from a backup, or run its command, which brings back deleted mail"
+        "Read the line. If others may write to it, look at it and `chmod 600` it. If another version wrote it, finish "
+        "with that version. For an undo, first migrate the folder's other mailboxes. Otherwise restore the newest "
+        "`mbox2maildir-messages` from a backup, or run its command, which brings back deleted mail"
     ),
     Reason.ANOTHER_READING: (
         "Its command, which goes on as before, or undoes the mailbox. After an undo, migrate it as you meant to"
@@ -91,9 +91,9 @@ TO_DO = {
         "--users`, see [BACK.md](BACK.md)"
     ),
     Reason.RECORD: (
-        "Look at `mbox2maildir-record`, and move it away if it is not yours. If its disk has no locks, migrate [onto "
-        "another disk](LARGE.md#nfs). If another version wrote it, as the line says, finish with that version, or "
-        "move it away and run `migrate --again`, which also brings back deleted mail"
+        "Look at `mbox2maildir-record`. If it is not yours, move it away. If its disk has no locks, migrate [onto "
+        "another disk](LARGE.md#nfs). If another version wrote it, finish with that version. Or move it away and run "
+        "`migrate --again`, which also brings back deleted mail"
     ),
     Reason.NO_USER: "Find out whose mail it is. If it is nobody's, [move it away](SERVER.md#nobodys)",
     Reason.SYSTEM_ACCOUNT: "Name it on the command line, or choose a Maildir for it, as the line says",

@@ -32,6 +32,8 @@ from tests.support.printed import commands_in
 from tests.support.running import OWNER, Desk
 
 PAGE = text_of(TOP / "docs/FORMATS.md")
+# the programs of its first table that were tried by hand
+BY_HAND = ("public-inbox, `lei convert`", "Thunderbird", "Postfix", "OpenSMTPD, `mail.local`", "sendmail, `mail.local`")
 # a program that never ends is left out; on a machine that has much to do, others end late
 SECONDS = 120
 PATH = f"{os.environ['PATH']}:/usr/sbin:/usr/lib/dovecot:/usr/bin/mh:/usr/libexec/opensmtpd"
@@ -398,17 +400,15 @@ def table_of(head: str) -> list[tuple[str, str]]:
     return re.findall(r"^\| (.+?) \| (.+?) \|$", table, re.MULTILINE)
 
 
-def writers_of_the_page() -> tuple[dict[str, str], list[str]]:
-    """The kind of each program that writes, in the page's table, and the programs that were tried by hand."""
-    kinds, by_hand = {}, []
+def writers_of_the_page() -> dict[str, str]:
+    """The kind of each program that writes, in the page's table, without those that were tried by hand."""
+    kinds = {}
     for kind, programs in table_of("| Format | Programs |\n"):
         for program in programs.split("; "):
-            name = re.sub(r" \d[\w.]*", "", program)
-            if name.endswith("*"):
-                by_hand.append(name)
-            else:
-                kinds[name] = kind
-    return kinds, by_hand
+            kinds[re.sub(r" \d[\w.]*", "", program)] = kind
+    for name in BY_HAND:
+        del kinds[name]
+    return kinds
 
 
 def kind_of(mailbox: bytes) -> str:
@@ -680,8 +680,7 @@ def cases_of(
 
 
 def main() -> None:
-    kinds, by_hand = writers_of_the_page()
-    assert by_hand, "the page's table has no program that was tried by hand"
+    kinds = writers_of_the_page()
     keeps = readers_of_the_page()
     # no test has Courier
     keeps.pop("Courier", None)
