@@ -61,8 +61,8 @@ class Follower:
         self.before = {}  # type: dict[str, Shown]
         # whose mail is in a Maildir
         self.moved = set()  # type: set[str]
-        # what is left for a human to deal with: notes, and lines `From ` of drafts and of what procmail filed
-        self.left = {"not-known": 1, "unclear": 1 + (machine.way == "postfix")}
+        # what is left for a human to deal with: notes, and a line `From ` of a draft
+        self.left = {"not-known": 1, "unclear": 1}
 
     def prepare(self) -> None:
         """Installs both programs, and makes users with mail, as they were for years."""
