@@ -1,6 +1,5 @@
 """Processes that are at work at the same time, and their parent. They tell it lines, of which it answers some; whoever
 takes a line decides what it may say."""
-import contextlib
 import json
 import os
 import select
@@ -95,10 +94,14 @@ class Child:
         return lines
 
     def answer(self, *words: Any) -> None:
-        """Answers it, if it reads that. It had nothing to say while it waited."""
+        """Answers it, unless it is closed. It had nothing to say while it waited. One that cannot be answered is
+        stopped, since it would wait until its silence ends it."""
         self.heard = time.monotonic()
-        with contextlib.suppress(OSError):
-            os.write(self.life, spelled(words) + b"\n")
+        if self.life >= 0:
+            try:
+                os.write(self.life, spelled(words) + b"\n")
+            except OSError:
+                self.stop()
 
     def watch(self) -> Optional[int]:
         """Its status, if it has ended."""
