@@ -172,7 +172,7 @@ class Case:
         is_by_pop3 = before[1] or not before[0]["INBOX"][2]
         before, after = (without(shown, left, bool(is_by_pop3)) for shown in (before, self.after()))
         if self.may_be_left and any(differences(before, after, self.is_new)):
-            before = self.with_flags_of_mailbox(before)
+            before = self.by_mailbox(before)
         self.seen.update(figures(before, after), left=len(left))
         if left:
             yield from differences(before, after, self.is_new)
@@ -186,22 +186,23 @@ class Case:
             yield from unsaid(before, after, says)
         yield from self.wrong_afterwards()
 
-    def with_flags_of_mailbox(self, before: Shown) -> Shown:
-        """What was shown, except that messages with several fields Status have the flags that Dovecot shows without its
-        index. Its index may contradict the mailbox, which is all that `migrate` reads."""
+    def by_mailbox(self, before: Shown) -> Shown:
+        """What was shown, except that messages have the dates that Dovecot shows without its index, and those with
+        several fields Status the flags. Its index may contradict the mailbox, which is all that `migrate` reads: a
+        message that takes the UID of another one, by a stranger's X-UID, has its date there."""
         other = self.copy(self.name + "-anew")
         shutil.rmtree(str(other.home / "mail/.imap"))
         folders = {}
         for name, (validity, following, rows) in before[0].items():
-            anew = {row[0]: row[1] for row in self.server.by_imap(other.name, name)[2]}
+            anew = {row[0]: row for row in self.server.by_imap(other.name, name)[2]}
             path = self.inbox if name == "INBOX" else self.home / "mail" / name
             # a first message that Dovecot hides has no row
             texts = split(path.read_bytes(), "unquoted")[-len(rows) :]
-            changed = [
-                row[:1] + (anew[row[0]],) + row[2:] if has_several_status(text) else row
-                for row, text in zip(rows, texts)
-            ]
-            self.seen["flags that the index contradicts"] += sum(row != its for row, its in zip(rows, changed))
+            changed = []
+            for row, text in zip(rows, texts):
+                its = anew[row[0]]
+                changed.append((row[0], its[1] if has_several_status(text) else row[1], row[2], its[3], row[4]))
+            self.seen["messages that the index contradicts"] += sum(row != its for row, its in zip(rows, changed))
             folders[name] = validity, following, changed
         return (folders, *before[1:])
 
