@@ -273,17 +273,17 @@ class Oracle:
         for name, _, mail in self.mail():
             if mail not in self.bytes:
                 yield f"other bytes in {name}: {mail[:200]!r}"
-        if not is_killed:
-            yield from self.unsaid(rows)
+        yield from self.unsaid(rows, is_killed)
 
-    def unsaid(self, rows: Sequence[Row]) -> Iterator[str]:
-        """What no row has said that was done. What was left may be said later."""
+    def unsaid(self, rows: Sequence[Row], is_killed: bool) -> Iterator[str]:
+        """What no row has said that was done. What was left may be said later, and so may all that a killed run has
+        not."""
         for name, owed in self.owed.items():
             mine = [row for row in rows if not name or (row["folder"] or INBOX) == name]
             said = sum(number for row in mine for number in numbers_in(row))
             # a mailbox that was moved in its tree goes into two folders, and its row says so
             said += sum(owed.values()) * any(re.search(r"\btoo\b", texts_of(row)) for row in mine)
-            is_settled = bool(mine) and all(row["verdict"] != "left" for row in mine)
+            is_settled = bool(mine) and not is_killed and all(row["verdict"] != "left" for row in mine)
             # a message may have come back in several runs
             most = sum(row["messages"] or 0 for row in mine)
             for what, count in list(owed.items()):
