@@ -91,7 +91,7 @@ class Shared(History):
         paths = [box.path for box in boxes]
         ran = self.run(["migrate", "--json", "--now", *self.words, "Maildir", *paths], kill)[0]
         self.begun = self.begun | {*boxes} if ran.is_killed else self.begun - {*boxes}
-        self.brought |= set() if ran.is_killed else {*boxes}
+        self.brought |= set() if ran.is_killed else {box for box in boxes if self.holds[box]}
 
     def migrate_some(self) -> None:
         """Migrates some of them, in one command or in several, or is killed."""
@@ -109,7 +109,7 @@ class Shared(History):
 
     def undo(self) -> None:
         """One of them is undone. Files that another program has renamed may stay, and people remove them then."""
-        boxes = [box for box in self.boxes if box in self.brought and self.holds[box]]
+        boxes = [box for box in self.boxes if box in self.brought]
         if not boxes or self.begun:
             return
         box = self.draw.choice(boxes)
