@@ -14,7 +14,7 @@ ITS_COMMAND = "Its command"
 
 
 class Weight(enum.Enum):
-    """What a remark asks of a reader: a look; nothing, but it is counted; or nothing, and only --all prints it."""
+    """How a remark is printed: below its mailbox, since it asks for a look; as a count; or only by --all."""
 
     LOOK, COUNT, SILENT = "look", "count", "silent"
 

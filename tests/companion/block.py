@@ -173,12 +173,14 @@ def of_users(home: Path) -> None:
 
 
 def words_of_rows(home: Path) -> None:
-    """`explain` has each word of the schema, in its order, and names a word that is none."""
+    """`explain` has each word of the schema, in its order, and names a word that is none. What is only counted may ask
+    for something."""
     status, out, err = run("explain", home)
     words = [*SCHEMA["$defs"]["reason"]["enum"], *SCHEMA["$defs"]["remark"]["enum"]]
     equal("all words", (status, [line.split(": ")[0] for line in out.splitlines()], err), (0, words, ""))
     status, out, err = run("explain locked lockd", home)
     equal("a word", (status, out[:14]), (1, "locked: left: "))
+    equal("a remark", run("explain loses-quote", home)[1].split(" A ")[0], "loses-quote: is counted:")
     matches("no word", err, "mbox2maildir-admin: lockd: no such word: ...\n")
 
 

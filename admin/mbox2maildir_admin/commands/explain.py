@@ -9,7 +9,7 @@ from ..terminal import complain, put, shown
 # what a remark asks of a reader
 ASKS = {
     Weight.LOOK: "asks for a look",
-    Weight.COUNT: "is counted, and asks for nothing",
+    Weight.COUNT: "is counted",
     Weight.SILENT: "is printed only with --all",
 }
 

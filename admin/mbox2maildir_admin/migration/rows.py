@@ -249,7 +249,7 @@ class Reporter(Observer):
             put(REHEARSAL)
         if self.kept.noted:
             words = ", ".join("%s %d" % pair for pair in sorted(self.kept.noted.items()))
-            put("noted, and nothing to do: %s (`%s explain WORD`)" % (words, ADMIN))
+            put("noted: %s (`%s explain WORD`)" % (words, ADMIN))
         put(line)
         for below in lines_below((), self.then, True):
             put(below)
