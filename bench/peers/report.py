@@ -65,48 +65,39 @@ def full_row(one: Measured) -> List[object]:
 
 PAGE = """# Comparison with other converters
 
-`python3 -m bench.peers build/mbox2maildir` prints this page. It was measured on {day} with {machine}. Each converter was
-called as its own documentation says, with the same mboxrd of {messages} messages: {escaped} of them have a line that begins
-with `From `, and {flagged} have flags in `Status` and `X-Status`. The packages: {versions}.
+`python3 -m bench.peers build/mbox2maildir` printed this page on {day} with {machine}. Each converter was called as its
+documentation says, with the same mboxrd of {messages} messages: {escaped} have a line that begins with `From `, and
+{flagged} have flags in `Status` and `X-Status`. The packages: {versions}.
 {missing}
 ## One run
 
-Each file is counted in one of these columns:
-
-- *Exactly*: the file holds the message as its sender wrote it.
-- *End*: there are line ends too many or too few at the end of the message.
-- *Header*: header lines were added or left out.
-- *Escaped*: the `>` before lines that begin with `From ` is still there.
-- *Other*: the message has other bytes.
-- *Broken*: the file ends too early, or holds no message.
-
-*Lost* counts messages without a file, *Doubled* messages with several, and *Flags* messages that kept their flags.
+Each file counts once: in *Exactly*, the file holds the message as its sender wrote it. *End*: it has line ends too many
+or too few at its end. *Header*: header lines were added or left out. *Escaped*: the `>` before lines `From ` is still
+there. *Other*: it has other bytes. *Broken*: it ends too early, or holds no message. *Lost* counts messages without a
+file, *Doubled* messages with several, *Flags* messages that kept their flags.
 
 {plain}
-The disk was in memory, where a sync costs nothing. On a real disk `convert` waits for the sync of each file, and most
-others sync no file.
+The disk was in memory. On a real disk, `convert` takes longer: it waits for the sync of each file. Most others sync no
+file, and promise nothing about a power cut.
 
 ## Killed, and the same command again
 
-Each converter was killed at {kills} moments that are spread over its run, with all processes that it had started. After
-each kill, the same command ran to its end. The columns are totals.
+Each converter was killed at {kills} moments spread over its run, with all processes that it had started. After each
+kill, the same command ran to its end. The columns are totals.
 
 {killed}
 ## A full disk
 
-The disk became full when about half of the mail was there (*Status* is that of this run). Then there was room again, and
+The disk became full when about half of the mail was there. *Status* is that of this run. Then there was room again, and
 the same command ran once more.
 
 {full}
 ## What others do better
 
-- `doveadm backup` keeps keywords, and the UIDs that Dovecot's mbox driver gave. Of this project's commands, only
-  `mbox2maildir-admin migrate --dovecot` does.
-- `doveadm backup` compares both sides, so you can start it again. But like `doveadm import`, it writes `X-UID` fields
-  into the old mailbox. A kill during that write left some messages twice there. After a later kill, the command did
-  not start again: `INBOX can't be deleted`.
+- `doveadm backup` keeps keywords and UIDs, as `mbox2maildir-admin migrate --dovecot` does. It compares both sides, so
+  you can start it again. But like `doveadm import`, it writes fields `X-UID` into the old mailbox. A kill during that
+  write left some messages twice there. After a later kill, the command did not start again: `INBOX can't be deleted`.
 - `mutt`, Dovecot's commands, Python and Mail::Box read many formats. `convert` reads one.
-- A converter that syncs no file is faster on a disk. It promises nothing about a power cut.
 """
 
 
