@@ -54,7 +54,7 @@ class Dates:
                 complain("%s: %s" % (named(file), undone))
         by_header = ", by header %d" % dating.by_header if dating.by_header else ""
         line = "messages %d, dated %d%s" % (dating.messages, dating.dated, by_header)
-        self.syncs.add([maildir], (file, before, line))
+        self.syncs.add(maildir, (file, before, line))
         return dating.dated == dating.messages
 
     def tell(self, several: Sequence[tuple[tuple[bytes, os.stat_result, str], Optional[OSError]]]) -> None:

@@ -13,14 +13,13 @@ import re
 import stat
 import time
 from collections.abc import Callable, Container, Iterator
-from typing import NamedTuple, Optional, Union
+from typing import Optional, Union
 
 from ..faults import Fault, PlaceFault, Reason, fault_of
 from ..looks import is_there, may_be
 from ..maildir.folders import folder_path, folders_in, name_of
 from ..maildir.making import LEDGER, RECORD, SyncNames, has_begun, sync_folder, synced_once
 from ..maildir.roots import make_alone
-from ..mbox.mailbox import is_still
 from ..terminal import named, spelled
 from ..units import Size
 from .history import TIME, Entry, History, Key, Note, Step, What
@@ -40,25 +39,6 @@ INDEX = (*Step, Note.FOUND)
 MOST = 1 << 23
 # what is escaped in the path of a line of the record
 ESCAPED = re.compile(rb"\\x([0-9a-f]{2})|\\\\")
-
-
-class Verified(NamedTuple):
-    """A mailbox each message of which is where it is to be: what the record is to have of it, its folder, the number of
-    the batch of its ledger, and the state of its file then. The file is closed, so others may write to it."""
-
-    key: Key
-    messages: int
-    path: bytes
-    plan: str
-    folder: bytes
-    state: os.stat_result
-    batch: int = 0
-    # whether its folder has a list of what was prepared there; without a batch it is only prepared
-    is_prepared: bool = False
-
-    def has_changed(self) -> bool:
-        """Whether another file is at its path, or the same file has changed."""
-        return not is_still(self.path, self.state)
 
 
 class Record(History):

@@ -25,21 +25,20 @@ class Syncs(Generic[One]):
     def __init__(self, settle: Settle[One], sync_one: Optional[SyncOne] = None) -> None:
         """Takes what syncs the disk of a folder, if this process does not do that itself."""
         self.settle, self.sync_one = settle, sync_one
-        # what waits, each with its Maildirs
-        self.waiting: list[tuple[One, Sequence[bytes]]] = []
+        # what waits, each with its Maildir
+        self.waiting: list[tuple[One, bytes]] = []
         self.latest = 0.0
         # the disks of which a sync failed, with the errors: the system reports each only once
         self.failed: dict[int, OSError] = {}
 
-    def add(self, maildirs: Sequence[bytes], one: One) -> None:
-        """Has something settled after a sync of these Maildirs or, if there are none, after everything that waits
-        already."""
-        if not maildirs and not self.waiting:
+    def add(self, maildir: bytes, one: One) -> None:
+        """Has something settled after a sync of this Maildir or, without one, after everything that waits already."""
+        if not maildir and not self.waiting:
             self.settle([(one, None)])
             return
         if not self.waiting:
             self.latest = time.monotonic() + MOST_WAITED
-        self.waiting.append((one, maildirs))
+        self.waiting.append((one, maildir))
         self.sync_in_time()
 
     def sync_in_time(self) -> None:
@@ -53,11 +52,11 @@ class Syncs(Generic[One]):
         with INTERRUPTS.held():
             fault: Optional[OSError] = None
             try:
-                sync_disks((maildir for _, several in self.waiting for maildir in several), self.failed, self.sync_one)
+                sync_disks((maildir for _, maildir in self.waiting if maildir), self.failed, self.sync_one)
             except OSError as error:
                 fault = error
             waited, self.waiting = self.waiting, []
-            self.settle([(one, fault if maildirs else None) for one, maildirs in waited])
+            self.settle([(one, fault if maildir else None) for one, maildir in waited])
 
 
 def sync_disks(maildirs: Iterable[bytes], failed: dict[int, OSError], sync_one: Optional[SyncOne] = None) -> None:

@@ -9,23 +9,21 @@ from typing import Optional
 
 from ..faults import Fault, Left, Reason, fault_of
 from ..ledger.files import Files
-from ..ledger.history import Note
 from ..ledger.lines import note_all_placed, note_ends
 from ..ledger.lines import note_failed as note_batch_failed
 from ..ledger.match import Placing
 from ..ledger.prepared_lines import drop_list, finish_list, note_failed
-from ..ledger.record import Record, Verified
+from ..ledger.record import Record
 from ..maildir.checking import Check
 from ..maildir.dating import Dating
 from ..maildir.space import what_fails, why_not_listed
 from ..mbox.bases import base_in, before_info, is_own
-from ..mbox.mailbox import Mailbox
+from ..mbox.mailbox import Mailbox, is_still
 from ..nexts import Remark
 from ..program import Converted, Failed, Program
 from ..readings.unnamed import copy_of_some
-from ..terminal import spelled
 from ..units import Offset, Place
-from .outcomes import Ended, Fate, Row
+from .outcomes import Fate, Outcome, Row
 from .steps import Bringing, Contents, Extra, Opened
 
 CHANGED_MEANWHILE = "it changed in the meantime: stop the program that writes to it, and run this again"
@@ -48,21 +46,21 @@ ONCE = "the system reported an error, but the same works now: read the system's 
 
 
 class Conversion:
-    """Converts mailboxes, and notes what was verified."""
+    """Converts mailboxes."""
 
     def __init__(self, program: Program, root: bytes, record: Record) -> None:
         self.program, self.root, self.record = program, root, record
 
-    def convert(self, opened: Opened, contents: Contents, placing: Placing, verified: Verified) -> int:
+    def convert(self, opened: Opened, contents: Contents, placing: Placing, batch: int, is_prepared: bool) -> int:
         """Converts what is nowhere. Returns how many messages were placed that were not to be: equal ones, which were
         deleted or moved after this run had looked."""
         try:
-            ran = self.run(opened, contents, placing, verified.is_prepared)
+            ran = self.run(opened, contents, placing, is_prepared)
         except Failed as failed:
-            raise self.explained(failed, opened, contents, placing, verified) from failed
+            raise explained(failed, opened, contents, placing, batch) from failed
         is_whole, need = ran.end == contents.text.end, len(placing.match.need)
-        if verified.batch and is_whole and 0 < need <= ran.placed:
-            note_all_placed(verified.folder, verified.batch)
+        if batch and is_whole and 0 < need <= ran.placed:
+            note_all_placed(opened.folder, batch)
         if opened.has_changed(contents.text):
             raise Left(
                 "it changed while it was converted: stop the program that writes to it, and run this again",
@@ -99,69 +97,57 @@ class Conversion:
         with open(os.devnull, "rb") as nothing:
             self.program.convert(nothing.fileno(), Offset(0), folder, self.record.number, lambda place: None)
 
-    def explained(
-        self, failed: Failed, opened: Opened, contents: Contents, placing: Placing, verified: Verified
-    ) -> Left:
-        """Why the program failed, in better words than its own. If a sync failed, the ledger notes that."""
-        whole = placing.whole()
-        there = Files(opened.folder, whole, opened.mailbox.say).there
-        nowhere = [place for place in placing.match.need if not there[place]]
-        found = FOLDER_CALL.search(str(failed))
-        call = int(found.group(1)) if found else 0
-        unlisted = why_not_listed(opened.folder) if call in SYNCED else None
-        if call > len(LISTINGS) and not nowhere or call in SYNCED and not unlisted:
-            return self.sync_failed(verified)
-        size = contents.inventory.sizes[nowhere[0]] if nowhere else 0
-        cause = unlisted or what_fails(opened.folder, size) or (ONCE if WITHOUT_CAUSE.search(str(failed)) else None)
-        says = [with_call(str(failed)), cause, "%d of %d messages are there" % (sum(there), len(whole))]
-        return Left("; ".join(filter(None, says)), Reason.CONVERT_FAILED)
 
-    def settled(self, several: Sequence[tuple[Ended, Optional[OSError]]]) -> list[Row]:
-        """The rows of mailboxes, once their disks were synced, or failed, and that is noted of those that were
-        verified: at once of all of a folder. What fails leaves those that it is about."""
-        rows = [ended.row for ended, _ in several]
-        done: collections.defaultdict[bytes, dict[int, Verified]] = collections.defaultdict(dict)
-        for place, ((_, verified), fault) in enumerate(several):
-            with leaving(rows, place):
-                if verified and self.is_ended(verified, fault):
-                    done[verified.folder][place] = verified
-        for folder, its in done.items():
-            with leaving(rows, *its):
-                note_ends(folder, (verified.batch for verified in its.values()))
-                if any(verified.is_prepared for verified in its.values()):
-                    drop_list(folder)
-        return rows
+def explained(failed: Failed, opened: Opened, contents: Contents, placing: Placing, batch: int) -> Left:
+    """Why the program failed, in better words than its own. If a sync failed, the ledger notes that."""
+    whole = placing.whole()
+    there = Files(opened.folder, whole, opened.mailbox.say).there
+    nowhere = [place for place in placing.match.need if not there[place]]
+    found = FOLDER_CALL.search(str(failed))
+    call = int(found.group(1)) if found else 0
+    unlisted = why_not_listed(opened.folder) if call in SYNCED else None
+    if call > len(LISTINGS) and not nowhere or call in SYNCED and not unlisted:
+        return sync_failed(opened.folder, batch)
+    size = contents.inventory.sizes[nowhere[0]] if nowhere else 0
+    cause = unlisted or what_fails(opened.folder, size) or (ONCE if WITHOUT_CAUSE.search(str(failed)) else None)
+    says = [with_call(str(failed)), cause, "%d of %d messages are there" % (sum(there), len(whole))]
+    return Left("; ".join(filter(None, says)), Reason.CONVERT_FAILED)
 
-    def is_ended(self, verified: Verified, fault: Optional[OSError]) -> bool:
-        """Whether the batch of a mailbox has ended now that its disk was synced. If it is only prepared, this is noted.
-        Raises Left if the sync failed, or if the mailbox was written to meanwhile."""
-        if fault:
-            raise self.sync_failed(verified)
-        if not verified.batch:
-            self.note_prepared(verified)
-            return False
-        if verified.has_changed():
-            raise Left(CHANGED_MEANWHILE, Reason.CHANGED)
-        return True
 
-    def note_prepared(self, one: Verified) -> None:
-        """Notes that a mailbox is prepared in its folder."""
-        finish_list(one.folder)
-        before = self.record.prepared(one.key.folder)
-        if not before or (before.key, before.path) != (one.key, spelled(one.path)):
-            self.record.add(Note.PREPARED, one.key, one.messages, one.path, one.plan)
+def settled(several: Sequence[tuple[Outcome, Optional[OSError]]]) -> list[Row]:
+    """The rows of mailboxes, once their disks were synced, or failed, and that is noted of those that were verified: at
+    once of all of a folder. What fails leaves those that it is about."""
+    rows = [one.row for one, _ in several]
+    ended: collections.defaultdict[bytes, dict[int, Outcome]] = collections.defaultdict(dict)
+    for place, (one, fault) in enumerate(several):
+        with leaving(rows, place):
+            if fault:
+                raise sync_failed(one.folder, one.batch)
+            if one.state and one.batch and not is_still(one.path, one.state):
+                raise Left(CHANGED_MEANWHILE, Reason.CHANGED)
+            if one.batch:
+                ended[one.folder][place] = one
+            elif one.is_prepared:
+                finish_list(one.folder)
+    for folder, its in ended.items():
+        with leaving(rows, *its):
+            note_ends(folder, (one.batch for one in its.values()))
+            if any(one.is_prepared for one in its.values()):
+                drop_list(folder)
+    return rows
 
-    def sync_failed(self, one: Verified) -> Left:
-        """What is said of a sync that failed. The ledger notes it."""
-        if not one.batch:
-            note_failed(one.folder)
-            return Left(PREPARED_SYNC_FAILED, Reason.SYNC_FAILED)
-        try:
-            note_batch_failed(one.folder, one.batch)
-        except Fault as fault:
-            noted = "%s; note this yourself, because the ledger could not be written: %s" % (SYNC_FAILED, fault)
-            return Left(noted, Reason.SYNC_FAILED)
-        return Left(SYNC_FAILED, Reason.SYNC_FAILED)
+
+def sync_failed(folder: bytes, batch: int) -> Left:
+    """What is said of a sync that failed. The ledger notes it or, for what is only prepared, its list."""
+    if not batch:
+        note_failed(folder)
+        return Left(PREPARED_SYNC_FAILED, Reason.SYNC_FAILED)
+    try:
+        note_batch_failed(folder, batch)
+    except Fault as fault:
+        noted = "%s; note this yourself, because the ledger could not be written: %s" % (SYNC_FAILED, fault)
+        return Left(noted, Reason.SYNC_FAILED)
+    return Left(SYNC_FAILED, Reason.SYNC_FAILED)
 
 
 def finish(one: Bringing, extra: Extra) -> list[Remark]:

@@ -24,7 +24,7 @@ from ..readings.unnamed import unnamed
 from ..units import Say, silent
 from .answers import is_passed_over, note_no_mail
 from .converting import Conversion
-from .outcomes import BY_NO_MAIL, BY_RECORD, Ended, Fate, Row, row_left
+from .outcomes import BY_NO_MAIL, BY_RECORD, Fate, Outcome, Row, row_left
 from .preparing import FirstPass, LastPass
 from .replica import is_free, is_prepared, note_begun, reader_in, take_back
 from .steps import Opened, Options
@@ -62,32 +62,32 @@ class Migration:
 
     def run(
         self, path: bytes, name: bytes, say: Say = silent, follow: bool = False, why: Optional[Fault] = None
-    ) -> Ended:
+    ) -> Outcome:
         """Migrates a mailbox into the folder of this name. `say` takes the progress. If `why` is a reason why not, a
         mailbox with mail is left for that reason."""
         try:
             if is_no_mail(path):
-                return Ended(Row(path, b"", "", None, Fate.NO_MAIL))
+                return Outcome(Row(path, b"", "", None, Fate.NO_MAIL))
             if self.how.prepare and not why:
                 row = row_unchanged(self.record, self.how, path, name, folder_path(self.root, name), say)
                 if row:
-                    return Ended(row)
+                    return Outcome(row)
             with self.opened(path, say, follow, not (why or self.how.now)) as mailbox:
                 opened = Opened.into(self.root, name, mailbox)
                 try:
-                    return Ended(self.judge(opened, why)) if why else self.migrate(opened)
+                    return Outcome(self.judge(opened, why)) if why else self.migrate(opened)
                 except OtherKind as left:
                     if self.how.is_spared(path, not isinstance(left, NotKnown)):
                         note_no_mail(self.record, mailbox)
-                        return Ended(Row(path, b"", left.kind, None, Fate.NO_MAIL, remarks=(BY_NO_MAIL,)))
+                        return Outcome(Row(path, b"", left.kind, None, Fate.NO_MAIL, remarks=(BY_NO_MAIL,)))
                     if is_passed_over(self.record, mailbox):
-                        return Ended(Row(path, b"", left.kind, None, Fate.NO_MAIL, remarks=(BY_RECORD,)))
+                        return Outcome(Row(path, b"", left.kind, None, Fate.NO_MAIL, remarks=(BY_RECORD,)))
                     left.put(self.how.where(self.root, opened))
                     raise
         except NoMail as found:
-            return Ended(Row(path, b"", found.kind, None, Fate.NO_MAIL))
+            return Outcome(Row(path, b"", found.kind, None, Fate.NO_MAIL))
         except (Fault, OSError) as fault:
-            return Ended(row_left(path, name, fault))
+            return Outcome(row_left(path, name, fault))
 
     def opened(self, path: bytes, say: Say, follow: bool, quiet: bool) -> Mailbox:
         """A mailbox that is open and locked or, while people use it, a copy of it."""
@@ -109,12 +109,12 @@ class Migration:
             pass
         return row_left(mailbox.path, b"", why, None, mailbox.size)
 
-    def migrate(self, opened: Opened, making: Optional[Making] = None) -> Ended:
+    def migrate(self, opened: Opened, making: Optional[Making] = None) -> Outcome:
         """Does what is left to do, and returns what became of the mailbox."""
         if not self.how.is_labelled and line_of(self.record, opened.mailbox):
             undo = self.how._replace(is_labelled=True).undo_command(self.root, opened)
             left = Left(WITH_LABELS, Reason.ANOTHER_READING, (Answer(undo),))
-            return Ended(row_left(opened.mailbox.path, b"", left, None, opened.mailbox.size))
+            return Outcome(row_left(opened.mailbox.path, b"", left, None, opened.mailbox.size))
         verified, ledger, self.kept = self.verified[opened.name], self.kept, None
         if not ledger or ledger.folder != opened.folder:
             ledger = Ledger(opened.folder, verified, self.how.dry)
@@ -123,10 +123,10 @@ class Migration:
         else:
             transfer = transfer_of(self.conversion, self.how, opened, ledger, verified)
         transfer.want_room = self.want_room
-        ended = Ended(transfer.run(), transfer.verified)
-        if ended.verified and ended.verified.batch:
-            verified.add(ended.verified.batch)
-            ledger.end(ended.verified.batch)
+        ended = transfer.run()
+        if ended.batch:
+            verified.add(ended.batch)
+            ledger.end(ended.batch)
         self.kept = None if ended.row.fate is Fate.LEFT else ledger
         return ended
 

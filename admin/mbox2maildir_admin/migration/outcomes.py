@@ -1,11 +1,11 @@
 """What became of a mailbox, and who is told of it."""
 import enum
 import functools
+import os
 from collections.abc import Iterator, Sequence
 from typing import NamedTuple, Optional, Union
 
 from ..faults import Fault, Left, Reason, fault_of
-from ..ledger.record import Verified
 from ..looks import type_at
 from ..nexts import BELOW, NOTHING, Next, Quote, Remark, lines_below
 from ..progress import Beat, Spent
@@ -135,16 +135,20 @@ class Row(NamedTuple):
         return self.fate not in (Fate.BEFORE, Fate.NOTHING_NEW, Fate.FOUND, Fate.WHOLE, Fate.NO_MAIL)
 
 
-class Ended(NamedTuple):
-    """What became of a mailbox and, if it was verified, what is to be noted of it once its disk was synced."""
+class Outcome(NamedTuple):
+    """What became of a mailbox: the row that is printed of it and, if all of its messages were verified in a folder,
+    what is noted there once the disk was synced."""
 
     row: Row
-    verified: Optional[Verified] = None
-
-    @property
-    def maildirs(self) -> list[bytes]:
-        """The folders whose disks are to be synced."""
-        return [self.verified.folder] if self.verified else []
+    # the folder, the batch of its ledger, which what is only prepared does not have, and whether a list has what was
+    # prepared
+    folder: bytes = b""
+    batch: int = 0
+    is_prepared: bool = False
+    # how the mailbox was read, its path, and the state of its file: it is closed, so others may write to it
+    words: str = ""
+    path: bytes = b""
+    state: Optional[os.stat_result] = None
 
 
 class Observer:

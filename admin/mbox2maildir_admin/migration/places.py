@@ -20,7 +20,7 @@ from ..readings.copies import COMPRESSED
 from ..readings.reading import UNDECIDED, Reading
 from ..readings.texts import is_mbox
 from ..terminal import named, operand, option
-from .outcomes import Ended
+from .outcomes import Outcome
 from .steps import Options
 
 ENDINGS = (COPY, *COMPRESSED)
@@ -205,10 +205,10 @@ class Pairs(NamedTuple):
         return one.left(Left("%s beside it" % names, Reason.COPY, then))
 
 
-def into_inbox(one: Planned, ended: Ended, how: Options, root: bytes) -> Next:
+def into_inbox(one: Planned, ended: Outcome, how: Options, root: bytes) -> Next:
     """The command that puts a mailbox, one of several Inboxes, into INBOX instead, and reads it in the same way."""
     # a word decides nothing about one of several that contradicts it, but all about one that is named
-    decision, read = how.decision, Reading.of_words(ended.verified.plan) if ended.verified else how.decision
+    decision, read = how.decision, Reading.of_words(ended.words) if ended.words else how.decision
     decision = decision if decision.word in ("", read.word) else UNDECIDED._replace(drop=decision.drop)
     options, paths = how.of_next()._replace(decision=decision), [operand(root), operand(one.path)]
     into = line_of([ADMIN, "migrate", *options.words(), "--folder", "INBOX", *paths])

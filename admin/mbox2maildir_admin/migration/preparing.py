@@ -19,7 +19,7 @@ from ..ledger.ledger import Ledger, has_failed
 from ..ledger.match import Match, Placing
 from ..ledger.prepared import Prepared
 from ..ledger.prepared_lines import Origin, in_milliseconds, milliseconds_since
-from ..ledger.record import Verified, unspelled
+from ..ledger.record import unspelled
 from ..looks import is_there
 from ..maildir.mounts import want_syncs
 from ..nexts import Does, Next, Remark
@@ -31,7 +31,7 @@ from ..terminal import named
 from ..units import Place, counted
 from .answers import note_answer
 from .converting import CHANGED_MEANWHILE, PREPARED_SYNC_FAILED, SYNC_FAILED, Conversion, finish
-from .outcomes import Fate, Row
+from .outcomes import Fate, Outcome, Row
 from .replica import Plain, empty, forget, reader_in, signs_of, take_prepared, tree_above
 from .steps import Bringing, Contents, Opened, Options
 from .transfer import PARTLY_THERE, Transfer
@@ -48,6 +48,8 @@ STAYS = "%d prepared before stay, whatever the mailbox has now"
 
 class LastPass(Transfer):
     """A mailbox on its way into a folder that is prepared."""
+
+    IS_PREPARED = True
 
     def __init__(
         self, conversion: Conversion, how: Options, opened: Opened, ledger: Ledger, prepared: Prepared
@@ -70,7 +72,7 @@ class LastPass(Transfer):
         with contextlib.nullcontext(self.same.contents) if self.same else super().read(choice) as contents:
             yield contents
 
-    def bring_any(self, choice: Choice) -> Row:
+    def bring_any(self, choice: Choice) -> Outcome:
         """Brings what is new, and ends what is only prepared. With --again, what is there stays."""
         if not self.again:
             self.want_usable()
@@ -180,14 +182,14 @@ class LastPass(Transfer):
         tree = tree_above(mailbox.path, self.how.names)
         return Origin(mailbox.key(), state, len(contents.inventory), contents.words, tree, self.path)
 
-    def begin(self, contents: Contents, placing: Placing, back: int) -> Verified:
+    def begin(self, contents: Contents, placing: Placing, back: int = 0) -> int:
         """Notes in the list, too, what is going to be brought."""
         if not self.again:
             self.record.make()
             self.prepared.make_folder()
             lines = [] if self.prepared.origin else [self.origin(contents).line()]
             self.prepared.append(*lines, *self.prepared.names(), b">\t%d\n" % (self.ledger.last + 1))
-        return super().begin(contents, placing, back)._replace(is_prepared=True)
+        return super().begin(contents, placing, back)
 
 
 class FirstPass(LastPass):
@@ -206,14 +208,14 @@ class FirstPass(LastPass):
         """How many milliseconds were spent on it so far."""
         return in_milliseconds(self.opened.mailbox.took) + milliseconds_since(self.began)
 
-    def run(self) -> Row:
+    def run(self) -> Outcome:
         """Prepares it, unless it is done."""
         line = self.known.done()
         if line:
-            return self.row_before(line.plan, line.messages, [])
+            return Outcome(self.row_before(line.plan, line.messages, []))
         if self.is_made_anew():
             with self.choice() as choice:
-                return self.row_prepared(choice.plan)
+                return Outcome(self.row_prepared(choice.plan))
         self.want_free()
         return self.choose()
 
@@ -250,51 +252,51 @@ class FirstPass(LastPass):
         if unknown:
             raise Left(PARTLY_THERE % len(unknown), Reason.PARTLY_THERE)
 
-    def bring_any(self, choice: Choice) -> Row:
+    def bring_any(self, choice: Choice) -> Outcome:
         """Makes the folder what the mailbox is now."""
         self.want_usable()
         if choice.plan.is_empty:
             if not self.how.dry:
                 self.clear()
-            return self.row_prepared(choice.plan)
+            return Outcome(self.row_prepared(choice.plan))
         self.remarks += want_syncs(self.opened.folder, self.how.any_disk)
         with self.read(choice) as contents:
             match = self.matched(contents)
             self.want_sure(contents, match)
             return self.take_steps(choice, contents, match)
 
-    def take_steps(self, choice: Choice, contents: Contents, match: Match) -> Row:
+    def take_steps(self, choice: Choice, contents: Contents, match: Match) -> Outcome:
         """Places what is nowhere, and verifies all."""
         reading, placing, prepared = self.passed(), self.placing(match), self.prepared
         if self.how.dry:
-            return self.row_prepared(choice.plan)
+            return Outcome(self.row_prepared(choice.plan))
         note_answer(self.record, self.opened, choice.plan)
         origin = self.origin(contents)
         is_same = prepared.is_whole and len(match.need) == 0 and prepared.count() == len(prepared.table)
         if is_same and prepared.origin and prepared.origin.key == origin.key:
             self.is_changed = False
             note_state(prepared, origin)
-            return self.row_prepared(choice.plan)
+            return Outcome(self.row_prepared(choice.plan))
         self.want_room_for(contents, placing)
-        one, verified = self.bringing(contents, match, placing), self.begin_pass(contents, origin)
-        self.conversion.convert(self.opened, contents, placing, verified)
+        one = self.bringing(contents, match, placing)
+        self.begin_pass(contents, origin)
+        self.conversion.convert(self.opened, contents, placing, 0, self.IS_PREPARED)
         self.remarks += finish(one, Plain(prepared))
         text = text_of(choice, contents)
         prepared.noted.reading = in_milliseconds(self.opened.mailbox.took) if text else reading
         prepared.write_whole(origin, text)
-        self.verified = verified
-        return self.row_prepared(choice.plan)
+        return self.verified(self.row_prepared(choice.plan), contents)
 
-    def begin_pass(self, contents: Contents, origin: Origin) -> Verified:
-        """Notes in the list what is going to be placed."""
+    def begin_pass(self, contents: Contents, origin: Origin) -> None:
+        """Notes in the list what is going to be placed, and from which mailbox."""
         self.record.make()
         self.prepared.make_folder()
         self.opened.make_folder()
         self.prepared.append(origin.line(), *self.prepared.names())
-        words = self.known.key, len(contents.inventory), unspelled(self.path), contents.words
-        if not self.record.prepared(self.opened.name):
-            self.record.add(Note.PREPARED, *words)
-        return Verified(*words, self.opened.folder, self.opened.mailbox.state, is_prepared=True)
+        before = self.record.prepared(self.opened.name)
+        if not before or (before.key, before.path) != (self.known.key, self.path):
+            words = len(contents.inventory), unspelled(self.path), contents.words
+            self.record.add(Note.PREPARED, self.known.key, *words)
 
     def row_prepared(self, plan: Plan) -> Row:
         """The row of a mailbox that is prepared, or would be."""

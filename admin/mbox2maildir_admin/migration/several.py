@@ -24,8 +24,9 @@ from ..progress import Beat
 from ..terminal import named, operand, text_of, word
 from .dovecot import OLD_SUBSCRIPTIONS, SUBSCRIPTIONS, Dovecot, subscribe
 from .leftovers import Leftovers
+from .converting import settled
 from .mailbox import Migration
-from .outcomes import Ended, Fate, Observer, Row, row_left, seen, with_name
+from .outcomes import Fate, Observer, Outcome, Row, row_left, seen, with_name
 from .places import Pairs, Planned, UserHome, as_named, has_record, into_inbox, recorded
 from .servers import Place, locations, want_unread
 from .steps import Extra, Options
@@ -177,20 +178,20 @@ class Several:
                 work.begin()
                 work.end(place, self.run_named(plan[place]))
 
-    def report(self, ended: Ended, take: Optional[Callable[[Optional[Row]], object]] = None) -> None:
+    def report(self, one: Outcome, take: Optional[Callable[[Optional[Row]], object]] = None) -> None:
         """Reports what became of a name: of subscriptions once they are written, and of a mailbox that was verified,
         and all after it, once that is on the disk. `take` takes the row, and none of subscriptions."""
-        if ended.row.fate == Fate.NO_MAIL:
-            self.found[ended.row.path] = ended.row
-        if ended.row.path not in self.subscriptions or ended.row.fate != Fate.NO_MAIL:
-            self.syncs.add(ended.maildirs, (ended, take or self.observer.row))
+        if one.row.fate == Fate.NO_MAIL:
+            self.found[one.row.path] = one.row
+        if one.row.path not in self.subscriptions or one.row.fate != Fate.NO_MAIL:
+            self.syncs.add(one.folder, (one, take or self.observer.row))
         elif take:
             take(None)
 
-    def settle(self, several: Sequence[tuple[tuple[Ended, Tell], Optional[OSError]]]) -> None:
+    @staticmethod
+    def settle(several: Sequence[tuple[tuple[Outcome, Tell], Optional[OSError]]]) -> None:
         """Notes what became of mailboxes whose disks were synced, and tells their rows."""
-        rows = self.migration.conversion.settled([(ended, fault) for (ended, _), fault in several])
-        for row, ((_, tell), _) in zip(rows, several):
+        for row, ((_, tell), _) in zip(settled([(one, fault) for (one, _), fault in several]), several):
             tell(row)
 
     def progress(self, who: str, doing: str, place: Optional[int] = None, size: Optional[int] = None) -> None:
@@ -241,7 +242,7 @@ class Several:
         plan = tree.placed(self.migration.record, self.migration.root, self.taken, self.is_no_mail)
         maildirs = [maildir.row(self.migration.root, self.taken) for maildir in tree.maildirs]
         for row in [*tree.rows, *maildirs]:
-            self.report(Ended(row))
+            self.report(Outcome(row))
         return plan
 
     def is_no_mail(self, one: Planned) -> bool:
@@ -249,33 +250,34 @@ class Several:
         looked_at = functools.partial(self.migration.run, one.path, one.folder, why=Left("it is only looked at"))
         return is_empty(one.path) or looked_at().row.fate == Fate.NO_MAIL
 
-    def run_named(self, one: Planned) -> Ended:
+    def run_named(self, one: Planned) -> Outcome:
         """Migrates a mailbox. Its row says which other name its folder had, and which other names the file has."""
         ended, others = self.run_one(one), self.others.get(one.path)
         row = with_name(ended.row, one.before)
         if one.is_inbox and row.folder != INBOX and row.fate in (Fate.DONE, Fate.WOULD):
             row = row._replace(next=(*row.next, *into_inbox(one, ended, self.migration.how, self.pairs.root)))
         row = row._replace(remarks=(*row.remarks, also_named(others))) if others and row.is_said() else row
-        return Ended(row, ended.verified)
+        return ended._replace(row=row)
 
-    def run_one(self, one: Planned) -> Ended:
+    def run_one(self, one: Planned) -> Outcome:
         """Migrates a mailbox."""
         if self.own and one.folder not in (INBOX, b""):
             try:
                 want_own(one.folder_in(self.migration.root))
             except Fault as fault:
-                return Ended(row_left(one.path, one.folder, fault))
+                return Outcome(row_left(one.path, one.folder, fault))
         if one.reason is Reason.NO_FOLDER and is_empty(one.path):
-            return Ended(Row(one.path, b"", "", None, Fate.NO_MAIL))
+            return Outcome(Row(one.path, b"", "", None, Fate.NO_MAIL))
         if one.target and one.why:
-            return Ended(row_left(one.path, b"", one.why))
+            return Outcome(row_left(one.path, b"", one.why))
         say = Beat(functools.partial(self.progress, named(one.path)))
         follow = one.path in self.links
-        row, verified = self.migration.run(one.target or one.path, one.folder, say, follow, one.why)
+        ended = self.migration.run(one.target or one.path, one.folder, say, follow, one.why)
+        row = ended.row._replace(path=one.path)
         if one.why and one.reason is Reason.COPY and row.fate == Fate.LEFT:
             # whatever its text is, this reason comes first
             row = row._replace(why=str(one.why), reason=one.reason, quotes=(), next=one.why.next)
-        return Ended(row._replace(path=one.path), verified)
+        return ended._replace(row=row)
 
     def subscribe(self) -> None:
         """Writes the subscriptions of trees. Those that can't be written are left."""

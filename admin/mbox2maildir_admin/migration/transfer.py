@@ -12,7 +12,7 @@ from ..ledger.gone import BACK, back_in, gone_before, gone_from, unexplained
 from ..ledger.ledger import Ledger, count_in, has_failed
 from ..ledger.lines import Head
 from ..ledger.match import Match, Placing
-from ..ledger.record import Verified, unspelled
+from ..ledger.record import unspelled
 from ..looks import is_folder
 from ..maildir.mounts import want_syncs
 from ..maildir.space import Need, want_room
@@ -27,7 +27,7 @@ from .converting import SYNC_FAILED, Conversion, finish
 from .cut import names_of_no_line, names_that_may_be_cut, want_none_cut
 from .known import Known
 from .otherwise import as_before, contradicted, want_same_reading
-from .outcomes import Fate, Row, row_left
+from .outcomes import Fate, Outcome, Row, row_left
 from .remarks import remarks_on, remarks_on_dropped, remarks_on_joined, remarks_on_lost
 from .shown import AS_BROUGHT, answer_shown
 from .steps import Bringing, Contents, Opened, Options
@@ -47,6 +47,9 @@ OLDER = "the ledger of its folder is older than its record, and lacks %s of it: 
 class Transfer:
     """One mailbox, which is open, on its way into a folder."""
 
+    # whether the folder has a list of what was prepared there
+    IS_PREPARED = False
+
     def __init__(self, conversion: Conversion, how: Options, opened: Opened, ledger: Ledger) -> None:
         self.conversion, self.how, self.opened, self.ledger = conversion, how, opened, ledger
         self.program, self.root, self.record = conversion.program, conversion.root, conversion.record
@@ -54,8 +57,7 @@ class Transfer:
         # raises Left if the disk has no space for a mailbox; others at work may count on the same space
         self.want_room: Callable[[Need], None] = want_room
         self.known = Known(self.record, ledger, opened)
-        # what was verified of it, which is to be noted once its disk is synced; and what is to be said of it
-        self.verified: Optional[Verified] = None
+        # what is to be said of it
         self.remarks: list[Remark] = [*opened.mailbox.remarks]
 
     @property
@@ -68,24 +70,24 @@ class Transfer:
         """Its path as the ledger spells it."""
         return self.known.path
 
-    def run(self) -> Row:
+    def run(self) -> Outcome:
         """Does what is left to do, and returns what became of the mailbox."""
         line = None if self.again else self.known.done()
         if line:
             more, then = contradicted(self.how, self.root, self.opened, line)
-            return self.row_before(line.plan, line.messages, more)._replace(next=then)
+            return Outcome(self.row_before(line.plan, line.messages, more)._replace(next=then))
         return self.choose()
 
-    def choose(self) -> Row:
+    def choose(self) -> Outcome:
         """Reads it, and brings what is new."""
         try:
             with self.choice() as choice:
                 return self.bring(choice)
         except Question as question:
-            row = self.row_of_question(question)
-            if not row:
+            ended = self.answered(question)
+            if not ended:
                 raise self.how.asked(self.root, self.opened, question) from question
-            return row
+            return ended
 
     def row_before(self, words: Optional[str], messages: Optional[int], more: list[Remark]) -> Row:
         """The row of a mailbox of so many messages that was done before by the words of a plan; what else is said."""
@@ -99,14 +101,14 @@ class Transfer:
         says = (*of_uids, *remarks_on_dropped(words), *of_folder, *more)
         return Row(mailbox.path, name, "", messages, Fate.BEFORE, size=mailbox.size, remarks=says)
 
-    def row_of_question(self, question: Question) -> Optional[Row]:
-        """The row of a mailbox about which there is a question, if it was done before as it was read then, or was
+    def answered(self, question: Question) -> Optional[Outcome]:
+        """What became of a mailbox about which there is a question, if it was done before as it was read then, or was
         answered before, or if what it has brought answers; None if a human must."""
         if not self.again:
             before = as_before(self.opened, self.ledger, self.path, (self.disk, self.how.extra.start_of))
             if before:
                 words, more = before
-                return self.row_before(words, count_in(self.ledger, self.path), more)
+                return Outcome(self.row_before(words, count_in(self.ledger, self.path), more))
         if self.how.decision != UNDECIDED:
             return None
         given = question.by_tie(self.how.answer)
@@ -116,7 +118,8 @@ class Transfer:
             return None
         self.remarks += [] if given else [AS_ANSWERED if answer else AS_BROUGHT]
         self.how = self.how._replace(decision=decision)
-        return self.run()._replace(tie=given.of if given else "")
+        ended = self.run()
+        return ended._replace(row=ended.row._replace(tie=given.of if given else ""))
 
     @contextlib.contextmanager
     def choice(self) -> Iterator[Choice]:
@@ -131,7 +134,7 @@ class Transfer:
             self.remarks += [AS_ANSWERED] * (decision.noted and choice.plan.answer is not None)
             yield choice._replace(plan=choice.plan.bared(is_bare), known=at_once.known)
 
-    def bring(self, choice: Choice) -> Row:
+    def bring(self, choice: Choice) -> Outcome:
         """Brings what is new, once it is chosen which text stands for the mailbox."""
         mailbox, plan, before = self.opened.mailbox, choice.plan, self.remarks[:]
         self.again = self.again or self.how.again_rewritten and self.has_failed()
@@ -144,14 +147,14 @@ class Transfer:
             self.remarks, self.again = before, True
             return self.bring_any(choice)
         except (Fault, OSError) as fault:
-            return row_left(mailbox.path, self.opened.name, fault, plan, mailbox.size)
+            return Outcome(row_left(mailbox.path, self.opened.name, fault, plan, mailbox.size))
 
-    def bring_any(self, choice: Choice) -> Row:
+    def bring_any(self, choice: Choice) -> Outcome:
         """The same, but raises what keeps the mailbox from being done. One without mail only gets its folder."""
         if choice.plan.is_empty:
             self.record.make(self.opened.make_folder)
             self.remarks += note_empty(self.record, self.opened, self.ledger, self.path)
-            return self.row(choice.plan)
+            return Outcome(self.row(choice.plan))
         self.remarks += want_syncs(self.opened.folder, self.how.any_disk)
         self.want_ended()
         with self.read(choice) as contents:
@@ -163,9 +166,11 @@ class Transfer:
             self.want_sure(contents, match)
             if AS_BROUGHT not in self.remarks:
                 note_answer(self.record, self.opened, choice.plan)
-            if match.is_known and self.path in self.ledger.sources:
-                return self.row_known(contents, match)
-            return self.take_steps(choice, contents, match)
+            if not match.is_known or self.path not in self.ledger.sources:
+                return self.take_steps(choice, contents, match)
+            row = self.row_before(contents.words, len(contents.inventory), list(remarks_on_lost(match)))
+            # the ledger notes that it was read
+            return Outcome(row) if self.how.dry else self.verified(row, contents, self.begin(contents, Placing(match)))
 
     def matched(self, contents: Contents) -> Match:
         """The messages of the text, with what is there of them."""
@@ -255,14 +260,12 @@ class Transfer:
         if is_much and match.count_new() >= lost:
             raise Left(EDITED % counted(lost, "message"), Reason.REWRITTEN, self.command(Does.STORES, again=True))
 
-    def row_known(self, contents: Contents, match: Match) -> Row:
-        """The row of a mailbox that has nothing new. The ledger notes that it was read."""
-        remarks = list(remarks_on_lost(match))
-        if not self.how.dry:
-            self.verified = self.begin(contents, Placing(match), 0)
-        return self.row_before(contents.words, len(contents.inventory), remarks)
+    def verified(self, row: Row, contents: Contents, batch: int = 0) -> Outcome:
+        """The outcome of a mailbox all of whose messages are verified, in a batch or, if it is only prepared, none."""
+        path, state = unspelled(self.path), self.opened.mailbox.state
+        return Outcome(row, self.opened.folder, batch, self.IS_PREPARED, contents.words, path, state)
 
-    def take_steps(self, choice: Choice, contents: Contents, match: Match) -> Row:
+    def take_steps(self, choice: Choice, contents: Contents, match: Match) -> Outcome:
         """Places what is nowhere, and does what else is to be done."""
         placing = self.placing(match)
         one = self.bringing(contents, match, placing)
@@ -277,19 +280,19 @@ class Transfer:
             then += (Answer(self.how.undo_command(self.root, there), Does.UNDO_THERE),)
         if self.how.dry:
             self.remarks += self.how.extra.foresee(one)
-            return self.row(choice.plan, then)
+            return Outcome(self.row(choice.plan, then))
         back = self.may_come_back(match)
         may_be_cut = names_that_may_be_cut(self.ledger, self.path, match)
         may_be_cut |= names_of_no_line(self.ledger, self.path, match, self.known.begun_at or 0)
-        verified = self.begin(contents, placing, back)
-        back += max(0, self.conversion.convert(self.opened, contents, placing, verified)) if len(one.places) else 0
+        batch = self.begin(contents, placing, back)
+        if len(one.places):
+            back += max(0, self.conversion.convert(self.opened, contents, placing, batch, self.IS_PREPARED))
         self.remarks += finish(one, self.how.extra)
         want_none_cut(may_be_cut, one, match)
         if back:
             says = BACK % counted(min(back, len(contents.inventory)), "message")
             self.remarks.append(Remark("came-back", says))
-        self.verified = verified
-        return self.row(choice.plan, then)
+        return self.verified(self.row(choice.plan, then), contents, batch)
 
     def want_room_for(self, contents: Contents, placing: Placing) -> None:
         """Raises Left if there is no space for what is to be placed, and for the lines of the ledger."""
@@ -298,14 +301,12 @@ class Transfer:
         if len(need):
             self.want_room(Need.of(self.opened.folder, wanted))
 
-    def begin(self, contents: Contents, placing: Placing, back: int) -> Verified:
-        """Notes in the ledger what is going to be brought."""
+    def begin(self, contents: Contents, placing: Placing, back: int = 0) -> int:
+        """Notes in the ledger what is going to be brought. Returns the number of the batch."""
         self.record.make(self.opened.make_folder, self.ledger.make)
         opened, mailbox, match = self.opened, self.opened.mailbox, placing.match
         its = times_of(opened.folder), mailbox.key(), contents.words, self.path, mailbox.state.st_ino, int(time.time())
-        number = self.ledger.begin(Head(placing.count_of_lines(), len(match.need), back, *its), placing.lines())
-        words = self.known.key, len(contents.inventory), unspelled(self.path), contents.words
-        return Verified(*words, opened.folder, mailbox.state, number)
+        return self.ledger.begin(Head(placing.count_of_lines(), len(match.need), back, *its), placing.lines())
 
     def bringing(self, contents: Contents, match: Match, placing: Placing) -> Bringing:
         """What this run brings of the mailbox."""

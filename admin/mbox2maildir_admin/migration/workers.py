@@ -9,12 +9,12 @@ from ..faults import Left, PlaceFault, Reason
 from ..jobs.count import Places
 from ..jobs.crew import Child, Crew, Parent
 from ..ledger.history import BY_WORD, Entry, Key
-from ..ledger.record import Record, Verified
+from ..ledger.record import Record
 from ..maildir.space import Need, want_room
 from ..progress import amount
 from ..signals import INTERRUPTS
 from ..terminal import complain
-from .outcomes import Ended, Observer, row_left
+from .outcomes import Observer, Outcome, row_left
 from .places import Planned
 from .telling import bytes_of, row_of
 
@@ -46,13 +46,11 @@ class Work:
         self.parent.ask("needs", *need)
         want_room(need)
 
-    def end(self, place: int, ended: Ended) -> None:
+    def end(self, place: int, ended: Outcome) -> None:
         """Tells what became of the mailbox at a place in the plan."""
         self.parent.next_time = 0.0
-        row, verified = ended
         # JSON would keep no fractions of the times of a state
-        told = verified and [*verified[:5], verified.state.__reduce__()[1], *verified[6:]]
-        self.parent.tell("became", place, row, told)
+        self.parent.tell("became", place, *ended[:-1], ended.state and ended.state.__reduce__()[1])
 
 
 class Orders(NamedTuple):
@@ -87,7 +85,7 @@ class Workers(Crew):
         # the mailboxes that nobody has begun with
         self.groups = collections.deque(groups)
         # what became of mailboxes, by their places in the plan, until it is taken
-        self.ended: dict[int, Ended] = {}
+        self.ended: dict[int, Outcome] = {}
 
     def __exit__(self, kind: Optional[type[BaseException]], *rest: object) -> None:
         with INTERRUPTS.held():
@@ -134,10 +132,12 @@ class Workers(Crew):
         child.who, child.at = who, " ".join([doing, *([amount(*numbers)] if len(numbers) == 2 else [])])
         self.orders.observer.progress(who, doing, *numbers)
 
-    def take_row(self, child: Worker, place: int, row: Sequence[Any], told: Optional[Sequence[Any]]) -> None:
+    def take_row(self, child: Worker, place: int, row: Sequence[Any], *told: Any) -> None:
         """Takes what became of a mailbox."""
         child.places.remove(place)
-        self.ended[place] = Ended(row_of(row), verified_of(*told) if told else None)
+        folder, batch, is_prepared, words, path, state = told
+        its = words, bytes_of(path), state and os.stat_result(*state)
+        self.ended[place] = Outcome(row_of(row), bytes_of(folder), batch, is_prepared, *its)
         self.rest(child)
 
     def serve(self) -> None:
@@ -172,12 +172,4 @@ class Workers(Crew):
         left = Left(why, Reason.DEFECT) if child.fault else Left(why + ": run this again", Reason.PROCESS)
         for place in child.places:
             one = self.orders.plan[place]
-            self.ended[place] = Ended(row_left(one.path, one.folder, left))
-
-
-def verified_of(
-    key: Sequence[Any], messages: int, path: str, plan: str, folder: str, state: Sequence[Any], *others: Any
-) -> Verified:
-    """Reads what a worker told of a mailbox that it has verified."""
-    text = Key(bytes_of(key[0]), *key[1:])
-    return Verified(text, messages, bytes_of(path), plan, bytes_of(folder), os.stat_result(*state), *others)
+            self.ended[place] = Outcome(row_left(one.path, one.folder, left))

@@ -18,7 +18,7 @@ from ..maildir.space import Need
 from ..mbox.inventory import Inventory
 from ..migration.converting import Conversion
 from ..migration.known import Elsewhere, Known
-from ..migration.outcomes import Row
+from ..migration.outcomes import Outcome, Row
 from ..migration.remarks import GONE, NO_LONGER
 from ..migration.steps import Bringing, Contents, Extra, Opened, Options
 from ..migration.transfer import Transfer
@@ -129,10 +129,11 @@ class FolderTransfer(Transfer):
         finally:
             match.lost = lost
 
-    def run(self) -> Row:
+    def run(self) -> Outcome:
         """Does what is left to do, and returns what became of the folder."""
-        row = super().run()
-        return row._replace(remarks=tuple(self.remarks_of(row))) if self.unlabelled else row
+        ended = super().run()
+        remarks = tuple(self.remarks_of(ended.row)) if self.unlabelled else ended.row.remarks
+        return ended._replace(row=ended.row._replace(remarks=remarks))
 
     def remarks_of(self, row: Row) -> Iterator[Remark]:
         """What is to be said of the folder. What has lost its label is not gone."""

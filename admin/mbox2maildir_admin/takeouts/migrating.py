@@ -22,8 +22,9 @@ from ..maildir.space import Need
 from ..maildir.syncing import Syncs
 from ..mbox.locks import open_mailbox
 from ..migration.answers import answer_to
+from ..migration.converting import settled
 from ..migration.mailbox import Migration
-from ..migration.outcomes import Ended, Fate, Observer, Row, row_left, seen
+from ..migration.outcomes import Fate, Observer, Outcome, Row, row_left, seen
 from ..migration.replica import is_prepared
 from ..migration.several import refuse
 from ..migration.steps import Opened, Options
@@ -107,7 +108,7 @@ class Takeout:
                 for folder in folders:
                     self.observer.begin(folder != folders[0])
                     ended = self.bring(source, Opened.into(self.root, folder, opened.mailbox))
-                    self.syncs.add(ended.maildirs, ended)
+                    self.syncs.add(ended.folder, ended)
         except LabelsLeft as left:
             command = functools.partial(self.how.command, self.root, opened)
             left.next = tuple(Answer(command(labels=choosing), does) for choosing, does in left.says)
@@ -199,14 +200,14 @@ class Takeout:
         most = max(sum(source.sizes(folder)) for folder in source.sorted.places)
         self.migration.want_room(Need.of(self.root, sizes, 0 if self.how.dry else most))
 
-    def bring(self, source: Source, opened: Opened) -> Ended:
+    def bring(self, source: Source, opened: Opened) -> Outcome:
         """Brings the messages of one folder."""
         try:
             return self.migration.migrate(opened, functools.partial(FolderTransfer, source))
         except (Fault, OSError) as fault:
-            return Ended(row_left(opened.mailbox.path, opened.name, fault))
+            return Outcome(row_left(opened.mailbox.path, opened.name, fault))
 
-    def settle(self, several: Sequence[tuple[Ended, Optional[OSError]]]) -> None:
+    def settle(self, several: Sequence[tuple[Outcome, Optional[OSError]]]) -> None:
         """Notes what became of folders whose disks were synced, and tells their rows."""
-        for row in self.migration.conversion.settled(several):
+        for row in settled(several):
             self.observer.row(row)
