@@ -56,6 +56,9 @@ class Shared(History):
         self.holds: dict[Box, list[int]] = {}
         self.begun: set[Box] = set()
         self.brought: set[Box] = set()
+        # whether names were changed after a killed run that left no file in `tmp`: then no later one knows how far that
+        # came
+        self.is_blurred = False
 
     def begin(self) -> None:
         super().begin()
@@ -83,7 +86,7 @@ class Shared(History):
         if ran.status or any(row["verdict"] not in ENDED for row in rows.values()):
             self.wrong.append(f"it is not done: {ran.output[-600:]}")
         # among several mailboxes a run may not know which of them brought a file that a killed one placed
-        if len(self.boxes) == 1 and not self.way.deleted and "came back" in ran.output:
+        if len(self.boxes) == 1 and not (self.way.deleted or self.is_blurred) and "came back" in ran.output:
             self.wrong.append("nobody has deleted what came back")
 
     def bring(self, boxes: Sequence[Box], kill: Kill = NEVER) -> None:
@@ -136,6 +139,7 @@ class Shared(History):
 
     def read(self) -> None:
         """Readers read mail, and perhaps delete some, while other programs may give files names of their own."""
+        before = len(self.steps)
         for _, path in [*self.oracle.files()]:
             deed, cur = self.draw.random(), path.parent.parent / "cur"
             if deed < self.way.renamed:
@@ -144,6 +148,8 @@ class Shared(History):
                 self.stage.rename(path, cur / (path.name + ":2,S"))
             elif deed > 1 - self.way.deleted:
                 self.stage.remove(path)
+        is_changed, tmp = len(self.steps) > before, self.maildir / f".{self.folder}/tmp"
+        self.is_blurred |= bool(self.begun) and is_changed and not any(tmp.glob("*"))
         self.oracle.look()
 
     def live(self) -> None:
