@@ -148,7 +148,7 @@ COUNTED = {
     "fields-left-out": "Header fields that a mail program or Dovecot writes for itself were left out.",
     "flags": "Flags were taken from header fields of a mail program.",
     "joined": "The folder has another mailbox's mail too. To part them, undo this one, and migrate it with --folder.",
-    "joins": "INBOX has the mail of another mailbox too. --folder would give it a folder of its own.",
+    "joins": "INBOX has the mail of another mailbox too. Without --labels, --folder gives it a folder of its own.",
     "keeps-quote": "A `>` before `From ` was taken for the mail's own, and stays. If Postfix, Exim or procmail "
     "delivered mail, and a mail program copied it since, --as mboxcl removes the `>` that the delivery had added. But "
     "a line `From ` without `>` in the same message shows that its sender wrote the `>`.",
