@@ -1,12 +1,12 @@
 """Lines within which a message may begin."""
 from collections.abc import Iterator
-from typing import NamedTuple
 
 from ..mbox.dates import is_dated
 from ..mbox.files import LONG
 from ..mbox.mailbox import Mailbox
 from ..mbox.pieces import FROM, Piece, header_of
 from ..patterns import pattern
+from ..tuples import NamedTuple
 from ..units import Offset
 from .starts import FIELD, HEAD
 

@@ -3,10 +3,11 @@ The file itself goes into a new folder, outside of what is migrated."""
 import os
 import re
 from collections.abc import Callable
-from typing import NamedTuple, Union
+from typing import Union
 
 from ..nexts import Answer, Command, Does, Next, Task, Todo, User, line_of, task
 from ..terminal import text_of, word
+from ..tuples import NamedTuple
 
 # the file that a command makes, in its new folder
 COPY = '"$d/copy"'

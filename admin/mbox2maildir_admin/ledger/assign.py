@@ -11,8 +11,9 @@ import bisect
 import collections
 from collections.abc import Container, Iterable, Iterator, Mapping
 from enum import IntEnum
-from typing import NamedTuple, Optional
+from typing import Optional
 
+from ..tuples import NamedTuple
 from .batches import Line, State
 from .lines import FOREIGN, NAMELESS, SHARED, Brought
 

@@ -2,7 +2,7 @@
 import itertools
 import os
 from collections.abc import Container, Iterable
-from typing import NamedTuple, Optional
+from typing import Optional
 
 from ..ledger.history import Entry, Key, Note, Step, names_of
 from ..ledger.ledger import Ledger, count_in
@@ -13,6 +13,7 @@ from ..maildir.folders import INBOX, folder_named, folder_path
 from ..mbox.inventory import Inventory
 from ..nexts import Remark
 from ..terminal import named
+from ..tuples import NamedTuple
 from ..units import counted
 from .steps import Opened
 

@@ -1,7 +1,7 @@
 """Mailboxes that were read otherwise when they were begun or done: by another decision, or since programs have written
 into them. Mail must not be placed beside that of the other reading."""
 import collections
-from typing import NamedTuple, Optional, Union
+from typing import Optional, Union
 
 from ..faults import Fault, Left, Reason
 from ..ledger.batches import Batch, Source
@@ -17,6 +17,7 @@ from ..nexts import NOTHING, Answer, Does, Next, Remark
 from ..readings.reading import MBOXO, UNDECIDED, UNQUOTED, Reading, with_deleted
 from ..readings.texts import Choice, StartOf, choice_of, content_of, disk_of, text_then
 from ..readings.verdict import look_at
+from ..tuples import NamedTuple
 from ..units import counted
 from .dovecot import names_in
 from .known import Known

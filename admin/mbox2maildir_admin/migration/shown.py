@@ -3,7 +3,7 @@ brought, so that the answer says nothing of new mail."""
 import bisect
 import collections
 from collections.abc import Iterable
-from typing import NamedTuple, Optional
+from typing import Optional
 
 from ..faults import Left
 from ..ledger.match import cores_of
@@ -13,6 +13,7 @@ from ..nexts import Remark
 from ..readings.plans import Question, plan_of
 from ..readings.reading import Reading
 from ..readings.texts import Choice, content_of, disk_of
+from ..tuples import NamedTuple
 from ..units import Line
 from .known import Known
 from .otherwise import Before, want_same_reading

@@ -1,6 +1,6 @@
 """What a process tells its parent of a row. If it is that of a user, root trusts none of it, and prints it escaped."""
 from collections.abc import Callable, Mapping, Sequence
-from typing import Any, NamedTuple, Optional, TypeVar, Union
+from typing import Any, Optional, TypeVar, Union
 
 from ..faults import Reason
 from ..jobs.crew import spelled
@@ -9,6 +9,7 @@ from ..meanings import REMARKS
 from ..nexts import WITH_FILES, Answer, Command, Does, Next, Quote, Remark, Task, Todo, task
 from ..progress import Spent
 from ..terminal import shown
+from ..tuples import NamedTuple
 from .outcomes import Detail, Fate, Row
 
 # how long a line of a child may be, in bytes

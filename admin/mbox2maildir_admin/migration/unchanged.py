@@ -6,7 +6,7 @@ stands for its text, whose messages are not read again.
 import array
 import os
 import time
-from typing import NamedTuple, Optional
+from typing import Optional
 
 from ..ledger.history import names_of
 from ..ledger.prepared import AsRead, Prepared, Text
@@ -21,6 +21,7 @@ from ..readings import texts
 from ..readings.plans import Plan
 from ..readings.reading import UNDECIDED, Reading
 from ..readings.texts import Choice, Full
+from ..tuples import NamedTuple
 from ..units import Offset, Say
 from .outcomes import Fate, Row
 from .remarks import remarks_on_dropped

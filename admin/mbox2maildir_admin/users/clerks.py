@@ -1,5 +1,7 @@
 """What root does for a child that asks for it."""
-from typing import Any, NamedTuple
+from typing import Any
+
+from ..tuples import NamedTuple
 
 
 class Refusal(NamedTuple):
