@@ -52,9 +52,9 @@ class File:
         return self.lines[-1].message.bare
 
     @property
-    def is_held(self) -> bool:
-        """Whether a mailbox has its message still."""
-        return any(line.state is State.HELD for line in self.lines)
+    def holders(self) -> int:
+        """How many mailboxes have its message still."""
+        return sum(line.state is State.HELD for line in self.lines)
 
     def is_held_by(self, path: str) -> bool:
         """Whether this mailbox has it still."""
@@ -143,7 +143,13 @@ def offers_of(files: Iterable[File], path: str) -> list[Offer]:
     several = [one for file in files for line in reversed(file.lines) for one in offers_by(file, line, path)]
     return sorted(
         several,
-        key=lambda one: (one.why, one.file.is_renamed, one.line.path != path, one.line.state is State.FORMER),
+        key=lambda one: (
+            one.why,
+            one.file.is_renamed,
+            one.line.path != path,
+            one.line.state is State.FORMER,
+            -one.file.holders,
+        ),
     )
 
 

@@ -86,6 +86,11 @@ class OffersTest(unittest.TestCase):
         # another form of other mailboxes serves nobody
         self.assertEqual({one.line.path for one in offers_of(files, BOX) if one.in_any_form}, {BOX})
 
+    def test_what_more_mailboxes_have(self) -> None:
+        """It comes first: an undo of one of them then leaves no file more than another one needs."""
+        files = files_of([line(A, 1, OTHER), line(B, 2, OTHER), line(B, 3, THIRD)], [A, B])
+        self.assertEqual([one.file.name for one in offers_of(files, BOX)], [B, B, A])
+
 
 if __name__ == "__main__":
     unittest.main()
