@@ -195,7 +195,10 @@ class Oracle:
         self.all.look(ids)
 
     def take(self, name: str, mail: bytes) -> None:
-        """People take away a file while a run is at work, which may place more meanwhile."""
+        """People take away a file while a run is at work, which may place more meanwhile. Dovecot's own message counts
+        nowhere."""
+        if INTERNAL in mail:
+            return
         for shelf, what in ((self.shelves[name], content(mail)), (self.all, id_of(mail))):
             shelf.take(what)
 

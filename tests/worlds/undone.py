@@ -73,14 +73,18 @@ class Undone(Rewritten):
     def hinder(self) -> None:
         """Changes it or another mailbox, which must not matter."""
         box = self.draw.choice([self.box, *(box for box in self.boxes[1:] if self.is_recorded(box))])
+        had, taken = self.best(box).contents, self.oracle.shelves["INBOX"].taken
+        # nothing tells a missing mailbox from one that has all of it, which was given its name and grew: so nothing then
+        # shows which of the two brought what is gone
+        is_part = not had - self.best(self.box).contents
         ways = ["nothing", "grew", "was looked at"] if box == self.box else ["nothing", "is missing", "was replaced"]
         self.hindrance = self.draw.choice(ways)
+        if self.hindrance == "is missing" and is_part and had & taken:
+            self.hindrance = "nothing"
         if self.hindrance == "is missing":
-            had, there = self.best(box).contents, self.best(self.box).contents
             self.stage.remove(self.home / box.path)
             self.boxes.remove(box)
-            # nothing tells it from a missing mailbox of which it has all, which was given its name and grew
-            self.missing = [box] if not had - there else []
+            self.missing = [box] if is_part else []
         elif self.hindrance == "was looked at":
             self.rewrite(box, by_dovecot)
         elif self.hindrance != "nothing":
