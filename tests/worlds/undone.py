@@ -74,8 +74,8 @@ class Undone(Rewritten):
         """Changes it or another mailbox, which must not matter."""
         box = self.draw.choice([self.box, *(box for box in self.boxes[1:] if self.is_recorded(box))])
         had, taken = self.best(box).contents, self.oracle.shelves["INBOX"].taken
-        # nothing tells a missing mailbox from one that has all of it, which was given its name and grew: so nothing then
-        # shows which of the two brought what is gone
+        # nothing tells a missing mailbox from one that has all of it, which was given its name and grew: so nothing
+        # shows then which of the two brought what is gone
         is_part = not had - self.best(self.box).contents
         ways = ["nothing", "grew", "was looked at"] if box == self.box else ["nothing", "is missing", "was replaced"]
         self.hindrance = self.draw.choice(ways)
