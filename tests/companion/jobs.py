@@ -2,6 +2,7 @@
 ends the runs. Random ones, which are killed among users, are worlds of tests/companion/worlds.py."""
 import os
 import re
+import select
 import signal
 import subprocess
 import sys
@@ -12,7 +13,7 @@ from contextlib import contextmanager
 from pathlib import Path
 
 from tests.support.checks import PATIENCE, equal
-from tests.support.homes import ADMIN, check_all, expect, mail_in, mailbox, run, script, want_users
+from tests.support.homes import ADMIN, check_all, expect, fake, mail_in, mailbox, run, script, want_users
 from tests.support.ledgers import LEDGER, RECORD, wait_for_lock, without_chance
 from tests.support.mail import ONE, TWO, bodies_of, digest_of
 from tests.support.mounts import small_disk
@@ -201,6 +202,21 @@ def ended_out_of_turn(home: Path) -> None:
     assert any(re.fullmatch(waits, line) for line in err.decode().splitlines()), err
 
 
+def told_at_once(home: Path) -> None:
+    """Of the first mailbox it is told at once that it is left, while another one is at work."""
+    for name, text in (("f0", b"what is it?\n" * 9), ("f1", ONE)):
+        mailbox(home / "old" / name, text)
+    waits = f"case $PWD in *.f1) until test -e '{home}/told'; do sleep 0.1; done;; esac"
+    fake(home, f'{waits}\nexec "$real" "$@"')
+    with migrating(home, "M", "old") as child:
+        assert child.stdout and wait_for(lambda: bool(select.select([child.stdout], [], [], 0)[0]), child)
+        told = os.read(child.stdout.fileno(), 1 << 16).decode()
+        (home / "told").touch()
+        out, _ = child.communicate(timeout=PATIENCE)
+    equal("what is told at first", told.partition(" (")[0], "old/f0 -> f0: not known: left")
+    equal("what is told then", out.decode().splitlines()[0], "old/f1 -> f1: mboxrd or mboxo, messages 1: done")
+
+
 def full_record(home: Path) -> None:
     """A record that is full takes no line: nothing is placed, since it lacks what the ledgers have. Once it is moved
     away, what they say counts."""
@@ -306,6 +322,7 @@ if __name__ == "__main__":
         without_their_parent,
         ended_at_once,
         ended_out_of_turn,
+        told_at_once,
         full_record,
         little_memory,
         one_at_work,

@@ -557,6 +557,9 @@ def whose(home: Path) -> None:
         ])  # fmt: skip
         with no_settings():
             equal("without settings", run([*words, "m61one"], home).status, 0)
+        long = "m61" + "x" * 256
+        with accounts.users({long: home / "homes/m61two"}):
+            equal("a name that no file has", rows("", long)[long].line, f"{long}: left (error): File name too long")
         os.symlink("/etc", home / "homes/m61one/link")
         link = f"left (link): {home}/homes/m61one/link is a symbolic link, which is not followed"
         out = run([*words[:3], "--tree", "link/mail", "spool", "m61one"], home).out
