@@ -1,30 +1,20 @@
-"""mbox2maildir-admin migrate --undo and --again, run as commands: what they say and leave; a mailbox that another
-program had converted in part; and undos that are killed at any moment, with other mailboxes beside that share messages,
-are missing or have changed. The environment's UNDO_KILLS says how many mailboxes are undone in this way."""
-import collections
+"""mbox2maildir-admin migrate --undo and --again, run as commands: what they say and leave, and a mailbox that another
+program had converted in part. Undos that are killed are in every_call.py, and random worlds."""
 import fcntl
 import os
-import random
 import shutil
 import subprocess
-import typing
-from collections import Counter
-from collections.abc import Callable, Mapping, Sequence
+from collections.abc import Callable, Sequence
 from pathlib import Path
 
 from tests.support.cases import LeftOut
 from tests.support.checks import LATER, PATIENCE, equal, match_in
 from tests.support.copies import Copies, Meanwhile
 from tests.support.homes import check_all, expect, hand_over, is_root, mail_in, mailbox, run, subjects
-from tests.support.kills import Killer, Moment, settings_in
 from tests.support.ledgers import LEDGER, RECORD, wait_for_lock
-from tests.support.mail import ONE, THREE, TWO, bodies_of, numbered
-from tests.support.running import BY_OTHERS, Desk, Kill
+from tests.support.mail import ONE, THREE, TWO, numbered
+from tests.support.running import Desk, Kill
 
-KILLS = int(os.environ.get("UNDO_KILLS", "4"))
-# an undo makes about as many calls that change files
-MOST = 30
-HEAD = b"From mia@example.org Thu Jan  1 00:00:00 1970\n"
 UNDO = ["migrate", "--all", "--undo", "M", "box"]
 
 
@@ -257,98 +247,6 @@ def interrupted(home: Path) -> None:
     equal("what is there", subjects(home / "M"), ["one", "three", "two"])
 
 
-def texts_at_random(chance: random.Random) -> list[bytes]:
-    """Three mailboxes that share messages, some of which they have several times."""
-    bodies = [b"Subject: %d\n\n%s\n" % (number, b"x" * chance.randrange(9)) for number in range(30)]
-    return [
-        b"".join(HEAD + body + b"\n" for body in chance.choices(bodies, k=chance.randrange(10, 40))) for _ in range(3)
-    ]
-
-
-def most_of(*texts: bytes) -> "typing.Counter[bytes]":
-    """The messages that a folder has from mailboxes: of equal messages as many as the mailbox with the most has."""
-    most = collections.Counter()  # type: typing.Counter[bytes]
-    for text in texts:
-        most |= Counter(bodies_of(text))
-    return most
-
-
-def mail_of(home: Path) -> "typing.Counter[bytes]":
-    """The mail of a folder."""
-    return Counter(path.read_bytes() for path in mail_in(home / "M"))
-
-
-def kill_once(home: Path, number: int, settings: Mapping[str, str]) -> bool:
-    """Undoes a mailbox, and kills that before the call with a number. Returns whether there was one."""
-    with Killer(settings).at(Moment(number)):
-        ran = Desk(home, None, "", **settings).run([*UNDO, "--now"], BY_OTHERS)
-    wait_for_lock(home / "M")
-    return ran.is_killed
-
-
-class Killed:
-    """An undo that is killed. Two other mailboxes of the folder share messages with the mailbox that is undone."""
-
-    NAMES = ("box", "second", "third")
-
-    def __init__(self, home: Path, settings: Mapping[str, str], seed: int) -> None:
-        self.home, self.settings, self.seed, self.chance = home, settings, seed, random.Random(seed)
-        self.texts = texts_at_random(self.chance)
-        self.kept = most_of(*self.texts[1:])
-
-    def migrate(self) -> None:
-        """Migrates the mailboxes in any order. Then another program delivers a message of theirs."""
-        shutil.rmtree(str(self.home / "M"), ignore_errors=True)
-        for name, text in self.chance.sample(list(zip(self.NAMES, self.texts)), 3):
-            mailbox(self.home / name, text)
-            expect(["migrate", "--again", "--now", "M", name], self.home, 0, None)
-        delivered = self.chance.choice(list(bodies_of(self.texts[0])))
-        (self.home / "M/new/17.host").write_bytes(delivered)
-        self.kept += Counter([delivered])
-
-    def kill(self) -> int:
-        """Kills it some times, after which nothing of others is lost. Returns how often."""
-        killed = 0
-        for number in [self.chance.randint(1, MOST) for _ in range(self.chance.randint(1, 3))]:
-            killed += kill_once(self.home, number, self.settings)
-            equal(f"{self.seed}: lost", self.kept - mail_of(self.home), Counter())
-        return killed
-
-    def end(self) -> None:
-        """In the end what others have is left, and nothing else, also if another mailbox is missing or has changed."""
-        status, out, _ = run([*UNDO[:2], "--now", *UNDO[2:]], self.home)
-        # a kill may have come too late
-        assert status == 0 or "no ledger has it" in out, (self.seed, out)
-        equal(f"{self.seed}: what is left", mail_of(self.home), self.kept)
-        equal(f"{self.seed}: box", (self.home / "box").read_bytes(), self.texts[0])
-
-
-def kills(home: Path) -> None:
-    """Undos that are killed lose no message of other mailboxes, and none that another program delivered."""
-    counts = Counter()  # type: typing.Counter[str]
-    (home / "calls").mkdir()
-    settings = settings_in(home / "calls")
-    for seed in range(KILLS):
-        one = Killed(home, settings, seed)
-        one.migrate()
-        counts["killed"] += one.kill()
-        how = one.chance.choice(["", "missing", "changed"])
-        if how:
-            spoil(home, how)
-            counts[how] += 1
-        one.end()
-    print("undo:", ", ".join(f"{count} {what}" for what, count in sorted(counts.items())))
-
-
-def spoil(home: Path, how: str) -> None:
-    """Removes another mailbox, or changes it."""
-    path = home / "second"
-    if how == "missing":
-        path.unlink()
-    else:
-        mailbox(path, path.read_bytes().replace(b"Subject", b"SUBJECT", 1))
-
-
 if __name__ == "__main__":
     check_all(
         there_and_back,
@@ -359,5 +257,4 @@ if __name__ == "__main__":
         half_done_by_mb2md,
         a_second_batch,
         interrupted,
-        kills,
     )
