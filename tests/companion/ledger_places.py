@@ -10,7 +10,6 @@ import os
 import re
 import shutil
 import time
-from collections import Counter
 from collections.abc import Callable
 from pathlib import Path
 from random import Random
@@ -268,22 +267,6 @@ def a_tree(home: Home) -> None:
     home.take(2, name="x")
 
 
-def rule_8_a_folder_was_renamed(home: Home) -> None:
-    """People gave a folder another name. The mailbox's mail goes on there."""
-    for new in (b"", letter(6)):
-        a_tree(home)
-        home.folder("x").rename(home.folder("put-aside"))
-        home.bring_tree(x=letters(*FIVE) + new)
-        wanted = [0, 1, 3, 4, *[6] * bool(new)]
-        home.has(*wanted, name="put-aside")
-        home.has(*wanted, 10, 11)
-        home.bring_tree(x=letters(*FIVE, 6, 7, fields=RO))
-        home.has(0, 1, 3, 4, 6, 7, name="put-aside")
-        home.has(0, 1, 3, 4, 6, 7, 10, 11)
-        home.undo("mail/x")
-        home.has(10, 11)
-
-
 def rule_8_moved_and_more(home: Home) -> None:
     """Mailboxes of a tree were moved, and their folders were renamed, or they were compressed or rewritten too. The
     mail of each goes into the folder of its new name, and the row says which folder has it as well. The undo there is
@@ -338,8 +321,8 @@ def rule_8_moved_before_anything_was_placed(home: Home) -> None:
 
 
 def rule_8_a_named_folder_was_renamed(home: Home) -> None:
-    """The same of a folder that was named by --folder, also if a disk was full when the first line of its ledger was
-    written."""
+    """People gave another name to a folder that was named by --folder. The mailbox's mail goes on there, also if a disk
+    was full when the first line of its ledger was written."""
     for is_cut in home.each((False, True)):
         home.bring(OLD=letters(*FIVE))
         home.take(2)
@@ -349,17 +332,6 @@ def rule_8_a_named_folder_was_renamed(home: Home) -> None:
         home.bring(OLD=letters(*FIVE, 6))
         home.has(0, 1, 3, 4, 6, name="Put-aside")
         home.has(0, 1, 3, 4, 6)
-
-
-def rule_8_two_folders_change_their_names(home: Home) -> None:
-    """Two folders have each other's names. Each mailbox goes on where its mail is."""
-    a_tree(home)
-    home.folder("x").rename(home.folder("z"))
-    home.folder("y").rename(home.folder("x"))
-    home.folder("z").rename(home.folder("y"))
-    home.bring_tree(x=letters(*FIVE, 6), y=letters(10, 11, 12))
-    home.has(0, 1, 3, 4, 6, name="y")
-    home.has(10, 11, 12, name="x")
 
 
 def rule_8_a_mailbox_was_away(home: Home) -> None:
@@ -415,26 +387,6 @@ def rule_8_a_folder_has_two_names(home: Home) -> None:
             raise Failed(f"the ledger is not whole: {ran.text}")
 
 
-def rule_8_a_folder_was_deleted(home: Home) -> None:
-    """People deleted a folder. Nothing is placed: the mailbox was done before, and if it has changed, it is left, until
-    --again brings all of it."""
-    a_tree(home)
-    shutil.rmtree(home.folder("x"))
-    row = home.done("mail")["mail/x"]
-    home.has(10, 11)
-    if row["verdict"] != "done before":
-        raise Failed(f"{row}")
-    want_said(row, "folder", "gone")
-    home.write("mail/x", letters(*FIVE, 6))
-    ran = home.run("mail")
-    home.has(10, 11)
-    if ran.status != 1 or ran["mail/x"]["verdict"] != "left":
-        raise Failed(ran.text)
-    want_offered(ran["mail/x"], "--again")
-    home.done("mail/x", words=["--again", "--folder", "x"])
-    home.has(*FIVE, 6, name="x")
-
-
 def rule_8_the_mail_of_a_folder_was_deleted(home: Home) -> None:
     """People deleted all mail of a folder. What is new is placed, and the rest counts as gone."""
     home.bring(OLD=letters(*FIVE))
@@ -464,76 +416,6 @@ def rule_4_a_renamed_file(home: Home) -> None:
             raise Failed(f"deleted: {is_deleted}: {row}")
         home.undo("TWICE")
         home.has(*[5] * (not (is_lost and is_deleted)), 6)
-
-
-# a ledger was lost, or has no byte
-LOSSES: tuple[Callable[[Path], object], ...] = (os.unlink, lambda path: os.truncate(path, 0))
-
-
-def rule_9_a_ledger_was_lost(home: Home) -> None:
-    """A ledger is not there any more. An unchanged mailbox gets nothing. One that has changed is left, with --again and
-    the number of messages that this brings."""
-    for lose, fields in home.each(LOSSES, (b"", RO)):
-        home.bring(OLD=letters(*FIVE, fields=fields))
-        home.take(2)
-        lose(home.ledger())
-        home.run("OLD")
-        home.has(0, 1, 3, 4)
-        row = home.brings_again("OLD", letters(*FIVE, 5, fields=fields))
-        want_said(row, 2)
-        home.has(*FIVE, 5)
-        home.take(3)
-        home.bring(OLD=letters(*FIVE, 5, 6, fields=fields))
-        home.has(0, 1, 2, 4, 5, 6)
-
-
-def rule_9_a_ledger_was_lost_and_nothing_is_nowhere(home: Home) -> None:
-    """A mailbox has changed, and all that it has is there: there is nothing to place, or to ask. What its files are is
-    not known any more, so an undo keeps them."""
-    for lose in home.each(LOSSES):
-        home.bring(OLD=letters(*FIVE))
-        lose(home.ledger())
-        row = home.bring(OLD=letters(*FIVE, fields=RO))["OLD"]
-        want_said(row, "5 messages there already, by no mailbox")
-        home.has(*FIVE)
-        home.bring(OLD=letters(*FIVE, 5, fields=RO))
-        home.has(*FIVE, 5)
-        home.undo("OLD")
-        home.has(*FIVE)
-
-
-def rule_9_an_older_ledger(home: Home) -> None:
-    """A ledger comes from a backup that is older than its folder. A mailbox whose files it does not explain is left."""
-    home.bring(OLD=letters(*FIVE))
-    with home.from_a_backup(home.ledger()):
-        home.bring(OLD=letters(*range(8)))
-        home.take(1, 6)
-    home.run("OLD")
-    home.has(0, 2, 3, 4, 5, 7)
-    home.brings_again("OLD", letters(*range(9)))
-    home.has(*range(9))
-
-
-def rule_9_an_older_ledger_and_another_mailbox(home: Home) -> None:
-    """The same where another mailbox of the folder brought them."""
-    home.bring(OTHER=letters(20, 21))
-    with home.from_a_backup(home.ledger()):
-        home.bring(OLD=letters(*FIVE))
-        home.take(2)
-    want_offered(home.left("OLD", letters(*FIVE, 6)), "--again")
-    home.bring(OTHER=letters(20, 21, 22))
-    home.has(0, 1, 3, 4, 20, 21, 22)
-
-
-def rule_9_an_older_ledger_with_the_mailbox(home: Home) -> None:
-    """The ledger comes from a backup and has the mailbox as it was before it grew. Another mailbox makes it longer than
-    it was. What was deleted of what the ledger lacks does not come back unsaid."""
-    home.bring(OLD=letters(*FIVE), OTHER=letters(100))
-    with home.from_a_backup(home.ledger()):
-        home.bring(OLD=letters(*range(10)))
-    home.bring(OTHER=letters(*range(100, 140)))
-    home.take(*range(5, 10))
-    want_offered(home.left("OLD", letters(*range(11))), "--again")
 
 
 def rule_9_a_ledger_was_lost_of_a_folder_with_uids_of_another(home: Home) -> None:
@@ -599,33 +481,6 @@ def rule_9_a_ledger_from_before_an_undo(home: Home) -> None:
         home.undo(*names)
         # by the ledger, what stays may be all that there is of the other mailbox
         home.has(*[] if "OLD" in names else [1, 3, 4], 20, *more)
-
-
-def rule_9_a_folder_from_before_an_undo(home: Home) -> None:
-    """A folder comes from a backup, with its ledger, that was made before an undo: its files are the mailbox's again,
-    as another undo shows."""
-    home.bring(OTHER=letters(20))
-    home.bring(OLD=letters(*FIVE))
-    home.take(2)
-    with home.from_a_backup(home.folder()):
-        home.undo("OLD")
-        home.has(20)
-    want_offered(home.left("OLD"), "--again")
-    home.done("OLD", words=["--again"])
-    home.has(*FIVE, 20)
-    home.undo("OLD")
-    home.has(20)
-
-
-def rule_9_an_undo_before_the_index_was_written(home: Home) -> None:
-    """An undo was killed once all was done, but for the index. Nothing is left to be undone, and all is brought again
-    if it is migrated."""
-    home.bring(OTHER=letters(20), OLD=letters(*FIVE))
-    with home.from_a_backup(home.record):
-        home.undo("OLD")
-    equal("why it is left", home.left("OLD", words=["--undo"])["reason"], "undo")
-    home.done("OLD")
-    home.has(*FIVE, 20)
 
 
 def rule_9_an_older_ledger_and_others(home: Home) -> None:
@@ -787,44 +642,6 @@ def rule_9_a_newer_ledger(home: Home) -> None:
     home.has(*FIVE, 8)
     home.done("OLD", words=["--again"])
     home.has(*range(9))
-
-
-def rule_9_a_maildir_from_a_backup(home: Home) -> None:
-    """The whole Maildir comes from a backup: what came later is placed anew."""
-    home.bring(OLD=letters(*FIVE))
-    home.take(2)
-    with home.from_a_backup(home.maildir):
-        home.bring(OLD=letters(*range(8)))
-    home.done("OLD")
-    home.has(0, 1, 3, 4, 5, 6, 7)
-
-
-def rule_9_a_folder_from_a_backup(home: Home) -> None:
-    """A folder comes from a backup with its ledger, and the record does not: nothing is there twice, and what is
-    missing is said or placed."""
-    home.bring(OLD=letters(*FIVE))
-    with home.from_a_backup(home.folder()):
-        home.bring(OLD=letters(*range(8)))
-    for count in (8, 9):
-        home.write("OLD", letters(*range(count)))
-        ran = home.run("OLD")
-        missing = Counter(range(count)) - home.numbers()
-        if max(home.numbers().values()) > 1 or missing and not ran.status and not says(ran["OLD"], len(missing)):
-            raise Failed(f"missing {dict(missing)}: {ran.text}")
-    home.done("OLD", words=["--again"])
-    home.has(*range(9))
-
-
-def rule_9_a_record_from_a_backup(home: Home) -> None:
-    """The record comes from a backup, and the folders do not: nothing is placed twice, or again."""
-    home.bring(OTHER=letters(20))
-    with home.from_a_backup(home.record):
-        home.bring(OLD=letters(*FIVE))
-        home.take(2)
-    home.done("OLD", "OTHER")
-    home.has(0, 1, 3, 4, 20)
-    home.bring(OLD=letters(*FIVE, 6, fields=RO))
-    home.has(0, 1, 3, 4, 6, 20)
 
 
 def rule_9_a_record_was_lost_and_a_folder_renamed(home: Home) -> None:
