@@ -279,30 +279,6 @@ def spoilt(home: Path) -> None:
     equal("what is there", len([*mail_in(home / "M")]), 2)
 
 
-def unchanged(home: Path) -> None:
-    """A mailbox with equal messages is as it was prepared: it is not read again, and each is there once."""
-    doveconf(home, MBOX)
-    mailbox(home / "box", ONE + ONE + TWO + ONE)
-    expect("migrate --prepare M box", home, 0, None)
-    expect("migrate --all --now M box", home, 0, "box -> INBOX: ..., messages 4: done, 4 prepared before\n...\n")
-    equal("the mail", subjects(home / "M"), ["one", "one", "one", "two"])
-    expect("verify --all M box", home, 0, None)
-
-
-def a_sync_failed(home: Path) -> None:
-    """A sync fails in a first pass. Each later pass says so, until what is prepared is removed."""
-    doveconf(home, MBOX)
-    mailbox(home / "box", ONE)
-    (home / "bin/mbox2maildir").rename(home / "bin/converter")
-    fails = "[ $1 != convert ] || { echo 'mbox2maildir: folder call 9 failed'; exit 1; } >&2"
-    for program, option in ((f"{fails}; exit $s", "--prepare"), ("exit $s", "--prepare"), ("exit $s", "--now")):
-        script(home / "bin/mbox2maildir", f'{home}/bin/converter "$@"; s=$?; {program}')
-        says = "left (sync-failed): its sync failed: ...then remove what is prepared, and begin anew\n...\n"
-        expect(["migrate", "--all", option, "M", "box"], home, 1, f"box -> INBOX: ...messages 1: {says}")
-    expect("migrate --all --undo M box", home, 0, "box -> INBOX: messages 1: undone, removed 1 message\n...\n")
-    expect("migrate --all --now M box", home, 0, "box -> INBOX: ...messages 1: done\n...\n")
-
-
 # a mailbox that words read differently, and new mail of that kind
 QUOTED, NEW = A + b"\n>>From twice\n>From once\n\n", B + b"\n>>From twice\n>From once\n\n"
 BY_MBOXO = [part.replace(b"\n>From", b"\nFrom").split(b"\n", 1)[1][:-1] for part in (QUOTED, NEW)]
@@ -422,8 +398,6 @@ if __name__ == "__main__":
         found_by_settings,
         one_at_work,
         spoilt,
-        unchanged,
-        a_sync_failed,
         left_over,
         started_again,
         words_hold,
