@@ -141,6 +141,11 @@ class History:
         sent = self.sent()
         return {word for word, one in readings(self.text_of(box)).items() if sent.issuperset(one.contents)}
 
+    def right(self, box: Box) -> list[Reading]:
+        """How a mailbox may be read: in each way in which it has nothing but what somebody sent; else in the best."""
+        words = self.right_words(box)
+        return [one for word, one in readings(self.text_of(box)).items() if word in words] or [self.best(box)]
+
     def target(self, box: Box) -> str:
         """The folder into which a mailbox goes that no run has seen."""
         name = box.path[: -len(".gz")] if box.path.endswith(".gz") else box.path
@@ -240,9 +245,9 @@ class History:
         for box in self.boxes:
             row = rows.get(box.path)
             if row and row["verdict"] in ENDED:
-                best = self.best(box)
-                self.note(self.oracle.missing(row, [best]))
-                self.oracle.brings(box.number, row["folder"] or self.target(box), best.contents)
+                one = min(self.right(box), key=lambda one: len([*self.oracle.missing(row, [one])]))
+                self.note(self.oracle.missing(row, [one]))
+                self.oracle.brings(box.number, row["folder"] or self.target(box), one.contents)
 
     def note(self, lines: Iterable[str]) -> None:
         """Notes what is wrong with what is there after a run. What its owner took meanwhile, it does not say."""
