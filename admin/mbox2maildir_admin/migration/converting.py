@@ -24,7 +24,7 @@ from ..program import Converted, Failed, Program
 from ..readings.unnamed import copy_of_some
 from ..units import Offset, Place
 from .outcomes import Fate, Outcome, Row
-from .steps import Bringing, Contents, Extra, Opened
+from .steps import Bringing, Contents, Opened
 
 CHANGED_MEANWHILE = "it changed in the meantime: stop the program that writes to it, and run this again"
 SYNC_FAILED = (
@@ -150,10 +150,9 @@ def sync_failed(folder: bytes, batch: int) -> Left:
     return Left(SYNC_FAILED, Reason.SYNC_FAILED)
 
 
-def finish(one: Bringing, extra: Extra) -> list[Remark]:
-    """Takes the steps after the conversion, and returns what is to be said of them. Raises Left unless each message
-    that was brought is there once."""
-    folder, text, remarks = one.opened.folder, one.contents.text, extra.run(one)
+def finish(one: Bringing) -> list[Remark]:
+    """Dates what was brought, and returns what is to be said of that. Raises Left unless each message is there once."""
+    text = one.contents.text
     check, dating = Check(one.part, say=one.opened.mailbox.say), Dating(text, one.part)
 
     def look_first(place: Place, number: int, state: os.stat_result) -> Optional[bytes]:
@@ -164,7 +163,7 @@ def finish(one: Bringing, extra: Extra) -> list[Remark]:
     check.look_first = look_first
     # they were written just now, so each is compared faster than it is handed over
     check.threads = 1
-    check.look(folder)
+    check.look(one.opened.folder)
     # it was decided what From_ lines hold, or they hold no mail: otherwise nothing would have been converted
     check.doubts = ()
     # what other programs have there is no second copy of this one
@@ -173,7 +172,7 @@ def finish(one: Bringing, extra: Extra) -> list[Remark]:
         raise Left(check.report(), Reason.NOT_VERIFIED)
     if one.opened.has_changed(text):
         raise Left(CHANGED_MEANWHILE, Reason.CHANGED)
-    return [*dating.remarks(), *remarks]
+    return list(dating.remarks())
 
 
 @contextlib.contextmanager

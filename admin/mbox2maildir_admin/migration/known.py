@@ -74,6 +74,13 @@ class Known:
         return self.ledger.pending(self.path) is not None
 
     @property
+    def is_made_anew(self) -> bool:
+        """Whether the mailbox has no byte and brought nothing, and another one is done in its folder: a program that
+        delivers makes such a file once the old one was moved away."""
+        is_other = bool(self.ledger.sources) and self.path not in self.ledger.paths()
+        return is_other and not self.opened.mailbox.size
+
+    @property
     def begun_at(self) -> Optional[int]:
         """When it was begun first, in seconds since 1970; None if it was not begun."""
         return self.ledger.begun.get(self.path)

@@ -20,7 +20,7 @@ from ..units import counted
 from .dovecot import names_in
 from .outcomes import Fate, Row, row_left
 from .places import Planned
-from .replica import empty, is_prepared, remove_all
+from .preparing import empty, is_prepared, remove_all
 from .steps import Options
 from .transfer import TENTH
 

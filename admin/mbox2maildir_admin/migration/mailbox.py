@@ -25,8 +25,7 @@ from ..units import Say, silent
 from .answers import is_passed_over, note_no_mail
 from .converting import Conversion
 from .outcomes import BY_NO_MAIL, BY_RECORD, Fate, Outcome, Row, row_left
-from .preparing import FirstPass, LastPass
-from .replica import is_free, is_prepared, note_begun, reader_in, take_back
+from .preparing import is_free, is_prepared, note_begun, reader_in, take_back
 from .steps import Opened, Options
 from .transfer import Transfer
 from .unchanged import row_unchanged
@@ -121,7 +120,8 @@ class Migration:
         if making:
             transfer = making(self.conversion, self.how, opened, ledger)
         else:
-            transfer = transfer_of(self.conversion, self.how, opened, ledger, verified)
+            prepared = prepared_for(self.record, self.how, opened, ledger, verified)
+            transfer = Transfer(self.conversion, self.how, opened, ledger, prepared)
         transfer.want_room = self.want_room
         ended = transfer.run()
         if ended.batch:
@@ -131,12 +131,12 @@ class Migration:
         return ended
 
 
-def transfer_of(
-    conversion: Conversion, how: Options, opened: Opened, ledger: Ledger, verified: Container[int]
-) -> Transfer:
-    """The way of a mailbox into its folder, which may be prepared, or is to be. These batches of the ledger were
-    verified by this run, and their disk is not synced yet."""
-    record, prepared = conversion.record, Prepared.read(opened.folder)
+def prepared_for(
+    record: Record, how: Options, opened: Opened, ledger: Ledger, verified: Container[int]
+) -> Optional[Prepared]:
+    """What is only prepared in the folder of a mailbox, or is going to be; None if mail is placed there at once. These
+    batches of the ledger were verified by this run, and their disk is not synced yet."""
+    prepared = Prepared.read(opened.folder)
     note_begun(ledger, prepared)
     is_over = prepared.is_there and not is_prepared(record, opened.name, ledger, prepared)
     if is_over:
@@ -151,9 +151,6 @@ def transfer_of(
         and not reader_in(record, opened.name, opened.folder, prepared)
     ):
         take_back(record, opened.name, ledger, prepared)
-    if how.prepare:
-        return FirstPass(conversion, how, opened, ledger, prepared)
     is_noted = record.prepared(opened.name) is not None and not ledger.sources
-    if not is_over and (prepared.is_there or is_noted or is_free(record, opened, ledger)):
-        return LastPass(conversion, how, opened, ledger, prepared)
-    return Transfer(conversion, how, opened, ledger)
+    is_last = not is_over and (prepared.is_there or is_noted or is_free(record, opened, ledger))
+    return prepared if how.prepare or is_last else None

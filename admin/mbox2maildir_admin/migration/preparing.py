@@ -1,41 +1,37 @@
-"""Passes over the folder of one mailbox: `--prepare` places what the mailbox has, while people use it, and `migrate`
-finishes that.
-
-Each pass does the same. It reads the mailbox, removes what was prepared and no message wants any more, has the program
-place the rest, dates and verifies. Files have the digests of messages as names, so one is right or not wanted, whatever
-the mailbox was when it was read. The folder says what is prepared in it, wherever the mailbox is by then.
-"""
+"""What is only prepared in a folder, from a mailbox that people still use: whether it can be, or be finished, who reads
+there, which of its files a mailbox wants, and how it is taken back or removed. The folder says what is prepared in it,
+wherever the mailbox is by then."""
+import array
 import contextlib
 import functools
-import time
-from collections.abc import Iterator
+import os
+from collections.abc import Sequence
 from typing import Optional
 
 from ..faults import Left, Reason
-from ..ledger.files import hides_none
-from ..ledger.gone import unexplained
-from ..ledger.history import Note, names_of
+from ..flags.renaming import sync_names
+from ..ledger.history import Note, Step
+from ..ledger.history import names_of as names_by
 from ..ledger.ledger import Ledger, has_failed
+from ..ledger.lines import PLACED, Brought
 from ..ledger.match import Match, Placing
 from ..ledger.prepared import Prepared
-from ..ledger.prepared_lines import Origin, in_milliseconds, milliseconds_since
-from ..ledger.record import unspelled
-from ..looks import is_there
-from ..maildir.mounts import want_syncs
-from ..nexts import Does, Next, Remark
-from ..progress import Spent
-from ..readings.plans import Plan
+from ..ledger.prepared_lines import NEXT_LIST, Origin, aside_of, has_list, home_of, remove_aside, remove_list
+from ..ledger.record import Record, unspelled
+from ..looks import is_folder, is_there, real_path
+from ..maildir.files import digest_of, names_of
+from ..maildir.folders import INBOX
+from ..maildir.making import LEDGER, MARK, PREPARED, SUBFOLDERS, sync_folder
+from ..mbox.bases import base_in, before_info, own_base_in
+from ..nexts import Answer, Does, Remark
 from ..readings.reading import Reading
-from ..readings.texts import Choice
-from ..terminal import named
-from ..units import Place, counted
-from .answers import note_answer
-from .converting import CHANGED_MEANWHILE, PREPARED_SYNC_FAILED, SYNC_FAILED, Conversion, finish
-from .outcomes import Fate, Outcome, Row
-from .replica import Plain, empty, forget, reader_in, signs_of, take_prepared, tree_above
-from .steps import Bringing, Contents, Opened, Options
-from .transfer import PARTLY_THERE, Transfer
-from .unchanged import Same, note_state, same_as_prepared, text_of
+from ..terminal import named, spelled
+from ..units import Say, counted, silent
+from .converting import PREPARED_SYNC_FAILED, SYNC_FAILED
+from .dovecot import KEYWORDS, LIST, Dovecot, names_in, remove_part
+from .known import Known
+from .steps import Contents, Opened, Options
+
 
 NOT_FREE = "mail of a mailbox is in its folder already, and migrate brings the rest"
 READ = "somebody reads in its folder already: %s"
@@ -46,261 +42,245 @@ KEPT = "%s kept that somebody edited"
 STAYS = "%d prepared before stay, whatever the mailbox has now"
 
 
-class LastPass(Transfer):
-    """A mailbox on its way into a folder that is prepared."""
+def want_free(known: Known, prepared: Prepared) -> None:
+    """Raises Left if a folder cannot be prepared from a mailbox."""
+    if prepared.is_there:
+        other = unspelled(prepared.origin.path) if prepared.origin else known.opened.mailbox.path
+        # a symbolic link may lead from one to the other
+        if not {*names_by(other)} & {*known.names} and is_there(other):
+            raise Left(ANOTHER % named(other), Reason.PREPARED)
+    elif known.ledger.paths() or known.unknown:
+        raise Left(NOT_FREE, Reason.PREPARED)
 
-    IS_PREPARED = True
 
-    def __init__(
-        self, conversion: Conversion, how: Options, opened: Opened, ledger: Ledger, prepared: Prepared
-    ) -> None:
-        super().__init__(conversion, how, opened, ledger)
-        self.prepared = prepared
-        # what stands for the text, if the mailbox is as it was prepared
-        self.same: Optional[Same] = None
+def want_usable(how: Options, known: Known, prepared: Prepared) -> None:
+    """Raises Left if what is prepared cannot be finished, with the command that keeps what is there, and stores what is
+    nowhere. A first pass prints none: what is there may be mail by then."""
+    record, opened, ledger, origin = known.record, known.opened, known.ledger, prepared.origin
+    command = functools.partial(how.command, record.maildir, opened)
+    then = () if how.prepare else (Answer(command(again=True), Does.STORES),)
+    if is_there(opened.folder) and not prepared.is_there and record.prepared(opened.name):
+        raise Left(LIST_LOST, Reason.LEDGER, then)
+    if prepared.has_failed:
+        raise Left(PREPARED_SYNC_FAILED, Reason.SYNC_FAILED)
+    if has_failed(ledger):
+        raise Left(SYNC_FAILED, Reason.SYNC_FAILED)
+    reader = reader_in(record, opened.name, opened.folder, prepared)
+    if reader:
+        raise Left(READ % named(reader), Reason.PREPARED, then)
+    was_bare = not how.extra.IS_BARE
+    if origin and Reading.of_words(origin.words).bare == was_bare:
+        run = Answer(command(dovecot=was_bare), Does.RUN)
+        raise Left(OTHERWISE % ("with" if was_bare else "without"), Reason.PREPARED, (run,))
 
-    @contextlib.contextmanager
-    def choice(self) -> Iterator[Choice]:
-        """The text that stands for the mailbox, which is not read again if it is as it was prepared."""
-        self.same = same_as_prepared(self.prepared, self.how, self.opened)
-        with contextlib.nullcontext(self.same.choice) if self.same else super().choice() as choice:
-            yield choice
 
-    @contextlib.contextmanager
-    def read(self, choice: Choice) -> Iterator[Contents]:
-        """Reads the text, unless all of it is known."""
-        with contextlib.nullcontext(self.same.contents) if self.same else super().read(choice) as contents:
-            yield contents
+def origin_of(how: Options, known: Known, contents: Contents) -> Origin:
+    """What a pass reads."""
+    mailbox = known.opened.mailbox
+    state, tree = signs_of(mailbox.copied or mailbox.state), tree_above(mailbox.path, how.names)
+    return Origin(mailbox.key(), state, len(contents.inventory), contents.words, tree, known.path)
 
-    def bring_any(self, choice: Choice) -> Outcome:
-        """Brings what is new, and ends what is only prepared. With --again, what is there stays."""
-        if not self.again:
-            self.want_usable()
-        if choice.plan.is_empty and not self.how.dry:
-            self.clear()
-        return super().bring_any(choice)
 
-    def has_failed(self) -> bool:
-        """Whether a sync of an earlier run failed, or of a pass."""
-        return super().has_failed() or self.prepared.has_failed or has_failed(self.ledger)
+def signs_of(state: os.stat_result) -> tuple[int, ...]:
+    """The facts that show, between two passes, that a mailbox has not changed."""
+    return state.st_ino, state.st_size, max(0, state.st_mtime_ns), max(0, state.st_ctime_ns)
 
-    def want_usable(self) -> None:
-        """Raises Left if what is prepared cannot be finished."""
-        prepared, again = self.prepared, self.stores_all()
-        if self.is_lost():
-            raise Left(LIST_LOST, Reason.LEDGER, again)
-        if prepared.has_failed:
-            raise Left(PREPARED_SYNC_FAILED, Reason.SYNC_FAILED)
-        if has_failed(self.ledger):
-            raise Left(SYNC_FAILED, Reason.SYNC_FAILED)
-        reader = reader_in(self.record, self.opened.name, self.opened.folder, prepared)
-        if reader:
-            raise Left(READ % named(reader), Reason.PREPARED, again)
-        is_bare, wants_bare = self.was_bare(), self.how.extra.IS_BARE
-        if is_bare is not None and is_bare != wants_bare:
-            then = self.command(Does.RUN, dovecot=is_bare)
-            raise Left(OTHERWISE % ("with" if is_bare else "without"), Reason.PREPARED, then)
 
-    def is_whole(self, rest: Match) -> bool:
-        """The same; what is prepared is no mail yet."""
-        return super().is_whole(rest) and not self.prepared.is_there
+def tree_above(path: bytes, names: Sequence[bytes]) -> str:
+    """The tree among these names that a mailbox is in, as lines spell it; empty if it is in none."""
+    real = real_path(path)
+    for tree in (real_path(name) for name in names):
+        if real.startswith(tree.rstrip(b"/") + b"/"):
+            return spelled(tree)
+    return ""
 
-    def is_lost(self) -> bool:
-        """Whether the record has it that the folder is prepared, and the list is gone though nothing is done there."""
-        is_here = is_there(self.opened.folder) and not self.prepared.is_there and not self.ledger.sources
-        return is_here and self.record.prepared(self.opened.name) is not None
 
-    def was_bare(self) -> Optional[bool]:
-        """Whether --dovecot was given when the folder was prepared; None if that is not known."""
-        origin = self.prepared.origin
-        return Reading.of_words(origin.words).bare if origin else None
+def take_prepared(match: Match, placing: Placing, prepared: Prepared) -> None:
+    """Takes the files that were prepared for those messages that are to be placed under their names."""
+    inventory, need = match.inventory, array.array("Q")
+    for place in match.need:
+        at = prepared.note(placing.base(place))
+        prepared.wanted[at] = 1
+        if not prepared.files[at]:
+            need.append(place)
+        elif place in placing.names:
+            name = placing.name(place)
+            match.found[place] = Brought(PLACED, name, inventory.core(place), inventory.bare(place))
+            match.fresh.add(place)
+        else:
+            match.mine[place] = 1
+    if len(need) < len(match.need):
+        for at, is_file in enumerate(prepared.files):
+            if is_file and prepared.wanted[at]:
+                match.files.take(prepared.table.base(at))
+        match.new = array.array("Q", (place for place in match.new if not match.mine[place]))
+        match.need = need
 
-    def stores_all(self) -> Next:
-        """The command that keeps what is there, and stores what is nowhere."""
-        return self.command(Does.STORES, again=True)
 
-    def clear(self) -> None:
-        """Removes everything that is prepared, since the mailbox has no mail any more."""
-        if self.prepared.is_there and not self.again:
-            self.prepared.look(self.opened.mailbox.say)
-            self.prepared.remove()
-        forget(self.record, self.opened.name, self.prepared)
+def remove_unwanted(prepared: Prepared, dry: bool) -> list[Remark]:
+    """Removes what was prepared and no message wants. Returns what is to be said of what was prepared."""
+    gone, remarks = prepared.unwanted(), []
+    if not dry:
+        prepared.remove()
+    if any(prepared.files):
+        removed = ", %s %s" % (counted(gone, "message"), "to be removed" if dry else "removed") if gone else ""
+        remarks.append(Remark("prepared-before", "%d prepared before" % prepared.count() + removed))
+    if prepared.edited:
+        remarks.append(Remark("kept-edited", KEPT % counted(len(prepared.edited), "file")))
+    return remarks
 
-    def matched(self, contents: Contents) -> Match:
-        """The messages of the text, with what is there of them besides what was prepared."""
-        if not self.again and not self.same:
-            self.prepared.look(self.opened.mailbox.say)
-        self.ledger.hides = hides_none if self.again else self.prepared.hides
-        try:
-            return super().matched(contents)
-        finally:
-            self.ledger.hides = hides_none
 
-    def placing(self, match: Match) -> Placing:
-        """How the program is to place what is nowhere, once what was prepared is what the mailbox wants."""
-        placing, prepared = Placing(match), self.prepared
-        if self.again:
-            prepared.look(self.opened.mailbox.say)
-            stays = sum(prepared.files) + len(prepared.edited)
-            self.remarks += [Remark("prepared-before", STAYS % stays)] * bool(stays)
-            return placing
-        before = sum(prepared.files)
-        take_prepared(match, placing, prepared)
-        gone = prepared.unwanted()
-        if self.same and len(match.need):
-            raise Left(CHANGED_MEANWHILE, Reason.CHANGED)
-        if not self.how.dry:
+def kept(prepared: Prepared, say: Say) -> list[Remark]:
+    """What is to be said of what was prepared, and stays."""
+    prepared.look(say)
+    stays = sum(prepared.files) + len(prepared.edited)
+    return [Remark("prepared-before", STAYS % stays)] * bool(stays)
+
+
+def clear(how: Options, known: Known, prepared: Prepared) -> None:
+    """Removes everything that is prepared, since the mailbox has no mail any more. A first pass also removes the folder
+    if it was made for that: the mailbox may go later."""
+    record, opened = known.record, known.opened
+    if prepared.is_there and not how.again:
+        prepared.look(opened.mailbox.say)
+        if how.prepare:
+            empty(record, opened.name, known.ledger, prepared)
+        else:
             prepared.remove()
-        if before or gone:
-            says = "%d prepared before" % prepared.count()
-            says += (
-                ", %s %s" % (counted(gone, "message"), "to be removed" if self.how.dry else "removed") if gone else ""
-            )
-            self.remarks.append(Remark("prepared-before", says))
-        if prepared.edited:
-            self.remarks.append(Remark("kept-edited", KEPT % counted(len(prepared.edited), "file")))
-        return Placing(match)
-
-    def bringing(self, contents: Contents, match: Match, placing: Placing) -> Bringing:
-        """What this run brings. What was prepared, and is as it was verified then, is not read again."""
-        one = super().bringing(contents, match, placing)
-        prepared, table = self.prepared, one.part.table
-
-        def is_marked(marks: bytearray, place: Place) -> bool:
-            at = prepared.table.place_of(table.base(place))
-            return at is not None and bool(marks[at])
-
-        is_verified = functools.partial(is_marked, prepared.verified)
-        if self.again:
-            return one._replace(is_verified=is_verified)
-        return one._replace(is_verified=is_verified, is_prepared=functools.partial(is_marked, prepared.files))
-
-    def origin(self, contents: Contents) -> Origin:
-        """What this pass reads."""
-        mailbox = self.opened.mailbox
-        state = signs_of(mailbox.copied or mailbox.state)
-        tree = tree_above(mailbox.path, self.how.names)
-        return Origin(mailbox.key(), state, len(contents.inventory), contents.words, tree, self.path)
-
-    def begin(self, contents: Contents, placing: Placing, back: int = 0) -> int:
-        """Notes in the list, too, what is going to be brought."""
-        if not self.again:
-            self.record.make()
-            self.prepared.make_folder()
-            lines = [] if self.prepared.origin else [self.origin(contents).line()]
-            self.prepared.append(*lines, *self.prepared.names(), b">\t%d\n" % (self.ledger.last + 1))
-        return super().begin(contents, placing, back)
+    if not how.prepare:
+        forget(record, opened.name, prepared)
 
 
-class FirstPass(LastPass):
-    """A mailbox that is prepared in a folder, while people use it."""
+def reader_in(record: Record, name: bytes, folder: bytes, prepared: Prepared) -> Optional[bytes]:
+    """The path of a file that shows that somebody reads in a folder; None if nothing does. If `migrate` has begun to
+    finish it, files that were prepared may have flags."""
+    for file in names_in(folder):
+        is_ours = prepared.batch and Dovecot(record).is_own_in(name, folder, file)
+        if file.startswith(b"dovecot") and not is_ours:
+            return os.path.join(folder, file)
+    for file, path in names_of(folder):
+        home, at = home_of(file, path), prepared.table.place_of(base_in(file))
+        if at is None:
+            is_read = home.startswith(b"cur")
+        else:
+            is_own, before = own_base_in(file) is not None, prepared.homes[at]
+            is_read = not is_own or not prepared.batch and before is not None and home != before
+        if is_read:
+            return path
+    return None
 
-    def __init__(
-        self, conversion: Conversion, how: Options, opened: Opened, ledger: Ledger, prepared: Prepared
-    ) -> None:
-        super().__init__(conversion, how, opened, ledger, prepared)
-        # a first pass writes nothing into the ledger
-        ledger.is_dry = True
-        # when this began; and whether a last pass would have it to do again, since the mailbox may change again
-        self.began, self.is_changed = time.monotonic(), prepared.is_whole
 
-    def passed(self) -> int:
-        """How many milliseconds were spent on it so far."""
-        return in_milliseconds(self.opened.mailbox.took) + milliseconds_since(self.began)
+def is_prepared(record: Record, name: bytes, ledger: Ledger, prepared: Prepared) -> bool:
+    """Whether the list of a folder counts: once something of the folder is done, a list that is there was left by a
+    killed run, or comes from a backup, and its files are mail."""
+    is_over = ledger.sources or any(one.what is Step.DONE for one in record.unknown_to(name, ledger))
+    return prepared.is_there and not is_over
 
-    def run(self) -> Outcome:
-        """Prepares it, unless it is done."""
-        line = self.known.done()
-        if line:
-            return Outcome(self.row_before(line.plan, line.messages, []))
-        if self.is_made_anew():
-            with self.choice() as choice:
-                return Outcome(self.row_prepared(choice.plan))
-        self.want_free()
-        return self.choose()
 
-    def is_made_anew(self) -> bool:
-        """Whether the mailbox has no byte and brought nothing, and another one is done in its folder: a program that
-        delivers makes such a file once the old one was moved away."""
-        is_other = bool(self.ledger.sources) and self.path not in self.ledger.paths()
-        return is_other and not self.opened.mailbox.size and not self.prepared.is_there
+def is_free(record: Record, opened: Opened, ledger: Ledger) -> bool:
+    """Whether a folder without a list becomes a prepared one: once something was prepared in the Maildir, a run that is
+    killed may be followed by a first pass, or by other mailboxes."""
+    has_none = record.has_prepared and not ledger.paths() and not record.unknown_to(opened.name, ledger)
+    return has_none and not reader_in(record, opened.name, opened.folder, Prepared(opened.folder))
 
-    def want_free(self) -> None:
-        """Raises Left if the folder cannot be prepared from this mailbox."""
-        prepared, name = self.prepared, self.opened.name
-        if prepared.is_there:
-            other = unspelled(prepared.origin.path) if prepared.origin else self.opened.mailbox.path
-            # a symbolic link may lead from one to the other
-            if not {*names_of(other)} & {*self.known.names} and is_there(other):
-                raise Left(ANOTHER % named(other), Reason.PREPARED)
-        elif self.ledger.paths() or self.record.unknown_to(name, self.ledger):
-            raise Left(NOT_FREE, Reason.PREPARED)
 
-    def clear(self) -> None:
-        """Removes everything that is prepared, and the folder if it was made for that: the mailbox may go later."""
-        if self.prepared.is_there:
-            self.prepared.look(self.opened.mailbox.say)
-            empty(self.record, self.opened.name, self.ledger, self.prepared)
+def note_begun(ledger: Ledger, prepared: Prepared) -> None:
+    """Takes the files that a killed `migrate` was to place in a prepared folder, for whichever mailbox."""
+    begun = {number for number, batch in ledger.open.items() if prepared.batch and batch.is_whole}
+    for _, one in ledger.messages(begun) if begun else ():
+        base = own_base_in(one.name)
+        if one.word == PLACED and base is not None:
+            prepared.note(base)
 
-    def stores_all(self) -> Next:
-        """No command: what is in the folder may be mail by now."""
-        return ()
 
-    def want_sure(self, contents: Contents, match: Match) -> None:
-        """Raises Left if nobody knows what the files of the folder are."""
-        unknown = unexplained(self.root, match) if len(match.need) else []
-        if unknown:
-            raise Left(PARTLY_THERE % len(unknown), Reason.PARTLY_THERE)
+def take_back(record: Record, name: bytes, ledger: Ledger, prepared: Prepared) -> None:
+    """Takes back what a `migrate` that was killed has done in a folder, of each mailbox: flags, lists of UIDs, and what
+    it noted. Afterwards the folder is only prepared."""
+    folder = ledger.folder
+    if not record.is_dry:
+        note_begun(ledger, prepared)
+        give_names_back(folder, prepared)
+        for file in names_in(folder):
+            if Dovecot(record).is_own_in(name, folder, file):
+                os.unlink(os.path.join(folder, file))
+        for file in (KEYWORDS, LIST):
+            remove_part(folder, file)
+        if all(is_folder(os.path.join(folder, sub)) for sub in (b"new", b"cur")):
+            # a run may have been killed before it made them
+            sync_names(folder)
+    for path in ledger.paths():
+        ledger.undo(path)
+    record.add_entry(*record.changes_in(name, ledger))
+    if not record.is_dry:
+        prepared.take_back()
 
-    def bring_any(self, choice: Choice) -> Outcome:
-        """Makes the folder what the mailbox is now."""
-        self.want_usable()
-        if choice.plan.is_empty:
-            if not self.how.dry:
-                self.clear()
-            return Outcome(self.row_prepared(choice.plan))
-        self.remarks += want_syncs(self.opened.folder, self.how.any_disk)
-        with self.read(choice) as contents:
-            match = self.matched(contents)
-            self.want_sure(contents, match)
-            return self.take_steps(choice, contents, match)
 
-    def take_steps(self, choice: Choice, contents: Contents, match: Match) -> Outcome:
-        """Places what is nowhere, and verifies all."""
-        reading, placing, prepared = self.passed(), self.placing(match), self.prepared
-        if self.how.dry:
-            return Outcome(self.row_prepared(choice.plan))
-        note_answer(self.record, self.opened, choice.plan)
-        origin = self.origin(contents)
-        is_same = prepared.is_whole and len(match.need) == 0 and prepared.count() == len(prepared.table)
-        if is_same and prepared.origin and prepared.origin.key == origin.key:
-            self.is_changed = False
-            note_state(prepared, origin)
-            return Outcome(self.row_prepared(choice.plan))
-        self.want_room_for(contents, placing)
-        one = self.bringing(contents, match, placing)
-        self.begin_pass(contents, origin)
-        self.conversion.convert(self.opened, contents, placing, 0, self.IS_PREPARED)
-        self.remarks += finish(one, Plain(prepared))
-        text = text_of(choice, contents)
-        prepared.noted.reading = in_milliseconds(self.opened.mailbox.took) if text else reading
-        prepared.write_whole(origin, text)
-        return self.verified(self.row_prepared(choice.plan), contents)
+def give_names_back(folder: bytes, prepared: Prepared) -> None:
+    """Gives files the names that they were prepared with. Those that only the killed run has placed are removed."""
+    for name, path in list(names_of(folder)):
+        at = prepared.table.place_of(own_base_in(name))
+        home = prepared.homes[at] if at is not None else None
+        if at is not None and home is None and digest_of(path)[0] == prepared.table.digest(at):
+            os.unlink(path)
+        elif home and home != home_of(name, path):
+            target = os.path.join(folder, home[:3], before_info(name) + home[3:])
+            if not is_there(target):
+                os.rename(path, target)
 
-    def begin_pass(self, contents: Contents, origin: Origin) -> None:
-        """Notes in the list what is going to be placed, and from which mailbox."""
-        self.record.make()
-        self.prepared.make_folder()
-        self.opened.make_folder()
-        self.prepared.append(origin.line(), *self.prepared.names())
-        before = self.record.prepared(self.opened.name)
-        if not before or (before.key, before.path) != (self.known.key, self.path):
-            words = len(contents.inventory), unspelled(self.path), contents.words
-            self.record.add(Note.PREPARED, self.known.key, *words)
 
-    def row_prepared(self, plan: Plan) -> Row:
-        """The row of a mailbox that is prepared, or would be."""
-        if self.how.dry:
-            return self.row(plan)._replace(fate=Fate.WOULD_PREPARE)
-        spent = Spent(self.passed(), self.passed() if self.is_changed else self.prepared.noted.foreseen())
-        return self.row(plan)._replace(fate=Fate.PREPARED, spent=spent)
+def remove_all(record: Record, name: bytes, ledger: Ledger, prepared: Prepared, say: Say = silent) -> int:
+    """Removes what is prepared in a folder, and what a `migrate` that was killed has done there. Returns how many files
+    that is, which a dry run only counts."""
+    if prepared.batch:
+        take_back(record, name, ledger, prepared)
+    prepared.look(say)
+    count = prepared.unwanted()
+    if not record.is_dry:
+        empty(record, name, ledger, prepared)
+    return count
+
+
+def empty(record: Record, name: bytes, ledger: Ledger, prepared: Prepared) -> None:
+    """Removes everything that was prepared in a folder, and the folder itself if it was made for that and no mailbox
+    has brought anything."""
+    prepared.remove()
+    aside = aside_of(prepared.folder)
+    is_unused = name != INBOX and not ledger.paths() and clear_folder(prepared)
+    if is_unused:
+        remove_aside(aside)
+        os.rename(prepared.folder, aside)
+        sync_folder(os.path.dirname(aside))
+    forget(record, name, prepared)
+    if is_unused:
+        remove_aside(aside)
+        ledger.forget_all()
+
+
+def holds_nothing(folder: bytes) -> bool:
+    """Whether a folder has no mail, and nothing else but what a pass makes there."""
+    names = set(os.listdir(folder)) - {*SUBFOLDERS, MARK, LEDGER, PREPARED, NEXT_LIST}
+    return not names and not any(names_in(os.path.join(folder, sub)) for sub in SUBFOLDERS)
+
+
+def clear_folder(prepared: Prepared) -> bool:
+    """Removes what makes a folder one of a Maildir, and its ledger, if it was made for this and holds nothing else.
+    Returns whether it did. The list is still there, so that another run can go on."""
+    folder = prepared.folder
+    if not prepared.is_made or not holds_nothing(folder):
+        return False
+    for sub in SUBFOLDERS:
+        with contextlib.suppress(FileNotFoundError):
+            os.rmdir(os.path.join(folder, sub))
+    for name in (MARK, LEDGER):
+        with contextlib.suppress(FileNotFoundError):
+            os.unlink(os.path.join(folder, name))
+    return True
+
+
+def forget(record: Record, name: bytes, prepared: Prepared) -> None:
+    """Notes that nothing is prepared in a folder any more. Without its list it would count as lost."""
+    entry = record.prepared(name)
+    if entry:
+        record.add(Note.UNPREPARED, entry.key, 0, unspelled(entry.path))
+    if has_list(prepared.folder):
+        remove_list(prepared.folder)

@@ -12,6 +12,7 @@ from ..kinds.making import Where, is_below
 from ..labels.choosing import Choosing
 from ..maildir.folders import INBOX, folder_path, words_of
 from ..maildir.making import SyncNames, make_maildir, sync_folder
+from ..ledger.prepared import Prepared
 from ..mbox.fields import Header
 from ..mbox.inventory import Inventory
 from ..mbox.mailbox import Mailbox
@@ -110,9 +111,8 @@ class Bringing(NamedTuple):
     begun_at: int = 0
     # whether all that is nowhere is placed
     again: bool = False
-    # whether a file was prepared, and whether it was verified then, by the place of its message in the part
-    is_prepared: Callable[[Place], bool] = lambda place: False
-    is_verified: Callable[[Place], bool] = lambda place: False
+    # what was only prepared in the folder
+    prepared: Optional[Prepared] = None
 
     def is_placed(self, place: Place) -> bool:
         """Whether this run has placed one of its messages."""
@@ -120,11 +120,18 @@ class Bringing(NamedTuple):
 
     def is_unread(self, place: Place) -> bool:
         """Whether nobody but this program has given the file of a message its name."""
-        return self.is_placed(place) or self.is_prepared(place)
+        at = None if self.again else self.place_prepared(place)
+        return self.is_placed(place) or self.prepared is not None and at is not None and bool(self.prepared.files[at])
+
+    def place_prepared(self, place: Place) -> Optional[int]:
+        """The place of the file of a message among those that were prepared; None if it was not."""
+        return self.prepared.table.place_of(self.part.table.base(place)) if self.prepared else None
 
     def digest_by(self, place: Place, number: int, state: os.stat_result) -> Optional[bytes]:
         """The digest of an open file of this state, if it is known that it has the bytes of one of its messages."""
-        if self.is_verified(place):
+        at = self.place_prepared(place)
+        # what was prepared, and is as it was verified then, is not read again
+        if self.prepared and at is not None and self.prepared.verified[at]:
             return self.part.table.digest(place)
         return self.contents.inventory.digest_by(self.contents.text, self.places[place], number, state)
 

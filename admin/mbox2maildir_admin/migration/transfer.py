@@ -1,5 +1,9 @@
 """The way of one mailbox into its folder: it is read, its messages are matched with what is there, and what is nowhere
-is placed, dated, flagged and verified."""
+is placed, dated, flagged and verified.
+
+The way is the same where mail is only prepared. Each pass removes what was prepared and no message wants any more.
+Files have the digests of messages as names, so one is right or not wanted, whatever the mailbox was when it was read.
+"""
 import collections
 import contextlib
 import time
@@ -8,29 +12,36 @@ from typing import Any, Optional
 
 from ..faults import Fault, Left, Reason
 from ..kinds.look import Look, Read
+from ..ledger.files import hides_none
 from ..ledger.gone import BACK, back_in, gone_before, gone_from, unexplained
+from ..ledger.history import Note
 from ..ledger.ledger import Ledger, count_in, has_failed
 from ..ledger.lines import Head
 from ..ledger.match import Match, Placing
+from ..ledger.prepared import Prepared
+from ..ledger.prepared_lines import in_milliseconds, milliseconds_since
 from ..ledger.record import unspelled
 from ..looks import is_folder
 from ..maildir.mounts import want_syncs
 from ..maildir.space import Need, want_room
 from ..maildir.traces import times_of
 from ..nexts import NOTHING, Answer, Does, Next, Remark
+from ..progress import Spent
 from ..readings.plans import Plan, Question
 from ..readings.reading import UNDECIDED
 from ..readings.texts import AtOnce, Choice, choice_of, disk_of, read_messages
 from ..units import counted
 from .answers import AS_ANSWERED, answer_to, note_answer, note_empty, noted_last
-from .converting import SYNC_FAILED, Conversion, finish
+from .converting import CHANGED_MEANWHILE, SYNC_FAILED, Conversion, finish
 from .cut import names_of_no_line, names_that_may_be_cut, want_none_cut
 from .known import Known
 from .otherwise import as_before, contradicted, want_same_reading
 from .outcomes import Fate, Outcome, Row, row_left
+from .preparing import clear, kept, origin_of, remove_unwanted, take_prepared, want_free, want_usable
 from .remarks import remarks_on, remarks_on_dropped, remarks_on_joined, remarks_on_lost
 from .shown import AS_BROUGHT, answer_shown
 from .steps import Bringing, Contents, Opened, Options
+from .unchanged import Same, note_state, same_as_prepared, text_of
 
 # how many bytes a line of the ledger may have that names a file of this program
 LONGEST_LINE = 140
@@ -47,13 +58,19 @@ OLDER = "the ledger of its folder is older than its record, and lacks %s of it: 
 class Transfer:
     """One mailbox, which is open, on its way into a folder."""
 
-    # whether the folder has a list of what was prepared there
-    IS_PREPARED = False
-
-    def __init__(self, conversion: Conversion, how: Options, opened: Opened, ledger: Ledger) -> None:
+    def __init__(
+        self, conversion: Conversion, how: Options, opened: Opened, ledger: Ledger, prepared: Optional[Prepared] = None
+    ) -> None:
+        """Takes what is only prepared in the folder, if mail is not placed there for good at once."""
         self.conversion, self.how, self.opened, self.ledger = conversion, how, opened, ledger
         self.program, self.root, self.record = conversion.program, conversion.root, conversion.record
-        self.again = how.again
+        self.again, self.prepared = how.again, prepared
+        # a first pass writes nothing into the ledger
+        ledger.is_dry = ledger.is_dry or how.prepare
+        # what stands for the text, if the mailbox is as it was prepared
+        self.same: Optional[Same] = None
+        # when this began; and whether a last pass would have it to do again, since the mailbox may change again
+        self.began, self.is_changed = time.monotonic(), prepared is not None and prepared.is_whole
         # raises Left if the disk has no space for a mailbox; others at work may count on the same space
         self.want_room: Callable[[Need], None] = want_room
         self.known = Known(self.record, ledger, opened)
@@ -74,8 +91,13 @@ class Transfer:
         """Does what is left to do, and returns what became of the mailbox."""
         line = None if self.again else self.known.done()
         if line:
-            more, then = contradicted(self.how, self.root, self.opened, line)
+            more, then = ([], NOTHING) if self.how.prepare else contradicted(self.how, self.root, self.opened, line)
             return Outcome(self.row_before(line.plan, line.messages, more)._replace(next=then))
+        if self.prepared and self.how.prepare:
+            if self.known.is_made_anew and not self.prepared.is_there:
+                with self.choice() as choice:
+                    return Outcome(self.row(choice.plan))
+            want_free(self.known, self.prepared)
         return self.choose()
 
     def choose(self) -> Outcome:
@@ -123,7 +145,11 @@ class Transfer:
 
     @contextlib.contextmanager
     def choice(self) -> Iterator[Choice]:
-        """Chooses which text stands for the mailbox."""
+        """Chooses which text stands for the mailbox, which is not read again if it is as it was prepared."""
+        self.same = same_as_prepared(self.prepared, self.how, self.opened) if self.prepared else None
+        if self.same:
+            yield self.same.choice
+            return
         at_once, is_bare, decision = AtOnce(self.program), self.how.extra.IS_BARE, self.how.decision
         if decision == UNDECIDED:
             decision = noted_last(self.record, self.opened)
@@ -150,14 +176,25 @@ class Transfer:
             return Outcome(row_left(mailbox.path, self.opened.name, fault, plan, mailbox.size))
 
     def bring_any(self, choice: Choice) -> Outcome:
-        """The same, but raises what keeps the mailbox from being done. One without mail only gets its folder."""
+        """The same, but raises what keeps the mailbox from being done. One without mail only gets its folder, from
+        which everything is removed that is prepared. With --again, what is prepared stays. A first pass goes by nothing
+        in the ledger, and writes nothing there."""
+        if self.prepared and not self.again:
+            want_usable(self.how, self.known, self.prepared)
         if choice.plan.is_empty:
-            self.record.make(self.opened.make_folder)
-            self.remarks += note_empty(self.record, self.opened, self.ledger, self.path)
+            if self.prepared and not self.how.dry:
+                clear(self.how._replace(again=self.again), self.known, self.prepared)
+            if not self.how.prepare:
+                self.record.make(self.opened.make_folder)
+                self.remarks += note_empty(self.record, self.opened, self.ledger, self.path)
             return Outcome(self.row(choice.plan))
         self.remarks += want_syncs(self.opened.folder, self.how.any_disk)
         self.want_ended()
         with self.read(choice) as contents:
+            if self.prepared and self.how.prepare:
+                match = self.matched(contents)
+                self.want_sure(contents, match)
+                return self.prepare(choice, contents, match, self.prepared)
             self.want_ledger(contents)
             want_same_reading(self.how._replace(again=self.again), self.known, choice, contents)
             if not self.again:
@@ -166,35 +203,59 @@ class Transfer:
             self.want_sure(contents, match)
             if AS_BROUGHT not in self.remarks:
                 note_answer(self.record, self.opened, choice.plan)
-            if not match.is_known or self.path not in self.ledger.sources:
-                return self.take_steps(choice, contents, match)
-            row = self.row_before(contents.words, len(contents.inventory), list(remarks_on_lost(match)))
-            # the ledger notes that it was read
-            return Outcome(row) if self.how.dry else self.verified(row, contents, self.begin(contents, Placing(match)))
+            if match.is_known and self.path in self.ledger.sources:
+                row = self.row_before(contents.words, len(contents.inventory), list(remarks_on_lost(match)))
+                if self.how.dry:
+                    return Outcome(row)
+                # the ledger notes that it was read
+                return self.verified(row, contents, self.begin(contents, Placing(match)))
+            return self.take_steps(choice, contents, match)
 
     def matched(self, contents: Contents) -> Match:
-        """The messages of the text, with what is there of them."""
+        """The messages of the text, with what is there of them besides what was prepared."""
+        say = self.opened.mailbox.say
         if self.again:
             return self.matched_again(self.ledger, contents)
-        return Match.of(self.ledger, self.path, contents.inventory, contents.is_deleted, self.opened.mailbox.say)
+        if self.prepared and not self.same:
+            self.prepared.look(say)
+        self.ledger.hides = self.prepared.hides if self.prepared else hides_none
+        match = Match.of(self.ledger, self.path, contents.inventory, contents.is_deleted, say)
+        self.ledger.hides = hides_none
+        return match
 
     def matched_again(self, ledger: Ledger, contents: Contents) -> Match:
         """The same if all that is nowhere is placed."""
         return Match.again(ledger, self.path, contents.inventory, contents.is_deleted, self.opened.mailbox.say)
 
     def placing(self, match: Match) -> Placing:
-        """How the program is to place what is nowhere."""
+        """How the program is to place what is nowhere, once what was prepared is what the mailbox wants."""
+        if self.prepared and self.again:
+            self.remarks += kept(self.prepared, self.opened.mailbox.say)
+        elif self.prepared:
+            take_prepared(match, Placing(match), self.prepared)
+            if self.same and len(match.need):
+                raise Left(CHANGED_MEANWHILE, Reason.CHANGED)
+            self.remarks += remove_unwanted(self.prepared, self.how.dry)
         return Placing(match)
 
     def row(self, plan: Plan, then: Next = NOTHING) -> Row:
-        """The row of a mailbox that is done, or would be."""
-        mailbox, fate = self.opened.mailbox, Fate.WOULD if self.how.dry else Fate.DONE
-        row = Row(mailbox.path, self.opened.name, plan.kind, plan.messages, fate, size=mailbox.size)
+        """The row of a mailbox that is done or prepared, or would be."""
+        mailbox, how, spent = self.opened.mailbox, self.how, None
+        done, would = (Fate.PREPARED, Fate.WOULD_PREPARE) if how.prepare else (Fate.DONE, Fate.WOULD)
+        if self.prepared and how.prepare and not how.dry:
+            spent = Spent(self.passed(), self.passed() if self.is_changed else self.prepared.noted.foreseen())
+        its = self.opened.name, plan.kind, plan.messages, would if how.dry else done
+        row = Row(mailbox.path, *its, size=mailbox.size, spent=spent)
         return row._replace(remarks=(*plan.remarks, *self.remarks), next=then)
 
+    def passed(self) -> int:
+        """How many milliseconds were spent on it so far."""
+        return in_milliseconds(self.opened.mailbox.took) + milliseconds_since(self.began)
+
     def has_failed(self) -> bool:
-        """Whether a sync of an earlier run failed."""
-        return has_failed(self.ledger, self.path)
+        """Whether a sync of an earlier run failed, or of a pass."""
+        is_failed = self.prepared is not None and (self.prepared.has_failed or has_failed(self.ledger))
+        return is_failed or has_failed(self.ledger, self.path)
 
     def want_ended(self) -> None:
         """Raises Left if an undo was interrupted, or if a sync failed."""
@@ -217,13 +278,10 @@ class Transfer:
             raise self.left_to_store(LOST % ("damaged in line %d" % ledger.damage), Reason.LEDGER, contents, rest)
         elif known.lost:
             how, rest = "older than its record" if known.is_cut else "missing", self.matched_again(ledger, contents)
-            if not self.is_whole(rest):
+            # what is prepared is no mail yet
+            if len(rest.need) > 0 or self.prepared and self.prepared.is_there:
                 raise self.left_to_store(LOST % how, Reason.LEDGER, contents, rest)
             self.again = True
-
-    def is_whole(self, rest: Match) -> bool:
-        """Whether nothing is nowhere, so that nobody needs to know who brought what."""
-        return len(rest.need) == 0
 
     def left_to_store(self, why: str, reason: Reason, contents: Contents, match: Match) -> Left:
         """Why it is left, with the command that stores what is nowhere: without what could not be done besides then."""
@@ -238,7 +296,11 @@ class Transfer:
 
     @contextlib.contextmanager
     def read(self, choice: Choice) -> Iterator[Contents]:
-        """Reads the text that stands for the mailbox. The program must list the same messages."""
+        """Reads the text that stands for the mailbox, unless all of it is known. The program must list the same
+        messages."""
+        if self.same:
+            yield self.same.contents
+            return
         copies = choice.plan.is_copied + choice.plan.reading.bare
         if copies:
             self.want_room(Need.of(self.disk, [], copies * choice.mailbox.size))
@@ -252,6 +314,8 @@ class Transfer:
         if self.again:
             return
         strangers = unexplained(self.root, match) if len(match.need) else []
+        if strangers and self.how.prepare:
+            raise Left(PARTLY_THERE % len(strangers), Reason.PARTLY_THERE)
         if strangers:
             rest = self.matched_again(self.ledger, contents)
             raise self.left_to_store(PARTLY_THERE % len(strangers), Reason.PARTLY_THERE, contents, rest)
@@ -262,8 +326,8 @@ class Transfer:
 
     def verified(self, row: Row, contents: Contents, batch: int = 0) -> Outcome:
         """The outcome of a mailbox all of whose messages are verified, in a batch or, if it is only prepared, none."""
-        path, state = unspelled(self.path), self.opened.mailbox.state
-        return Outcome(row, self.opened.folder, batch, self.IS_PREPARED, contents.words, path, state)
+        path, state, is_prepared = unspelled(self.path), self.opened.mailbox.state, self.prepared is not None
+        return Outcome(row, self.opened.folder, batch, is_prepared, contents.words, path, state)
 
     def take_steps(self, choice: Choice, contents: Contents, match: Match) -> Outcome:
         """Places what is nowhere, and does what else is to be done."""
@@ -286,13 +350,47 @@ class Transfer:
         may_be_cut |= names_of_no_line(self.ledger, self.path, match, self.known.begun_at or 0)
         batch = self.begin(contents, placing, back)
         if len(one.places):
-            back += max(0, self.conversion.convert(self.opened, contents, placing, batch, self.IS_PREPARED))
-        self.remarks += finish(one, self.how.extra)
+            is_prepared = self.prepared is not None
+            back += max(0, self.conversion.convert(self.opened, contents, placing, batch, is_prepared))
+        of_extra = self.how.extra.run(one)
+        self.remarks += finish(one) + of_extra
         want_none_cut(may_be_cut, one, match)
         if back:
             says = BACK % counted(min(back, len(contents.inventory)), "message")
             self.remarks.append(Remark("came-back", says))
         return self.verified(self.row(choice.plan, then), contents, batch)
+
+    def prepare(self, choice: Choice, contents: Contents, match: Match, prepared: Prepared) -> Outcome:
+        """Places what is nowhere, and verifies all, while people use the mailbox. The list of the folder has it before
+        it is placed, and which mailbox it was: that may be elsewhere by the time of the last pass."""
+        reading, placing, opened = self.passed(), self.placing(match), self.opened
+        if self.how.dry:
+            return Outcome(self.row(choice.plan))
+        note_answer(self.record, opened, choice.plan)
+        origin = origin_of(self.how, self.known, contents)
+        is_same = prepared.is_whole and len(match.need) == 0 and prepared.count() == len(prepared.table)
+        if is_same and prepared.origin and prepared.origin.key == origin.key:
+            self.is_changed = False
+            note_state(prepared, origin)
+            return Outcome(self.row(choice.plan))
+        self.want_room_for(contents, placing)
+        one = self.bringing(contents, match, placing)
+        self.record.make()
+        prepared.make_folder()
+        opened.make_folder()
+        prepared.append(origin.line(), *prepared.names())
+        before = self.record.prepared(opened.name)
+        if not before or (before.key, before.path) != (self.known.key, self.path):
+            words = len(contents.inventory), unspelled(self.path), contents.words
+            self.record.add(Note.PREPARED, self.known.key, *words)
+        self.conversion.convert(opened, contents, placing, 0, True)
+        # flags are those of the last pass: a mail program may change them until then
+        prepared.note_facts()
+        self.remarks += finish(one)
+        text = text_of(choice, contents)
+        prepared.noted.reading = in_milliseconds(opened.mailbox.took) if text else reading
+        prepared.write_whole(origin, text)
+        return self.verified(self.row(choice.plan), contents)
 
     def want_room_for(self, contents: Contents, placing: Placing) -> None:
         """Raises Left if there is no space for what is to be placed, and for the lines of the ledger."""
@@ -302,7 +400,14 @@ class Transfer:
             self.want_room(Need.of(self.opened.folder, wanted))
 
     def begin(self, contents: Contents, placing: Placing, back: int = 0) -> int:
-        """Notes in the ledger what is going to be brought. Returns the number of the batch."""
+        """Notes in the ledger what is going to be brought, and before that in the list of what is prepared, of which it
+        becomes a part. Returns the number of the batch."""
+        prepared = None if self.again else self.prepared
+        if prepared:
+            self.record.make()
+            prepared.make_folder()
+            lines = [] if prepared.origin else [origin_of(self.how, self.known, contents).line()]
+            prepared.append(*lines, *prepared.names(), b">\t%d\n" % (self.ledger.last + 1))
         self.record.make(self.opened.make_folder, self.ledger.make)
         opened, mailbox, match = self.opened, self.opened.mailbox, placing.match
         its = times_of(opened.folder), mailbox.key(), contents.words, self.path, mailbox.state.st_ino, int(time.time())
@@ -322,6 +427,7 @@ class Transfer:
             self.path in self.ledger.sources,
             int(time.time()) if begun_at is None else begun_at,
             self.again,
+            self.prepared,
         )
 
     def want_extra(self, one: Bringing) -> None:

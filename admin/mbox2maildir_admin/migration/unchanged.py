@@ -25,7 +25,7 @@ from ..tuples import NamedTuple
 from ..units import Offset, Say
 from .outcomes import Fate, Row
 from .remarks import remarks_on_dropped
-from .replica import reader_in, signs_of
+from .preparing import reader_in, signs_of
 from .steps import Contents, Opened, Options
 
 

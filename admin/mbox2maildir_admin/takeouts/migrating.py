@@ -25,7 +25,7 @@ from ..migration.answers import answer_to
 from ..migration.converting import settled
 from ..migration.mailbox import Migration
 from ..migration.outcomes import Fate, Observer, Outcome, Row, row_left, seen
-from ..migration.replica import is_prepared
+from ..migration.preparing import is_prepared
 from ..migration.several import refuse
 from ..migration.steps import Opened, Options
 from ..nexts import Answer

@@ -39,7 +39,7 @@ from ..mbox.mailbox import Mailbox
 from ..migration.dovecot import Dovecot, remove_lists
 from ..migration.known import Known
 from ..migration.outcomes import Fate, Observer, Row, row_left
-from ..migration.replica import is_prepared, remove_all
+from ..migration.preparing import is_prepared, remove_all
 from ..migration.several import refuse
 from ..migration.steps import Extra, Opened, Options
 from ..nexts import Remark, Todo, task
