@@ -136,15 +136,10 @@ class History:
             key=lambda one: sum(count for what, count in one.contents.items() if what in sent),
         )
 
-    def right_words(self, box: Box) -> set[str]:
-        """The words by which a mailbox has nothing but what somebody sent."""
+    def right(self, box: Box) -> dict[str, Reading]:
+        """How a mailbox is read by the words by which it has nothing but what somebody sent."""
         sent = self.sent()
-        return {word for word, one in readings(self.text_of(box)).items() if sent.issuperset(one.contents)}
-
-    def right(self, box: Box) -> list[Reading]:
-        """How a mailbox may be read: in each way in which it has nothing but what somebody sent; else in the best."""
-        words = self.right_words(box)
-        return [one for word, one in readings(self.text_of(box)).items() if word in words] or [self.best(box)]
+        return {word: one for word, one in readings(self.text_of(box)).items() if sent.issuperset(one.contents)}
 
     def target(self, box: Box) -> str:
         """The folder into which a mailbox goes that no run has seen."""
@@ -245,8 +240,8 @@ class History:
         for box in self.boxes:
             row = rows.get(box.path)
             if row and row["verdict"] in ENDED:
-                one = min(self.right(box), key=lambda one: len([*self.oracle.missing(row, [one])]))
-                self.note(self.oracle.missing(row, [one]))
+                one, lines = self.oracle.nearest(row, [*self.right(box).values()] or [self.best(box)])
+                self.note(lines)
                 self.oracle.brings(box.number, row["folder"] or self.target(box), one.contents)
 
     def note(self, lines: Iterable[str]) -> None:

@@ -217,7 +217,7 @@ class Labels(History):
         for row in ran.rows:
             box = next(box for box in self.boxes if box.path == row["path"])
             if row["verdict"] in ENDED and row["folder"] in self.parted.get(box, {}):
-                lines = self.oracle.missing(row, [self.parted[box][row["folder"]]])
+                lines = self.oracle.missing(row, self.parted[box][row["folder"]])
                 # what a killed run has noted, it may have been about to say
                 self.wrong += [line for line in lines if not line.endswith("unsaid")]
 

@@ -295,14 +295,12 @@ class Oracle:
                 if said >= count or is_settled:
                     owed[what] = 0
 
-    def missing(self, row: Row, several: Iterable[Reading]) -> Iterator[str]:
-        """What is wrong with what is not there of a mailbox that is done, in whichever way it was read."""
-        wrong = [list(self.missing_as(row, one)) for one in several]
-        if all(wrong):
-            yield from min(wrong, key=len)
+    def nearest(self, row: Row, several: Iterable[Reading]) -> tuple[Reading, list[str]]:
+        """In which of these ways a mailbox that is done was read, and what is wrong with what is not there of it."""
+        return min(((one, [*self.missing(row, one)]) for one in several), key=lambda way: len(way[1]))
 
-    def missing_as(self, row: Row, one: Reading) -> Iterator[str]:
-        """The same if it was read in this way."""
+    def missing(self, row: Row, one: Reading) -> Iterator[str]:
+        """What is wrong with what is not there of a mailbox that is done, if it was read in this way."""
         shelf = self.shelves[row["folder"] or INBOX]
         gone = 0
         for what, count in one.contents.items():

@@ -52,7 +52,7 @@ class Rewritten(History):
 
     def look_for_damage(self) -> None:
         """When Dovecot makes room in a header of a CR LF mailbox, it writes over mail, which is nowhere then."""
-        self.is_damaged |= self.box.kind == "crlf" and not self.right_words(self.box)
+        self.is_damaged |= self.box.kind == "crlf" and not self.right(self.box)
 
     def check(self, ran: Run, rows: dict[str, Row]) -> None:
         """If it is done, it is all there, as it is read in one way."""
@@ -60,7 +60,7 @@ class Rewritten(History):
             self.wrong.append(f"status {ran.status}: {ran.output[-300:]}")
         row, ways = rows.get(INBOX), self.ways(self.box)
         if row and row["verdict"] in ENDED:
-            found = [[*self.oracle.missing(row, [one]), *self.oracle.read_otherwise(row, one, ways)] for one in ways]
+            found = [[*self.oracle.missing(row, one), *self.oracle.read_otherwise(row, one, ways)] for one in ways]
             least: list[str] = min(found, key=len)
             self.note(least)
 
@@ -188,7 +188,7 @@ class Rewritten(History):
         mailbox that nobody sent, and another one doesn't. Its row asks to look at the lines first, which show this."""
         if "--as" not in words:
             return
-        word, right = words[words.index("--as") + 1], self.right_words(self.box)
+        word, right = words[words.index("--as") + 1], self.right(self.box)
         if "--text" in words:
             lines = frozenset(map(int, words[words.index("--text") + 1].split(",")))
             self.answered.append(reading(self.text_of(self.box), word, lines))
