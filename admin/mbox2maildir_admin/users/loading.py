@@ -2,6 +2,7 @@
 can't read, so they are loaded before there is a child."""
 import gc
 import importlib
+import os
 
 from ..maildir.folders import folder_of
 from ..maildir.syncing import call_of_system
@@ -30,7 +31,8 @@ def load_for_children() -> None:
     for name in OF_PACKAGE:
         importlib.import_module("..%s" % name, __package__)
     compile_all()
-    # what these load when they are called first
+    # what these load when they are called first; the last one has libraries of the system's, for the groups of a user
     folder_of("\u00e4")
     call_of_system()
+    os.getgrouplist("root", 0)
     gc.freeze()
