@@ -61,7 +61,7 @@ FIELDS: dict[str, object] = {
 
 def row(**others: object) -> list[object]:
     """A row of a mailbox that is left, with other fields."""
-    return ["row", *{**FIELDS, **others}.values()]
+    return ["row", {**FIELDS, **others}]
 
 
 def answer(does: str, words: object, shell: str = "", messages: Optional[int] = None) -> list[object]:
@@ -100,7 +100,9 @@ NONSENSE = [
     ["then", [["answer"]]],
     ["row"],
     ["row", *range(len(FIELDS))],
-    DONE[:-1],
+    ["row", [*FIELDS.values()]],
+    ["row", {name: value for name, value in FIELDS.items() if name != "path"}],
+    row(more=1),
     [*DONE, None],
     *(row(messages=count) for count in (1.5, -1, "1", 1 << 63)),
     row(fate="fine"),
@@ -110,11 +112,14 @@ NONSENSE = [
     row(tie=7),
     row(spent=[70]),
     row(spent=[70, -3]),
-    row(remarks=[["Grew!", "x"]]),
+    row(remarks=[["Grew!", "x", 0, 0]]),
+    row(remarks=[["", "x", 0, 0]]),
+    row(remarks=[["grew", "x", 0, -1]]),
     row(remarks=[["grew"]]),
     row(quotes=[[-1, "x", False]]),
     row(quotes=[["7", "x", False]]),
     row(counts=[["x", -1]]),
+    row(counts=[["x"]]),
     row(details=[["x", "grew", None, None, "\ud800", ""]]),
     row(details=[["x", "Grew!", None, None, "", ""]]),
     row(details=[["x", "", -1, None, "", ""]]),
@@ -157,7 +162,7 @@ PRINTED = [
             folder=".b",
             kind=BELL,
             why=BELL,
-            remarks=[["grew", BELL]],
+            remarks=[["grew", BELL, 0, 0]],
             quotes=[[7, BELL, 1]],
             details=[[BELL, "", 7, 2, BELL, ""]],
         ),

@@ -1,16 +1,15 @@
 """What a process tells its parent of a row. If it is that of a user, root trusts none of it, and prints it escaped."""
 from collections.abc import Callable, Mapping, Sequence
-from typing import Any, Optional, TypeVar, Union
+from typing import Any, Optional, Union
 
 from ..faults import Reason
 from ..jobs.crew import spelled
 from ..kinds.making import with_aside
 from ..meanings import REMARKS
-from ..nexts import WITH_FILES, Answer, Command, Does, Next, Quote, Remark, Task, Todo, task
-from ..progress import Spent
+from ..nexts import WITH_FILES, Answer, Command, Does, Next, Task, Todo, task
 from ..terminal import shown
 from ..tuples import NamedTuple
-from .outcomes import Detail, Fate, Row
+from .outcomes import Fate, Row
 
 # how long a line of a child may be, in bytes
 LONGEST = 1 << 16
@@ -18,8 +17,6 @@ LONGEST = 1 << 16
 LONGEST_WHY = 1 << 13
 # the highest number of messages or bytes
 HIGHEST = 1 << 63
-
-One = TypeVar("One")
 
 
 class Whose(NamedTuple):
@@ -32,52 +29,48 @@ class Whose(NamedTuple):
     is_back: bool = False
 
 
-def told(row: Row) -> Sequence[Any]:
-    """The words by which a child tells a row. What is too long is left out: no command is told in part."""
-    words = row._replace(why=row.why[:LONGEST_WHY])
-    if len(spelled(words)) <= LONGEST - len('"row", '):
+def fields_of(row: Row) -> dict[str, Any]:
+    """The fields of a row by their names."""
+    return dict(zip(KINDS, row))
+
+
+def told(row: Row) -> dict[str, Any]:
+    """The object by which a child tells a row. What is too long is left out: no command is told in part."""
+    words = fields_of(row._replace(why=row.why[:LONGEST_WHY]))
+    if len(spelled(words)) <= LONGEST - len('["row", ]'):
         return words
     return told(row._replace(remarks=(), quotes=(), details=(), next=task(Todo.ASK_USER)))
 
 
-def row_of(words: Sequence[Any], whose: Optional[Whose] = None) -> Row:
-    """Reads a row that a process told, which may be that of a user. Each word is escaped here; names are escaped where
-    they are printed. Raises an error of Python's if it is no row."""
-    if len(words) != len(READS):
-        raise ValueError("no row")
-    row = Row(*(read(word) for read, word in zip(READS, words)))
+def row_of(words: Mapping[str, Any], whose: Optional[Whose] = None) -> Row:
+    """Reads a row that a process told, which may be that of a user. Root itself knows which way mail goes then, and
+    whose it is. Raises an error of Python's if it is no row."""
+    row = Row(**{name: list(one) if name == "next" else value_of(KINDS[name], one) for name, one in words.items()})
+    if not {*(one.word for one in row.remarks), *(one.word for one in row.details if one.word)} <= REMARKS.keys():
+        raise ValueError("no word")
     row = row._replace(next=next_of(row.next, row.path, whose))
     return row._replace(is_back=whose.is_back, user=whose.name) if whose else row
+
+
+def value_of(kind: Any, value: Any) -> Any:
+    """Reads what a process told as a value of a type, which has as many items as that. A text is escaped here, a name
+    where it is printed. Raises an error of Python's if it is none."""
+    kinds: Sequence[Any] = getattr(kind, "__args__", ())
+    if kind in READS:
+        return READS[kind](value)
+    if type(None) in kinds:
+        return None if value is None else value_of(kinds[0], value)
+    if ... in kinds:
+        return tuple(value_of(kinds[0], one) for one in value)
+    if len(value) != len(kinds or kind.__annotations__):
+        raise ValueError("too few or too many items")
+    items = tuple(map(value_of, kinds or kind.__annotations__.values(), value))
+    return items if kinds else kind(*items)
 
 
 def next_of(steps: Sequence[Any], path: bytes, whose: Optional[Whose]) -> Next:
     """Reads what a process told of what is to be done with a path."""
     return tuple(step_of(one, path, whose) for one in steps)
-
-
-def quote_of(line: object, text: str, is_around: object) -> Quote:
-    """Reads a line of mail that a child told."""
-    return Quote(number_of(line), shown(text), is_around is True)
-
-
-def remark_of(word: str, says: str, there: object = 0, stands: object = 0) -> Remark:
-    """Reads a remark that a child told."""
-    if word not in REMARKS:
-        raise ValueError("no word")
-    return Remark(word, shown(says), number_of(there), number_of(stands))
-
-
-def detail_of(says: str, word: str, line: object, message: object, path: str, text: str) -> Detail:
-    """Reads what a child told of a message, a file or a line."""
-    if word and word not in REMARKS:
-        raise ValueError("no word")
-    number = perhaps(number_of)
-    return Detail(shown(says), word, number(line), number(message), bytes_of(path), shown(text))
-
-
-def count_of(word: str, count: object) -> tuple[str, int]:
-    """Reads how many of a sort a child told."""
-    return shown(word), number_of(count)
 
 
 def step_of(words: Sequence[Any], path: bytes, whose: Optional[Whose]) -> Union[Answer, Task]:
@@ -88,7 +81,7 @@ def step_of(words: Sequence[Any], path: bytes, whose: Optional[Whose]) -> Union[
         names, user = rest
         return task_of(Todo.by(what), names, user, path, whose)
     (argv, shell, user), (word, messages) = what, rest
-    does, count = Does.by(word), perhaps(number_of)(messages)
+    does, count = Does.by(word), value_of(Optional[int], messages)
     if bool(argv) == bool(shell):
         raise ValueError("no command")
     command = Command(tuple(map(name_in, argv)), name_in(shell), whose.user if whose else user)
@@ -128,19 +121,9 @@ def bytes_of(name: str) -> bytes:
     return name.encode("utf-8", "surrogateescape")
 
 
-def perhaps(read: Callable[[Any], One]) -> Callable[[Any], Optional[One]]:
-    """Reads what may be missing."""
-    return lambda word: None if word is None else read(word)
-
-
-def each(read: Callable[..., object]) -> Callable[[Any], object]:
-    """Reads a list of lists."""
-    return lambda words: tuple(read(*one) for one in words)
-
-
-# how each field of a row is read; what is next needs more, and root itself knows which way mail goes, and whose it is
-READS: Sequence[Callable[[Any], Any]] = (
-    *(bytes_of, bytes_of, shown, perhaps(number_of), Fate, shown, perhaps(Reason.by), perhaps(number_of)),
-    *(each(remark_of), each(quote_of), list, perhaps(lambda words: Spent(*map(number_of, words)))),
-    *(lambda word: word is True, shown, perhaps(number_of), each(count_of), each(detail_of), lambda _: None),
-)
+# the types of the fields of a row, and how a value of each type is read that has no items
+KINDS = Row.__annotations__
+READS: Mapping[Any, Callable[[Any], Any]] = {
+    **{str: shown, bytes: bytes_of, int: number_of, bool: lambda value: value is True},
+    **{Fate: Fate, Reason: Reason.by},
+}

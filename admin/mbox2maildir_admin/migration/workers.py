@@ -2,7 +2,7 @@
 next. It tells its parent what became of each. Only the parent writes the record, and prints."""
 import collections
 import os
-from collections.abc import Callable, Iterator, Sequence
+from collections.abc import Callable, Iterator, Mapping, Sequence
 from typing import Any, Optional
 
 from ..faults import Left, PlaceFault, Reason
@@ -17,7 +17,7 @@ from ..terminal import complain
 from ..tuples import NamedTuple
 from .outcomes import Observer, Outcome, row_left
 from .places import Planned
-from .telling import bytes_of, row_of
+from .telling import bytes_of, fields_of, row_of, value_of
 
 
 class Work:
@@ -51,7 +51,8 @@ class Work:
         """Tells what became of the mailbox at a place in the plan."""
         self.parent.next_time = 0.0
         # JSON would keep no fractions of the times of a state
-        self.parent.tell("became", place, *ended[:-1], ended.state and ended.state.__reduce__()[1])
+        state = ended.state and ended.state.__reduce__()[1]
+        self.parent.tell("became", place, fields_of(ended.row), *ended[1:-1], state)
 
 
 class Orders(NamedTuple):
@@ -126,14 +127,14 @@ class Workers(Crew):
             else:
                 child.answer()
         else:
-            child.has, child.wants = None, Need(bytes_of(words[0]), *words[1:])
+            child.has, child.wants = None, value_of(Need, words)
 
     def take_progress(self, child: Worker, who: str, doing: str, *numbers: int) -> None:
         """Passes on how far a mailbox is."""
         child.who, child.at = who, " ".join([doing, *([amount(*numbers)] if len(numbers) == 2 else [])])
         self.orders.observer.progress(who, doing, *numbers)
 
-    def take_row(self, child: Worker, place: int, row: Sequence[Any], *told: Any) -> None:
+    def take_row(self, child: Worker, place: int, row: Mapping[str, Any], *told: Any) -> None:
         """Takes what became of a mailbox."""
         child.places.remove(place)
         folder, batch, is_prepared, words, path, state = told

@@ -157,9 +157,9 @@ class Children(Crew):
         """Leaves something of a user."""
         self.reporter.row(row_left(b"", b"", why)._replace(user=child.whose.name))
 
-    def take_row(self, child: UsersChild, *words: Any) -> None:
+    def take_row(self, child: UsersChild, words: Any) -> None:
         """Takes a row."""
-        if any(isinstance(one, list) and len(one) > MOST for one in words):
+        if any(isinstance(one, list) and len(one) > MOST for one in words.values()):
             raise ValueError("too many")
         self.reporter.row(row_of(words, child.whose))
         child.rows += 1

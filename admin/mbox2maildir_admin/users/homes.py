@@ -178,7 +178,7 @@ class Relay(Observer):
         path = row.path if row.path in self.migrant.user.beside or path.startswith(b"../") else path
         self.told.add(row.path)
         self.rows += 1
-        self.parent.tell("row", *told(row._replace(path=path)))
+        self.parent.tell("row", told(row._replace(path=path)))
 
     def next(self, then: Next) -> None:
         """Tells what is to be done once all is done."""
