@@ -39,22 +39,18 @@ Unnamed = Mapping[bytes, collections.deque[bytes]]
 
 class File:
     """A file that lines are about: these lines, the newest first, the name that it has, and whether no newer file took
-    the name that it had. It has none if it is gone."""
+    the name that it had. It has none if it is gone. `holders` is how many mailboxes have its message still."""
 
-    __slots__ = "lines", "name", "is_newest"
+    __slots__ = "lines", "name", "is_newest", "holders"
 
     def __init__(self, lines: list[Line], name: Optional[bytes], is_newest: bool = True) -> None:
         self.lines, self.name, self.is_newest = lines, name, is_newest
+        self.holders = sum(line.state is State.HELD for line in lines)
 
     @property
     def bare(self) -> bytes:
         """The bare form of what it holds. Later lines may be of messages in other forms."""
         return self.lines[-1].message.bare
-
-    @property
-    def holders(self) -> int:
-        """How many mailboxes have its message still."""
-        return sum(line.state is State.HELD for line in self.lines)
 
     def is_held_by(self, path: str) -> bool:
         """Whether this mailbox has it still."""
