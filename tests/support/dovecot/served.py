@@ -189,12 +189,14 @@ class Case:
     def by_mailbox(self, before: Shown) -> Shown:
         """What was shown, except that messages have the dates that Dovecot shows without its index, and those with
         several fields Status the flags. Its index may contradict the mailbox, which is all that `migrate` reads: a
-        message that takes the UID of another one, by a stranger's X-UID, has its date there."""
+        message that takes the UID of another one, by a stranger's X-UID, has its date there, or hides what follows."""
         other = self.copy(self.name + "-anew")
         shutil.rmtree(str(other.home / "mail/.imap"))
         folders = {}
         for name, (validity, following, rows) in before[0].items():
             anew = {row[0]: row for row in self.server.by_imap(other.name, name)[2]}
+            if len(anew) != len(rows):
+                raise LeftOut("Dovecot shows other messages without its index")
             path = self.inbox if name == "INBOX" else self.home / "mail" / name
             # a first message that Dovecot hides has no row
             texts = split(path.read_bytes(), "unquoted")[-len(rows) :]
