@@ -65,6 +65,11 @@ STORIES: dict[str, list[Step]] = {
         *("!rm $(grep -l two M/new/*)", ("b", TWO), ("migrate M b", "b: done: INBOX has the mail of a too")),
         *("= one two", "migrate --undo M a", "= two"),
     ],
+    # it may have what it shares, though no run says so yet
+    "another_mailbox_was_begun": [
+        *steps(("a", ONE + TWO), "migrate M a", ("b", TWO + THREE), *killed("migrate M b")),
+        *(("migrate --undo M a", "a: undone: removed 1 message; kept 1 message that b has too"), "= three two"),
+    ],
     "the_ledger_is_older_than_two_others": [
         *(("a", ONE), "migrate M a", f"!cp {LEDGER} kept", ("b", TWO), "migrate M b", ("c", THREE), "migrate M c"),
         *(f"!cp kept {LEDGER}; rm M/new/*", ("d", TWO + THREE)),
