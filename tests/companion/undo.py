@@ -11,8 +11,8 @@ from tests.support.cases import LeftOut
 from tests.support.checks import LATER, PATIENCE, equal, match_in
 from tests.support.copies import Copies, Meanwhile
 from tests.support.homes import check_all, expect, hand_over, is_root, mail_in, mailbox, run, subjects
-from tests.support.ledgers import LEDGER, RECORD, wait_for_lock
-from tests.support.mail import ONE, THREE, TWO, numbered
+from tests.support.ledgers import wait_for_lock
+from tests.support.mail import ONE, THREE, TWO
 from tests.support.running import Desk, Kill
 
 UNDO = ["migrate", "--all", "--undo", "M", "box"]
@@ -203,50 +203,6 @@ def half_done_by_mb2md(home: Path) -> None:
     equal("what mb2md did stays", subjects(home / "M"), [str(number) for number in range(4)])
 
 
-def a_second_batch(home: Path) -> None:
-    """--again converts those mailboxes of a folder that were edited as a whole, and no others."""
-    for name in ("a", "b"):
-        mailbox(home / "tree" / name, numbered("first", 5))
-    expect("migrate M tree", home, 0, None)
-    mailbox(home / "tree/a", numbered("second", 5))
-    next(mail_in(home / "M/.b")).unlink()
-    status, out, _ = run("migrate --all M tree", home)
-    assert status == 1 and "tree/a -> a: mboxrd or mboxo, messages 5: left (rewritten): 5 messages that" in out, out
-    out = (
-        "tree/a -> a: mboxrd or mboxo, messages 5: done, placed 5 messages\n"
-        "tree/b -> b: done before, 1 of the 5 messages that were placed in its folder are gone, ...\n"
-        "2 mailboxes: 1 done, 1 done before\n"
-    )
-    expect("migrate --all --again M tree", home, 0, out)
-    equal("what is there", [len(subjects(home / "M" / name)) for name in (".a", ".b")], [10, 4])
-
-
-def interrupted(home: Path) -> None:
-    """Of two equal mailboxes the undo of one was interrupted. The next command for it names that, and the other one is
-    done as before."""
-    mailbox(home / "box", ONE + TWO + THREE)
-    mailbox(home / "twin", ONE + TWO + THREE)
-    for name in ("box", "twin"):
-        expect(["migrate", "M", name], home, 0, None)
-    record, ledger = home / "M" / RECORD, home / "M" / LEDGER
-    before, brought = record.read_bytes(), ledger.read_bytes()
-    expect(UNDO, home, 0, None)
-    lines = ledger.read_bytes()[len(brought) :].splitlines(True)
-    equal("its lines", [line.split(b"\t")[0] for line in lines], [b"<", b"-"])
-    record.write_bytes(before)
-    ledger.write_bytes(brought + lines[0])
-    expect("migrate --all M twin", home, 0, "1 mailbox: 1 done before\n")
-    out = run("migrate --all M box", home)[1]
-    match_in(
-        r"left \(undo\): its undo was interrupted\n    run this next:\n"
-        r"        mbox2maildir-admin migrate --undo M box\n",
-        out,
-    )
-    expect(UNDO, home, 0, None)
-    expect("migrate --all M twin", home, 0, "1 mailbox: 1 done before\n")
-    equal("what is there", subjects(home / "M"), ["one", "three", "two"])
-
-
 if __name__ == "__main__":
     check_all(
         there_and_back,
@@ -255,6 +211,4 @@ if __name__ == "__main__":
         meanwhile,
         only_prepared,
         half_done_by_mb2md,
-        a_second_batch,
-        interrupted,
     )

@@ -65,6 +65,31 @@ STORIES: dict[str, list[Step]] = {
         *("!rm $(grep -l two M/new/*)", ("b", TWO), ("migrate M b", "b: done: INBOX has the mail of a too")),
         *("= one two", "migrate --undo M a", "= two"),
     ],
+    # the next command for it names that
+    "the_undo_of_an_equal_mailbox_was_killed": [
+        *(("a", ONE + TWO), "migrate M a", ("b", ONE + TWO), "migrate M b", f"!printf '<\\t%s\\n' $PWD/a >>{LEDGER}"),
+        *(("migrate M b", "b: done before"), ("migrate M a", "a: left (undo): its undo was interrupted")),
+        *((">", "a: undone: removed 0 messages; kept 2 messages that b has too"), ("migrate M b", "b: done before")),
+        "= one two",
+    ],
+    # of a tree, --again converts those mailboxes that were edited as a whole, and no others
+    "another_mailbox_was_edited_as_a_whole": [
+        *(
+            ("old/a", numbered("first", 5)),
+            ("old/b", numbered("other", 5)),
+            "migrate M old",
+            "!rm $(grep -l 1$ M/.b/new/*)",
+        ),
+        *(
+            ("old/a", numbered("second", 5)),
+            ("migrate M old", "old/a: left (rewritten): 5 messages ...\nold/b: done ..."),
+        ),
+        (
+            "migrate --again M old",
+            "old/a: done: placed 5 messages\nold/b: done before: 1 of the 5 messages that were ...",
+        ),
+        "!test $(ls M/.a/new | wc -l) = 10 -a $(ls M/.b/new | wc -l) = 4",
+    ],
     # it may have what it shares, though no run says so yet
     "another_mailbox_was_begun": [
         *steps(("a", ONE + TWO), "migrate M a", ("b", TWO + THREE), *killed("migrate M b")),
