@@ -414,7 +414,8 @@ def without_proc(home: Path) -> None:
 
 
 def hostile_spool(home: Path) -> None:
-    """In a spool in which each user may make files, those of others beside a mailbox stop nobody."""
+    """In a spool in which each user may make files, those of others beside a mailbox stop nobody. A link in place of a
+    folder of the user's Maildir is not followed."""
     old = home / "sticky/spool"
     theirs(mailbox(old / "m61one", ONE), "m61one")
     old.chmod(0o1777)
@@ -428,6 +429,10 @@ def hostile_spool(home: Path) -> None:
         "m61one -> INBOX: mboxrd or mboxo, messages 1: done\n"
         "3 mailboxes: 1 done, 2 left; 1 user: ...\n",
     )
+    theirs(mailbox(home / "homes/m61one/post/Sent", TWO), "m61one")
+    os.symlink("/etc", home / "homes/m61one/Sticky/.Sent")
+    out = run("migrate --all --users --maildir Sticky --tree post sticky/spool m61one", home)[1]
+    match_in(r"m61one post/Sent -> Sent: .*left \(.*: it is a symbolic link, which is not followed", out)
 
 
 def hostile_homes(home: Path) -> None:

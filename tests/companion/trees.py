@@ -1,33 +1,18 @@
 """mbox2maildir-admin migrate of folders of mailboxes: which folder each mailbox becomes, what of a tree is left, what
 stays in the folder that the record has, and what is passed over, then and later."""
-import gzip
 import os
-import pwd
 import shutil
 from pathlib import Path
 
-from tests.support import accounts
 from tests.support.checks import equal, matches
 from tests.support.copies import Copies
-from tests.support.homes import (
-    by_json,
-    expect,
-    files_of,
-    hand_over,
-    mailbox,
-    run,
-    run_printed,
-    subjects,
-    want_root,
-    want_users,
-)
+from tests.support.homes import by_json, expect, files_of, hand_over, mailbox, run, run_printed, subjects, want_root
 from tests.support.ledgers import LEDGER
 from tests.support.mail import A, B, MAY, ONE, THREE, TWO, with_length
 from tests.support.printed import rows_in
 from tests.support.running import BY_OTHERS, OWNER
 from tests.support.stories import Step, run_stories
 
-USER = "m93one"
 # the line before a command that is to be run, and what comes before the command itself
 RUN = "    run this next:\n        "
 
@@ -338,29 +323,6 @@ def profile_of_one_account(home: Path) -> None:
     equal("no profile", sorted(row["folder"] for row in rows), ["Mail/c/Inbox", "notes"])
 
 
-def of_a_user(home: Path) -> None:
-    """What others put beside a mailbox, in a spool where anybody may write, keeps its user from nothing. A link in
-    place of a folder of the user's Maildir is not followed."""
-    want_users()
-    own = home / "homes" / USER
-    with accounts.users({USER: own}):
-        mailbox(own / "mail/Sent", TWO)
-        for sub in ("new", "cur", "tmp"):
-            (own / "Maildir" / sub).mkdir(parents=True)
-        os.symlink("/etc", own / "Maildir/.Sent")
-        mailbox(home / "spool" / USER, ONE)
-        mailbox(home / f"spool/{USER}.gz", gzip.compress(TWO))
-        for path in (own, *own.rglob("*"), home / "spool" / USER):
-            os.lchown(path, *pwd.getpwnam(USER)[2:4])
-        (home / "spool").chmod(0o1777)
-        ran = by_json(["migrate", "--users", "--tree", "mail", "--now", "spool"], home)
-        box, sent = ran.of("", USER), ran.of("mail/Sent", USER)
-        equal("the mailbox of the spool", box["verdict"], "done")
-        matches(
-            "a link", f"{sent['verdict']}: {sent['says']}", "left: ...: it is a symbolic link, which is not followed"
-        )
-
-
 # what is passed over by a pattern, what is said then, and the same by paths
 JUNK = "--no-mail *.junk --no-mail none M tree"
 OF_JUNK = (
@@ -533,5 +495,4 @@ if __name__ == "__main__":
         profile,
         what_cannot_be_read,
         profile_of_one_account,
-        of_a_user,
     )
