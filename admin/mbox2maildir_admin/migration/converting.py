@@ -81,7 +81,8 @@ class Conversion:
         if placing.rest < len(inventory):
             ran = self.run_program(text, inventory.offset(placing.rest), opened.folder)
             return ran._replace(placed=placed + ran.placed)
-        if not before and not (is_prepared and is_swept(opened.folder)):
+        tmp = os.path.join(opened.folder, b"tmp")
+        if not before and (not is_prepared or any(map(base_in, os.listdir(tmp)))):
             self.sweep(opened.folder)
         return Converted(text.end, placed)
 
@@ -184,11 +185,6 @@ def leaving(rows: list[Row], *places: int) -> Iterator[None]:
         for place in places:
             fault = fault_of(error, rows[place].path)
             rows[place] = rows[place]._replace(fate=Fate.LEFT, why=str(fault), reason=fault.reason, remarks=())
-
-
-def is_swept(folder: bytes) -> bool:
-    """Whether `tmp` has no name that begins as those of the program do, which it would remove."""
-    return not any(map(base_in, os.listdir(os.path.join(folder, b"tmp"))))
 
 
 def with_call(says: str) -> str:

@@ -1,11 +1,11 @@
 """What the record of a Maildir, and the ledger of a folder, know of a mailbox before it is read."""
 import itertools
 import os
-from collections.abc import Container, Iterable
+from collections.abc import Container
 from typing import Optional
 
 from ..ledger.history import Entry, Key, Note, Step, names_of
-from ..ledger.ledger import Ledger, count_in
+from ..ledger.ledger import Ledger
 from ..ledger.match import cores_of
 from ..ledger.record import Record, is_gone, unspelled
 from ..looks import is_there, state_at
@@ -38,8 +38,10 @@ class Known:
         # the lines of the index about mailboxes of which the ledger lacks something, and that about this one, which may
         # have been moved
         self.unknown = record.unknown_to(opened.name, ledger)
-        own = (one for one in self.unknown if one.path in self.names)
-        self.lost = next(own, None if self.path in ledger.paths() else self.moved_from(self.unknown))
+        self.lost = next((one for one in self.unknown if one.path in self.names), None)
+        if not self.lost and self.path not in ledger.paths():
+            moved = (one for one in self.unknown if self.has_bytes_of(one) and is_gone(one.path))
+            self.lost = next(moved, None)
         # no number is given again of a batch that the ledger has lost
         ledger.last = max(ledger.last, record.last_numbers.get(ledger.number, 0))
 
@@ -48,20 +50,16 @@ class Known:
         """The folder, and the mailbox by its size and its SHA-256."""
         return Key(self.opened.name, *self.opened.mailbox.key())
 
-    def moved_from(self, lines: Iterable[Entry]) -> Optional[Entry]:
-        """The line about a mailbox that had the bytes of this one, and is gone from its path."""
+    def has_bytes_of(self, line: Entry) -> bool:
+        """Whether the mailbox has the bytes of the one that a line is about. One of another size is not read for that,
+        and one without a byte is no other one."""
         mailbox = self.opened.mailbox
-        same = (one for one in lines if mailbox.size and one.key.size == mailbox.size and one.key[1:] == mailbox.key())
-        return next((one for one in same if is_gone(one.path)), None)
+        return mailbox.size > 0 and line.key.size == mailbox.size and line.key[1:] == mailbox.key()
 
     @property
     def is_cut(self) -> bool:
         """Whether the ledger is older than what the index has of the mailbox."""
         return self.lost is not None and self.lost.ledger == self.ledger.number
-
-    def count_lost(self) -> int:
-        """How many messages the index counts of the mailbox that an older ledger lacks."""
-        return max(0, (self.lost.messages if self.lost else 0) - count_in(self.ledger, self.path))
 
     def count_lost_of_others(self) -> int:
         """How many messages the index counts of other mailboxes that the ledger lacks. It may lack what was deleted of
@@ -94,8 +92,7 @@ class Known:
             notes = self.record.noting(Note.EMPTY, self.opened.name, mailbox.path)
             return None if source and source.count() else next((one for one in notes if one.key == self.key), None)
         if self.lost:
-            is_same = self.lost.key.size == mailbox.size and self.lost.key[1:] == mailbox.key()
-            return self.lost if is_same and self.lost.what is Step.DONE else None
+            return self.lost if self.has_bytes_of(self.lost) and self.lost.what is Step.DONE else None
         if self.path in ledger.paths():
             return self.done_at(self.path)
         moved = next((path for path in ledger.paths() if self.done_at(path) and is_gone(path)), None)

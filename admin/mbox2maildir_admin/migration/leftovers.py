@@ -16,11 +16,10 @@ from ..maildir.folders import INBOX, folder_path, folders_in, name_of, words_of
 from ..nexts import Does, Remark, Todo, run_next, task
 from ..terminal import operand, spelled, text_of
 from ..tuples import NamedTuple
-from ..units import counted
 from .dovecot import names_in
-from .outcomes import Fate, Row, row_left
+from .outcomes import Row, row_left
 from .places import Planned
-from .preparing import empty, is_prepared, remove_all
+from .preparing import empty, is_prepared, undone
 from .steps import Options
 from .transfer import TENTH
 
@@ -51,11 +50,6 @@ def listed_in(root: bytes) -> list[Listed]:
     return found
 
 
-def asides_in(root: bytes) -> list[bytes]:
-    """The folders that a killed pass was making or removing."""
-    return [os.path.join(root, name) for name in names_in(root) if name.startswith(ASIDE)]
-
-
 class Leftovers:
     """The folders that were prepared before a run, and what becomes of those into which no mailbox of it went. What was
     prepared from a tree is that tree's if one of its folders is: it may have another path by now."""
@@ -80,15 +74,18 @@ class Leftovers:
             except (Fault, OSError) as fault:
                 yield row_left(unspelled(one.path), one.name, fault)
         now = {tree: unspelled(tree) for tree in map(spelled, self.trees)}
-        met = {one.tree: went[one.name] for one in self.listed if one.tree and one.name in went}
-        now.update({tree: self.tree_of(real_path(path)) for tree, path in met.items()})
+        met = {one.tree: real_path(went[one.name]) for one in self.listed if one.tree and one.name in went}
+        for tree, path in met.items():
+            now[tree] = next((one for one in self.trees if path.startswith(one.rstrip(b"/") + b"/")), b"")
         absent = [one for one in left if now.get(one.tree) and not is_there(one.path_in(now[one.tree]))]
         many, all_of = (collections.Counter(one.tree for one in several) for several in (absent, self.listed))
         for one in left:
             if one not in absent:
                 yield self.left(one, NOT_MET, unspelled(one.path))
             elif many[one.tree] * TENTH <= all_of[one.tree]:
-                yield self.emptied(one)
+                row = undone(self.record, unspelled(one.path), one.name, self.options.dry)
+                if row:
+                    yield row._replace(remarks=(Remark("mailbox-gone", MAILBOX_GONE), *row.remarks))
             else:
                 yield self.left(one, MANY_GONE % (many[one.tree], all_of[one.tree]), one.path_in(now[one.tree]))
 
@@ -109,9 +106,11 @@ class Leftovers:
         were made for these, or were removed."""
         if self.options.dry or self.options.prepare:
             return
-        for path in asides_in(self.root):
+        for name in names_in(self.root):
             with contextlib.suppress(OSError):
-                remove_aside(path)
+                if name.startswith(ASIDE):
+                    # a killed pass was making or removing it
+                    remove_aside(os.path.join(self.root, name))
         for folder in folders_in(self.root):
             name = name_of(self.root, folder)
             with contextlib.suppress(Fault, OSError):
@@ -123,16 +122,3 @@ class Leftovers:
         """Whether a folder is only prepared still."""
         folder = folder_path(self.root, one.name)
         return is_prepared(self.record, one.name, Ledger(folder), Prepared.read(folder))
-
-    def tree_of(self, path: bytes) -> bytes:
-        """The tree of the run that a mailbox is in; empty if it is in none."""
-        return next((tree for tree in self.trees if path.startswith(tree.rstrip(b"/") + b"/")), b"")
-
-    def emptied(self, one: Listed) -> Row:
-        """The row of a folder from which everything that was prepared is removed."""
-        folder = folder_path(self.root, one.name)
-        dry, prepared = self.options.dry, Prepared.read(folder)
-        count = remove_all(self.record, one.name, Ledger(folder, dry=dry), prepared)
-        fate, word = (Fate.WOULD_UNDO, "would remove") if dry else (Fate.UNDONE, "removed")
-        remarks = Remark("mailbox-gone", MAILBOX_GONE), Remark("removed", "%s %s" % (word, counted(count, "message")))
-        return Row(unspelled(one.path), one.name, "", None, fate, remarks=remarks)

@@ -20,7 +20,7 @@ from ..ledger.prepared_lines import NEXT_LIST, Origin, aside_of, has_list, home_
 from ..ledger.record import Record, unspelled
 from ..looks import is_folder, is_there, real_path
 from ..maildir.files import digest_of, names_of
-from ..maildir.folders import INBOX
+from ..maildir.folders import INBOX, folder_path
 from ..maildir.making import LEDGER, MARK, PREPARED, SUBFOLDERS, sync_folder
 from ..mbox.bases import base_in, before_info, own_base_in
 from ..nexts import Answer, Does, Remark
@@ -30,6 +30,7 @@ from ..units import Say, counted, silent
 from .converting import PREPARED_SYNC_FAILED, SYNC_FAILED
 from .dovecot import KEYWORDS, LIST, Dovecot, names_in, remove_part
 from .known import Known
+from .outcomes import Fate, Row
 from .steps import Contents, Opened, Options
 
 
@@ -228,16 +229,26 @@ def give_names_back(folder: bytes, prepared: Prepared) -> None:
                 os.rename(path, target)
 
 
-def remove_all(record: Record, name: bytes, ledger: Ledger, prepared: Prepared, say: Say = silent) -> int:
-    """Removes what is prepared in a folder, and what a `migrate` that was killed has done there. Returns how many files
-    that is, which a dry run only counts."""
+def undone(record: Record, path: bytes, name: bytes, dry: bool, say: Say = silent) -> Optional[Row]:
+    """The row of a mailbox from which a folder was prepared, once everything is removed that is prepared there, and
+    that a `migrate` that was killed has done; None if nothing is prepared there. A dry run only counts."""
+    folder = folder_path(record.maildir, name)
+    ledger, prepared = Ledger(folder, dry=dry), Prepared.read(folder)
+    if not is_prepared(record, name, ledger, prepared):
+        return None
     if prepared.batch:
         take_back(record, name, ledger, prepared)
     prepared.look(say)
     count = prepared.unwanted()
-    if not record.is_dry:
+    if not dry:
         empty(record, name, ledger, prepared)
-    return count
+    fate, removes, keeps = (Fate.WOULD_UNDO, "would remove", "would keep") if dry else (Fate.UNDONE, "removed", "kept")
+    remarks = [Remark("removed", "%s %s" % (removes, counted(count, "message")))]
+    if prepared.edited:
+        edited = counted(len(prepared.edited), "message")
+        remarks.append(Remark("kept-edited", "%s %s that somebody edited" % (keeps, edited)))
+    messages = prepared.origin.messages if prepared.origin else None
+    return Row(path, name, "", messages, fate, remarks=tuple(remarks))
 
 
 def empty(record: Record, name: bytes, ledger: Ledger, prepared: Prepared) -> None:
@@ -256,17 +267,12 @@ def empty(record: Record, name: bytes, ledger: Ledger, prepared: Prepared) -> No
         ledger.forget_all()
 
 
-def holds_nothing(folder: bytes) -> bool:
-    """Whether a folder has no mail, and nothing else but what a pass makes there."""
-    names = set(os.listdir(folder)) - {*SUBFOLDERS, MARK, LEDGER, PREPARED, NEXT_LIST}
-    return not names and not any(names_in(os.path.join(folder, sub)) for sub in SUBFOLDERS)
-
-
 def clear_folder(prepared: Prepared) -> bool:
     """Removes what makes a folder one of a Maildir, and its ledger, if it was made for this and holds nothing else.
     Returns whether it did. The list is still there, so that another run can go on."""
     folder = prepared.folder
-    if not prepared.is_made or not holds_nothing(folder):
+    others = set(os.listdir(folder)) - {*SUBFOLDERS, MARK, LEDGER, PREPARED, NEXT_LIST}
+    if not prepared.is_made or others or any(names_in(os.path.join(folder, sub)) for sub in SUBFOLDERS):
         return False
     for sub in SUBFOLDERS:
         with contextlib.suppress(FileNotFoundError):

@@ -116,9 +116,11 @@ class Transfer:
         mailbox, name = self.opened.mailbox, self.opened.name
         of_uids = self.how.extra.remarks_on_done(name) if mailbox.size else []
         of_folder = back_in(self.ledger) + gone_from(self.ledger)
-        if self.known.is_cut:
-            of_folder = [Remark("ledger-older", OLDER % counted(self.known.count_lost(), "message"))]
-        elif self.known.lost:
+        lost = self.known.lost
+        if lost and self.known.is_cut:
+            lacking = max(0, lost.messages - count_in(self.ledger, self.path))
+            of_folder = [Remark("ledger-older", OLDER % counted(lacking, "message"))]
+        elif lost:
             of_folder = [LEDGER_GONE if is_folder(self.opened.folder) else FOLDER_GONE]
         says = (*of_uids, *remarks_on_dropped(words), *of_folder, *more)
         return Row(mailbox.path, name, "", messages, Fate.BEFORE, size=mailbox.size, remarks=says)

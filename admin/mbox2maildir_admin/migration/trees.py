@@ -185,7 +185,7 @@ class Tree:
         names = list(self.met[key].values())[:-1]
         others = [one for one in names if state.st_nlink == 1 or real_path(one) == real_path(path)]
         if others:
-            self.pass_over(path, same_file(others[0]))
+            self.pass_over(path, Remark("same-file", "the same file as %s" % named(others[0])))
         else:
             self.files.append(path)
 
@@ -261,11 +261,6 @@ class Tree:
 def also_named(others: Sequence[bytes]) -> Remark:
     """What is said of a file with other names."""
     return Remark("also-named", "also named %s" % " and ".join(map(named, others)))
-
-
-def same_file(path: bytes) -> Remark:
-    """What is said of another name of a file."""
-    return Remark("same-file", "the same file as %s" % named(path))
 
 
 def other_names(met: NamesMet) -> dict[bytes, list[bytes]]:

@@ -30,7 +30,7 @@ from ..ledger.record import Record, is_gone, unspelled
 from ..looks import is_there
 from ..maildir.files import digest_of
 from ..maildir.files import names_of as mail_in
-from ..maildir.folders import INBOX, folder_named, folder_of, folder_path, folders_in, name_of, on_disk
+from ..maildir.folders import INBOX, folder_named, folder_of, folders_in, name_of, on_disk
 from ..maildir.making import RECORD
 from ..maildir.roots import real_place
 from ..mbox.bases import DIGEST, base_in, before_info, is_own
@@ -39,7 +39,7 @@ from ..mbox.mailbox import Mailbox
 from ..migration.dovecot import Dovecot, remove_lists
 from ..migration.known import Known
 from ..migration.outcomes import Fate, Observer, Row, row_left
-from ..migration.preparing import is_prepared, remove_all
+from ..migration.preparing import undone
 from ..migration.several import refuse
 from ..migration.steps import Extra, Opened, Options
 from ..nexts import Remark, Todo, task
@@ -374,16 +374,7 @@ def undo_prepared(
     row; None if nothing is prepared there, or a list that is there does not count."""
     try:
         name = folder if folder is not None else prepared_from(root, path)
-        place = folder_path(root, name) if name is not None else b""
-        if name is None or not has_list(place):
-            return None
-        ledger, prepared = Ledger(place, dry=dry), Prepared.read(place)
-        if not is_prepared(record, name, ledger, prepared):
-            return None
-        counts: Counts = collections.Counter({Why.REMOVED: remove_all(record, name, ledger, prepared, say)})
-        counts[Why.EDITED] = len(prepared.edited)
-        fate, remarks = Fate.WOULD_UNDO if dry else Fate.UNDONE, tuple(remarks_on(counts, collections.Counter(), dry))
-        return Row(path, name, "", prepared.origin.messages if prepared.origin else None, fate, remarks=remarks)
+        return None if name is None else undone(record, path, name, dry, say)
     except (Fault, OSError) as fault:
         return row_left(path, folder or b"", fault)
 
