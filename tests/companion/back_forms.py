@@ -220,6 +220,18 @@ def without_an_end(home: Home) -> None:
     house.has({**dict.fromkeys(PATHS, []), "spool": [new]})
 
 
+def a_line_in_a_header(home: Home) -> None:
+    """Where lengths are right nothing is quoted, and mail with a line `From ` in its header would be two: it goes
+    beside."""
+    body = b"hello\nFrom the shed.\n"
+    house = House(home, dict.fromkeys(PATHS, letter(1, b"Content-Length: %d\n" % len(body), body)))
+    plain, odd = b"Subject: plain\n\nhello\n", b"From x@y Mon Mar  3 09:12:44 2025\nSubject: odd\n\nbody\n"
+    house.deliver([plain, odd])
+    rows = [Told("mail/inbox-back", messages=1, files=("M/new/1.M1.host",)), Told("spool", messages=1)]
+    equal("rows", house.back(), rows)
+    house.has({**dict.fromkeys(PATHS, []), "spool": [plain], "mail/inbox-back": [odd]})
+
+
 def held_by_none(home: Home) -> None:
     """What no mailbox holds stays in the Maildir, by the name of its file; all else goes back. No mailbox is made for
     it."""
@@ -289,6 +301,7 @@ if __name__ == "__main__":
         marked_as_deleted,
         without_dates,
         without_an_end,
+        a_line_in_a_header,
         held_by_none,
         fields_of_programs,
         subscriptions,
