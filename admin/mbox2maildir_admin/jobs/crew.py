@@ -8,6 +8,7 @@ import time
 from collections.abc import Callable
 from typing import Any, NoReturn, Optional, TypeVar, Union
 
+from ..faults import Fault, Reason
 from ..signals import INTERRUPTS, blocked
 from ..terminal import shown, text_of
 
@@ -62,6 +63,11 @@ class Parent:
             answer += piece
         return json.loads(answer)
 
+    def refusal(self, *words: Any) -> Optional[tuple[str, Reason]]:
+        """Has the parent do something. Why it did not, as a sentence and as a reason; None if it did."""
+        said = self.ask(*words)
+        return (said[0], Reason.by(said[1])) if said else None
+
     def progress(self, who: str, doing: str, place: Optional[int] = None, size: Optional[int] = None) -> None:
         """Tells how far a mailbox is, now and then: also that it is at work, even if the words are the same as
         before."""
@@ -102,6 +108,10 @@ class Child:
                 os.write(self.life, spelled(words) + b"\n")
             except OSError:
                 self.stop()
+
+    def refuse(self, fault: Fault) -> None:
+        """Answers it why something was not done."""
+        self.answer(str(fault), fault.reason)
 
     def watch(self) -> Optional[int]:
         """Its status, if it has ended."""

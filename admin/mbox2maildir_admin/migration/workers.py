@@ -37,9 +37,9 @@ class Work:
     def write(self, *entries: Entry) -> None:
         """Has lines written into the record. Raises Fault if that fails."""
         for entry in entries:
-            refusal = self.parent.ask("line", *entry)
+            refusal = self.parent.refusal("line", *entry)
             if refusal:
-                raise PlaceFault(refusal[0], Reason.by(refusal[1]))
+                raise PlaceFault(*refusal)
 
     def want_room(self, need: Need) -> None:
         """Waits until nobody else at work counts on the same space on a disk. Raises Left if the disk lacks space
@@ -123,7 +123,7 @@ class Workers(Crew):
             try:
                 self.orders.record.add_entry(Entry(BY_WORD[word], Key(bytes_of(folder), *text), *others))
             except PlaceFault as fault:
-                child.answer(str(fault), fault.reason)
+                child.refuse(fault)
             else:
                 child.answer()
         else:

@@ -172,9 +172,16 @@ class Children(Crew):
     def take_question(self, child: UsersChild, what: str, *words: Any) -> None:
         """Takes what a child asks root to do."""
         if what == SYNC:
-            self.disks.add(child.pid, number_of(words[0]), child.answer)
+            self.disks.add(child, number_of(words[0]))
+            return
+        if not child.clerk:
+            raise ValueError("nothing to ask for")
+        try:
+            child.clerk.serve(what, *words)
+        except Left as left:
+            child.refuse(left)
         else:
-            child.answer(*child.clerk.answer([what, *words]))
+            child.answer()
 
     def take_next(self, child: UsersChild, then: Any) -> None:
         """Takes what is to be done once all is done, of which one word counts."""
@@ -192,7 +199,8 @@ class Children(Crew):
     def end(self, child: UsersChild, status: int) -> None:
         """Takes out a child that has ended, and says what was wrong with its end."""
         super().end(child, status)
-        child.clerk.end()
+        if child.clerk:
+            child.clerk.end()
         why = child.wrong_end(status)
         if why and not (self.is_over and os.WIFEXITED(status)):
             self.leave(child, Left(why, Reason.PROCESS))

@@ -3,39 +3,38 @@ import errno
 import os
 from collections.abc import Callable
 
-from ..faults import Reason
-from ..jobs.crew import Parent
+from ..faults import Left, Reason
+from ..jobs.crew import Child, Parent
 from ..maildir.syncing import call_of_system
-from .clerks import Refusal
 
 # the word by which a child asks for a sync of the disk of a folder that it has open
 SYNC = "sync"
 FOLDER = os.O_RDONLY | os.O_DIRECTORY | os.O_CLOEXEC
-FAILED, UNSEEN = Reason.SYNC_FAILED.word, Refusal("root cannot open it", Reason.ERROR.word)
+UNSEEN = Left("root cannot open it", Reason.ERROR)
 
 
 class Disks:
     """Syncs disks for children, as root."""
 
     def __init__(self) -> None:
-        # the disks for which children wait, with what answers each
-        self.waiting: list[tuple[int, Callable[..., object]]] = []
+        # the disks for which children wait, with each of these
+        self.waiting: list[tuple[int, Child]] = []
         # the folders by which the disks are synced, by the numbers of these
         self.opened: dict[int, int] = {}
-        # the disks of which a sync failed, with the errors: the system reports each only once
-        self.failed: dict[int, OSError] = {}
+        # the disks of which a sync failed, with why: the system reports each error only once
+        self.failed: dict[int, Left] = {}
 
-    def add(self, pid: int, number: int, answer: Callable[..., object]) -> None:
+    def add(self, child: Child, number: int) -> None:
         """Takes it that a child waits for the disk of a folder that it has open under a number. It need not be found by
         a path, which the child's user could change."""
         try:
-            folder = os.open("/proc/%d/fd/%d" % (pid, number), FOLDER)
+            folder = os.open("/proc/%d/fd/%d" % (child.pid, number), FOLDER)
         except OSError:
             # as in a file system of the user's own: the child syncs it
-            answer(*UNSEEN)
+            child.refuse(UNSEEN)
             return
         disk = os.fstat(folder).st_dev
-        self.waiting.append((disk, answer))
+        self.waiting.append((disk, child))
         if disk in self.opened:
             os.close(folder)
         else:
@@ -49,13 +48,15 @@ class Disks:
                 if disk not in self.failed:
                     call_of_system()(folder)
             except OSError as error:
-                self.failed[disk] = error
+                self.failed[disk] = Left(error.strerror, Reason.SYNC_FAILED)
             finally:
                 os.close(folder)
         waiting, self.waiting, self.opened = self.waiting, [], {}
-        for disk, answer in waiting:
-            fault = self.failed.get(disk)
-            answer(*(Refusal(fault.strerror, FAILED) if fault else Refusal()))
+        for disk, child in waiting:
+            if disk in self.failed:
+                child.refuse(self.failed[disk])
+            else:
+                child.answer()
 
 
 def synced_by_root(parent: Parent) -> Callable[[bytes], None]:
@@ -64,10 +65,10 @@ def synced_by_root(parent: Parent) -> Callable[[bytes], None]:
     def sync(path: bytes) -> None:
         number = os.open(path, FOLDER)
         try:
-            why, word = parent.ask(SYNC, number)
-            if word == FAILED:
+            why, reason = parent.refusal(SYNC, number) or ("", None)
+            if reason is Reason.SYNC_FAILED:
                 raise OSError(errno.EIO, why)
-            if word:
+            if reason:
                 call_of_system()(number)
         finally:
             os.close(number)

@@ -22,7 +22,6 @@ from ..migration.trees import Tree
 from ..program import Program
 from .accounts import home_of
 from .asked import Sources, Tally
-from .clerks import Clerk
 from .homes import Migrant, Relay, is_recorded
 from .inboxes import MAKE, RELEASE, TAKE, InboxClerk, Inboxes
 from .spool import Spool, migrate_users
@@ -48,10 +47,10 @@ class Returner(Migrant):
         """The mailboxes that the spool has of the user, or would have."""
         return (*([] if self.user.is_left else [self.user.place]), *self.user.others)
 
-    def clerk(self) -> Clerk:
+    def clerk(self) -> Optional[InboxClerk]:
         """What root does for the child: it makes the inbox, and FILE.lock, which the child may not."""
         if not self.home.inboxes:
-            return Clerk()
+            return None
         owner = b"%d %s" % (self.account.pw_uid, self.home.maildir)
         return InboxClerk(self.home.inboxes, self.account, tuple(map(os.path.basename, self.boxes)), owner)
 
@@ -104,8 +103,8 @@ class Asking(Keeper):
 
     def ask(self, what: str, path: bytes) -> Optional[Left]:
         """Asks root for something that it does beside an inbox. Returns why it did not."""
-        why, word = self.parent.ask(what, self.places[os.path.realpath(path)])
-        return Left(why, Reason.by(word)) if why else None
+        refusal = self.parent.refusal(what, self.places[os.path.realpath(path)])
+        return Left(*refusal) if refusal else None
 
     @contextlib.contextmanager
     def locked(self, mailbox: Mailbox, owner: bytes) -> Iterator[None]:

@@ -22,10 +22,9 @@ from ..program import Program
 from ..terminal import named, shown, text_of
 from ..tuples import NamedTuple
 from .accounts import home_of, own_name, want_home
-from .clerks import Clerk
 from .disks import synced_by_root
 from .found import Found
-from .inboxes import Inboxes
+from .inboxes import InboxClerk, Inboxes
 
 
 class Home(NamedTuple):
@@ -67,9 +66,9 @@ class Migrant:
         """The path of the folder of mailboxes, if one is asked for."""
         return self.path_of(self.home.tree) if self.home.tree and not self.user.why_not else None
 
-    def clerk(self) -> Clerk:
-        """What root does for the child."""
-        return Clerk()
+    def clerk(self) -> Optional[InboxClerk]:
+        """What does for the child what only root can do in the folder of the inboxes; None if nothing."""
+        return None
 
     @property
     def unnamed(self) -> tuple[Optional[bytes], ...]:

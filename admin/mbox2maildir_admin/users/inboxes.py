@@ -6,13 +6,12 @@ import os
 import pwd
 import stat
 from collections.abc import Iterator, Sequence
-from typing import Any, Optional
+from typing import Optional
 
 from ..faults import Left, Reason
 from ..migration.telling import number_of
 from ..mbox.lock_file import LOCK, Spot, drop_lock, release_lock, taken
 from ..terminal import named
-from .clerks import Clerk, Refusal
 
 # what a child asks for
 MAKE, TAKE, RELEASE = "make", "lock", "unlock"
@@ -98,7 +97,7 @@ class Inboxes:
             beside.unlink()
 
 
-class InboxClerk(Clerk):
+class InboxClerk:
     """Makes the inboxes of one user, and their locks. No other run is at work for the owner of the locks at the same
     time."""
 
@@ -107,19 +106,17 @@ class InboxClerk(Clerk):
         # the descriptors of the locks that are held, by the places of their names
         self.held: dict[int, int] = {}
 
-    def answer(self, words: list[Any]) -> Refusal:
-        """Does what the child asks for. Raises an error of Python's if it may not ask for that."""
-        what, number = words
+    def serve(self, what: str, number: object) -> None:
+        """Does what the child asks for. Raises Left if that fails, and an error of Python's if it may not ask for
+        it."""
         place = number_of(number)
         name = self.names[place]
         does = {MAKE: self.make, TAKE: self.take, RELEASE: self.release}[what]
         try:
             does(place, name)
-        except Left as left:
-            return Refusal(str(left), left.reason.word)
         except OSError as error:
-            return Refusal("%s: %s" % (named(self.inboxes.spot_path(name)), error.strerror), Reason.ERROR.word)
-        return Refusal()
+            path = named(self.inboxes.spot_path(name))
+            raise Left("%s: %s" % (path, error.strerror), Reason.ERROR) from error
 
     def make(self, place: int, name: bytes) -> None:
         """Makes an inbox that is not there."""
