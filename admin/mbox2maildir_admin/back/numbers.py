@@ -17,10 +17,11 @@ from ..kinds.starts import text_start
 from ..ledger.history import names_of
 from ..ledger.ledger import Ledger
 from ..ledger.record import Record, is_gone
-from ..mbox.fields import LONGEST, Header
+from ..mbox.fields import Header
 from ..mbox.files import BLOCK
 from ..mbox.inventory import Inventory
 from ..mbox.mailbox import Mailbox
+from ..mbox.pieces import LONGEST_NAME
 from ..migration.steps import Opened
 from ..nexts import NOTHING, Next, Remark, run_next
 from ..units import Place
@@ -56,7 +57,7 @@ class Base(NamedTuple):
         header = Header.at(mailbox, start)
         for found in FIELD.finditer(header.text):
             head = head_of(Field(found[1].lower(), found[3]))
-            if head and found.start(3) - found.start() <= LONGEST:
+            if head and found.start(3) - found.start() <= LONGEST_NAME:
                 own, end = internal_head(mailbox, start)
                 rest = mailbox.at(header.offset + len(header.text), BLOCK) if own and end == mailbox.end else b""
                 return cls(head, header.offset, header.text, found.start(3), found.end(3), rest)

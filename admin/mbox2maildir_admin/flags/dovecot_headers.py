@@ -9,8 +9,9 @@ import re
 from collections.abc import Iterable, Iterator
 from typing import Optional
 
-from ..mbox.fields import LONGEST, VALUE, Header
+from ..mbox.fields import VALUE, Header
 from ..mbox.mailbox import Mailbox
+from ..mbox.pieces import LONGEST_NAME
 from ..mbox.plain import NOTE
 from ..nexts import Remark
 from ..patterns import pattern
@@ -65,7 +66,7 @@ class Field(NamedTuple):
 
 def fields_of(header: bytes) -> list[Field]:
     """The fields of a header that count, in their order: hidden ones whose colon is near enough."""
-    found = (field for field in FIELD.finditer(header) if field.start(3) - field.start() <= LONGEST)
+    found = (field for field in FIELD.finditer(header) if field.start(3) - field.start() <= LONGEST_NAME)
     return [Field(field[1].lower(), field[3], bool(field[2])) for field in found]
 
 

@@ -49,7 +49,8 @@ class Table:
         self.digests, self.counts = bytearray(), array.array("I")
         # how many messages have the same digest, if several have, by the place of the first one
         self.repeats: dict[int, int] = {}
-        self.slots = array.array("i", [FREE] * 8)
+        # for fewer messages, none needs another slot
+        self.slots = array.array("i", [FREE]) * (1 << 12)
 
     @classmethod
     def of(cls, bases: Iterable[bytes]) -> "Table":

@@ -10,6 +10,7 @@ on the one that differs has a digest of its own.
 import hashlib
 import re
 from collections.abc import Iterator
+from typing import Optional
 
 from .fields import NOTED_FIELD, without
 from .pieces import NEVER, Read, header_of, pieces_of
@@ -21,9 +22,9 @@ QUOTES, QUOTED = re.compile(rb"\n>+(?=From )"), b">From "
 BEGUN = re.compile(rb"(?:(?:^|\n)>+(?:F(?:r(?:om?)?)?)?|\r)\Z")
 
 
-def bare_of(text: bytes) -> bytes:
-    """The bare form of the beginning of a message, which has all of the header."""
-    return without(NOTED_FIELD, text, 0, header_of(text, 0)[0])
+def bare_of(text: bytes, begun: bytes = b"") -> bytes:
+    """The bare form of the beginning of a message, or of what goes on with what has begun in the header."""
+    return without(NOTED_FIELD, text, 0, header_of(text, 0)[0], begun)
 
 
 def core_of(text: bytes) -> bytes:
@@ -42,16 +43,15 @@ class Digests:
         # how many line ends of the core wait for what follows them, and whether the last line so far has ended
         self.held, self.is_ended = 0, False
 
-    def take(self, mail: bytes) -> None:
-        """Takes the next lines."""
+    def take(self, mail: bytes, begun: Optional[bytes]) -> None:
+        """Takes the next lines: of the header, of which this has begun, or of the body alone."""
         if self.with_cores:
-            self.take_core(mail)
+            self.take_core(mail if begun is None else bare_of(mail, begun), mail)
         self.whole.update(mail)
         self.size += len(mail)
 
-    def take_core(self, mail: bytes) -> None:
-        """Takes the next lines, which the digest of the message has not had yet."""
-        bare = mail if self.size else bare_of(mail)
+    def take_core(self, bare: bytes, mail: bytes) -> None:
+        """Takes the next lines of the bare form and those of the mail, which the digest of that has not had yet."""
         core = core_of(bare)
         if self.bare is self.whole and bare is not mail:
             self.bare = self.bare.copy()
@@ -82,20 +82,19 @@ def forms_of(read: Read, is_ended: bool = False) -> tuple[bytes, bytes]:
     count as ended, as a mailbox would have it."""
     digests = Digests()
     for piece in pieces_of(read, word=NEVER):
-        digests.take(piece.data + b"\n" * (is_ended and piece.ends and not piece.data.endswith(b"\n")))
+        digests.take(piece.data + b"\n" * (is_ended and piece.ends and not piece.data.endswith(b"\n")), piece.begun)
     return digests.end()
 
 
 def beginning_of(read: Read) -> Iterator[bytes]:
     """The core of a message that is read, or of the beginning of one, as far as what follows could not change it. The
     line ends at its end stay as they are."""
-    is_in_header = True
     for piece in pieces_of(read, word=NEVER):
         text = piece.data
-        if is_in_header:
+        if piece.begun is not None:
             end, body = header_of(text, 0)
             # a line of a header may go on as another field
-            last = len(text) if body > end or text.endswith(b"\n") else text.rfind(b"\n") + 1
-            text, is_in_header = bare_of(text[:last]), False
+            is_known = body > end or text.endswith(b"\n") or not piece.ends
+            text = bare_of(text if is_known else text[: text.rfind(b"\n") + 1], piece.begun)
         begun = BEGUN.search(text) if piece.ends else None
         yield core_of(text[: begun.start() + begun[0].startswith(b"\n")] if begun else text)

@@ -14,7 +14,7 @@ from typing import Optional
 from ..patterns import pattern
 from ..units import Offset
 from .mailbox import Mailbox
-from .pieces import FROM, LONGEST_HEADER, Piece, header_of
+from .pieces import FROM, LONGEST_HEADER, LONGEST_NAME, Piece, header_of
 
 # in lower case; letters may have either case
 HIDDEN = (b"content-length", b"status", b"x-imap", b"x-imapbase", b"x-keywords", b"x-status", b"x-uid")
@@ -24,8 +24,6 @@ NOTED = (
     *(b"lines", b"x-evolution", b"x-gm-thrid", b"x-gmail-labels"),
     *(b"x-mozilla-keys", b"x-mozilla-status", b"x-mozilla-status2"),
 )
-# a colon must be within this many bytes of the line's beginning to end a name
-LONGEST = 8191
 # the value of a field after its colon, with the lines that continue it
 VALUE = rb":([^\n]*(?:\n[ \t][^\n]*)*)"
 ITS_VALUE = pattern(VALUE)
@@ -38,30 +36,31 @@ def pattern_of(names: tuple[bytes, ...]) -> re.Pattern[bytes]:
     cases, since a search that ignores the case is slower, and looks at the first letter before it tries names."""
     firsts = b"".join(sorted({name[:1] + name[:1].upper() for name in names}))
     either = [re.sub(rb"[a-z]", lambda letter: b"[%s%s]" % (letter[0], letter[0].upper()), name) for name in names]
-    begun = b"|".join(b"%s[ \t]{0,%d}" % (one, LONGEST - len(name) - 1) for one, name in zip(either, names))
+    begun = b"|".join(b"%s[ \t]{0,%d}" % (one, LONGEST_NAME - len(name) - 1) for one, name in zip(either, names))
     return pattern(b"\n(?=[%s])(?:%s)%s" % (firsts, begun, VALUE))
 
 
 HIDDEN_FIELD, NOTED_FIELD = pattern_of(HIDDEN), pattern_of(NOTED)
 
 
-def without(fields: re.Pattern[bytes], data: bytes, begin: int, end: int) -> bytes:
-    """A text without the fields of a header, which is between two places in it."""
-    header = b"\n" + data[begin:end]
-    ends = [found.end() for found in fields.finditer(header)]
-    if not ends:
+def without(fields: re.Pattern[bytes], data: bytes, begin: int, end: int, begun: bytes = b"") -> bytes:
+    """A text without the fields of a header, which is between two places in it. It may go on with what has begun."""
+    header, place = b"\n" + begun + data[begin:end], 0
+    for found in fields.finditer(header):
+        place = found.end()
+    if not place:
         return data
     # a last line may have no end, and the line before keeps its own
-    rest = fields.sub(b"", header) + b"\n" * (ends[-1] == len(header))
-    return data[:begin] + rest[1:] + data[end:]
+    rest = fields.sub(b"", header) + b"\n" * (place == len(header))
+    return data[:begin] + rest[1 if fields.match(header) else 1 + len(begun) :] + data[end:]
 
 
 def bared(piece: Piece, fields: re.Pattern[bytes] = HIDDEN_FIELD) -> bytes:
     """The bare text of a piece, or that without other fields."""
-    if not piece.body:
+    if piece.field is None:
         return piece.data
     end, body = header_of(piece.data, piece.body)
-    text = without(fields, piece.data, piece.body, end)
+    text = without(fields, piece.data, piece.body, end, piece.field)
     if body - end < 2:
         return text
     # the empty line loses its CR

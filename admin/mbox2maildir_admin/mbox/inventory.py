@@ -63,9 +63,10 @@ def of_plain(piece: Piece, plain: Plain, with_cores: bool) -> Message:
         form = hashlib.sha256(data[body:end] if bare is None else bare)
         core_end = len(piece.data[:last].rstrip(b"\n")) + 1 if piece.data.endswith(b"\n\n", 0, last) else last
         form.update(data[end:core_end])
-        of_core = form.digest()
-        form.update(data[core_end:last])
-        of_bare = form.digest()
+        of_core = of_bare = form.digest()
+        if core_end < last:
+            form.update(data[core_end:last])
+            of_bare = form.digest()
     digest = of_bare if with_cores and bare is None else hashlib.sha256(data[body:last]).digest()
     return Message(piece.offset, last - body, digest, of_core[:SHORT], of_bare[:SHORT], date, False, 0, len(data))
 
@@ -85,7 +86,7 @@ class Begun:
         if piece.has_quote:
             mail, count = FIRST_QUOTE.subn(b"\n", b"\n" + mail)
             mail = mail[1:]
-        self.digests.take(mail)
+        self.digests.take(mail, piece.field)
         self.unquoted, self.read = self.unquoted + count, self.read + piece.body + len(mail) + count + is_blank
 
     def message(self) -> Message:

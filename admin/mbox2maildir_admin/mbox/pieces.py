@@ -1,8 +1,9 @@
 """A text in pieces of whole lines, parted before each line `From `. All else is read from these pieces."""
 import re
 from collections.abc import Callable, Iterator
-from typing import NamedTuple
+from typing import NamedTuple, Optional
 
+from ..patterns import pattern
 from ..units import Offset
 from .files import BLOCK, LONG
 
@@ -10,9 +11,11 @@ FROM = b"From "
 # each From_ line has the word, and no search is faster; what follows it in its line is passed over
 WORD, NEVER, LINE_END, QUOTE = re.compile(rb"From [^\n]*"), re.compile(rb"(?!)"), ord(b"\n"), ord(b">")
 # how many bytes are read at a time, and up to how many a line `From ` with its header is kept in one piece, and a line
-AT_ONCE, LONGEST_HEADER, LONGEST_LINE = BLOCK >> 3, 1 << 22, 1 << 18
-# the end of a longer line, before a byte that begins nothing
-WITHIN_LINE = re.compile(rb".*[^>F\r\n\t ](?=[^>F\r\n\t ])", re.DOTALL)
+AT_ONCE, LONGEST_HEADER, LONGEST_LINE = BLOCK >> 3, 3 << 19, 1 << 18
+# the end of a part of a longer line, before bytes that begin nothing, and not within a quoted word `From `
+WITHIN_LINE = pattern(rb".*(?:[^>From\r\n](?=[^>F\r\n])|F(?=FF)|[^>]From(?= ))", re.DOTALL)
+# what comes before the last field of a header, and up to how many bytes of its line say which it is
+LAST_FIELD, LONGEST_NAME = pattern(rb".*\n(?=[^\t ])|\n", re.DOTALL), 8191
 
 # reads so many bytes of a text; none only at its end
 Read = Callable[[int], bytes]
@@ -30,13 +33,20 @@ class Piece(NamedTuple):
     # whether `From ` is in it elsewhere, and whether that is so after a `>`
     has_word: bool = False
     has_quote: bool = False
-    # whether it goes on with a line `From ` that is longer than a piece
-    goes_on: bool = False
+    # of a piece that begins in a header or before one, what begins the last line `From ` or field before it
+    begun: Optional[bytes] = None
 
     @property
     def body(self) -> int:
         """Where the line `From ` ends."""
-        return (self.data.find(b"\n") + 1 or len(self.data)) if self.begins or self.goes_on else 0
+        begun = self.begun or b""
+        is_there = self.begins or begun.startswith(FROM) and b"\n" not in begun
+        return (self.data.find(b"\n") + 1 or len(self.data)) if is_there else 0
+
+    @property
+    def field(self) -> Optional[bytes]:
+        """What begins the field before the header of which it has something; None if it has nothing of one."""
+        return b"" if self.body else self.begun
 
     @property
     def from_line(self) -> bytes:
@@ -47,27 +57,30 @@ class Piece(NamedTuple):
 def pieces_of(read: Read, offset: int = 0, word: re.Pattern[bytes] = WORD) -> Iterator[Piece]:
     """The pieces of a text, whose first byte has this offset. Most pieces are whole messages; a message of more than a
     block has several, the first with all of its header."""
-    data, begins, goes_on, has_header, has_word, has_quote, searched = b"", False, False, True, False, False, 0
+    begun: Optional[bytes] = b""
+    data, begins, has_word, has_quote, searched = b"", False, False, False, 0
     while True:
         block = read(max(AT_ONCE, len(data)))
         data, at = data + block if data else block, 0
-        begins = begins or has_header and data.startswith(FROM)
+        begins = begins or begun is not None and data.startswith(FROM)
         for found in word.finditer(data, searched):
             place = found.start()
             if place and data[place - 1] != LINE_END:
                 has_word, has_quote = True, has_quote or data[place - 1] == QUOTE
             elif place:
-                yield Piece(Offset(offset + at), data[at:place], begins, True, has_word, has_quote, goes_on)
-                at, begins, goes_on, has_header, has_word, has_quote = place, True, False, True, False, False
+                yield Piece(Offset(offset + at), data[at:place], begins, True, has_word, has_quote, begun)
+                at, begun, begins, has_word, has_quote = place, b"", True, False, False
         offset, data = offset + at, data[at:] if at else data
         if not block:
             if data:
-                yield Piece(Offset(offset), data, begins, True, has_word, has_quote, goes_on)
+                yield Piece(Offset(offset), data, begins, True, has_word, has_quote, begun)
             return
-        cut = place_to_cut(data, has_header) if len(data) >= AT_ONCE else 0
+        cut = place_to_cut(data, begun is not None) if len(data) >= AT_ONCE else 0
         if cut:
-            yield Piece(Offset(offset), data[:cut], begins, False, has_word, has_quote, goes_on)
-            goes_on = has_header = (begins or goes_on) and data.find(b"\n", 0, cut) < 0
+            piece = Piece(Offset(offset), data[:cut], begins, False, has_word, has_quote, begun)
+            yield piece
+            if begun is not None:
+                begun = None if header_of(data, piece.body)[1] <= cut else last_begun(b"\n" + begun + piece.data)
             offset, data, begins = offset + cut, data[cut:], False
             has_word, has_quote = has_word and FROM in data, has_quote and FROM in data
         # a word that has begun at the end
@@ -82,8 +95,17 @@ def place_to_cut(data: bytes, has_header: bool) -> int:
         cut = data.rfind(b"\n", 0, max(0, cut - 1)) + 1
     if has_header and len(data) < LONGEST_HEADER and header_of(data, header)[1] > cut:
         return 0
-    found = WITHIN_LINE.match(data, cut) if len(data) - cut >= LONGEST_LINE else None
+    found = WITHIN_LINE.match(data, cut + LONGEST_NAME) if len(data) - cut >= LONGEST_LINE else None
     return found.end() if found else cut
+
+
+def last_begun(text: bytes) -> bytes:
+    """What begins the last line `From ` or field of a text: as much as says which it is, and where in it the text
+    ends."""
+    found = LAST_FIELD.match(text)
+    assert found is not None, "the text begins with a line end"
+    line, end, _ = text[found.end() :].partition(b"\n")
+    return line[:LONGEST_NAME] + end + b" " * (end != b"" and not text.endswith(b"\n"))
 
 
 def header_of(data: bytes, begin: int) -> tuple[int, int]:
