@@ -61,13 +61,18 @@ class Doubts:
             self.offsets.append(offset)
             self.whys.append(why)
 
-    def end(self, mailbox: Mailbox, have_dates: bool, are_deleted: bool) -> None:
+    def end(self, have_dates: bool, are_deleted: bool) -> None:
         """Ends the text. If no From_ line has a date, those like the first one are certain; and marks of deleted mail
         count only if each message has one."""
         dropped = {*([] if have_dates else [LIKE_FIRST]), *([] if are_deleted else [DELETED])}
         rows = [row for row in zip(self.whys, self.offsets) if row[0] not in dropped]
         self.whys, self.offsets = (array.array(kind, [row[place] for row in rows]) for place, kind in enumerate("BQ"))
-        self.lines = array.array("Q", mailbox.lines_at(self.offsets))
+
+    def number(self, mailbox: Mailbox, known: Mapping[Optional[int], Line]) -> None:
+        """Numbers the lines, once the text has ended. Reads it again unless all are known by their offsets."""
+        are_known = all(map(known.__contains__, self.offsets))
+        lines = map(known.__getitem__, self.offsets) if are_known else mailbox.lines_at(self.offsets)
+        self.lines = array.array("Q", lines)
 
     def numbers(self) -> list[Line]:
         """The numbers of the lines that may begin messages, in their order."""

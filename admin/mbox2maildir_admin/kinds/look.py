@@ -29,11 +29,16 @@ GIT = re.compile(rb"From [0-9a-f]{40,64} Mon Sep 17 00:00:00 2001\r?\Z")
 LOOKED_AT = b"content-length", b"x-mozilla-status", b"x-gm-thrid", NOTE.lower()
 # the words by which a line `From ` is quoted
 QUOTES = re.compile(rb"\n(>+)From [^\n]*")
+# what a line has before its end
+IN_LINE = bytes(byte for byte in range(256) if byte != ord("\n"))
 
 
-def signs_of(piece: Piece) -> tuple[bool, bool]:
+def signs_of(mailbox: Mailbox, piece: Piece) -> tuple[bool, bool]:
     """Whether the line `From ` of a piece has a date, and whether a header follows it."""
-    return is_dated(piece.from_line), FIELD.match(piece.data, piece.body) is not None
+    data, body = piece.data, piece.body
+    if body == len(data) and not piece.ends:
+        data, body = mailbox.at(end_of_row(mailbox, piece.offset, IN_LINE) + 1, LONG), 0
+    return is_dated(piece.from_line), FIELD.match(data, body) is not None
 
 
 class Look:
@@ -84,8 +89,9 @@ class Look:
             if self.is_cut:
                 self.doubts.add(self.mailbox.end, CUT)
         have_dates = self.count("dated") > 0
-        self.doubts.end(self.mailbox, have_dates, self.are_deleted())
         self.seen["doubtful" if have_dates else "undated"].take(self.seen.pop("like the first", Lines()))
+        self.doubts.end(have_dates, self.are_deleted())
+        self.doubts.number(self.mailbox, self.lines if self.doubts.offsets else {})
         self.ending = None if have_dates else self.ending
         self.mailbox.check()
         self.is_whole = True
@@ -120,7 +126,8 @@ class Look:
 
     def begin(self, piece: Piece) -> None:
         """Looks at a line `From `, and at the header after it."""
-        from_line, inside, (dated, has_header) = piece.from_line, piece.offset < self.claimed, signs_of(piece)
+        from_line, inside = piece.from_line, piece.offset < self.claimed
+        dated, has_header = signs_of(self.mailbox, piece)
         if inside:
             is_doubtful = not dated and may_be_mail(self.mailbox, piece, self.claimed)
             sort = "inside, dated" if dated else "inside, like mail" if is_doubtful else "inside"

@@ -15,7 +15,7 @@ from ..tuples import NamedTuple
 from ..units import Line, Offset, counted
 from .quoting import Quoter, measured
 from .reading import BY_LENGTHS, CR, CRLF, MBOXCL2, MBOXO, MBOXRD, PLAIN, UNDECIDED, UNQUOTED, Reading, renumbered
-from .verdict import DROP_DELETED, Verdict, is_against_lengths, is_answer, look_at, reading_of
+from .verdict import DROP_DELETED, Verdict, counted_by, is_against_lengths, is_answer, look_at, reading_of
 
 # why a file is left that holds this
 REASONS = {Holds.MAIL: Reason.UNCLEAR, Holds.OTHER: Reason.OTHER_KIND, Holds.UNKNOWN: Reason.NOT_KNOWN}
@@ -294,8 +294,10 @@ def question(verdict: Verdict, reasons: Reasons, decisions: Sequence[Reading], b
     answers: list[Choosable] = []
     for decision in decisions:
         decision = verdict.tied(decision)
+        counted_already = counted_by(verdict.look, decision) if verdict.look else None
         try:
-            answers.append(Choosable(decision, planned(verdict, decision).messages))
+            messages = planned(verdict, decision).messages if counted_already is None else counted_already
+            answers.append(Choosable(decision, messages))
         except Fault:
             # no message begins with the first line
             continue

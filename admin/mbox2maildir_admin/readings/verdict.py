@@ -9,6 +9,7 @@ from ..kinds.making import Recipe
 from ..kinds.others import Holds, other_of
 from ..kinds.sorts import MAY_BE_MAIL, WITHIN
 from ..kinds.starts import HEAD, text_start
+from ..mbox.dates import is_dated
 from ..mbox.files import LineEnds
 from ..mbox.lines import Reasons, Said
 from ..mbox.mailbox import Mailbox
@@ -142,7 +143,7 @@ def verdict_on_other(mailbox: Mailbox) -> Verdict:
     if other:
         return Verdict(mailbox, other.kind, recipe=other.recipe, holds=other.holds)
     look = Look(mailbox)
-    finding = finding_of(mailbox, lambda piece: look.sort_of(piece, *signs_of(piece)) != "text")
+    finding = finding_of(mailbox, lambda piece: look.sort_of(piece, *signs_of(mailbox, piece)) != "text")
     return Verdict(mailbox, finding.kind, recipe=finding.recipe, remarks=finding.remarks, holds=finding.holds)
 
 
@@ -226,6 +227,20 @@ def doubts_of(look: Look) -> tuple[Reading, ...]:
     if count("cut"):
         return (PLAIN,)
     return ()
+
+
+def counted_by(look: Look, decision: Reading) -> Optional[int]:
+    """How many messages a text has by a decision, if a look has counted that: each line `From ` begins one, or each
+    that has a date, but for those that are named as text. None if the text must be read for it."""
+    is_by_marks = look.is_whole and decision.word in (MBOXRD, MBOXO, UNQUOTED) and not (decision.drop or decision.begin)
+    # the first line must begin a message, and the named ones be lines `From `
+    if not is_by_marks or look.lines.get(look.start) in decision.text:
+        return None
+    if decision.word == UNQUOTED:
+        is_known = not decision.text and is_dated(look.mailbox.from_line_at(look.start))
+        return look.count("dated", "odd", "inside, dated") if is_known else None
+    is_known = decision.text <= (look.numbers(*WITHIN, "text", *DOUBTS) or set())
+    return look.messages + look.count(*WITHIN, "text") - len(decision.text) if is_known else None
 
 
 def is_answer(look: Look, word: str) -> bool:
