@@ -519,21 +519,8 @@ def rule_9_an_undo_by_an_older_ledger(home: Home) -> None:
     want_said(home.left("OTHER", words=["--undo"]), "OTHER", "--again")
 
 
-def rule_9_an_undo_by_an_older_ledger_and_record(home: Home) -> None:
-    """Both come from a backup, and know nothing of a mailbox that came since: only its files show it. An undo, or its
-    rehearsal, could take what it shares, so it is left, until that mailbox was migrated again; but files that people
-    moved from another folder are explained there."""
-    home.bring(OLD=letters(0, 1))
-    with home.from_a_backup(home.ledger()), home.from_a_backup(home.record):
-        home.bring(OTHER=letters(1, 2, 3))
-    for words in (["--undo"], ["--undo", "--dry-run"]):
-        row = home.left("OLD", words=words)
-        want_said(row, "older than the folder", 2)
-        equal("the reason", row["reason"], "ledger")
-    home.done("OTHER")
-    home.undo("OLD")
-    home.has(1, 2, 3)
-    home.begin()
+def rule_9_an_undo_beside_files_of_another_folder(home: Home) -> None:
+    """Files that people moved from another folder are explained there, and keep no undo from its work."""
     home.bring(OLD=letters(0, 1))
     home.bring(["--folder", "Other"], OTHER=letters(2))
     path = home.those(2)[0]

@@ -84,6 +84,7 @@ STORIES: dict[str, list[Step]] = {
     "an_undo_by_a_ledger_and_a_record_that_lack_another": [
         *done(f"!cp {LEDGER} {RECORD} .", ("b", TWO + THREE), "migrate --folder A M b"),
         *(f"!mv mbox2maildir-record M; mv mbox2maildir-messages {LEDGER}", (UNDO, WITHOUT_LINES)),
+        ("migrate --dry-run --undo --folder A M a", WITHOUT_LINES),
         *("migrate --folder A M b", (UNDO, "a: undone: removed 1 message; kept 1 message that b has too")),
         "= A/three A/two",
     ],
