@@ -99,9 +99,7 @@ TO_DO = {
     Reason.SYSTEM_ACCOUNT: "Name it on the command line, or choose a Maildir for it, as the line says",
     Reason.NO_MAILBOX: "Correct the name",
     Reason.OTHER_OWNER: "In a spool, give the file to its user. Otherwise run `migrate` as the owner",
-    Reason.SAME_USER: (
-        "Its command, with a folder of your choice, such as `info` for a mailbox `info` that belongs to mia"
-    ),
+    Reason.SAME_USER: "Its command. Choose the folder in it, such as `info` for mia's mailbox `info`",
     Reason.HOME: "Mount it, or correct its owner or mode. If there is none, [make one](SERVER.md#nobodys)",
     Reason.PROCESS: "Run the same command again",
     Reason.DEFECT: "Report it, with the line",
