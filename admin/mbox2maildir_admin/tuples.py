@@ -27,4 +27,4 @@ else:
             return tuple.__new__(cls, items)
 
         def _replace(self, **named: Any) -> "NamedTuple":
-            return type(self)(**{**dict(zip(self._names, self)), **named})
+            return type(self)(*map(named.pop, self._names, self), **named)
