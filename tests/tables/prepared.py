@@ -166,7 +166,8 @@ STORIES: dict[str, list[Step]] = {
     ],
     "the_list_is_damaged": [
         *(("a", ONE), FIRST, f"!echo damage >>{LIST}", ("a", TWO)),
-        *((LAST, "a: left (ledger): M/mbox2maildir-prepared: line ... is damaged: ..."), "= one M+"),
+        *((words, "a: left (ledger): M/mbox2maildir-prepared: line ... is damaged: ...") for words in (FIRST, LAST)),
+        "= one M+",
     ],
     "the_list_is_of_another_version": [
         *(("a", ONE + TWO), FIRST, f"!sed -i 's/\tmboxrd\t/\tmboxy\t/' {LIST}", (LAST, "a: done: 2 prepared before")),
