@@ -91,8 +91,8 @@ def sorted_by(lines: Iterable[tuple[bytes, list[Line]]], mails: Iterable[Mail]) 
     for mail in left.values():
         homes[mail.folder][mail.before] = mail.path
     several = (Slot(folder, file) for folder, its in lines for file in files_of(its, homes[folder]))
-    slots = [slot for slot in several if slot.file.holders or went_back(slot.file)]
-    slots.sort(key=lambda slot: not slot.file.holders)
+    slots = [slot for slot in several if slot.file.is_held or went_back(slot.file)]
+    slots.sort(key=lambda slot: not slot.file.is_held)
     found = [(left.pop(homes[slot.folder][slot.file.name]), slot) for slot in slots if slot.file.name]
     for way in range(len(forms_by(b"", b"", b""))):
         free = by_form((forms_by(mail.folder, mail.before, mail.core)[way], path) for path, mail in left.items())
@@ -104,7 +104,7 @@ def sorted_by(lines: Iterable[tuple[bytes, list[Line]]], mails: Iterable[Mail]) 
         sorted(left.values(), key=lambda mail: (mail.time, mail.name, mail.folder)),
         [(mail, slot) for mail, slot in found if mail.folder != slot.folder],
         [slot for mail, slot in found if mail.core != slot.core],
-        [slot for slot in slots if slot.file.holders and slot.file.name is None],
+        [slot for slot in slots if slot.file.is_held and slot.file.name is None],
         frozenset(path for slot in slots for path in slot.paths),
         [mail for mail, slot in found if mail.folder == slot.folder and slot.is_returned],
     )

@@ -39,18 +39,24 @@ Unnamed = Mapping[bytes, collections.deque[bytes]]
 
 class File:
     """A file that lines are about: these lines, the newest first, the name that it has, and whether no newer file took
-    the name that it had. It has none if it is gone. `holders` is how many mailboxes have its message still."""
+    the name that it had. It has none if it is gone. `takers` is how many lines say that a mailbox has its message
+    still, or was to have it when a run was killed."""
 
-    __slots__ = "lines", "name", "is_newest", "holders"
+    __slots__ = "lines", "name", "is_newest", "takers"
 
     def __init__(self, lines: list[Line], name: Optional[bytes], is_newest: bool = True) -> None:
         self.lines, self.name, self.is_newest = lines, name, is_newest
-        self.holders = sum(line.state is State.HELD for line in lines)
+        self.takers = sum(line.state in (State.HELD, State.OPEN) for line in lines)
 
     @property
     def bare(self) -> bytes:
         """The bare form of what it holds. Later lines may be of messages in other forms."""
         return self.lines[-1].message.bare
+
+    @property
+    def is_held(self) -> bool:
+        """Whether a mailbox has its message still."""
+        return any(line.state is State.HELD for line in self.lines)
 
     def is_held_by(self, path: str) -> bool:
         """Whether this mailbox has it still."""
@@ -144,7 +150,7 @@ def offers_of(files: Iterable[File], path: str) -> list[Offer]:
             one.file.is_renamed,
             one.line.path != path,
             one.line.state is State.FORMER,
-            -one.file.holders,
+            -one.file.takers,
         ),
     )
 

@@ -94,7 +94,7 @@ class Match:
             files = files_of(self.lines.get(core, ()), self.present)
             unnamed = self.unnamed(files, places)
             # first what the mailbox has: each counts for one message only
-            for file in sorted(files, key=lambda one: (not one.is_held_by(self.path), not one.holders)):
+            for file in sorted(files, key=lambda one: (not one.is_held_by(self.path), not one.is_held)):
                 if any(line.state in BROUGHT for line in file.lines):
                     file.find(unnamed, file.bare)
             files += [nobodys(name, core, bare) for bare, names in unnamed.items() for name in names]

@@ -246,9 +246,12 @@ def planned(line: Line, file: File, has: Cores, gone: Mapping[bytes, list[File]]
     if message.word in NOBODYS:
         return Planned(Why.FOREIGN, line)
     if holders:
-        # those that lack theirs have this one too
-        is_theirs = theirs and not any(theirs[-1].line_of(other.path) for other in holders)
-        return Planned(Why.SHARED, line, holders[-1].path, theirs.pop() if is_theirs else None)
+        # one that lacks its own has this one too
+        lacked = (one for one in reversed(theirs) if not any(one.line_of(other.path) for other in holders))
+        instead_of = next(lacked, None)
+        if instead_of:
+            theirs.remove(instead_of)
+        return Planned(Why.SHARED, line, holders[-1].path, instead_of)
     if not has[message.core]:
         return Planned(Why.LOST, line)
     has[message.core] -= 1

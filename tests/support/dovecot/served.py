@@ -195,7 +195,7 @@ class Case:
         folders = {}
         for name, (validity, following, rows) in before[0].items():
             anew = {row[0]: row for row in self.server.by_imap(other.name, name)[2]}
-            if len(anew) != len(rows):
+            if anew.keys() != {row[0] for row in rows}:
                 raise LeftOut("Dovecot shows other messages without its index")
             path = self.inbox if name == "INBOX" else self.home / "mail" / name
             # a first message that Dovecot hides has no row
