@@ -1,6 +1,24 @@
 """What is only prepared in a folder, from a mailbox that people still use: whether it can be, or be finished, who reads
 there, which of its files a mailbox wants, and how it is taken back or removed. The folder says what is prepared in it,
-wherever the mailbox is by then."""
+wherever the mailbox is by then.
+
+All passes do the same:
+
+1. A file of the list is ours if its inode, size and ctime are those in the list. Otherwise it is read, and is ours if
+   it has the digest in its name. Any other file of the list stays, and the row says so.
+2. The rules of `ledger/match.py` give each message its name, as if none of our files were there.
+3. Our files without such a name are removed. For each file that is missing, a line `p` is written and synced.
+4. The last pass writes a line `>`. `mbox2maildir` places the missing files. It is started only if files are missing, or
+   if `tmp` has a name that begins like its own. The last pass sets flags. Then dates are set, and each file that was
+   not ours at step 1 is read.
+5. Once the disk is synced, a first pass writes the list anew. The last pass writes `=` into the ledger, and removes the
+   list.
+
+If a last pass was killed, the next pass takes back the lists of UIDs and the flags and, by lines `-`, the batches, also
+of another mailbox of the folder. It removes each file of which no line says where it was verified, and places its
+message again. If the record says that a folder is prepared, and the list is gone, the mailbox is left. Before a line
+`@`, no file was placed: such a list is removed, and the folder too if it has a line `/`.
+"""
 import array
 import contextlib
 import functools

@@ -1,7 +1,9 @@
 """A mailbox that has not changed since it was prepared.
 
-Between first passes its file says so, without being read. On the day its bytes do: then what the list of its folder has
-stands for its text, whose messages are not read again.
+Between first passes its file says so, without being read, by its inode, size, mtime and ctime. On the day its bytes
+do: if the folder also has exactly the mail of its list, and that a line `&`, the list stands for the text, which is not
+taken apart again. Dates still come from the From_ lines, since the time zone may have changed, and flags and UIDs from
+the headers.
 """
 import array
 import os
