@@ -22,6 +22,7 @@ FILL = f"""!set -- $(tail -n 1 {RECORD} | wc -c) $(stat -c %s {RECORD})
 head -c $(((1 << 23) - $2 - $1 * 3 / 2)) /dev/zero | tr '\\0' '#' >>{RECORD}; echo >>{RECORD}"""
 # the ledger of INBOX is not to be trusted any more, once the program is done in another folder, or at once
 NO_LEDGER = "left (ledger): M/mbox2maildir-messages: it does not belong to you, or others may write to it: ..."
+NO_MORE = "\nold/%d: left (record): M/mbox2maildir-record: it is full: ..."
 SPOILT = '@case $PWD in */.c) chmod 620 ../mbox*messages;; esac; "$real" "$@"'
 UNNOTED = '@"$real" "$@"; chmod 620 mbox*messages; echo "mbox2maildir: folder call 9 failed" >&2; exit 1'
 # the date that a message has, by its From_ line, and a program that ends with the first message
@@ -102,7 +103,7 @@ STORIES: dict[str, list[Step]] = {
     ],
     "the_record_takes_no_more_of_several": [
         *(("old/0", NUMBERED), "!for n in 1 2 3 4 5; do cp -p old/0 old/$n; done", "migrate --dovecot M old/0", FILL),
-        "migrate --dovecot --jobs 3 M old",
+        ("migrate --dovecot --jobs 3 M old", "old/0: done before" + "".join(map(NO_MORE.__mod__, range(1, 6)))),
         f"!test $(stat -c %s {RECORD}) -le $((1 << 23))",
     ],
     # what one sync has served is noted at once: of a folder of which it cannot be, each mailbox is left, and no other
