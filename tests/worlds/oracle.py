@@ -307,7 +307,8 @@ class Oracle:
             taken = shelf.taken[what] + shelf.gone[what]
             if shelf.seen[what] + taken < count:
                 yield f"done, and {shelf.seen[what]} of {count} there, {taken} taken: {what[:100]!r}"
-            gone += max(0, count - shelf.seen[what])
+            # one more of a message may have the name of one that is gone, which no row sees then
+            gone += 0 if shelf.seen[what] else count
         if gone and not numbers_in(row) and "gone" not in texts_of(row):
             yield f"{gone} gone from {row['folder']}, unsaid"
 

@@ -21,7 +21,6 @@ from ..maildir.folders import folder_path, folders_in, name_of
 from ..maildir.making import LEDGER, RECORD, SyncNames, has_begun, sync_folder, synced_once
 from ..maildir.roots import make_alone
 from ..terminal import named, spelled
-from ..tuples import NamedTuple
 from ..units import Size
 from .history import TIME, Entry, History, Key, Note, Step, What
 from .ledger import Ledger, count_in
