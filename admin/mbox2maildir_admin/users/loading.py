@@ -8,20 +8,17 @@ from ..maildir.folders import folder_of
 from ..maildir.syncing import call_of_system
 from ..patterns import compile_all
 
-# the library loads the threads of the first one late, too
 OF_PYTHON = (
-    "concurrent.futures",
     "concurrent.futures.thread",
     "csv",
     "email.header",
     "encodings.utf_16",
     "encodings.utf_32",
-    "pathlib",
-    "shutil",
     "tempfile",
     "urllib.parse",
 )
-OF_PACKAGE = ("flags.gmail", "migration.workers", "labels.remark", "readings.unpacking")
+# these load what else a child may need of Python and of the package
+OF_PACKAGE = ("labels.remark", "migration.workers", "readings.unpacking")
 
 
 def load_for_children() -> None:
