@@ -1,17 +1,34 @@
-"""What the record notes of a mailbox besides steps: answers of a human, and files without mail."""
-from typing import Optional
+"""What answers a question about a mailbox: what a human has said of it before, and the record noted; how it was read
+before; and what it has brought, if each line in question is in that, so that the answer says nothing of new mail. And
+what contradicts that."""
+import bisect
+import collections
+from collections.abc import Iterable
+from typing import Optional, Union
 
+from ..faults import Fault, Left, Reason
+from ..ledger.batches import Batch, Source
 from ..ledger.history import Entry, History, Key, Note
 from ..ledger.ledger import Ledger
+from ..ledger.lines import counted_in
+from ..ledger.match import Match, bares_of, cores_of
 from ..ledger.record import Record, unspelled
+from ..maildir.files import names_of
 from ..maildir.folders import INBOX
+from ..mbox.bases import before_info
+from ..mbox.inventory import Inventory
 from ..mbox.mailbox import Mailbox
-from ..nexts import Remark
-from ..readings.plans import Plan, Question
-from ..readings.reading import UNDECIDED, Reading, renumbered
-from ..units import Line
-from .remarks import remarks_on_none
-from .steps import Opened
+from ..nexts import NOTHING, Answer, Does, Next, Remark
+from ..readings.plans import Plan, Question, plan_of
+from ..readings.reading import MBOXO, UNDECIDED, UNQUOTED, Reading, renumbered, with_deleted
+from ..readings.texts import Choice, StartOf, choice_of, content_of, disk_of, text_then
+from ..readings.verdict import look_at
+from ..tuples import NamedTuple
+from ..units import Line, counted
+from .dovecot import names_in
+from .known import Known
+from .remarks import remarks_on_lost, remarks_on_none
+from .steps import Contents, Opened, Options
 
 AS_ANSWERED = Remark("as-answered", "as it was answered before")
 
@@ -72,3 +89,217 @@ def is_passed_over(record: History, mailbox: Mailbox) -> bool:
     """Whether it is noted that a file holds no mail, as long as it has its path and its bytes."""
     keys = record.noted(Note.NO_MAIL, INBOX, mailbox.path)
     return bool(keys) and Key(INBOX, *mailbox.key()) in keys
+
+
+CONTRADICTED = "it was read as %s, and %s gives other messages"
+READ_OTHERWISE = (
+    "it was read as %s when it was migrated, and %s of that reading would stay beside those that it has as it is read "
+    "now"
+)
+BEGUN_OTHERWISE = (
+    "its conversion was begun with another reading: %d of %d messages are there as it was read then, %d of %d as it is "
+    "read now"
+)
+# a folder on the disk where copies are made, and where the messages of a text begin that are converted
+By = tuple[bytes, StartOf]
+
+
+def as_before(opened: Opened, ledger: Ledger, path: str, by: By) -> Optional[tuple[str, list[Remark]]]:
+    """The words by which a mailbox was read, and what is to be said of it, if nothing is new in it as it is read so;
+    None if something is, or if it cannot be read so any more."""
+    source = ledger.sources.get(path)
+    if not source or ledger.pending(path) is not None:
+        return None
+    # mail that is marked as deleted by now, and was not brought, is new
+    reading = with_deleted(Reading.of_words(source.words))
+    with content_of(opened.mailbox, by[0]) as text, text_then(text, reading, *by) as then:
+        if not then:
+            return None
+        contents = Contents(then.mailbox, then.start, then.messages(), reading, then)
+        match = Match(ledger, path, contents.inventory, lambda place: False)
+        match.compare()
+        return None if match.count_new() else (contents.words, list(remarks_on_lost(match)))
+
+
+def contradicted(how: Options, root: bytes, opened: Opened, line: Entry) -> tuple[list[Remark], Next]:
+    """What is to be said of a mailbox that is done if a decision that is given now gives other messages, and the
+    command that undoes it."""
+    if not contradicts(opened.mailbox, line, how.decision, (disk_of(root, how.dry), how.extra.start_of)):
+        return [], NOTHING
+    says = CONTRADICTED % (Reading.of_words(line.plan).of_text.words(), " ".join(how.decision.options()))
+    # a word for several mailboxes is about those that are not done
+    then = (Answer(how.undo_command(root, opened), Does.UNDO),) if how.decision.alone else NOTHING
+    return [Remark("contradicted", says)], then
+
+
+def contradicts(mailbox: Mailbox, line: Entry, decision: Reading, by: By) -> bool:
+    """Whether a decision gives other messages of a mailbox than those that it had when it was done."""
+    if decision._replace(alone=True) == UNDECIDED:
+        return False
+    try:
+        with choice_of(mailbox, by[0], decision=decision) as choice:
+            then, now = Reading.of_words(line.plan)._replace(bare=False), choice.plan.reading
+            if then.of_text == now.of_text:
+                return False
+            with text_then(choice.mailbox, then, *by) as was, text_then(choice.mailbox, now, *by) as is_now:
+                return bool(was and is_now and was.messages().table.digests != is_now.messages().table.digests)
+    except Fault:
+        mailbox.check()
+        return False
+
+
+class Before(NamedTuple):
+    """How a mailbox was read before, what it has brought, and the batch that has not ended."""
+
+    reading: Reading
+    source: Optional[Source]
+    batch: Optional[Batch]
+
+    @classmethod
+    def of(cls, known: Known, reading: Reading) -> "Before":
+        """What the ledger knows of a mailbox; this reading if it does not know it. What that leaves out, all do: this
+        doubles no mail."""
+        ledger, path = known.ledger, known.path
+        source, batch = ledger.sources.get(path), ledger.open.get(ledger.pending(path) or 0)
+        words = batch.head.words if batch else source.words if source else None
+        then = reading if words is None else Reading.of_words(words)
+        return cls(then._replace(drop=reading.drop, dropped=reading.dropped), source, batch)
+
+    def counts(self, decision: Reading, then: Inventory, contents: Contents) -> list[int]:
+        """How much of what it has brought is among the messages that it had then, and among those that it has now. A
+        human's word counts for each `>`; without one, messages are the same that differ in that alone."""
+        was, is_now = self.reading.word, contents.reading.word
+        is_by_word = was != is_now and (bool(decision.word) or was in (MBOXO, UNQUOTED))
+        had, forms = self.had(is_by_word), bares_of if is_by_word else cores_of
+        return [sum((had & forms(its)).values()) for its in (then, contents.inventory)]
+
+    def had(self, is_by_word: bool = False) -> collections.Counter[bytes]:
+        """How often it has brought each bare form, or each core, or was going to."""
+        return brought_by(self.source, is_by_word) | brought_by(self.batch, is_by_word)
+
+
+def want_same_reading(how: Options, known: Known, choice: Choice, contents: Contents) -> None:
+    """Raises Left if more of what the ledger has of a mailbox is in it as it was read then, with what to run."""
+    before, root, opened = Before.of(known, contents.reading), known.root, known.opened
+    command = how.command(root, opened, again=how.again, dovecot=before.reading.bare)
+    if before.reading.bare != contents.reading.bare and not how.again and has_begun(known):
+        says = "its conversion was begun %s --dovecot" % ("with" if before.reading.bare else "without")
+        raise Left(says, Reason.ANOTHER_READING, (Answer(command),))
+    if before.reading.of_text == contents.reading.of_text:
+        return
+    with text_then(choice.mailbox, before.reading, disk_of(root, how.dry), how.extra.start_of) as text:
+        if not text:
+            return
+        inventory = text.messages()
+    then, now = before.counts(how.decision, inventory, contents)
+    if then <= now:
+        return
+    if before.batch:
+        says = BEGUN_OTHERWISE % (then, len(inventory), now, len(contents.inventory))
+    else:
+        says = READ_OTHERWISE % (before.reading.of_text.words(), counted(then - now, "message"))
+    is_done = bool(before.source and before.source.key == tuple(opened.mailbox.key()))
+    # what a human says of single lines holds by the other reading too
+    decision = decision_by(choice.mailbox, before.reading, how.decision)
+    if how.decision.word and is_done or not is_enough(choice.mailbox, decision, disk_of(root, how.dry)):
+        command = how.undo_command(root, opened)
+    else:
+        command = how.command(root, opened, again=how.again, decision=decision)
+    raise Left(says, Reason.ANOTHER_READING, (Answer(command),))
+
+
+def decision_by(mailbox: Mailbox, then: Reading, given: Reading) -> Reading:
+    """The decision by which a text was read, and the lines of another decision. Lines that it names are tied to the
+    text."""
+    text, begin = (then.text - given.begin) | given.text, (then.begin - given.text) | given.begin
+    found = then.decided._replace(text=text, begin=begin)
+    return look_at(mailbox).tied(found) if text or begin else found
+
+
+def has_begun(known: Known) -> bool:
+    """Whether something is there of what a killed run was to place, or a list of Dovecot's. Else another run may do it
+    in another way."""
+    if known.ledger.pending(known.path) is None:
+        return False
+    names, folder = {one.name for one in known.ledger.intended(known.path)}, known.opened.folder
+    is_numbered = any(name.startswith(b"dovecot") for name in names_in(folder))
+    return is_numbered or any(before_info(name) in names for name, _ in names_of(folder))
+
+
+def is_enough(text: Mailbox, decision: Reading, disk: bytes) -> bool:
+    """Whether a text is read by a decision. Programs may have added lines about which it says nothing."""
+    try:
+        with choice_of(text, disk, decision=decision):
+            return True
+    except Fault:
+        text.check()
+        return False
+
+
+def brought_by(one: Union[Source, Batch, None], is_by_word: bool) -> collections.Counter[bytes]:
+    """How often a mailbox has brought each bare form, or each core, or was going to."""
+    if one is None:
+        return collections.Counter()
+    return counted_in(one.bares if is_by_word else one.cores)
+
+
+AS_BROUGHT = Remark("as-brought", "as the messages show that it brought")
+# how often a mailbox has brought each core
+Had = collections.Counter[bytes]
+
+
+class Given(NamedTuple):
+    """What an answer gives: how many of the messages that were brought, and whether all lines in question are in
+    these."""
+
+    decision: Reading
+    brought: int
+    is_shown: bool
+
+
+def answer_shown(how: Options, known: Known, question: Question) -> Optional[Reading]:
+    """The one answer by which all lines in question are in messages that a mailbox has brought, if each other answer
+    gives fewer of the messages that it brought; None if a human must answer."""
+    had = Before.of(known, how.decision).had()
+    if not had or not question.is_on_lines:
+        return None
+    with content_of(known.opened.mailbox, disk_of(known.root, how.dry)) as text:
+        by = [how._replace(decision=answer.decision) for answer in question.answers]
+        given = [given_by(one, known, text, question.doubtful) for one in by]
+    most = max((one.brought for one in given), default=0)
+    best = [one for one in given if one.is_shown or one.brought == most]
+    return best[0].decision if len(best) == 1 and best[0].is_shown else None
+
+
+def given_by(how: Options, known: Known, text: Mailbox, lines: Iterable[Line]) -> Given:
+    """What the answer gives by which this mailbox would be migrated."""
+    choice, had = Choice(text, plan_of(text, decision=how.decision)), Before.of(known, how.decision).had()
+    with choice.text(disk_of(known.root, how.dry)) as whole:
+        part = whole.begun_at(how.extra.start_of(*whole.whole()))
+        contents = Contents(part.mailbox, whole.start, part.messages(), choice.plan.bared(how.extra.IS_BARE).reading)
+        is_shown = are_brought(had, contents.inventory, lines) and goes_on(how, known, choice, contents)
+    return Given(how.decision, sum((had & cores_of(contents.inventory)).values()), is_shown)
+
+
+def are_brought(had: Had, inventory: Inventory, lines: Iterable[Line]) -> bool:
+    """Whether each of these lines is in a message of a text that was brought, or between two of them. Of several with a
+    core, nobody knows which were brought, unless all were."""
+    has = cores_of(inventory)
+    cores = [inventory.core(place) if place >= 0 else b"" for line in lines for place in places_at(inventory, line)]
+    return all(0 < has[core] <= had[core] for core in cores)
+
+
+def places_at(inventory: Inventory, line: Line) -> range:
+    """The places of the messages that a line of a text is in; of one that begins messages, also of the message above.
+    The place before the first message is that of no message."""
+    first, last = (find(inventory.lines, line) - 1 for find in (bisect.bisect_left, bisect.bisect_right))
+    return range(first, last + 1)
+
+
+def goes_on(how: Options, known: Known, choice: Choice, contents: Contents) -> bool:
+    """Whether a mailbox that is read so goes on as it was read before."""
+    try:
+        want_same_reading(how, known, choice, contents)
+    except Left:
+        return False
+    return True

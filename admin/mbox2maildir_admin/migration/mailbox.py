@@ -25,10 +25,9 @@ from ..units import Say, silent
 from .answers import is_passed_over, note_no_mail
 from .converting import Conversion
 from .outcomes import BY_NO_MAIL, BY_RECORD, Fate, Outcome, Row, row_left
-from .preparing import is_free, is_prepared, note_begun, reader_in, take_back
+from .preparing import is_free, is_prepared, note_begun, reader_in, row_unchanged, take_back
 from .steps import Opened, Options
 from .transfer import Transfer
-from .unchanged import row_unchanged
 
 if TYPE_CHECKING:
     from .workers import Work

@@ -31,17 +31,37 @@ from ..readings.plans import Plan, Question
 from ..readings.reading import UNDECIDED
 from ..readings.texts import AtOnce, Choice, choice_of, disk_of, read_messages
 from ..units import counted
-from .answers import AS_ANSWERED, answer_to, note_answer, note_empty, noted_last
+from .answers import (
+    AS_ANSWERED,
+    AS_BROUGHT,
+    answer_shown,
+    answer_to,
+    as_before,
+    contradicted,
+    note_answer,
+    note_empty,
+    noted_last,
+    want_same_reading,
+)
 from .converting import CHANGED_MEANWHILE, SYNC_FAILED, Conversion, finish
 from .cut import names_of_no_line, names_that_may_be_cut, want_none_cut
 from .known import Known
-from .otherwise import as_before, contradicted, want_same_reading
 from .outcomes import Fate, Outcome, Row, row_left
-from .preparing import clear, kept, origin_of, remove_unwanted, take_prepared, want_free, want_usable
+from .preparing import (
+    Same,
+    clear,
+    kept,
+    note_state,
+    origin_of,
+    remove_unwanted,
+    same_as_prepared,
+    take_prepared,
+    text_of,
+    want_free,
+    want_usable,
+)
 from .remarks import remarks_on, remarks_on_dropped, remarks_on_joined, remarks_on_lost
-from .shown import AS_BROUGHT, answer_shown
 from .steps import Bringing, Contents, Opened, Options
-from .unchanged import Same, note_state, same_as_prepared, text_of
 
 # how many bytes a line of the ledger may have that names a file of this program
 LONGEST_LINE = 140
