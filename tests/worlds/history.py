@@ -129,11 +129,11 @@ class History:
         return {letter.mail() for letter in self.letters} | self.parts
 
     def best(self, box: Box) -> Reading:
-        """How a mailbox is read by the word that reads most of it as it was sent."""
+        """How a mailbox is read by the word that makes the fewest messages of it that nobody sent."""
         sent = self.sent()
-        return max(
+        return min(
             readings(self.text_of(box)).values(),
-            key=lambda one: sum(count for what, count in one.contents.items() if what in sent),
+            key=lambda one: sum(count for what, count in one.contents.items() if what not in sent),
         )
 
     def right(self, box: Box) -> dict[str, Reading]:
