@@ -83,7 +83,10 @@ class Conversion:
             return ran._replace(placed=placed + ran.placed)
         tmp = os.path.join(opened.folder, b"tmp")
         if not before and (not is_prepared or any(map(base_in, os.listdir(tmp)))):
-            self.sweep(opened.folder)
+            # for a text without mail, the program removes its own names from `tmp`: a power cut may have kept files
+            # there that it also kept in `new` or `cur`
+            with open(os.devnull, "rb") as nothing:
+                self.program.convert(nothing.fileno(), Offset(0), opened.folder, self.record.number, lambda place: None)
         return Converted(text.end, placed)
 
     def run_program(self, text: Mailbox, start: Offset, folder: bytes) -> Converted:
@@ -91,12 +94,6 @@ class Conversion:
         return self.program.convert(
             text.number, start, folder, self.record.number, lambda place: text.say("converting", place, text.size)
         )
-
-    def sweep(self, folder: bytes) -> None:
-        """Converts a text without mail, so that the program removes its own names from `tmp`: a power cut may have kept
-        files there that it also kept in `new` or `cur`."""
-        with open(os.devnull, "rb") as nothing:
-            self.program.convert(nothing.fileno(), Offset(0), folder, self.record.number, lambda place: None)
 
 
 def explained(failed: Failed, opened: Opened, contents: Contents, placing: Placing, batch: int) -> Left:

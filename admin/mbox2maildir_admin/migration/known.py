@@ -13,18 +13,13 @@ from ..maildir.folders import INBOX, folder_named, folder_path
 from ..mbox.inventory import Inventory
 from ..nexts import Remark
 from ..terminal import named
-from ..tuples import NamedTuple
 from ..units import counted
 from .steps import Opened
 
 
-class Elsewhere(NamedTuple):
-    """A line of the record by which a mailbox went into another folder, the name of that folder now, and whether the
-    mailbox has it twice: it was moved there, or has its path, and is no other one with its bytes."""
-
-    line: Entry
-    folder: bytes
-    is_moved: bool
+# a line of the index by which a mailbox went into another folder, and whether the mailbox is there twice: it was moved,
+# or has its path, and is no other one with its bytes
+Elsewhere = tuple[Entry, bool]
 
 
 class Known:
@@ -109,37 +104,32 @@ class Known:
         entry = self.record.entry_of(self.opened.name, self.ledger, path) if is_same else None
         return entry if entry and entry.what is Step.DONE else None
 
-    def same(self) -> list[Entry]:
-        """The lines of mailboxes with the same bytes."""
-        mailbox = self.opened.mailbox
-        return self.record.lines_of(*mailbox.key()) if mailbox.size in self.record.sizes else []
-
     def elsewhere(self, inventory: Inventory) -> list[Elsewhere]:
         """Where all went, or began to go, before another folder was named for the mailbox; and that mailboxes had which
         are gone from their paths, if this one has it: it may be one of them, which was moved. Another one may have the
         path by now of one with the same bytes. A run that was killed could not say this."""
         if self.lost or self.path in self.ledger.sources:
             return []
-        beside, cores = os.path.dirname(names_of(self.opened.mailbox.path)[0]), None
-        same, found = [line for line in self.same() if is_gone(line.path) or is_replaced(line)], self.in_others()
+        beside, cores, found, mailbox = os.path.dirname(self.names[0]), None, self.in_others(), self.opened.mailbox
+        same = self.record.lines_of(*mailbox.key()) if mailbox.size in self.record.sizes else []
+        same = [line for line in same if is_gone(line.path) or is_replaced(line)]
         others = (one for one in self.record.gone(beside) if one not in same)
         for line in itertools.chain(same, others):
-            folder, is_same = line.key.folder, line in same
+            is_same = line in same
             # the same bytes may have fewer messages as they are read now
-            if folder == self.opened.name or not is_same and line.messages > len(inventory):
+            if line.key.folder == self.opened.name or not is_same and line.messages > len(inventory):
                 continue
-            ledger = Ledger(folder_path(self.root, folder))
+            ledger = Ledger(folder_path(self.root, line.key.folder))
             cores = cores or cores_of(inventory)
             if is_same or ledger.is_in(line.path, cores):
-                is_moved = is_gone(line.path) and (is_same or self.is_moved(ledger, line.path))
-                found.append(Elsewhere(line, folder, is_moved))
+                found.append((line, is_gone(line.path) and (is_same or self.is_moved(ledger, line.path))))
         return found
 
     def in_others(self) -> list[Elsewhere]:
         """The other folders into which the mailbox of its path went, as far as the ledgers there still have it."""
         lines = (self.record.last_of(folder, self.names) for folder in self.record.folders_with(self.names))
-        others = (Elsewhere(one, one.key.folder, True) for one in lines if one and one.key.folder != self.opened.name)
-        return [one for one in others if one.line.path in Ledger(folder_path(self.root, one.folder)).paths()]
+        others = (one for one in lines if one and one.key.folder != self.opened.name)
+        return [(one, True) for one in others if one.path in Ledger(folder_path(self.root, one.key.folder)).paths()]
 
     def joined(self, given: Container[bytes]) -> list[bytes]:
         """The paths of the mailboxes whose mail the folder has, and that are not gone, if a mailbox of a tree gets its
@@ -151,10 +141,10 @@ class Known:
         others = (unspelled(path) for path in self.ledger.paths() if path != self.path)
         return list(filter(is_there, others))
 
-    def remark_on(self, one: Elsewhere) -> Remark:
+    def remark_on(self, line: Entry) -> Remark:
         """What is said of the mailbox if its messages went into another folder too."""
-        says = "%s of it went into %s too" % (counted(one.line.messages, "message"), folder_named(one.folder))
-        says += "" if one.line.path in self.names else ", from %s" % named(unspelled(one.line.path))
+        says = "%s of it went into %s too" % (counted(line.messages, "message"), folder_named(line.key.folder))
+        says += "" if line.path in self.names else ", from %s" % named(unspelled(line.path))
         return Remark("elsewhere", says)
 
     @property

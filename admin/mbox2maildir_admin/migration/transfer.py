@@ -359,10 +359,10 @@ class Transfer:
         self.want_room_for(contents, placing)
         self.remarks += remarks_on(one, match, self.ledger, self.how.dry)
         elsewhere = self.known.elsewhere(contents.inventory)
-        self.remarks += [*map(self.known.remark_on, elsewhere), *back_in(self.ledger)]
+        self.remarks += [*(self.known.remark_on(line) for line, _ in elsewhere), *back_in(self.ledger)]
         self.remarks += remarks_on_joined(self.known.joined(self.how.names))
         then = self.command(Does.BRINGS_BACK, again=True) if sum(match.seen.gone.values()) else NOTHING
-        for there in (self.opened._replace(name=one.folder) for one in elsewhere if one.is_moved):
+        for there in (self.opened._replace(name=line.key.folder) for line, is_moved in elsewhere if is_moved):
             then += (Answer(self.how.undo_command(self.root, there), Does.UNDO_THERE),)
         if self.how.dry:
             self.remarks += self.how.extra.foresee(one)
