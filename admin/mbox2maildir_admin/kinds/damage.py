@@ -81,16 +81,12 @@ def finding_of(mailbox: Mailbox, begins_message: Callable[[Piece], bool]) -> Fin
 
 def unknown(mailbox: Mailbox, line: str) -> Finding:
     """What a file is that begins with this line, and in which no message begins: an index by its name, or not known."""
-    is_like_mail, index = has_line_of_mail(mailbox), index_of(mailbox.path)
+    is_like_mail = any(LINE_OF_MAIL.search(piece.data) for piece in pieces_of(mailbox.again().read))
+    index = index_of(mailbox.path)
     if index and not is_like_mail:
         return Finding("no mail: " + index, LEAVE, Holds.NO_MAIL, [])
     said = [Said(Line(1), "", line)]
     return Finding("not known", LIKE_MAIL if is_like_mail else NOT_KNOWN, Holds.UNKNOWN, said)
-
-
-def has_line_of_mail(mailbox: Mailbox) -> bool:
-    """Whether any line looks like a From_ line or like one of the header of a mail."""
-    return any(LINE_OF_MAIL.search(piece.data) for piece in pieces_of(mailbox.again().read))
 
 
 def begins_with_mail(text: bytes, start: int = 0) -> bool:

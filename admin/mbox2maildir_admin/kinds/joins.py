@@ -6,7 +6,6 @@ from ..mbox.files import LONG
 from ..mbox.mailbox import Mailbox
 from ..mbox.pieces import FROM, Piece, header_of
 from ..patterns import pattern
-from ..tuples import NamedTuple
 from ..units import Offset
 from .starts import FIELD, HEAD
 
@@ -21,17 +20,10 @@ MAIL_FIELD = pattern(
 )
 
 
-class Join(NamedTuple):
-    """Where a message may begin within a line, and its From_ line."""
-
-    offset: Offset
-    from_line: bytes
-
-
-def joins_in(mailbox: Mailbox, piece: Piece, body: int) -> Iterator[Join]:
-    """The lines of a piece within which a message may begin: after NUL bytes that a crash left before a From_ line, or
-    after a text whose last line has no end, as `cat a b` joins it with the next text. `body` is the offset at which the
-    body of the message begins."""
+def joins_in(mailbox: Mailbox, piece: Piece, body: int) -> Iterator[tuple[Offset, bytes]]:
+    """Where messages may begin within lines of a piece, and their From_ lines: after NUL bytes that a crash left before
+    a From_ line, or after a text whose last line has no end, as `cat a b` joins it with the next text. `body` is the
+    offset at which the body of the message begins."""
     data = piece.data
     for found in WORD_IN_LINE.finditer(data, piece.body):
         if not found[0].endswith(b"\n"):
@@ -41,7 +33,7 @@ def joins_in(mailbox: Mailbox, piece: Piece, body: int) -> Iterator[Join]:
         before, _, rest = data[start:end].rpartition(FROM)
         offset = piece.offset + end - len(rest) - len(FROM)
         if before and may_begin(mailbox, before, FROM + rest, piece.offset + end, offset >= body):
-            yield Join(Offset(offset), FROM + rest)
+            yield Offset(offset), FROM + rest
 
 
 def may_begin(mailbox: Mailbox, before: bytes, from_line: bytes, end: int, in_body: bool) -> bool:

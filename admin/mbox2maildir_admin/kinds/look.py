@@ -119,10 +119,10 @@ class Look:
             self.seen[sort].add(piece.offset + quote.start(), quote[0][1:])
             if inside:
                 self.with_quotes.add(self.claimed_by)
-        for join in joins_in(self.mailbox, piece, self.body):
-            if join.offset >= self.claimed:
-                self.seen["joined"].add(join.offset, join.from_line)
-                self.doubts.add(join.offset)
+        for offset, from_line in joins_in(self.mailbox, piece, self.body):
+            if offset >= self.claimed:
+                self.seen["joined"].add(offset, from_line)
+                self.doubts.add(offset)
 
     def begin(self, piece: Piece) -> None:
         """Looks at a line `From `, and at the header after it."""
@@ -252,14 +252,6 @@ class Look:
     def said(self, sort: str) -> list[Said]:
         """What is said of the first lines of a sort."""
         return [Said(line, SAID[sort].format(other), text) for line, text, other in self.first(sort)]
-
-    def fewest(self) -> int:
-        """The least number of messages: without the lines `From ` that may be text."""
-        return self.messages - self.count("odd", "doubtful")
-
-    def most(self) -> int:
-        """The greatest number of messages: with the dated lines within messages, and within lines."""
-        return self.messages + self.count(*MAY_BE_MAIL, "joined")
 
     def remarks(self) -> Iterator[Said]:
         """What is said of lines."""

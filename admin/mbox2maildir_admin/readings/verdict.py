@@ -150,18 +150,11 @@ def verdict_on_other(mailbox: Mailbox) -> Verdict:
 def verdict_on(look: Look) -> Verdict:
     """What an mbox text is, and how it is read, or what may be decided about it."""
     answers = answers_of(look)
-    return Verdict(
-        look.mailbox,
-        kind_of(look),
-        look.fewest(),
-        look.most(),
-        list(look.remarks()),
-        look.start,
-        None if answers and not look.shows_lengths() else reading_of(look),
-        look.keeping(),
-        answers,
-        look=look,
-    )
+    # without the lines `From ` that may be text, and with those that may be mail within messages, and within lines
+    fewest, most = look.messages - look.count(*DOUBTS), look.messages + look.count(*MAY_BE_MAIL, "joined")
+    reading = None if answers and not look.shows_lengths() else reading_of(look)
+    known = kind_of(look), fewest, most, list(look.remarks()), look.start, reading, look.keeping(), answers
+    return Verdict(look.mailbox, *known, look=look)
 
 
 def reading_of(look: Look) -> Reading:
