@@ -14,8 +14,10 @@ WORD, NEVER, LINE_END, QUOTE = re.compile(rb"From [^\n]*"), re.compile(rb"(?!)")
 AT_ONCE, LONGEST_HEADER, LONGEST_LINE = BLOCK >> 3, 3 << 19, 1 << 18
 # the end of a part of a longer line, before bytes that begin nothing, and not within a quoted word `From `
 WITHIN_LINE = pattern(rb".*(?:[^>From\r\n](?=[^>F\r\n])|F(?=FF)|[^>]From(?= ))", re.DOTALL)
-# what comes before the last field of a header, and up to how many bytes of its line say which it is
-LAST_FIELD, LONGEST_NAME = pattern(rb".*\n(?=[^\t ])|\n", re.DOTALL), 8191
+# what comes before the last field of a header
+LAST_FIELD = pattern(rb".*\n(?=[^\t ])|\n", re.DOTALL)
+# a colon must be within this many bytes of the line's beginning to end a name
+LONGEST_NAME = 8191
 
 # reads so many bytes of a text; none only at its end
 Read = Callable[[int], bytes]
