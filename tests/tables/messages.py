@@ -151,13 +151,16 @@ def forms(home: Path) -> None:
     quoted = tuple(b"Subject: a\n\nhi\n" + b">" * count + b"From x\n>Fro\n" for count in range(1, 4))
     mails = (*SAME, *OTHER, *FAR, *fields, *quoted, b"\n", b"\r\n", b"a: b", b"\nStatus: RO\n", b"X-UID: 1", b"")
     rows = b"".join(FROM_LINE + b">" * count + b"From x\n\n" + b">" * count + b" x\n\n" for count in (998, 1 << 19))
-    # a From_ line, a field and a header that are longer than what is read at a time
+    rows += FROM_LINE + b"A: b\n\n" + b">" * (1 << 19) + b"From " + b">" * (1 << 19) + b"\n\n"
+    # a From_ line, fields and headers that are longer than what is read at a time
     rows += b"".join(
         before + many + b"\nStatus: O\nC: d\n\nhi\n\n"
         for before, many in (
             (b"From ", b"k " * (3 << 19)),
             (FROM_LINE + b"A: b\nX-UID: ", b"k " * (3 << 19)),
+            (FROM_LINE + b"A: b\nX-UID:", b">" * (5 << 19)),
             (FROM_LINE + b"A: b", (b"\n b" + b"c" * 33333 + b"\nX-Keywords: d\n e" + b"f" * 44444 + b"\nB: g") * 50),
+            (FROM_LINE + b"A: b", (b"\nB: " + b"c" * 33333 + b"\nX-Keywords: " + b"d" * 44444) * 60),
         )
     )
     want_digests(home, b"".join(FROM_LINE + mail + b"\n" * (2 - mail.endswith(b"\n")) for mail in mails) + rows)
