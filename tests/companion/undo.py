@@ -9,11 +9,10 @@ from pathlib import Path
 
 from tests.support.cases import LeftOut
 from tests.support.checks import LATER, PATIENCE, equal, match_in
-from tests.support.copies import Copies, Meanwhile
+from tests.support.copies import Meanwhile
 from tests.support.homes import check_all, expect, hand_over, is_root, mail_in, mailbox, run, subjects
-from tests.support.ledgers import wait_for_lock
 from tests.support.mail import ONE, THREE, TWO
-from tests.support.running import Desk, Kill
+from tests.support.running import Desk
 
 UNDO = ["migrate", "--all", "--undo", "M", "box"]
 
@@ -149,38 +148,6 @@ def meanwhile(home: Path) -> None:
         equal(f"{thing} {deed}: what is there", len(subjects(home / "M")), left)
 
 
-def only_prepared(home: Path) -> None:
-    """What a first pass has placed goes without its mailbox, also after a last one that was killed. What somebody
-    edited or delivered stays. A list from a backup counts for nothing: the ledger has what is done."""
-    for event in range(30, 80, 5):
-        shutil.rmtree(str(home / "M"), ignore_errors=True)
-        mailbox(home / "box", ONE)
-        expect("migrate --prepare M box", home, 0, None)
-        mailbox(home / "box", ONE + TWO + THREE)
-        equal("killed", Copies(home).run("migrate --now M box".split(), Kill(event=event)).is_killed, True)
-        wait_for_lock(home / "M")
-        status, out, _ = run(UNDO, home)
-        equal(f"{event}: {out}", (status, subjects(home / "M")), (0, []))
-    mailbox(home / "box", ONE + TWO)
-    expect("migrate --prepare M box", home, 0, None)
-    (home / "box").unlink()
-    next(mail_in(home / "M")).write_bytes(b"Subject: edited\n\n")
-    (home / "M/new/17.host").write_bytes(b"Subject: new\n\n")
-    says = "removed 1 message; kept 1 message that somebody edited"
-    expect([*UNDO[:3], "--dry-run", *UNDO[3:]], home, 0, rows("would be undone", says, 2))
-    expect(UNDO, home, 0, rows("undone", says, 2))
-    equal("what stays", subjects(home / "M"), ["edited", "new"])
-    mailbox(home / "box", ONE)
-    expect("migrate --prepare N box", home, 0, None)
-    prepared = home / "N/mbox2maildir-prepared"
-    kept = prepared.read_bytes()
-    expect("migrate N box", home, 0, None)
-    prepared.write_bytes(kept)
-    prepared.chmod(0o600)
-    expect([*UNDO[:3], "N", "box"], home, 0, rows("undone", "", 1).replace("1 messages", "1 message"))
-    equal("what is left", subjects(home / "N"), [])
-
-
 def half_done_by_mb2md(home: Path) -> None:
     """mb2md had converted four of eight messages. --again places the other four."""
     if not shutil.which("mb2md"):
@@ -209,6 +176,5 @@ if __name__ == "__main__":
         folders_and_users_words,
         who_is_at_work,
         meanwhile,
-        only_prepared,
         half_done_by_mb2md,
     )

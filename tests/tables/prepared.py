@@ -227,6 +227,23 @@ STORIES: dict[str, list[Step]] = {
             ("a", ONE), FIRST, ("a", ONE + TWO), *KILLED, ("migrate --undo M a", "a: undone: removed 1 message"), "="
         ),
     ],
+    "undone_without_its_mailbox": [
+        *(
+            ("a", ONE + TWO),
+            FIRST,
+            "!rm a; echo edited >>$(grep -l one M/new/*); printf 'Subject: new\\n\\n' >M/new/17.host",
+        ),
+        (
+            "migrate --dry-run --undo M a",
+            "a: would be undone: would remove 1 message; would keep 1 message that somebody ...",
+        ),
+        *(("migrate --undo M a", "a: undone: removed 1 message; kept 1 message that somebody edited"), "= new one"),
+    ],
+    # the ledger has what is done, so the list says nothing, and stays
+    "undone_by_a_list_from_a_backup": [
+        *(("a", ONE), FIRST, f"!cp {LIST} kept", LAST, f"!cp -p kept {LIST}"),
+        *(("migrate --undo M a", "a: undone: removed 1 message"), "= M+"),
+    ],
     "undone_in_the_folder_that_is_named": [
         *(("a", ONE), FIRST, "!mv a b", ("migrate --undo --folder INBOX M b", "b: undone: removed 1 message"), "="),
     ],
