@@ -5,10 +5,9 @@ import functools
 import os
 import pwd
 from collections.abc import Iterable, Iterator, Sequence
-from typing import Any, Optional, TypeVar, Union
+from typing import Any, NamedTuple, Optional, TypeVar, Union
 
 from .terminal import is_text, named, quoted
-from .tuples import NamedTuple
 from .units import counted
 
 # the command by which root runs another one with the rights of an account, and with those of a number without one

@@ -8,7 +8,7 @@ import select
 import subprocess
 import sys
 from collections.abc import Callable, Iterator
-from typing import IO, Any, Optional
+from typing import Any, IO, NamedTuple, Optional
 
 from . import PROGRAM
 from .faults import Fault, Left, PlaceFault, Reason
@@ -16,7 +16,6 @@ from .looks import is_file, is_folder, real_path
 from .nexts import Todo, run_next, task
 from .signals import INTERRUPTS, Process, running, status_of
 from .terminal import named
-from .tuples import NamedTuple
 from .units import Offset
 
 # how often the progress of a conversion is said, in milliseconds

@@ -5,10 +5,9 @@ import sys
 import time
 import unicodedata
 from collections.abc import Iterable
-from typing import Optional
+from typing import NamedTuple, Optional
 
 from .terminal import LINE, complain, named
-from .tuples import NamedTuple
 from .units import WAITING, Say, counted
 
 # how often the line of a terminal is overwritten, and how often a line is printed elsewhere, in seconds

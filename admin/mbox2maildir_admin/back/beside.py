@@ -8,7 +8,7 @@ import enum
 import hashlib
 import os
 import re
-from typing import Optional
+from typing import NamedTuple, Optional
 
 from ..faults import Fault, Left, Reason
 from ..maildir.making import GOES_BACK, sync_folder
@@ -16,7 +16,6 @@ from ..mbox.files import BLOCK, Reader, open_plain
 from ..mbox.mailbox import Mailbox
 from ..readings.unnamed import unnamed
 from ..terminal import named
-from ..tuples import NamedTuple
 from ..units import Offset
 
 NO_FILE = "%s is not a regular file: remove it, and run this again"

@@ -1,13 +1,12 @@
 """The dialect of a mailbox, by its reading, and how a message is written in it."""
 import re
 import time
-from typing import Optional
+from typing import NamedTuple, Optional
 
 from ..kinds.starts import FIELD
 from ..mbox.dates import TOO_LATE
 from ..mbox.pieces import header_of
 from ..readings.reading import BY_LENGTHS, CR, CRLF, MBOXCL2, MBOXO, MBOXRD, UNQUOTED, Reading
-from ..tuples import NamedTuple
 
 FROM, FROM_OR_QUOTED = re.compile(rb"^(?=From )", re.M), re.compile(rb"^(?=>*From )", re.M)
 RETURN_PATH = re.compile(rb"^Return-Path:[ \t]*<?([!-;=?-~]{1,256})>?[ \t]*\r?$", re.I | re.M)

@@ -9,7 +9,7 @@ import os
 import pwd
 import re
 from collections.abc import Iterable, Sequence
-from typing import Optional
+from typing import NamedTuple, Optional
 
 from ..faults import Fault
 from ..flags.dovecot_headers import LETTERS, LONGEST_KEYWORD, MOST_VALIDITY, NO_KEYWORD
@@ -18,7 +18,6 @@ from ..mbox.files import open_file
 from ..migration.dovecot import KEYWORDS, LIST
 from ..nexts import Answer, Command, Does, Next, Remark
 from ..terminal import NAMED, named, text_of
-from ..tuples import NamedTuple
 from .mails import Mail
 
 # the first line of a list in the form of Dovecot 1.1 and later, and its parts; each further line is a file

@@ -9,7 +9,7 @@ import itertools
 import os
 import re
 from collections.abc import Callable, Iterable, Iterator, Sequence
-from typing import Optional
+from typing import NamedTuple, Optional
 
 from ..flags.clients import CLIENTS, EVOLUTION, THUNDERBIRD, kept_in
 from ..maildir.files import names_of
@@ -21,7 +21,6 @@ from ..mbox.inventory import Inventory
 from ..mbox.mailbox import Mailbox
 from ..nexts import Remark
 from ..terminal import named
-from ..tuples import NamedTuple
 from ..units import Place, Say, counted
 from .dialect import Letter, parted
 from .mails import Mail

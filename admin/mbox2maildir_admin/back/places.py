@@ -3,7 +3,7 @@ else the one of the folder's name; else a new one."""
 import collections
 import os
 from collections.abc import Iterator, Sequence
-from typing import Optional
+from typing import NamedTuple, Optional
 
 from ..faults import Left, Reason
 from ..ledger.history import names_of
@@ -15,7 +15,6 @@ from ..migration.places import Planned, recorded
 from ..migration.trees import Tree
 from ..readings.copies import COMPRESSED
 from ..terminal import named, text_of
-from ..tuples import NamedTuple
 
 NO_TREE = "%s has no mailbox: name the folder of the old mailboxes too, in which one is made for it"
 TREE_GONE = "%s has no mailbox, and the folder of the others is not there: %s"

@@ -3,7 +3,7 @@ import contextlib
 import io
 import os
 from collections.abc import Callable, Iterable, Iterator, Sequence
-from typing import Optional
+from typing import NamedTuple, Optional
 
 from ..faults import Fault, Left, Reason
 from ..kinds.starts import text_start
@@ -18,7 +18,6 @@ from ..readings.plans import plan_of
 from ..readings.reading import MBOXRD, Reading
 from ..readings.texts import form_of, text_then
 from ..readings.unnamed import unnamed
-from ..tuples import NamedTuple
 from .dialect import Dialect, Letter
 
 NO_LONGER = "it can no longer be read as it was read when it was migrated (%s)"

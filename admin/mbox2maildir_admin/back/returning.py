@@ -3,7 +3,7 @@ import collections
 import contextlib
 import os
 from collections.abc import Iterator, Sequence
-from typing import Optional
+from typing import NamedTuple, Optional
 
 from ..faults import Left, Reason
 from ..ledger.history import Key, Note
@@ -23,7 +23,6 @@ from ..nexts import Remark, Todo, task
 from ..program import Program
 from ..readings.texts import disk_of
 from ..terminal import named
-from ..tuples import NamedTuple
 from ..units import Line, Say, Size, counted, silent
 from .appending import append, before_of, recover, take_back
 from .beside import Beside, Draft

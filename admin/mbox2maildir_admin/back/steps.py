@@ -4,6 +4,7 @@ import contextlib
 import os
 from collections.abc import Iterable, Sequence
 from contextlib import AbstractContextManager
+from typing import NamedTuple
 
 from ..faults import Left, Reason
 from ..looks import is_folder
@@ -13,7 +14,6 @@ from ..mbox.mailbox import Mailbox
 from ..migration.outcomes import Fate, Row
 from ..nexts import Remark
 from ..terminal import NAMED, named
-from ..tuples import NamedTuple
 from ..units import counted
 from .mails import Mail
 

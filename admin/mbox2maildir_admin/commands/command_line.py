@@ -5,11 +5,10 @@ import functools
 import os
 import sys
 from collections.abc import Callable, Iterable, Sequence
-from typing import Any, NoReturn
+from typing import Any, NamedTuple, NoReturn
 
 from ..faults import Status
 from ..terminal import complain, put, shown
-from ..tuples import NamedTuple
 from ..version import version
 from .of_users import want_homes
 from .options import WrongOptions, add_options, want_together

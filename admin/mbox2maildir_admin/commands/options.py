@@ -2,12 +2,11 @@
 import argparse
 from collections.abc import Container, Iterator, Mapping, Sequence
 from types import MappingProxyType
-from typing import Any
+from typing import Any, NamedTuple
 
 from ..labels.choosing import SOME, WORDS as WORDS_OF_LABELS
 from ..looks import is_folder
 from ..readings.reading import WORDS
-from ..tuples import NamedTuple
 
 # the name of the Maildir in a home
 MAILDIR = "Maildir"

@@ -6,14 +6,13 @@ the first one counts, since a program puts its own before what was sent.
 import re
 import sys
 from collections.abc import Callable, Iterable, Iterator, Sequence
-from typing import Optional
+from typing import NamedTuple, Optional
 
 from ..mbox.fields import VALUE, Header
 from ..mbox.inventory import Inventory
 from ..mbox.mailbox import Mailbox
 from ..nexts import Remark
 from ..patterns import pattern
-from ..tuples import NamedTuple
 from ..units import Place, counted
 
 # the letters of flags in a Maildir: draft, flagged, passed on, replied, seen, trashed.

@@ -7,7 +7,7 @@ import array
 import itertools
 import re
 from collections.abc import Iterable, Iterator
-from typing import Optional
+from typing import NamedTuple, Optional
 
 from ..mbox.fields import VALUE, Header
 from ..mbox.mailbox import Mailbox
@@ -16,7 +16,6 @@ from ..mbox.plain import NOTE
 from ..nexts import Remark
 from ..patterns import pattern
 from ..terminal import NAMED, named
-from ..tuples import NamedTuple
 from ..units import Offset, Place
 
 # the highest UIDVALIDITY, how many keywords the name of a file has letters for, and the highest UID. Dovecot's next UID

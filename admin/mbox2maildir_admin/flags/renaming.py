@@ -3,12 +3,12 @@ import array
 import contextlib
 import os
 from collections.abc import Callable, Container, Iterator, Sequence
+from typing import NamedTuple
 
 from ..looks import is_there
 from ..maildir.making import sync_folder
 from ..mbox.bases import before_info
 from ..mbox.inventory import Inventory
-from ..tuples import NamedTuple
 from ..units import Place
 
 # what follows the base in a name, before the letters of its flags

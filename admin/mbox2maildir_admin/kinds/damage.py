@@ -1,5 +1,6 @@
 """What a file is that does not begin with mbox text and is of no kind in the table: damaged, one mail, or not known."""
 from collections.abc import Callable
+from typing import NamedTuple
 
 from ..mbox.dates import is_dated
 from ..mbox.files import LONG
@@ -9,7 +10,6 @@ from ..mbox.pieces import Piece, pieces_of
 from ..nexts import Does, Task, Todo
 from ..patterns import pattern
 from ..terminal import shown
-from ..tuples import NamedTuple
 from ..units import Line, Offset
 from .making import Looks, Makes, Recipe
 from .named import index_of

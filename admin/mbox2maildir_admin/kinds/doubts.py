@@ -9,14 +9,13 @@ import array
 import hashlib
 from collections.abc import Iterator, Mapping
 from types import MappingProxyType
-from typing import Optional
+from typing import NamedTuple, Optional
 
 from ..mbox.fields import NOTED_FIELD
 from ..mbox.files import LONG
 from ..mbox.lines import AROUND
 from ..mbox.mailbox import Mailbox
 from ..mbox.pieces import FROM, Piece
-from ..tuples import NamedTuple
 from ..units import Line, Offset
 from .sorts import DOUBTFUL
 

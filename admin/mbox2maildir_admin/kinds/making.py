@@ -3,11 +3,10 @@ The file itself goes into a new folder, outside of what is migrated."""
 import os
 import re
 from collections.abc import Callable
-from typing import Union
+from typing import NamedTuple, Union
 
 from ..nexts import Answer, Command, Does, Next, Task, Todo, User, line_of, task
 from ..terminal import text_of, word
-from ..tuples import NamedTuple
 
 # the file that a command makes, in its new folder
 COPY = '"$d/copy"'

@@ -2,12 +2,11 @@
 import enum
 import re
 from collections.abc import Callable
-from typing import Optional
+from typing import NamedTuple, Optional
 
 from ..mbox.mailbox import Mailbox
 from ..nexts import Task, Todo
 from ..patterns import pattern
-from ..tuples import NamedTuple
 from .making import Makes, Recipe
 from .shapes import is_emlx, is_filter_rules, is_mailbox_log, is_subscriptions, is_tar, is_uidvalidity
 from .starts import HEAD

@@ -2,14 +2,13 @@
 part in the name of a folder, unless another account gives the same one."""
 import collections
 import os
-from typing import Optional
+from typing import NamedTuple, Optional
 
 from ..looks import is_file, is_folder, may_be
 from ..maildir.folders import INBOX, folder_on_disk
 from ..mbox.files import is_empty
 from ..mbox.pieces import FROM
 from ..terminal import is_text
-from ..tuples import NamedTuple
 from .folders import Entry, head_of
 from .making import is_below
 from .named import BESIDE

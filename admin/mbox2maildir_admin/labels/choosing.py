@@ -1,7 +1,8 @@
 """What a human says about labels: whether each gives a folder, and which of them do at all."""
 
+from typing import NamedTuple
+
 from ..terminal import option
-from ..tuples import NamedTuple
 
 # a message goes into the folder of each of its labels; the same, however many folders that makes; into one of them
 SOME, ALL, ONE = "", "all", "one"

@@ -1,14 +1,13 @@
 """What the record notes of a mailbox that goes into the folders of its labels: what was said about labels, and which
 folders these are. It is noted before the first message is placed, and that it is undone after the last one is gone."""
 import os
-from typing import Optional
+from typing import NamedTuple, Optional
 
 from ..faults import Fault
 from ..ledger.history import Entry, History, Key, Note, names_of
 from ..ledger.record import Record, is_gone, unspelled
 from ..maildir.folders import INBOX
 from ..mbox.mailbox import Mailbox
-from ..tuples import NamedTuple
 from .choosing import GIVES, Choosing
 
 # the words of a mailbox without such folders

@@ -2,6 +2,7 @@
 import array
 import collections
 from collections.abc import Iterable, Mapping, Sequence
+from typing import NamedTuple
 
 from ..faults import Left, Reason
 from ..flags.clients import GMAIL, Kept
@@ -9,7 +10,6 @@ from ..flags.gmail import ARCHIVE, ORDER, Own, letters_by, own_names
 from ..maildir.folders import INBOX, folder_of, on_disk, why_no_folder
 from ..nexts import Does
 from ..terminal import named
-from ..tuples import NamedTuple
 from .choosing import FOLDER, NONE, ONE, READ, SOME, Choosing
 from .fields import field_of, labels_of
 

@@ -11,9 +11,8 @@ import bisect
 import collections
 from collections.abc import Container, Iterable, Iterator, Mapping
 from enum import IntEnum
-from typing import Optional
+from typing import NamedTuple, Optional
 
-from ..tuples import NamedTuple
 from .batches import Line, State
 from .lines import FOREIGN, NAMELESS, SHARED, Brought
 

@@ -9,13 +9,12 @@ import enum
 import functools
 import os
 from collections.abc import Container, Iterable, Iterator
-from typing import Optional, Union
+from typing import NamedTuple, Optional, Union
 
 from ..looks import real_path
 from ..maildir.folders import INBOX
 from ..patterns import pattern
 from ..terminal import shown, spelled
-from ..tuples import NamedTuple
 from ..units import Size
 
 TIME = "%Y-%m-%dT%H:%M:%SZ"

@@ -10,7 +10,7 @@ import os
 import re
 import time
 from collections.abc import Iterable, Iterator, Sequence
-from typing import Optional
+from typing import NamedTuple, Optional
 
 from ..faults import PlaceFault, Reason
 from ..looks import is_folder, is_there
@@ -21,7 +21,6 @@ from ..mbox.core import SHORT
 from ..mbox.inventory import NO_DATE, Inventory
 from ..nexts import Remark
 from ..terminal import named
-from ..tuples import NamedTuple
 from ..units import Say, silent
 from .lines import CUT, append, lines_in
 from .prepared_lines import (

@@ -4,13 +4,12 @@ import contextlib
 import os
 import re
 import time
-from typing import Optional
+from typing import NamedTuple, Optional
 
 from ..looks import is_there
 from ..maildir.making import PREPARED, sync_folder
 from ..mbox.bases import before_info
 from ..patterns import pattern
-from ..tuples import NamedTuple
 from .lines import append, lines_in
 
 FIRST_LINE = b"mbox2maildir-prepared\t1"

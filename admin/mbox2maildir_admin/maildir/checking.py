@@ -4,13 +4,12 @@ import enum
 import functools
 import os
 from collections.abc import Callable, Iterator, Sequence
-from typing import Optional
+from typing import NamedTuple, Optional
 
 from ..looks import is_there
 from ..mbox.bases import BASE, before_info, is_own
 from ..mbox.inventory import Inventory
 from ..terminal import NAMED, named
-from ..tuples import NamedTuple
 from ..units import Place, Say, counted, silent
 from .ahead import Digested, File, Read, readable, threads_for
 from .either import Others

@@ -10,12 +10,11 @@ import collections
 import contextlib
 import copy
 from collections.abc import Iterable, Iterator, Sequence
-from typing import Optional
+from typing import NamedTuple, Optional
 
 from ..mbox.bases import Table, base_in
 from ..mbox.inventory import Inventory, messages_of
 from ..mbox.mailbox import Mailbox
-from ..tuples import NamedTuple
 from ..units import Offset, Place
 from .files import listings_of
 

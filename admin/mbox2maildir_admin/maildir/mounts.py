@@ -4,13 +4,12 @@ If a server of FUSE has no sync of folders, Linux answers each such sync with su
 what the system says of the mount does.
 """
 import os
-from typing import Optional
+from typing import NamedTuple, Optional
 
 from ..faults import Left, Reason
 from ..looks import is_folder, is_there, may_be
 from ..nexts import Remark, Todo, task
 from ..terminal import named
-from ..tuples import NamedTuple
 from .space import folder_there
 
 MOUNTS = "/proc/self/mountinfo"

@@ -3,14 +3,13 @@ import errno
 import os
 import time
 from collections.abc import Collection
-from typing import Optional
+from typing import NamedTuple, Optional
 
 from .. import ADMIN
 from ..faults import Left, Reason
 from ..looks import is_folder
 from ..mbox.files import BLOCK
 from ..terminal import is_text, named
-from ..tuples import NamedTuple
 from .files import changed_at, paths_of
 from .making import SUBFOLDERS, sync_folder
 

@@ -1,11 +1,10 @@
 """Lines of a text about which something is said, and how they are shown."""
 import itertools
 from collections.abc import Collection, Sequence
-from typing import Optional
+from typing import NamedTuple, Optional
 
 from ..nexts import Quote
 from ..terminal import NAMED, shown
-from ..tuples import NamedTuple
 from ..units import Line
 from .mailbox import Mailbox
 

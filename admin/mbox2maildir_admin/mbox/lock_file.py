@@ -10,14 +10,13 @@ import re
 import stat
 import time
 from collections.abc import Iterator
-from typing import Optional
+from typing import NamedTuple, Optional
 
 from .. import ADMIN
 from ..faults import Left, Reason
 from ..looks import is_there
 from ..nexts import Remark
 from ..terminal import named
-from ..tuples import NamedTuple
 from .files import REGULAR
 from .mailbox import Mailbox
 

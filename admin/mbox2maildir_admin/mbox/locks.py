@@ -6,9 +6,9 @@ import fcntl
 import os
 import struct
 import time
+from typing import NamedTuple
 
 from ..faults import Left, Reason, fault_of
-from ..tuples import NamedTuple
 from ..units import WAITING, Say, silent
 from .digest import Digest
 from .files import has_holes, open_plain

@@ -4,7 +4,7 @@ what contradicts that."""
 import bisect
 import collections
 from collections.abc import Iterable
-from typing import Optional, Union
+from typing import NamedTuple, Optional, Union
 
 from ..faults import Fault, Left, Reason
 from ..ledger.batches import Batch, Source
@@ -23,7 +23,6 @@ from ..readings.plans import Plan, Question, plan_of
 from ..readings.reading import MBOXO, UNDECIDED, UNQUOTED, Reading, renumbered, with_deleted
 from ..readings.texts import Choice, StartOf, choice_of, content_of, disk_of, text_then
 from ..readings.verdict import look_at
-from ..tuples import NamedTuple
 from ..units import Line, counted
 from .dovecot import names_in
 from .known import Known

@@ -1,7 +1,7 @@
 """The last block of what is printed: what is left, and what asks for a look, in groups, each command once."""
 import glob
 from collections.abc import Iterable, Iterator, Sequence
-from typing import Optional
+from typing import NamedTuple, Optional
 
 from .. import ADMIN
 from ..faults import Reason
@@ -10,7 +10,6 @@ from ..mbox.lines import AROUND
 from ..meanings import ITS_COMMAND, REMARKS, remark_of, to_do
 from ..nexts import BELOW, COMMAND, Answer, Command, Does, Quote, Task, Todo, lines_below
 from ..terminal import named, operand, option
-from ..tuples import NamedTuple
 from .outcomes import Fate, Row
 
 # how many mailboxes one answer is for at most, so that a human looks at each of them

@@ -4,6 +4,7 @@ import collections
 import contextlib
 import os
 from collections.abc import Container, Iterable, Iterator, Sequence
+from typing import NamedTuple
 
 from .. import ADMIN
 from ..faults import Fault, Left, Reason
@@ -15,7 +16,6 @@ from ..looks import is_folder, is_there, may_be, real_path
 from ..maildir.folders import INBOX, folder_path, folders_in, name_of, words_of
 from ..nexts import Does, Remark, Todo, run_next, task
 from ..terminal import operand, spelled, text_of
-from ..tuples import NamedTuple
 from .dovecot import names_in
 from .outcomes import Row, row_left
 from .places import Planned

@@ -3,7 +3,7 @@ import enum
 import functools
 import os
 from collections.abc import Iterator, Sequence
-from typing import Optional, Union
+from typing import NamedTuple, Optional, Union
 
 from ..faults import Fault, Left, Reason, fault_of
 from ..looks import type_at
@@ -11,7 +11,6 @@ from ..nexts import BELOW, NOTHING, Next, Quote, Remark, lines_below
 from ..progress import Beat, Spent
 from ..readings.plans import Plan
 from ..terminal import named
-from ..tuples import NamedTuple
 from ..units import Say
 
 # what is said of a file that holds no mail by a pattern of the command line, and by that of an earlier run

@@ -4,7 +4,7 @@ but nothing shows that it is complete and of the same mail. So neither is taken 
 import collections
 import os
 from collections.abc import Callable, Container, Iterable, Sequence
-from typing import Optional
+from typing import NamedTuple, Optional
 
 from .. import ADMIN
 from ..faults import Fault, Left, Reason, fault_of
@@ -20,7 +20,6 @@ from ..readings.copies import COMPRESSED
 from ..readings.reading import UNDECIDED, Reading
 from ..readings.texts import is_mbox
 from ..terminal import named, operand, option
-from ..tuples import NamedTuple
 from .outcomes import Outcome
 from .steps import Options
 

@@ -30,7 +30,7 @@ import functools
 import os
 import time
 from collections.abc import Sequence
-from typing import Optional
+from typing import NamedTuple, Optional
 
 from ..faults import Left, Reason
 from ..flags.renaming import sync_names
@@ -67,7 +67,6 @@ from ..readings.plans import Plan
 from ..readings.reading import UNDECIDED, Reading
 from ..readings.texts import Choice, Full
 from ..terminal import named, spelled
-from ..tuples import NamedTuple
 from ..units import Offset, Say, counted, silent
 from .converting import PREPARED_SYNC_FAILED, SYNC_FAILED
 from .dovecot import KEYWORDS, LIST, Dovecot, names_in, remove_part

@@ -4,7 +4,7 @@ import math
 import time
 from collections.abc import Callable, Mapping, Sequence
 from types import MappingProxyType
-from typing import Optional, Protocol
+from typing import NamedTuple, Optional, Protocol
 
 from .. import ADMIN
 from ..faults import Reason, Status
@@ -13,7 +13,6 @@ from ..meanings import Weight, weight_of
 from ..nexts import COMMAND, lines_below
 from ..progress import AtWork, Estimate, Progress, Task, duration, length
 from ..terminal import LINE, complain, flush, named, put
-from ..tuples import NamedTuple
 from ..units import WAITING, counted
 from .block import Typed, groups_of
 from .outcomes import Fate, Observer, Row

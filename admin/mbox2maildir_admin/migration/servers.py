@@ -4,13 +4,12 @@ import os
 import re
 import subprocess
 from collections.abc import Iterable, Iterator, Mapping, Sequence
-from typing import Optional
+from typing import NamedTuple, Optional
 
 from ..faults import Fault, PlaceFault, Reason
 from ..mbox.files import open_file, read_up_to
 from ..nexts import run_next
 from ..terminal import named
-from ..tuples import NamedTuple
 
 DOVECONF = "doveconf"
 # the name in a home that Dovecot looks for

@@ -1,7 +1,7 @@
 """What the steps of a migration pass on to each other: what was opened, what the record says, what was read."""
 import os
 from collections.abc import Callable, Container, Sequence
-from typing import Any, Optional
+from typing import Any, NamedTuple, Optional
 
 from .. import ADMIN
 from ..faults import Left
@@ -21,7 +21,6 @@ from ..readings.plans import Question, answers_to
 from ..readings.reading import PLAIN, UNDECIDED, Reading
 from ..readings.texts import Full, Text
 from ..terminal import operand, option
-from ..tuples import NamedTuple
 from ..units import Offset, Place
 
 

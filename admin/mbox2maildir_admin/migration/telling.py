@@ -1,6 +1,6 @@
 """What a process tells its parent of a row. If it is that of a user, root trusts none of it, and prints it escaped."""
 from collections.abc import Callable, Mapping, Sequence
-from typing import Any, Optional, Union
+from typing import Any, NamedTuple, Optional, Union
 
 from ..faults import Reason
 from ..jobs.crew import spelled
@@ -8,7 +8,6 @@ from ..kinds.making import with_aside
 from ..meanings import REMARKS
 from ..nexts import WITH_FILES, Answer, Command, Does, Next, Task, Todo, task
 from ..terminal import shown
-from ..tuples import NamedTuple
 from .outcomes import Fate, Row
 
 # how long a line of a child may be, in bytes

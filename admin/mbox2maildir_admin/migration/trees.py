@@ -2,7 +2,7 @@
 import os
 import stat
 from collections.abc import Callable, Container, Sequence
-from typing import Optional, Union
+from typing import NamedTuple, Optional, Union
 
 from ..faults import Fault, Left, Reason
 from ..kinds.folders import (
@@ -26,7 +26,6 @@ from ..maildir.folders import INBOX, LONGEST, folder_on_disk, folder_path, name_
 from ..nexts import Remark, Todo, run_next, task
 from ..readings.copies import UNFINISHED
 from ..terminal import is_text, named, operand, text_of
-from ..tuples import NamedTuple
 from .outcomes import Fate, Row, row_left
 from .places import Pairs, Planned, recorded, settled
 from .steps import Options

@@ -3,7 +3,7 @@ next. It tells its parent what became of each. Only the parent writes the record
 import collections
 import os
 from collections.abc import Callable, Iterator, Mapping, Sequence
-from typing import Any, Optional
+from typing import Any, NamedTuple, Optional
 
 from ..faults import Left, PlaceFault, Reason
 from ..jobs.count import Places
@@ -14,7 +14,6 @@ from ..maildir.space import Need, want_room
 from ..progress import amount
 from ..signals import INTERRUPTS
 from ..terminal import complain
-from ..tuples import NamedTuple
 from .outcomes import Observer, Outcome, row_left
 from .places import Planned
 from .telling import bytes_of, fields_of, row_of, value_of

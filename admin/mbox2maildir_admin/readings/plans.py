@@ -1,6 +1,6 @@
 """Which part of a mailbox is converted, and how it is read: as is certain, or as a human decided."""
 from collections.abc import Callable, Sequence
-from typing import Optional
+from typing import NamedTuple, Optional
 
 from ..faults import Fault, Left, Reason
 from ..kinds.look import Look, Read
@@ -11,7 +11,6 @@ from ..mbox.lines import Lines, Reasons, Said, cut, lines_around
 from ..mbox.mailbox import Mailbox
 from ..nexts import Answer, Command, Does, Next, Quote, Remark
 from ..terminal import NAMED
-from ..tuples import NamedTuple
 from ..units import Line, Offset, counted
 from .quoting import Quoter, measured
 from .reading import BY_LENGTHS, CR, CRLF, MBOXCL2, MBOXO, MBOXRD, PLAIN, UNDECIDED, UNQUOTED, Reading, renumbered

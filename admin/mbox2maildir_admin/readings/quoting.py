@@ -8,6 +8,7 @@ import functools
 import itertools
 import re
 from collections.abc import Callable, Iterator
+from typing import NamedTuple
 
 from ..faults import Fault, Reason
 from ..flags.clients import is_deleted
@@ -17,7 +18,6 @@ from ..mbox.fields import Header, bare_pieces
 from ..mbox.files import BLOCK, LineEnds
 from ..mbox.mailbox import Mailbox, Watched
 from ..mbox.pieces import FROM, Piece, header_of, pieces_of
-from ..tuples import NamedTuple
 from ..units import Line, Offset, Size
 from .copies import Copy
 from .reading import BY_LENGTHS, CR, CRLF, MBOXCL2, MBOXO, UNQUOTED, Reading

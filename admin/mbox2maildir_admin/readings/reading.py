@@ -14,9 +14,8 @@ A line `From ` has no `>` before it. A length is right if it leads to such a lin
 Lines that are named as text begin no message, and lines that are named as beginnings do, whatever the word says.
 """
 from collections.abc import Iterable, Mapping
-from typing import Optional
+from typing import NamedTuple, Optional
 
-from ..tuples import NamedTuple
 from ..units import Line
 
 MBOXRD, MBOXO, MBOXCL, MBOXCL2, UNQUOTED = WORDS = ("mboxrd", "mboxo", "mboxcl", "mboxcl2", "unquoted")

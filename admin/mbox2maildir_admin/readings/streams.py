@@ -5,12 +5,11 @@ import bz2
 import lzma
 import zlib
 from collections.abc import Callable, Iterator
-from typing import Any
+from typing import Any, NamedTuple
 
 from ..faults import Left, Reason
 from ..kinds.others import Form
 from ..mbox.files import BLOCK, Reader
-from ..tuples import NamedTuple
 
 # how much memory a stream may need, in bytes; xz's own levels need 65 MiB at most
 MOST_MEMORY = 1 << 28

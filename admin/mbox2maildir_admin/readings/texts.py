@@ -7,7 +7,7 @@ import functools
 import itertools
 import os
 from collections.abc import Callable, Iterator, Sequence
-from typing import Optional
+from typing import NamedTuple, Optional
 
 from ..faults import Fault, Left, Reason
 from ..flags.dovecot_headers import internal_head
@@ -27,7 +27,6 @@ from ..mbox.mailbox import Mailbox
 from ..mbox.pieces import pieces_of
 from ..mbox.plain import Marked
 from ..program import Listing, Program
-from ..tuples import NamedTuple
 from ..units import Line, Offset, Say, silent
 from .plans import NoMail, NotKnown, OtherKind, Plan, Question, is_as_it_is, plan_of, wants_copy
 from .quoting import Quoter

@@ -1,6 +1,6 @@
 """What a file is, and what may be decided about it."""
 from collections.abc import Sequence
-from typing import Optional
+from typing import NamedTuple, Optional
 
 from ..kinds.damage import finding_of
 from ..kinds.doubts import Doubts
@@ -16,7 +16,6 @@ from ..mbox.mailbox import Mailbox
 from ..mbox.pieces import from_lines_of
 from ..meanings import remark_of
 from ..nexts import Remark
-from ..tuples import NamedTuple
 from ..units import Line, Offset, counted
 from .reading import BY_LENGTHS, CRLF, MBOXCL2, MBOXO, MBOXRD, PLAIN, UNQUOTED, Reading
 

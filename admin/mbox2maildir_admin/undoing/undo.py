@@ -12,7 +12,7 @@ import fcntl
 import functools
 import os
 from collections.abc import Container, Iterator, Mapping, Sequence
-from typing import Optional
+from typing import NamedTuple, Optional
 
 from ..faults import Fault, Left, PlaceFault, Reason
 from ..flags.renaming import sync_names
@@ -46,7 +46,6 @@ from ..nexts import Remark, Todo, task
 from ..readings.reading import Reading, with_deleted
 from ..readings.texts import content_of, disk_of, text_then
 from ..terminal import named
-from ..tuples import NamedTuple
 from ..units import Say, counted, silent
 
 NOT_RECORDED = "no ledger has it, so nothing shows which files are its own"

@@ -3,10 +3,9 @@ import collections
 import marshal
 import pwd
 from collections.abc import Iterable, Iterator
-from typing import Any, Optional
+from typing import Any, NamedTuple, Optional
 
 from ..faults import Left
-from ..tuples import NamedTuple
 
 
 class Found(NamedTuple):

@@ -2,7 +2,7 @@
 import os
 import stat
 from collections.abc import Iterator, Sequence
-from typing import Optional, Union
+from typing import NamedTuple, Optional, Union
 
 from ..faults import Fault, Left, Reason
 from ..jobs.crew import Parent
@@ -20,7 +20,6 @@ from ..migration.steps import Options
 from ..nexts import Next
 from ..program import Program
 from ..terminal import named, shown, text_of
-from ..tuples import NamedTuple
 from .accounts import home_of, own_name, want_home
 from .disks import synced_by_root
 from .found import Found

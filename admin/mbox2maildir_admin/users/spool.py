@@ -3,7 +3,7 @@ import functools
 import os
 import pwd
 from collections.abc import Callable, Collection, Iterable
-from typing import AbstractSet, Optional
+from typing import AbstractSet, NamedTuple, Optional
 
 from .. import ADMIN
 from ..faults import Fault, Left, Reason
@@ -17,7 +17,6 @@ from ..nexts import run_next
 from ..program import find_program
 from ..readings.copies import stem_of
 from ..terminal import named, operand, shown
-from ..tuples import NamedTuple
 from .accounts import Accounts, first_uid, home_of, is_users, own_name, size_of_mailbox, want_entered, want_user
 from .asked import ACCOUNTS, SPOOL, Sources, Tally
 from .children import Children
