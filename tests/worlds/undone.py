@@ -29,6 +29,8 @@ class Undone(Rewritten):
         # what happened to it, or to another mailbox, before it is undone; and which is missing
         self.hindrance = "nothing"
         self.missing: list[Box] = []
+        # the numbers of those whose last run was killed
+        self.begun: set[int] = set()
 
     check = History.check
 
@@ -39,6 +41,7 @@ class Undone(Rewritten):
         """Migrates a mailbox. What a killed run has brought counts if it is noted."""
         words = self.dovecot if box.path == INBOX else []
         ran, rows = self.run(["migrate", "--json", "--now", *words, *options, "Maildir", box.path], kill)
+        self.begun = self.begun | {box.number} if ran.is_killed else self.begun - {box.number}
         if ran.is_killed and self.is_recorded(box):
             self.oracle.brings(box.number, "INBOX", self.best(box).contents & self.oracle.shelves["INBOX"].seen)
         is_partly_there = ran.status == 1 and "--again" in ran.output and not options
@@ -111,10 +114,13 @@ class Undone(Rewritten):
         self.undo()
 
     def change_files(self) -> None:
-        """Its owner reads, deletes and changes mail."""
+        """Its owner reads, deletes and changes mail. An undo keeps no other file for what a killed run was to bring: its
+        next run looks for that."""
         for _, path in [*self.oracle.files()]:
             deed = self.draw.random()
             if deed < 0.1:
+                for number in self.begun & self.oracle.shelves["INBOX"].sure.keys():
+                    self.oracle.shelves["INBOX"].sure[number][content(path.read_bytes())] -= 1
                 self.stage.remove(path)
             elif deed < 0.3 and path.parent.name == "new":
                 read_flags(self, path, "FS")
