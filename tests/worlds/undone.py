@@ -114,8 +114,8 @@ class Undone(Rewritten):
         self.undo()
 
     def change_files(self) -> None:
-        """Its owner reads, deletes and changes mail. An undo keeps no other file for what a killed run was to bring: its
-        next run looks for that."""
+        """Its owner reads, deletes and changes mail. An undo keeps no other file for what a killed run was to bring:
+        its next run looks for that."""
         for _, path in [*self.oracle.files()]:
             deed = self.draw.random()
             if deed < 0.1:
