@@ -1,19 +1,4 @@
 // What a power cut may leave of a Maildir in memory, besides the files as they are.
-ghost use Rattle.std.specs.Prelude.{◌≡◌, ◌<◌, ◌≤◌, ◌↔◌, All, List, [], Contains, IfErr, OnOk};
-ghost use Rattle.std.specs.Prelude.{length};
-ghost use Rattle.std.specs.FinMap.{get, keys};
-ghost use Rattle.maildir_run.specs.Calls.{folder_of};
-ghost use Rattle.maildir_run.specs.Calls.Call.{Writing};
-ghost use Rattle.maildir_run.specs.Cuts.{Leaves, Follows};
-ghost use Rattle.maildir_run.specs.Files.{Action, Files, Spared, all_acted};
-ghost use Rattle.maildir_run.specs.MemFolder.{IsQuiet, HasNoScript, SameScript, files_of};
-ghost use Rattle.maildir_memory.specs.Private.Cases.{Adds, IsAdded, KeepsCases, Loses, LosesBytes};
-ghost use Rattle.maildir_memory.specs.Private.Cases.{made, nth_left};
-ghost use Rattle.maildir_memory.specs.Cases.{HasRoom, lefts_of, may_find};
-ghost use Rattle.maildir_memory.specs.TurnActs.{Spares};
-ghost use Rattle.maildir_memory.specs.Private.TurnActs.{all_turned, turned};
-ghost use Rattle.maildir_disk.specs.PowerCuts.{LeftByOthers};
-
 use crate::turn_act::TurnAct;
 use maildir_name::Place;
 use maildir_run::{Folder, FolderFault, MemFolder, Sub};
@@ -46,10 +31,7 @@ pub(crate) struct Cases {
 
 impl Cases {
     /// Nothing is lost.
-    pub(crate) fn none(alloc: Global) -> Self
-        ensures cases { lefts_of result ≡ [] }
-        ensures room { result.room ≡ 0 }
-    {
+    pub(crate) fn none(alloc: Global) -> Self {
         Cases {
             folders: Vec::new(alloc),
             room: 0,
@@ -62,19 +44,16 @@ impl Cases {
         &mut self,
         folder: &MemFolder,
         change: &Change<'_>,
-    ) -> Result<(), FolderFault>
-        ensures room { self.new.room ≡ self.old.room }
-        ensures more { Adds (IsAdded change.now (files_of folder.now) self.old) (lefts_of self.old)
-            (lefts_of self.new) }
-        ensures loses { OnOk result (HasRoom self.new →
-            Loses change.now (files_of folder.now) self.old self.new) }
-        ensures refused { IfErr result (λ fault. fault ≡ FolderFault.OutOfMemory) }
-    {
+    ) -> Result<(), FolderFault> {
         if self.room == 0 {
             return Ok(());
         }
         for at in 0..self.folders.len() {
-            self.add_with(at, change)?;
+            if let Some(left) = self.folders.get(at) {
+                let mut with = left.copy()?;
+                make(change, &mut with)?;
+                self.add(with)?;
+            }
         }
         self.add(folder.copy()?)
     }
@@ -87,47 +66,15 @@ impl Cases {
         name: &str,
         holds: &[u8],
         held: usize,
-    ) -> Result<(), FolderFault>
-        requires { held ≤ length holds.now }
-        ensures room { self.new.room ≡ self.old.room }
-        ensures no_fewer { length (lefts_of self.old) ≤ length (lefts_of self.new) }
-        ensures left { (spared : Spared) →
-            Follows (Leaves spared (Writing name.now [])) (may_find folder.now self.old)
-            (Contains (lefts_of self.new)) }
-        ensures loses { OnOk result (HasRoom self.new →
-            LosesBytes name.now holds.now held folder.now self.old self.new) }
-        ensures refused { IfErr result (λ fault. fault ≡ FolderFault.OutOfMemory) }
-    {
+    ) -> Result<(), FolderFault> {
         for end in held..holds.len() + 1 {
             self.may_lose(folder, &Change::Hold(name, &holds[..end]))?;
         }
         Ok(())
     }
 
-    // Adds this case with the change.
-    fn add_with(&mut self, at: usize, change: &Change<'_>) -> Result<(), FolderFault>
-        requires { at < length self.old.folders.items }
-        ensures room { self.new.room ≡ self.old.room }
-        ensures one { Adds (λ left. left ≡ made change.now (nth_left at self.old))
-            (lefts_of self.old) (lefts_of self.new) }
-        ensures there { OnOk result (HasRoom self.new →
-            Contains (lefts_of self.new) (made change.now (nth_left at self.old))) }
-        ensures refused { IfErr result (λ fault. fault ≡ FolderFault.OutOfMemory) }
-    {
-        let mut folder = self.folders[at].copy()?;
-        make(change, &mut folder)?;
-        self.add(folder)
-    }
-
     // Adds a case, if there is room and it is new.
-    fn add(&mut self, folder: MemFolder) -> Result<(), FolderFault>
-        ensures room { self.new.room ≡ self.old.room }
-        ensures one { Adds (λ left. left ≡ files_of folder) (lefts_of self.old)
-            (lefts_of self.new) }
-        ensures there { OnOk result (HasRoom self.new →
-            Contains (lefts_of self.new) (files_of folder)) }
-        ensures refused { IfErr result (λ fault. fault ≡ FolderFault.OutOfMemory) }
-    {
+    fn add(&mut self, folder: MemFolder) -> Result<(), FolderFault> {
         for known in &self.folders {
             if known.is_like(&folder) {
                 return Ok(());
@@ -145,75 +92,29 @@ impl Cases {
         &mut self,
         folder: &mut MemFolder,
         acts: &[TurnAct],
-    ) -> Result<(), FolderFault>
-        ensures script { SameScript folder.old folder.new }
-        ensures acts { (spared : Spared) → All (Spares spared) acts.now →
-            (actions : List Action) ×
-            (files_of folder.new ≡ all_acted spared actions (files_of folder.old)) }
-        ensures left { (spared : Spared) → All (Spares spared) acts.now →
-            Follows (LeftByOthers spared) (may_find folder.old self.old)
-            (may_find folder.new self.new) }
-        ensures keeps { OnOk result
-            (KeepsCases (may_find folder.old self.old)
-            (may_find folder.new self.new) self.old self.new) }
-        ensures done { OnOk result
-            (files_of folder.new ≡ all_turned acts.now (files_of folder.old)) }
-        ensures refused { IfErr result (λ fault. fault ≡ FolderFault.OutOfMemory) }
-    {
+    ) -> Result<(), FolderFault> {
         for act in acts {
-            self.act_once(folder, act)?;
+            self.may_lose(folder, &Change::Half(act))?;
+            self.may_lose(folder, &Change::Other(act))?;
+            act.perform(folder)?;
         }
         Ok(())
     }
 
-    fn act_once(&mut self, folder: &mut MemFolder, act: &TurnAct) -> Result<(), FolderFault>
-        ensures script { SameScript folder.old folder.new }
-        ensures acts { (spared : Spared) → Spares spared act.now →
-            (actions : List Action) ×
-            (files_of folder.new ≡ all_acted spared actions (files_of folder.old)) }
-        ensures left { (spared : Spared) → Spares spared act.now →
-            Follows (LeftByOthers spared) (may_find folder.old self.old)
-            (may_find folder.new self.new) }
-        ensures keeps { OnOk result
-            (KeepsCases (may_find folder.old self.old)
-            (may_find folder.new self.new) self.old self.new) }
-        ensures done { OnOk result (files_of folder.new ≡ turned act.now (files_of folder.old)) }
-        ensures refused { IfErr result (λ fault. fault ≡ FolderFault.OutOfMemory) }
-    {
-        self.may_lose(folder, &Change::Half(act))?;
-        self.may_lose(folder, &Change::Other(act))?;
-        act.perform(folder)
-    }
-
     /// Syncs a file of `tmp`: only those cases stay in which the file is as it is now.
-    pub(crate) fn keep_file(&mut self, folder: &MemFolder, name: &str)
-        ensures room { self.new.room ≡ self.old.room }
-        ensures stays { (left : Files) → Contains (lefts_of self.new) left
-            ↔ (Contains (lefts_of self.old) left ×
-            (get left.tmp name.now ≡ get (files_of folder.now).tmp name.now)) }
-    {
+    pub(crate) fn keep_file(&mut self, folder: &MemFolder, name: &str) {
         self.folders
             .retain(|left| left.has_file_of(folder, Sub::Tmp, name));
     }
 
     /// Syncs a folder: only those cases stay in which it has the names that it has now.
-    pub(crate) fn keep_names(&mut self, folder: &MemFolder, sub: Sub)
-        ensures room { self.new.room ≡ self.old.room }
-        ensures stays { (left : Files) → Contains (lefts_of self.new) left
-            ↔ (Contains (lefts_of self.old) left ×
-            (keys (folder_of sub left) ≡ keys (folder_of sub (files_of folder.now)))) }
-    {
+    pub(crate) fn keep_names(&mut self, folder: &MemFolder, sub: Sub) {
         self.folders.retain(|left| left.has_names_of(folder, sub));
     }
 }
 
 // Makes a change in a folder without a script.
-fn make(change: &Change<'_>, folder: &mut MemFolder) -> Result<(), FolderFault>
-    ensures done { IsQuiet folder.old →
-        OnOk result (files_of folder.new ≡ made change.now (files_of folder.old)) }
-    ensures refused { HasNoScript folder.old →
-        IfErr result (λ fault. fault ≡ FolderFault.OutOfMemory) }
-{
+fn make(change: &Change<'_>, folder: &mut MemFolder) -> Result<(), FolderFault> {
     match *change {
         Change::Make(name) => folder.write(name, &[]),
         Change::Hold(name, bytes) => match folder.bytes_of(Sub::Tmp, name) {

@@ -1,13 +1,15 @@
-//! A file system and a machine in memory, for tests and for proofs that the assumptions can be met.
+//! File systems and machines in memory: doubles for tests, and one of plain data that shows that the
+//! assumptions can be met.
 //!
-//! [`MemSystem`] is a Maildir in memory that does what [`System`](maildir_disk::System) assumes.
-//! Other programs may act within its calls, its calls may fail, a sync may fail so that those after
-//! it keep nothing, its stamps may be coarse ([`Stamps`]), and a power cut may leave any case of what
-//! was not synced. It logs the files that its calls touch ([`Touched`]). [`MemMachine`] is a
-//! [`Machine`](maildir_commands::Machine) with texts and such Maildirs.
+//! [`MemSystem`] is a Maildir in memory, for tests. Other programs may act within its calls, its
+//! calls may fail, a sync may fail so that those after it keep nothing, its stamps may be coarse
+//! ([`Stamps`]), and a power cut may leave any case of what was not synced. It logs the files that
+//! its calls touch ([`Touched`]). [`MemMachine`] is a [`Machine`](maildir_commands::Machine) with
+//! texts and such Maildirs. [`PlainSystem`] and [`PlainMachine`] are as small as they can be.
 //!
-//! Proved: they do what the traits that they implement state, so what is assumed there can be met;
-//! and so can what is assumed of any commands that follow one another ([`MemMachine::losing`]).
+//! Proved: the two of plain data do what the traits that they implement state, so what is assumed
+//! there can be met; and so can what is assumed of any commands that follow one another
+//! ([`PlainMachine::losing`]).
 //!
 //! ```rust
 //! use maildir_disk::DiskFolder;
@@ -30,6 +32,8 @@ mod mem_call;
 mod mem_calls;
 mod mem_machine;
 mod mem_system;
+mod plain_machine;
+mod plain_system;
 mod stamps;
 mod turn_act;
 
@@ -38,5 +42,7 @@ pub use mem_call::{Handle, MemCall};
 pub use mem_calls::{Answer, MemCalls};
 pub use mem_machine::{MemMachine, NamedText};
 pub use mem_system::{MemFile, MemSystem};
+pub use plain_machine::PlainMachine;
+pub use plain_system::PlainSystem;
 pub use stamps::Stamps;
 pub use turn_act::TurnAct;

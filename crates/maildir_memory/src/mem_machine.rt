@@ -1,26 +1,15 @@
 // A machine in memory.
-ghost use Rattle.std.specs.Prelude.{◌≡◌, ◌∷◌, [], Bool, List, None, Some, IfSome, IsNone, OnOk};
-ghost use Rattle.std.specs.Prelude.{codes, string_bytes};
-ghost use Rattle.std.specs.BTreeMap.{get_by_text};
-ghost use Rattle.maildir_commands.specs.Opening.{OpensMaildir};
-ghost use Rattle.maildir_memory.specs.Histories.{CanHappen, all_but};
-ghost use Rattle.maildir_memory.specs.MemMachines.{open_in_memory, seen_in_memory, text_under};
-ghost use Rattle.maildir_memory.specs.MemMachines.{without_slash};
-ghost use Rattle.maildir_memory.specs.MemSystem.{SparesByTurns};
-ghost use Rattle.maildir_run.specs.Delivery.{Message};
-ghost use Rattle.maildir_run.specs.Several.{IsMailbox, Mailbox};
+ghost use Rattle.maildir_commands.proofs.Resting.{same_at};
+ghost use Rattle.maildir_commands.specs.Seen.{nothing_seen};
 
 use crate::mem_system::MemSystem;
-use crate::stamps::Stamps;
-use crate::turn_act::TurnAct;
 use maildir_commands::Machine;
 use maildir_disk::OpenFault;
-use maildir_run::{FolderFault, MemFolder};
+use maildir_run::FolderFault;
 use std::alloc::{AllocFailed, Global};
 use std::collections::BTreeMap;
 use std::io;
 use std::io::ErrorKind;
-use std::time::{Instant, SystemTime};
 
 /// A text, with the word that names it.
 #[derive(Clone, Copy)]
@@ -45,11 +34,7 @@ pub struct MemMachine<'a> {
 
 impl<'a> MemMachine<'a> {
     /// A machine with these texts and no Maildir.
-    pub fn new(alloc: Global, texts: &'a [NamedText<'a>]) -> Self
-        ensures texts { result.texts.now ≡ texts.now }
-        ensures none { result.maildirs.entries ≡ [] }
-        ensures makes_none { result.fresh ≡ None }
-    {
+    pub fn new(alloc: Global, texts: &'a [NamedText<'a>]) -> Self {
         MemMachine {
             alloc,
             texts,
@@ -60,48 +45,8 @@ impl<'a> MemMachine<'a> {
 
     /// The next Maildir that is missing is made of this one, which holds nothing. Until then a
     /// missing one is refused.
-    pub fn make_of(&mut self, fresh: MemSystem)
-        ensures { self.new ≡ record self.old { fresh = Some fresh } }
-    {
+    pub fn make_of(&mut self, fresh: MemSystem) {
         self.fresh = Some(fresh);
-    }
-
-    /// A machine with these texts and no Maildir. The next missing Maildir is made without files. A
-    /// power cut may lose what was not synced of it, even all of it, and leaves at most `room`
-    /// cases besides the files as they are. Other programs act at these turns.
-    ///
-    /// Commands can follow one another on it as is assumed of any commands: with a status 1, a
-    /// power cut, and a deletion of a text's first message, which is delivered again before another
-    /// cut. So they can also if a power cut may keep half of a rename. An example is a text of two
-    /// messages.
-    pub fn losing(
-        alloc: Global,
-        texts: &'a [NamedText<'a>],
-        clock: SystemTime,
-        instant: Instant,
-        turns: Vec<Vec<TurnAct>>,
-        room: usize,
-    ) -> Self
-        ensures happens { (text : Mailbox) (gone : Message) (rest : List Message) (whole : Bool) →
-            IsMailbox text → text.messages ≡ gone ∷ rest →
-            text_under texts.now (codes "mail") ≡ text.bytes →
-            SparesByTurns (all_but gone whole) turns.items → CanHappen text gone whole result }
-        ensures example { text_under texts.now (codes "mail") ≡ codes "From a\n\nFrom b\n\n" →
-            turns.items ≡ [] → (text : Mailbox) × (gone : Message) × (kept : Message) ×
-            (text.messages ≡ gone ∷ kept ∷ []) × ((whole : Bool) → CanHappen text gone whole result) }
-    {
-        let mut fresh = MemSystem::new(
-            alloc,
-            MemFolder::new(alloc),
-            Stamps::Fine,
-            clock,
-            instant,
-            turns,
-        );
-        fresh.lose(room);
-        let mut machine = MemMachine::new(alloc, texts);
-        machine.make_of(fresh);
-        machine
     }
 
     /// Puts a Maildir under a word.
@@ -109,22 +54,13 @@ impl<'a> MemMachine<'a> {
         &mut self,
         word: String,
         maildir: MemSystem,
-    ) -> Result<(), AllocFailed<(String, Option<MemSystem>)>>
-        ensures texts { self.new.texts ≡ self.old.texts }
-        ensures put { OnOk result
-            (get_by_text self.new.maildirs (string_bytes word) ≡ Some (Some maildir)) }
-    {
+    ) -> Result<(), AllocFailed<(String, Option<MemSystem>)>> {
         self.maildirs.insert(word, Some(maildir))?;
         Ok(())
     }
 
     // Makes a Maildir that is missing, and opens it.
-    fn make(&mut self, path: &str) -> Result<MemSystem, OpenFault>
-        requires { get_by_text self.old.maildirs (without_slash path.now) ≡ None }
-        ensures { OpensMaildir open_in_memory path.now result
-            (seen_in_memory self.old.texts.now (get_by_text self.old.maildirs) self.old.fresh)
-            (seen_in_memory self.new.texts.now (get_by_text self.new.maildirs) self.new.fresh) }
-    {
+    fn make(&mut self, path: &str) -> Result<MemSystem, OpenFault> {
         let Some(fresh) = self.fresh.take() else {
             return Err(OpenFault::Folder(FolderFault::Failed));
         };
@@ -138,12 +74,7 @@ impl<'a> MemMachine<'a> {
     }
 
     /// The Maildir under a word.
-    pub fn maildir(&self, word: &str) -> Option<&MemSystem>
-        ensures there { IfSome result
-            (λ maildir. get_by_text self.now.maildirs word.now ≡ Some (Some maildir.now)) }
-        ensures none { IsNone result → (maildir : MemSystem) →
-            ¬ (get_by_text self.now.maildirs word.now ≡ Some (Some maildir)) }
-    {
+    pub fn maildir(&self, word: &str) -> Option<&MemSystem> {
         match self.maildirs.get(word) {
             Some(Some(maildir)) => Some(maildir),
             _ => None,
@@ -152,38 +83,30 @@ impl<'a> MemMachine<'a> {
 }
 
 // The word without one slash at its end: a word names the same Maildir with it and without it.
-fn without_slash(word: &str) -> &str
-    ensures { result.now ≡ without_slash word.now }
-{
+fn without_slash(word: &str) -> &str {
     match word.strip_suffix('/') {
         Some(front) => front,
         None => word,
     }
 }
 
+// No proof says that it does as assumed: `PlainMachine` is proved to do so.
 impl<'a> Machine for MemMachine<'a> {
-    ghost use Rattle.maildir_memory.specs.Laws.{fewer_in_memory, held_alike, held_may_stay};
-    ghost use Rattle.maildir_memory.specs.Laws.{quiet_in_memory};
-
     type Source = &'a [u8];
 
     type Maildir = MemSystem;
 
-    ghost at = { λ machine.
-        seen_in_memory machine.texts.now (get_by_text machine.maildirs) machine.fresh };
+    ghost at = { λ _. nothing_seen };
 
-    ghost quiet_is_honest = { λ machine.
-        quiet_in_memory (get_by_text machine.maildirs) machine.fresh };
+    ghost quiet_is_honest = { λ _ _ quiet. quiet };
 
-    ghost fewer_honest = { λ machine.
-        fewer_in_memory (get_by_text machine.maildirs) machine.fresh };
+    ghost fewer_honest = { λ _ _ _ _ honest. honest };
 
     ghost same_paths = { λ _ _ _ _ same. same };
 
-    ghost same_maildir = { λ machine. held_alike (get_by_text machine.maildirs) };
+    ghost same_maildir = { λ _ _ _ _ _. same_at };
 
-    ghost may_stay = { λ machine _ word _.
-        held_may_stay (get_by_text machine.maildirs (without_slash word)) };
+    ghost may_stay = { λ _ _ _ honest. absurd honest };
 
     fn open_source(&mut self, path: &str) -> io::Result<&'a [u8]> {
         let texts = self.texts;

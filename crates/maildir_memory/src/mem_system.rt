@@ -1,18 +1,6 @@
 // The system calls of a Maildir in memory.
-ghost use Rattle.std.specs.Prelude.{◌≡◌, ◌≤◌, ◌++◌, [], IfErr, IfOk, IsFalse, IsTrue};
-ghost use Rattle.std.specs.Prelude.{OnOk, length};
-ghost use Rattle.std.specs.FinMap.{contains_key};
-ghost use Rattle.std.specs.IoError.{error_kind};
-ghost use Rattle.std.specs.declared.io.ErrorKind.TheVariants.{NotFound};
-ghost use Rattle.maildir_run.specs.Calls.{effect};
-ghost use Rattle.maildir_run.specs.Calls.Call.{Writing, Placing, Removing};
-ghost use Rattle.maildir_run.specs.Files.{Honestly};
-ghost use Rattle.maildir_run.specs.MemFolder.{IsQuiet, files_of};
-ghost use Rattle.maildir_memory.specs.Cases.{HasRoom};
-ghost use Rattle.maildir_disk.specs.Placing.{WasGone};
-ghost use Rattle.maildir_disk.specs.SeenSystem.{AppendsToFile, MakesFile, TakesFromTmp};
-ghost use Rattle.maildir_memory.specs.MemSystem.{IsMadeOf, MayLose, MayLosePrefixes};
-ghost use Rattle.maildir_memory.specs.MemSystem.{opened_as, seen_system};
+ghost use Rattle.std.specs.Prelude.{◌≡◌, ◌++◌, [], IfOk};
+ghost use Rattle.maildir_disk.specs.SeenSystem.{no_system};
 
 use crate::cases::{Cases, Change};
 use crate::faults::error_of;
@@ -32,7 +20,7 @@ mod turns;
 /// A file of `tmp` in memory that is open for writing.
 #[derive(Drop)]
 pub struct MemFile {
-    name: String,
+    pub(crate) name: String,
 }
 
 /// A Maildir in memory, with clocks. Each call that only reads, and each step of a write, pops one
@@ -73,9 +61,7 @@ impl MemSystem {
         clock: SystemTime,
         instant: Instant,
         turns: Vec<Vec<TurnAct>>,
-    ) -> Self
-        ensures { IsMadeOf folder stamps clock turns result }
-    {
+    ) -> Self {
         folder.script(Vec::new(alloc), None);
         MemSystem {
             alloc,
@@ -95,29 +81,18 @@ impl MemSystem {
     }
 
     /// This many calls work, and from then on each one fails without effect. Sleeping is no call.
-    pub fn fail_after(&mut self, calls: u64)
-        ensures { self.new ≡ record self.old { calls_left = calls } }
-    {
+    pub fn fail_after(&mut self, calls: u64) {
         self.calls_left = calls;
     }
 
     /// This many syncs of folders work. The next one fails, and each after it returns Ok but keeps
     /// nothing, as Linux reports a writeback error once.
-    pub fn fail_sync_after(&mut self, syncs: u64)
-        ensures { self.new ≡ record self.old { syncs_left = syncs } }
-    {
+    pub fn fail_sync_after(&mut self, syncs: u64) {
         self.syncs_left = syncs;
     }
 
     // Whether a sync keeps what it is asked for.
-    fn is_kept(&mut self) -> io::Result<bool>
-        ensures rest { self.new ≡ record self.old {
-          syncs_left = self.new.syncs_left;
-          sync_failed = self.new.sync_failed;
-        } }
-        ensures none_failed { IsFalse self.old.sync_failed →
-            IfOk result (λ kept. IsTrue kept × IsFalse self.new.sync_failed) }
-    {
+    fn is_kept(&mut self) -> io::Result<bool> {
         if self.sync_failed {
             return Ok(false);
         }
@@ -127,38 +102,31 @@ impl MemSystem {
     }
 
     /// The files as they are.
-    pub fn folder(&self) -> &MemFolder
-        ensures { result.now ≡ self.now.folder }
-    {
+    pub fn folder(&self) -> &MemFolder {
         &self.folder
     }
 
     /// The files that its calls touched until now, in order.
-    pub fn touched(&self) -> &[Touched]
-        ensures { result.now ≡ self.now.log.items }
-    {
+    pub fn touched(&self) -> &[Touched] {
         self.log.as_slice()
     }
 }
 
+// No proof says that it does as assumed: `PlainSystem` is proved to do so.
 impl System for MemSystem {
-    ghost use Rattle.std.proofs.Common.{inl, refl};
-    ghost use Rattle.maildir_memory.specs.Laws.{fewer_system, quiet_system};
-    ghost use Rattle.maildir_memory.specs.MemSystem.{opened_as, seen_system};
-
     type File = MemFile;
 
-    ghost at = { seen_system };
+    ghost at = { λ _. no_system };
 
-    ghost name_of = { opened_as };
+    ghost name_of = { λ _. [] };
 
-    ghost is_current = { λ _ _. Unit {0} };
+    ghost is_current = { λ _ _. ⊥ };
 
-    ghost quiet_is_honest = { quiet_system };
+    ghost quiet_is_honest = { λ _ _ quiet. quiet };
 
-    ghost fewer_honest = { fewer_system };
+    ghost fewer_honest = { λ _ _ _ _ honest. honest };
 
-    ghost may_stay = { λ _ _ _. inl refl };
+    ghost may_stay = { λ _ _ honest. honest };
 
     fn names(&mut self, sub: Sub) -> io::Result<Vec<String>> {
         let stamp = self.stamp;
@@ -194,16 +162,7 @@ impl System for MemSystem {
         let _ = self.pass(pause);
     }
 
-    fn create(&mut self, name: &str) -> io::Result<MemFile>
-        ensures makes { MakesFile name.now (seen_system self.old) result (seen_system self.new) }
-        ensures name { Honestly (seen_system self.old).honest (λ _.
-            IfOk result (λ file. opened_as file ≡ name.now)) }
-        ensures current { Honestly (seen_system self.old).honest (λ _.
-            IfOk result (λ file. Unit {0})) }
-        ensures loses { IsQuiet self.old.folder →
-            OnOk result (HasRoom self.new.cases →
-            MayLose (effect (Writing name.now [])) self.old self.new) }
-    {
+    fn create(&mut self, name: &str) -> io::Result<MemFile> {
         let file = MemFile {
             name: String::from_str(self.alloc, name)?,
         };
@@ -219,16 +178,7 @@ impl System for MemSystem {
         }
     }
 
-    fn append(&mut self, file: &mut MemFile, bytes: &[u8]) -> io::Result<usize>
-        ensures most { IfOk result (λ n. n ≤ length bytes.now) }
-        ensures appends { AppendsToFile (opened_as file.old) (Unit {0}) bytes.now
-            (seen_system self.old) result (seen_system self.new) }
-        ensures name { opened_as file.new ≡ opened_as file.old }
-        ensures current { Honestly (seen_system self.old).honest (λ _. Unit {0} → Unit {0}) }
-        ensures loses { IsQuiet self.old.folder → IfOk result (λ n. HasRoom self.new.cases →
-            IsTrue (contains_key (files_of self.new.folder).tmp (opened_as file.old)) →
-            MayLosePrefixes (opened_as file.old) bytes.now n self.old self.new) }
-    {
+    fn append(&mut self, file: &mut MemFile, bytes: &[u8]) -> io::Result<usize> {
         self.pass_shortly()?;
         let taken = bytes.len() - bytes.len() / 2;
         let Some(held) = self.folder.bytes_of(Sub::Tmp, file.name.as_str()) else {
@@ -251,17 +201,7 @@ impl System for MemSystem {
         Ok(())
     }
 
-    fn rename(&mut self, name: &str, place: Place, target: &str) -> io::Result<()>
-        ensures places { TakesFromTmp (Placing name.now place target.now)
-            (seen_system self.old) result (seen_system self.new) }
-        ensures gone { Honestly (seen_system self.old).honest (λ spared.
-            IfErr result (λ error. error_kind error ≡ NotFound →
-            WasGone spared name.now (Placing name.now place target.now) (files_of self.old.folder)
-            (files_of self.new.folder))) }
-        ensures loses { IsQuiet self.old.folder →
-            OnOk result (HasRoom self.new.cases →
-            MayLose (effect (Placing name.now place target.now)) self.old self.new) }
-    {
+    fn rename(&mut self, name: &str, place: Place, target: &str) -> io::Result<()> {
         begin(&mut self.calls_left)?;
         touch(&mut self.log, self.alloc, Sub::Tmp, name)?;
         touch(&mut self.log, self.alloc, Sub::of_place(place), target)?;
@@ -275,13 +215,7 @@ impl System for MemSystem {
         }
     }
 
-    fn unlink(&mut self, name: &str) -> io::Result<()>
-        ensures removes { TakesFromTmp (Removing name.now) (seen_system self.old) result
-            (seen_system self.new) }
-        ensures loses { IsQuiet self.old.folder →
-            OnOk result (HasRoom self.new.cases →
-            MayLose (effect (Removing name.now)) self.old self.new) }
-    {
+    fn unlink(&mut self, name: &str) -> io::Result<()> {
         begin(&mut self.calls_left)?;
         touch(&mut self.log, self.alloc, Sub::Tmp, name)?;
         self.cases
@@ -311,7 +245,7 @@ impl System for MemSystem {
     }
 }
 
-fn joined(alloc: Global, prefix: &[u8], rest: &[u8]) -> io::Result<Vec<u8>>
+pub(crate) fn joined(alloc: Global, prefix: &[u8], rest: &[u8]) -> io::Result<Vec<u8>>
     ensures { IfOk result (λ bytes. bytes.items ≡ prefix.now ++ rest.now) }
 {
     let mut bytes = Vec::from_slice(alloc, prefix)?;

@@ -1,8 +1,4 @@
 // What other programs do at their turns to a Maildir in memory.
-ghost use Rattle.std.specs.Prelude.{◌≡◌, IfErr, OnErr, OnOk};
-ghost use Rattle.maildir_run.specs.MemFolder.{SameScript, files_of};
-ghost use Rattle.maildir_memory.specs.Private.TurnActs.{half_turned, turned};
-
 use maildir_run::{Act, FolderFault, MemFolder, Sub};
 
 /// What another program does at its turn.
@@ -18,12 +14,7 @@ pub enum TurnAct {
 }
 
 impl TurnAct {
-    pub(crate) fn perform(&self, folder: &mut MemFolder) -> Result<(), FolderFault>
-        ensures ok { OnOk result (files_of folder.new ≡ turned self.now (files_of folder.old)) }
-        ensures err { OnErr result (files_of folder.new ≡ files_of folder.old) }
-        ensures script { SameScript folder.old folder.new }
-        ensures refused { IfErr result (λ fault. fault ≡ FolderFault.OutOfMemory) }
-    {
+    pub(crate) fn perform(&self, folder: &mut MemFolder) -> Result<(), FolderFault> {
         match self {
             TurnAct::Reader(act) | TurnAct::AtOnce(act) => folder.act(act),
             TurnAct::Delete(sub, name) => {
@@ -35,13 +26,7 @@ impl TurnAct {
 
     /// Performs half of the act: a file that a reader moves is under both names. Half of any other
     /// act does nothing.
-    pub(crate) fn perform_half(&self, folder: &mut MemFolder) -> Result<(), FolderFault>
-        ensures ok { OnOk result
-            (files_of folder.new ≡ half_turned self.now (files_of folder.old)) }
-        ensures err { OnErr result (files_of folder.new ≡ files_of folder.old) }
-        ensures script { SameScript folder.old folder.new }
-        ensures refused { IfErr result (λ fault. fault ≡ FolderFault.OutOfMemory) }
-    {
+    pub(crate) fn perform_half(&self, folder: &mut MemFolder) -> Result<(), FolderFault> {
         match self {
             TurnAct::Reader(act) => folder.act_half(act),
             TurnAct::AtOnce(_) | TurnAct::Delete(_, _) => Ok(()),

@@ -1,7 +1,7 @@
-// The history that shows how the assumptions on any commands can be met, made by the program. A
-// command is interrupted, and a power cut takes away what it delivered. The next command fails
-// while it prints. A message is deleted and delivered again, and another power cut takes nothing
-// away.
+// The history for which all that is assumed of any commands holds, made by the program. A command
+// is interrupted, and a power cut takes away what it delivered. The next command fails while it
+// prints. A message is deleted and delivered again, and another power cut takes nothing away.
+use crate::mem_system::system_with;
 use crate::planning::names;
 use crate::rows::{same, same_bytes};
 use crate::scripts::turns_of;
@@ -10,7 +10,7 @@ use crate::texts::{EMPTY_ONE, EMPTY_TWO, TWO_EMPTY};
 use crate::writers::Narrow;
 use maildir_commands::{Machine, run};
 use maildir_disk::System;
-use maildir_memory::{MemMachine, MemSystem, NamedText, TurnAct};
+use maildir_memory::{MemMachine, MemSystem, NamedText, PlainMachine, Stamps, TurnAct};
 use maildir_run::Sub;
 use std::io::BufWriter;
 use std::test::Fail;
@@ -63,10 +63,11 @@ fn bare(rt: HostRuntime) -> Result<MemMachine<'static>, Fail> {
     let alloc = rt.alloc();
     let mut acts = Vec::new(alloc);
     acts.push(TurnAct::Delete(Sub::New, String::from_str(alloc, EMPTY_ONE)?))?;
-    let turns = turns_of(alloc, acts, TURN)?;
-    let clock = UNIX_EPOCH + Duration::from_millis(1500);
-    let instant = Instant::now(&rt)?;
-    Ok(MemMachine::losing(alloc, TEXTS, clock, instant, turns, ROOM))
+    let mut fresh = system_with(rt, Stamps::Fine, &[], turns_of(alloc, acts, TURN)?)?;
+    fresh.lose(ROOM);
+    let mut machine = MemMachine::new(alloc, TEXTS);
+    machine.make_of(fresh);
+    Ok(machine)
 }
 
 // Runs a command with this word for the Maildir, whose output takes this many bytes; these are what
@@ -165,4 +166,34 @@ fn deleted_and_brought_again(rt: HostRuntime) -> Result<(), Fail> {
         }
     }
     Err(Fail::new("more cases than were tried"))
+}
+
+// The machine of plain data works: a command delivers both messages, and the next finds them.
+#[test]
+fn plainly_delivered(rt: HostRuntime) -> Result<(), Fail> {
+    let alloc = rt.alloc();
+    let clock = UNIX_EPOCH + Duration::from_secs(10);
+    let instant = Instant::now(&rt)?;
+    let mut machine = PlainMachine::losing(alloc, TWO_EMPTY, UNIX_EPOCH, clock, instant);
+    let words = names(alloc, &["convert", "M", "mail"])?;
+    let mut out = BufWriter::with_capacity(alloc, 64, Narrow::new(alloc, 1000, 64, true))?;
+    let mut err = Narrow::new(alloc, 1000, 64, true);
+    for _ in 0..2 {
+        let mut input = Cut::pieces(b"", 4);
+        let status = run(
+            &mut machine,
+            alloc,
+            words.as_slice(),
+            &mut input,
+            &mut out,
+            &mut err,
+        );
+        same(&"the status", &status, &0)?;
+    }
+    let lines = b"messages 2, there 0, placed 2, swept 0\nmessages 2, there 2, placed 0, swept 0\n";
+    same_bytes(&"printed", out.get_ref().taken.as_slice(), lines)?;
+    let Some(maildir) = machine.maildir() else {
+        return Err(Fail::new("the Maildir is open"));
+    };
+    same(&"its files", &maildir.folder().count(Sub::New), &2)
 }

@@ -1,46 +1,38 @@
 -- The episodes of the history, one after the other.
-use Rattle.std.proofs.Common.{◌≡◌, ◌≤◌, ◌⊎◌, ℕ, Bool, true, false, List, [], ◌∷◌, length, get_or, drop, cond, All, Contains, Some, None, IsTrue}
+use Rattle.std.proofs.Common.{◌≡◌, ◌≤◌, ◌⊎◌, ℕ, Bool, true, false, List, [], ◌∷◌, length, get_or, drop, All, Contains, Some, IsTrue}
 use Rattle.std.proofs.Common.{codes, refl, sym, ap, subst, ◌∙◌, inl, inr, arith}
-use Rattle.std.specs.BTreeMap.{get_by_text}
 use Rattle.std.specs.List.{flat_map}
-use Rattle.std.specs.Str.{bytes_eq}
-use Rattle.std_collections.specs.Layout.BTreeMap.{with_entries}
-use Rattle.std.proofs.lemmas.Bool.{cases_Bool}
 use Rattle.std.proofs.lemmas.List.Elements.{All-cons, All-head, All-nil}
 use Rattle.std.proofs.lemmas.List.Sorted.{IsPermutation-refl}
 use Rattle.maildir_run.proofs.Call.Outsiders.{outside_reaches}
 use Rattle.maildir_run.proofs.Call.Touching.{touched_same}
 use Rattle.maildir_run.proofs.Chains.MessageLemmas.{text_distinct, text_targets}
 use Rattle.maildir_run.proofs.Common.{AreDistinct, IsTarget}
-use Rattle.maildir_run.proofs.Names.Maps.{is_name-true}
 use Rattle.maildir_run.proofs.Source.PossibleMessages.{whole_messages}
 use Rattle.maildir_run.specs.Cuts.{Came}
 use Rattle.maildir_run.specs.Delivery.{AllSpared, IsHome, IsMissing, IsSoundAt, Message}
-use Rattle.maildir_run.specs.Files.{Files, KeepsHomes, Outside, Spared, homes, is_name}
+use Rattle.maildir_run.specs.Files.{Files, KeepsHomes, Outside, Spared, homes}
 use Rattle.maildir_run.specs.MemFiles.{no_files}
-use Rattle.maildir_run.specs.MemFolder.{files_of}
+use Rattle.maildir_run.specs.MemFolder.{IsQuiet}
 use Rattle.maildir_run.specs.Several.{IsMailbox, Mailbox}
 use Rattle.maildir_run.specs.Texts.{MessagesOf}
 use Rattle.maildir_run.specs.declared.report.Report.{Report}
 use Rattle.maildir_disk.proofs.Left.LeftHomes.{first_in, none_in}
 use Rattle.maildir_disk.specs.PowerCuts.{AreAlike, AreIntact, HasBody, IsIntact}
 use Rattle.maildir_commands.specs.Commands.{Delivers, PrintedSafely}
-use Rattle.maildir_commands.specs.Episodes.{Commanded, Cut, IsToDeliver, LeadsTo, LeftByPowerCut}
-use Rattle.maildir_commands.specs.Machines.{GivesTexts, HasItsMessages, HeldMaildir, IsSafeIn, IsSoundFor, OthersStay, Rests, bytes_of, nothing_held}
+use Rattle.maildir_commands.specs.Episodes.{Commanded, Cut, IsToDeliver, LeadsTo}
+use Rattle.maildir_commands.specs.Promise.{IsNewTo, all_whole}
+use Rattle.maildir_commands.specs.Machines.{GivesTexts, HasItsMessages, HeldMaildir, IsSafeIn, IsSoundFor, OthersStay, Rests, bytes_of}
 use Rattle.maildir_commands.specs.Report.{report_line}
-use Rattle.maildir_commands.specs.Seen.{Untouched}
 use Rattle.maildir_commands.specs.Words.{convert_words}
 use Rattle.maildir_commands.proofs.OneText.{fit_alone}
 use Rattle.maildir_commands.proofs.SameMessages.{AreSame, alike_same, all_same, is_placed, of_mailbox, own_alike, placed, safe_same, same_placed, turned}
-use Rattle.maildir_memory.specs.Histories.{CanHappen, Delivering, Leads, all_but, seen_machine}
-use Rattle.maildir_memory.specs.Cases.{lefts_of}
-use Rattle.maildir_memory.specs.MemMachines.{held_at, open_in_memory, text_under, without_slash}
-use Rattle.maildir_memory.specs.MemSystem.{IsHonest}
-use Rattle.maildir_memory.specs.declared.mem_machine.MemMachine.{MemMachine}
-use Rattle.maildir_memory.specs.declared.mem_system.MemSystem.{MemSystem}
-use Rattle.maildir_memory.proofs.MemMachines.{untouched_at}
+use Rattle.maildir_memory.specs.Histories.{CanHappen, CanHappenToOne, Delivering, Leads, all_but, seen_machine}
+use Rattle.maildir_memory.specs.Plain.{IsNew, held_by, held_plain}
+use Rattle.maildir_memory.specs.declared.plain_machine.PlainMachine.{PlainMachine}
+use Rattle.maildir_memory.specs.declared.plain_system.PlainSystem.{PlainSystem}
 use Rattle.maildir_memory.proofs.Histories.Filled.{filled, filled_home, filled_sound, filled_swept, first_none, no_homes, put_spares, without_first}
-use Rattle.maildir_memory.proofs.Histories.Moments.{IsPart, before, holding, sound_intact, system_with}
+use Rattle.maildir_memory.proofs.Histories.Moments.{IsPart, sound_intact, system_as, system_with}
 
 module _ (text : Mailbox) (are : IsMailbox text) where
   same_messages : (ms : List Message) → MessagesOf text.bytes text.messages → MessagesOf text.bytes ms → ms ≡ text.messages
@@ -66,7 +58,7 @@ module _ (text : Mailbox) (are : IsMailbox text) where
   of_one : (t : Mailbox) (P : Mailbox → Type 0) → P t → All P (t ∷ [])
   of_one t P h = All-cons P t [] h (All-nil P)
 
-  module _ (gone : Message) (rest : List Message) (first : text.messages ≡ gone ∷ rest) (whole : Bool) where
+  module _ (gone : Message) (rest : List Message) (first : text.messages ≡ gone ∷ rest) where
     abbrev ms : List Message
     ms = gone ∷ rest
 
@@ -109,20 +101,16 @@ module _ (text : Mailbox) (are : IsMailbox text) where
       }
 
     -- ---- the moments
-    module _ (start : MemMachine) (system : MemSystem) (honest : IsHonest (all_but gone whole) system) (kept : lefts_of system.cases ≡ [])
-        (untouched : system.log.items ≡ []) (is_text : text_under start.texts.now (codes "mail") ≡ text.bytes) where
-      abbrev moment : Files → Bool → MemMachine
-      moment s rooted = holding start (system_with system s rooted)
-
+    module _ (start : PlainMachine) (system : PlainSystem) (quiet : IsQuiet system.folder) (is_text : start.text.now ≡ text.bytes) where
       abbrev held : Files → Bool → HeldMaildir
-      held s rooted = (open_in_memory (system_with system s rooted)).held
+      held s rooted = held_plain (system_with system s rooted)
 
-      abbrev new_machine : MemMachine
-      new_machine = before start (system_with system no_files false)
+      abbrev moment : Files → Bool → PlainMachine
+      moment s rooted = record start { maildir = Some (system_with system s rooted) }
 
       left_is : (s : Files) (rooted : Bool) (left : Files) → (held s rooted).may_leave left → left ≡ s
       left_is s rooted left (inl is) = is
-      left_is s rooted left (inr has) = absurd (none_in (subst (λ lefts. Contains lefts left) kept has))
+      left_is s rooted left (inr is) = is
 
       part : (s : Files) (rooted : Bool) → ((b : List ℕ) → (homes s b ≡ []) ⊎ (homes s b ≡ homes all b)) → IsPart all (held s rooted)
       part s rooted within = record { within = within; only = left_is s rooted; stays = inl refl }
@@ -187,205 +175,204 @@ module _ (text : Mailbox) (are : IsMailbox text) where
           safe = of_one other (IsSafeIn spared (held all rooted)) (safe found);
         }
 
-      none_part : IsPart all nothing_held
-      none_part = record { within = λ b. inl (no_homes b); only = λ left may. may; stays = refl }
+      bare : IsPart all (held no_files false)
+      bare = part no_files false (λ b. inl (no_homes b))
 
-      system_honest : {spared : Spared} (s : Files) (rooted : Bool) → IsHonest spared (system_with system s rooted)
-          → (t : Files) (other : Bool) → IsHonest spared (system_with system t other)
-      system_honest s rooted h t other = record { no_script = h.no_script; spares = h.spares; none_failed = h.none_failed }
-
-      only_found : (here : MemSystem) (word : List ℕ) (other : MemSystem) → get_by_text (holding start here).maildirs word ≡ Some (Some other) → here ≡ other
-      only_found here word other is = elim (cases_Bool (is_name word (codes "M"))) as (λ _. here ≡ other) [
-        | inl on ↦ let e : Some (Some here) ≡ Some (Some other) = sym (ap (λ t. cond t (Some (Some here)) None) on) ∙ is in cc
-        | inr off ↦ let e : None ≡ Some (Some other) = sym (ap (λ t. cond t (Some (Some here)) None) off) ∙ is in cc
-      ]
-
-      honest_at : (s : Files) (rooted : Bool) (spared : Spared) → IsHonest spared (system_with system s rooted) → (seen_machine (moment s rooted)).honest spared
-      honest_at s rooted spared h = (λ word other is. subst (IsHonest spared) (only_found (system_with system s rooted) word other is) h, tt)
-
-      still_honest : (s : Files) (rooted : Bool) → (seen_machine (moment s rooted)).honest (all_but gone whole)
-      still_honest s rooted =
-          honest_at s rooted (all_but gone whole) (record { no_script = honest.no_script; spares = honest.spares; none_failed = honest.none_failed })
-
-      none_beside : (s : Files) (rooted : Bool) (word : List ℕ) → is_name word (codes "M") ≡ false → get_by_text (moment s rooted).maildirs word ≡ None
-      none_beside s rooted word off = ap (λ t. cond t (Some (Some (system_with system s rooted))) None) off
+      -- a command that is to deliver the text ends with this status, and prints this
+      abbrev Ends : Spared → ℕ → List ℕ → PlainMachine → PlainMachine → Type 0
+      Ends spared status line =
+          Commanded spared seen_machine (IsToDeliver (codes "M") (text ∷ []) (text ∷ [])) status (Some []) (Some line)
 
       -- ---- a command that leaves all of them
-      module _ (by : List ℕ) (named : without_slash by ≡ codes "M") (old : MemMachine) (was : IsPart all ((seen_machine old).maildir_at (codes "M")))
-          (given : (seen_machine old).text_of (codes "mail") ≡ text.bytes)
-          (no_other : (word : List ℕ) → is_name word (codes "M") ≡ false → get_by_text old.maildirs word ≡ None)
-          (status : ℕ) (rooted : Bool) (line : List ℕ)
-          (done : status ≡ 0 → IsTrue rooted) (found : ((seen_machine old).maildir_at (codes "M")).rooted → IsTrue rooted)
+      module _ (spared : Spared) (by : List ℕ) (old : PlainMachine) (was : IsPart all (held_by old.maildir)) (given : old.text.now ≡ text.bytes)
+          (status : ℕ) (rooted : Bool) (line : List ℕ) (done : status ≡ 0 → IsTrue rooted) (found : (held_by old.maildir).rooted → IsTrue rooted)
           (printed : (spared : Spared) (other : Mailbox) (same : AreSame text.messages other.messages) → status ≡ 1
-          → Printed spared rooted other same line)
-          (working : (spared : Spared) → (seen_machine old).honest spared → ¬ (status ≡ 1) → IsHonest spared (system_with system all rooted)) where
+          → Printed spared rooted other same line) where
         abbrev words : List (List ℕ)
         words = convert_words by (codes "mail" ∷ [])
 
-        abbrev Brings : Spared → List Mailbox → List ℕ → Type 0
-        Brings spared texts word =
-            Delivers spared status texts (held_at (get_by_text old.maildirs word)) (held_at (get_by_text (moment all rooted).maildirs word))
-            (Some []) (Some line)
+        abbrev Brings : Spared → List Mailbox → Type 0
+        Brings spared texts = Delivers spared status texts (held_by old.maildir) (held all rooted) (Some []) (Some line)
 
         converts : (spared : Spared) (into : List ℕ) (files : List (List ℕ)) (texts : List Mailbox) → words ≡ convert_words into files
-            → GivesTexts (seen_machine old).text_of (Some []) (Some []) files texts → All HasItsMessages texts → Brings spared texts (without_slash into)
+            → GivesTexts (seen_machine old).text_of (Some []) (Some []) files texts → All HasItsMessages texts → Brings spared texts
         converts spared into files texts asked gives have =
             let file : codes "mail" ∷ [] ≡ files = ap (drop 2) asked in
-            let bytes : bytes_of texts ≡ (seen_machine old).text_of (codes "mail") ∷ [] =
+            let bytes : bytes_of texts ≡ old.text.now ∷ [] =
             subst (λ files. GivesTexts (seen_machine old).text_of (Some []) (Some []) files texts) (sym file) gives in
             let (other, one, same) = only_text texts have (bytes ∙ ap (λ b. b ∷ []) given) in
-            subst (λ texts. Brings spared texts (without_slash into)) (sym one)
-            (subst (Brings spared (other ∷ [])) (sym named ∙ ap (λ words. without_slash (get_or words 1 [])) asked)
-            (brings spared rooted other same ((seen_machine old).maildir_at (codes "M")) was status line done found (printed spared other same)))
+            subst (Brings spared) (sym one)
+            (brings spared rooted other same (held_by old.maildir) was status line done found (printed spared other same))
 
-        command : Commanded (all_but gone whole) seen_machine (IsToDeliver (codes "M") (text ∷ []) (text ∷ [])) status (Some []) (Some line) old
-            (moment all rooted)
+        command : Ends spared status line old (moment all rooted)
         command = record {
           words = words;
           input = Some [];
           rest = Some [];
           did = record {
             delivers = λ spared h into files texts asked gives fit sound. converts spared into files texts asked gives fit.are;
-            elsewhere = λ word apart. elim (cases_Bool (is_name (without_slash word) (codes "M")))
-                as (λ _. Untouched (seen_machine old) ((seen_machine old).maildir_at word) ((seen_machine (moment all rooted)).maildir_at word)) [
-                  | inl on ↦ absurd (apart by (codes "mail" ∷ []) refl (subst (λ w. IsTrue (bytes_eq w (without_slash word))) (sym named)
-                      (subst (λ w. IsTrue (bytes_eq (codes "M") w)) (sym (is_name-true (without_slash word) (codes "M") on)) refl)))
-                  | inr off ↦ untouched_at (get_by_text old.maildirs (without_slash word)) (get_by_text (moment all rooted).maildirs (without_slash word))
-                      (none_beside all rooted (without_slash word) off ∙ sym (no_other (without_slash word) off))
-                ];
-            still_honest = λ spared h ok. honest_at all rooted spared (working spared h ok);
+            elsewhere = λ word apart. absurd (apart by (codes "mail" ∷ []) refl tt);
+            still_honest = λ spared h ok. quiet;
           };
           asked = (
             by,
             codes "mail" ∷ [],
             refl,
-            subst (λ w. IsTrue (bytes_eq w (codes "M"))) (sym named) refl,
+            tt,
             ap (λ b. b ∷ []) (sym given),
             All-cons (Contains (text ∷ [])) text [] (first_in []) (All-nil (Contains (text ∷ []))),
           );
-          again = λ one. still_honest all rooted;
+          again = λ one. quiet;
         }
 
       -- ---- the other episodes
-      same_homes : (s : Files) → KeepsHomes (all_but gone whole) s s
-      same_homes s = record { kept = λ b named. IsPermutation-refl _ }
-
-      cut : (s t : Files) (rooted : Bool) → ((b : List ℕ) → length (homes s b) ≤ 1 → length (homes t b) ≤ 1)
-          → (held s rooted).may_leave t ⊎ ((¬ IsTrue rooted) × (t ≡ no_files))
-          → LeftByPowerCut (all_but gone whole) (held s rooted) (held t rooted)
-      cut s t rooted few may = record {
-        left = t;
-        may = may;
-        single = inr (λ b sp. few b);
-        is_there = same_homes t;
-        stays = λ later may. subst (KeepsHomes (all_but gone whole) t) (sym (left_is t rooted later may)) (same_homes t);
-        still_rooted = λ rooted. rooted;
-      }
-
-      deletes : Rests (all_but gone whole) (held all true) (held (filled rest) true)
-      deletes =
-          let is = outside_reaches (all_but gone whole) all (filled rest)
-          (put_spares gone (All-head (λ m. IsTarget m.target) gone rest targets) (filled rest) whole) in
-          record {
-            actions = Outside (filled rest) ∷ [];
-            files_are = sym is;
-            left = λ left may. (
-              all,
-              inl refl,
-              record { kept = Came (Outside (filled rest)) ∷ []; are = left_is (filled rest) true left may ∙ sym is; whole = λ is. tt },
-            );
-            still_rooted = λ rooted. rooted;
-            touches = touched_same;
-          }
-
-      home : IsHome all gone
-      home = All-head (IsHome all) gone rest (filled_home ms targets distinct)
-
       a_report : Report
       a_report = record { messages = 1; there = 0; placed = 1; swept = 0 }
 
-      bare : IsPart all (held no_files false)
-      bare = part no_files false (λ b. inl (no_homes b))
+      module _ (spared : Spared) where
+        same_homes : (s : Files) → KeepsHomes spared s s
+        same_homes s = record { kept = λ b named. IsPermutation-refl _ }
 
-      less : IsPart all (held (filled rest) true)
-      less = part (filled rest) true (without_first gone rest targets distinct)
-
-      breaks_off : Leads text gone whole (Delivering (codes "M") 1 []) new_machine (moment all false)
-      unfolding command
-      breaks_off = (
-        command (codes "M") refl new_machine none_part is_text (λ word off. refl) 1 false [] (λ ok. cc) (λ rooted. absurd rooted)
-            (λ spared other same one. printed_none spared false other same) (λ spared h ok. absurd (ok refl)),
-        refl,
-        home,
-      )
-
-      prints : Leads text gone whole (Delivering (codes "M") 1 (codes "m")) (moment no_files false) (moment all true)
-      unfolding command
-      prints = (
-        command (codes "M") refl (moment no_files false) bare is_text (none_beside no_files false) 1 true (codes "m") (λ ok. refl) (λ rooted. refl)
-            (λ spared other same one. printed_first spared true other same a_report refl)
-            (λ spared h ok. absurd (ok refl)),
-        refl,
-        home,
-      )
-
-      ends : Leads text gone whole (Delivering (codes "M/") 0 (report_line a_report)) (moment (filled rest) true) (moment all true)
-      unfolding command
-      ends = (
-        command (codes "M/") refl (moment (filled rest) true) less is_text (none_beside (filled rest) true) 0 true (report_line a_report) (λ ok. refl)
-            (λ rooted. rooted)
-            (λ spared other same one. cc)
-            (λ spared h ok. system_honest (filled rest) true (h.0 (codes "M") (system_with system (filled rest) true) refl) all true),
-        refl,
-        home,
-      )
-
-      lost : LeadsTo (all_but gone whole) seen_machine (codes "M") (text ∷ []) Cut (moment all false) (moment no_files false)
-      lost = (
-        cut all no_files false (λ b few. let none = ap length (no_homes b) in omega (arith, none)) (inr ((λ rooted. cc), refl)),
-        still_honest no_files false,
-      )
-
-      happens : CanHappen text gone whole new_machine
-      happens = record {
-        honest = (
-          λ word one is. cc,
+        cut : (s t : Files) (rooted : Bool) → ((b : List ℕ) → length (homes s b) ≤ 1 → length (homes t b) ≤ 1)
+            → (held s rooted).may_leave t ⊎ ((¬ IsTrue rooted) × (t ≡ no_files))
+            → LeadsTo spared seen_machine (codes "M") (text ∷ []) Cut (moment s rooted) (moment t rooted)
+        cut s t rooted few may = (
           record {
-            fresh = record { empty = refl; none_left = left_is no_files false; untouched = untouched };
-            honest = record { no_script = honest.no_script; spares = honest.spares; none_failed = honest.none_failed };
+            left = t;
+            may = may;
+            single = inr (λ b sp. few b);
+            is_there = same_homes t;
+            stays = λ later may. subst (KeepsHomes spared t) (sym (left_is t rooted later may)) (same_homes t);
+            still_rooted = λ rooted. rooted;
           },
-        );
-        fit = fit_alone text (of_mailbox are);
-        is_new = record {
-          missing = of_one text (λ t. AllSpared (all_but gone whole) (IsMissing no_files) t.messages) (λ k d below sp. no_homes _);
-          intact = (part_sound_for text (record { bases = refl; bodies = refl }) (all_but gone whole) nothing_held none_part).intact;
-        };
+          quiet,
+        )
+
+        lost : LeadsTo spared seen_machine (codes "M") (text ∷ []) Cut (moment all false) (moment no_files false)
+        lost = cut all no_files false (λ b few. let none = ap length (no_homes b) in omega (arith, none)) (inr ((λ rooted. cc), refl))
+
+        none_lost : LeadsTo spared seen_machine (codes "M") (text ∷ []) Cut (moment all true) (moment all true)
+        none_lost = cut all all true (λ b few. few) (inl (inl refl))
+
+        breaks_off : Ends spared 1 [] (moment no_files false) (moment all false)
+        breaks_off = command spared (codes "M") (moment no_files false) bare is_text 1 false [] (λ ok. cc) (λ rooted. rooted)
+            (λ spared other same one. printed_none spared false other same)
+
+        prints : Ends spared 1 (codes "m") (moment no_files false) (moment all true)
+        prints = command spared (codes "M") (moment no_files false) bare is_text 1 true (codes "m") (λ ok. refl) (λ rooted. refl)
+            (λ spared other same one. printed_first spared true other same a_report refl)
+
+        ends : (by : List ℕ) (s : Files) → IsPart all (held s true)
+            → Ends spared 0 (report_line a_report) (moment s true) (moment all true)
+        ends by s was = command spared by (moment s true) was is_text 0 true (report_line a_report) (λ ok. refl) (λ rooted. rooted)
+            (λ spared other same one. cc)
+
+        new_to : IsNewTo spared (text ∷ []) (held no_files false)
+        new_to = record {
+          missing = of_one text (λ t. AllSpared spared (IsMissing no_files) t.messages) (λ k d below sp. no_homes _);
+          intact = (part_sound_for text (record { bases = refl; bodies = refl }) spared (held no_files false) bare).intact;
+        }
+
+      -- ---- the history in which a message is deleted
+      module _ (whole : Bool) where
+        abbrev spared : Spared
+        spared = all_but gone whole
+
+        deletes : Rests spared (held all true) (held (filled rest) true)
+        deletes =
+            let is = outside_reaches spared all (filled rest)
+            (put_spares gone (All-head (λ m. IsTarget m.target) gone rest targets) (filled rest) whole) in
+            record {
+              actions = Outside (filled rest) ∷ [];
+              files_are = sym is;
+              left = λ left may. (
+                all,
+                inl refl,
+                record { kept = Came (Outside (filled rest)) ∷ []; are = left_is (filled rest) true left may ∙ sym is; whole = λ is. tt },
+              );
+              still_rooted = λ rooted. rooted;
+              touches = touched_same;
+            }
+
+        home : IsHome all gone
+        home = All-head (IsHome all) gone rest (filled_home ms targets distinct)
+
+        less : IsPart all (held (filled rest) true)
+        less = part (filled rest) true (without_first gone rest targets distinct)
+
+        first_step : Leads text gone whole (Delivering (codes "M") 1 []) (moment no_files false) (moment all false)
+        unfolding breaks_off command
+        first_step = (breaks_off spared, refl, home)
+
+        printing : Leads text gone whole (Delivering (codes "M") 1 (codes "m")) (moment no_files false) (moment all true)
+        unfolding prints command
+        printing = (prints spared, refl, home)
+
+        ending : Leads text gone whole (Delivering (codes "M/") 0 (report_line a_report)) (moment (filled rest) true) (moment all true)
+        unfolding ends command
+        ending = (ends spared (codes "M/") (filled rest) less, refl, home)
+
+        happens : CanHappen text gone whole (moment no_files false)
+        happens = record {
+          honest = quiet;
+          fit = fit_alone text (of_mailbox are);
+          is_new = new_to spared;
+          line = report_line a_report;
+          end = moment all true;
+          happens = (
+            moment all false,
+            first_step,
+            (
+              moment no_files false,
+              (lost spared, no_homes gone.target.base),
+              (
+                moment all true,
+                printing,
+                (
+                  moment (filled rest) true,
+                  ((deletes, λ h. quiet), first_none gone rest targets distinct),
+                  (moment all true, ending, (moment all true, (none_lost spared, home), refl)),
+                ),
+              ),
+            ),
+          );
+        }
+
+      -- ---- and that in which none is
+      happens_to_one : CanHappenToOne text (moment no_files false)
+      happens_to_one = record {
+        honest = quiet;
+        is = of_mailbox are;
+        is_new = new_to all_whole;
         line = report_line a_report;
         end = moment all true;
         happens = (
           moment all false,
-          breaks_off,
+          breaks_off all_whole,
           (
             moment no_files false,
-            (lost, no_homes gone.target.base),
+            lost all_whole,
             (
               moment all true,
-              prints,
+              prints all_whole,
               (
-                moment (filled rest) true,
-                ((deletes, λ h. still_honest (filled rest) true), first_none gone rest targets distinct),
-                (moment all true, ends, (moment all true, ((cut all all true (λ b few. few) (inl (inl refl)), still_honest all true), home), refl)),
+                moment all true,
+                none_lost all_whole,
+                (moment all true, ends all_whole (codes "M") all (all_part true), (moment all true, none_lost all_whole, refl)),
               ),
             ),
           ),
         );
       }
 
-      -- from a machine without a Maildir, of which this one is made
-      pub can_happen : start.maildirs.entries ≡ [] → start.fresh ≡ Some system → files_of system.folder ≡ no_files → system.is_rooted ≡ false
-          → CanHappen text gone whole start
-      can_happen none fresh empty apart =
-          let made : system ≡ system_with system no_files false = λ i. system_with system (empty i) (apart i) in
-          let same : start ≡ new_machine =
-          (λ i. record start { maildirs = with_entries start.maildirs (none i); fresh = fresh i }) ∙ ap (before start) made in
-          subst (CanHappen text gone whole) (sym same) happens
+      -- ---- from a machine with a new Maildir
+      is_moment : IsNew system → start.maildir ≡ Some system → start ≡ moment no_files false
+      is_moment new has =
+          let made : system ≡ system_with system no_files false = λ i. system_as system (new.empty i) (new.none_kept i) (new.apart i) in
+          (λ i. record start { maildir = has i }) ∙ ap (λ s. record start { maildir = Some s }) made
+
+      pub can_happen : (whole : Bool) → IsNew system → start.maildir ≡ Some system → CanHappen text gone whole start
+      can_happen whole new has = subst (CanHappen text gone whole) (sym (is_moment new has)) (happens whole)
+
+      pub can_happen_to_one : IsNew system → start.maildir ≡ Some system → CanHappenToOne text start
+      can_happen_to_one new has = subst (CanHappenToOne text) (sym (is_moment new has)) happens_to_one

@@ -1,49 +1,27 @@
--- A machine in memory at one moment of the history: its Maildir has some of the files, and a power cut leaves these.
-use Rattle.std.proofs.Common.{◌≡◌, ◌⊎◌, ℕ, Bool, List, [], ◌∷◌, length, Contains, Some, None, String}
-use Rattle.std.proofs.Common.{codes, refl, ap, subst, inl, inr, arith}
-use Rattle.std.specs.Str.{IsUtf8}
-use Rattle.std.specs.declared.alloc.Global.{Global}
-use Rattle.std_collections.specs.Layout.BTreeMap.{with_entries}
+-- The machine of plain data at one moment of the history: its Maildir has some of the files, and a power cut leaves these.
+use Rattle.std.proofs.Common.{◌≡◌, ◌⊎◌, ℕ, Bool, List, [], length, Contains, ap, subst, inl, inr, arith}
 use Rattle.maildir_run.specs.Delivery.{IsSoundAt, Message}
 use Rattle.maildir_run.specs.Files.{Files, Spared, homes}
+use Rattle.maildir_run.specs.declared.in_memory.mem_folder.MemFolder.{MemFolder}
 use Rattle.maildir_disk.proofs.Left.LeftHomes.{first_or, missing_intact, none_in}
 use Rattle.maildir_disk.specs.PowerCuts.{IsIntact}
 use Rattle.maildir_commands.specs.Machines.{HeldMaildir}
-use Rattle.maildir_memory.specs.declared.mem_machine.MemMachine.{MemMachine}
-use Rattle.maildir_memory.specs.declared.mem_system.MemSystem.{MemSystem}
+use Rattle.maildir_memory.specs.declared.plain_system.PlainSystem.{PlainSystem}
 
--- a Maildir in memory with these files; a power cut leaves it, or may take it away
-abbrev pub system_with : MemSystem → Files → Bool → MemSystem
-system_with system s rooted = record system {
-  folder = record system.folder { files = record system.folder.files { in_tmp = s.tmp; in_new = s.new; in_cur = s.cur } };
+abbrev folder_with : MemFolder → Files → MemFolder
+folder_with folder s = record folder { files = record folder.files { in_tmp = s.tmp; in_new = s.new; in_cur = s.cur } }
+
+-- a Maildir with these files, and those when it was last synced; a power cut leaves it, or may take it away
+abbrev pub system_as : PlainSystem → (now durable : Files) → Bool → PlainSystem
+system_as system now durable rooted = record system {
+  folder = folder_with system.folder now;
+  durable = folder_with system.durable durable;
   is_rooted = rooted;
 }
 
-pub is_word : IsUtf8 (codes "M")
-unfolding lib.Utf8.encode
-is_word = (codes "M", (refl, refl))
-
--- the word of the Maildir
-abbrev word_of : MemSystem → String Global
-word_of system = record {
-  bytes = record {
-    ptr = system.log.ptr;
-    len = 1;
-    cap = 1;
-    alloc = system.log.alloc;
-    items = codes "M";
-    ok = (refl, omega arith);
-    small = omega arith;
-  };
-  ok = ∣ is_word ∣₁;
-}
-
--- a machine with no Maildir, of which this one is made, and one with this Maildir alone
-abbrev pub before : MemMachine → MemSystem → MemMachine
-before machine system = record machine { maildirs = with_entries machine.maildirs []; fresh = Some system }
-
-abbrev pub holding : MemMachine → MemSystem → MemMachine
-holding machine system = record machine { maildirs = with_entries machine.maildirs ((word_of system, Some system) ∷ []); fresh = None }
+-- all of its files were synced
+abbrev pub system_with : PlainSystem → Files → Bool → PlainSystem
+system_with system s rooted = system_as system s s rooted
 
 pub sound_intact : (spared : Spared) (s : Files) (o : Message) → IsSoundAt s o → IsIntact spared s o
 sound_intact spared s o (inl none) = missing_intact o s none

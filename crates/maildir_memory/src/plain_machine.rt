@@ -1,0 +1,95 @@
+// A machine of plain data.
+ghost use Rattle.std.specs.Prelude.{◌≡◌, ◌∷◌, [], Bool, IfSome, List, None, Some, codes};
+ghost use Rattle.maildir_memory.specs.Histories.{CanHappen, CanHappenToOne};
+ghost use Rattle.maildir_memory.specs.Plain.{machine_with};
+ghost use Rattle.maildir_run.specs.Delivery.{Message};
+ghost use Rattle.maildir_run.specs.Several.{IsMailbox, Mailbox};
+
+use crate::plain_system::PlainSystem;
+use maildir_commands::Machine;
+use maildir_disk::OpenFault;
+use std::alloc::Global;
+use std::io;
+use std::time::{Instant, SystemTime};
+
+/// A machine of plain data: each path names its text as a source, and its Maildir as a Maildir.
+#[derive(Drop)]
+pub struct PlainMachine<'a> {
+    text: &'a [u8],
+    // `None` while it is open
+    maildir: Option<PlainSystem>,
+}
+
+impl<'a> PlainMachine<'a> {
+    /// A machine with this text and an empty Maildir, which a power cut takes away.
+    ///
+    /// Commands can follow one another on it as is assumed of any commands: with a status 1, a
+    /// power cut, and a deletion of the text's first message, which is delivered again before
+    /// another cut. So they can also if a power cut may keep half of a rename, and, as is assumed of
+    /// commands over one text, if nothing is deleted. An example is a text of two messages.
+    pub fn losing(
+        alloc: Global,
+        text: &'a [u8],
+        stamp: SystemTime,
+        clock: SystemTime,
+        instant: Instant,
+    ) -> Self
+        ensures times { IfSome result.maildir (λ system.
+            (system.stamp ≡ stamp) × (system.clock ≡ clock)) }
+        ensures happens { (mailbox : Mailbox) (gone : Message) (rest : List Message)
+            (whole : Bool) → IsMailbox mailbox → mailbox.messages ≡ gone ∷ rest →
+            text.now ≡ mailbox.bytes → CanHappen mailbox gone whole result }
+        ensures to_one { (mailbox : Mailbox) (first : Message) (rest : List Message) →
+            IsMailbox mailbox → mailbox.messages ≡ first ∷ rest → text.now ≡ mailbox.bytes →
+            CanHappenToOne mailbox result }
+        ensures example { text.now ≡ codes "From a\n\nFrom b\n\n" → (mailbox : Mailbox) ×
+            (gone : Message) × (kept : Message) × (mailbox.messages ≡ gone ∷ kept ∷ []) ×
+            ((whole : Bool) → CanHappen mailbox gone whole result) }
+    {
+        PlainMachine {
+            text,
+            maildir: Some(PlainSystem::new(alloc, stamp, clock, instant)),
+        }
+    }
+
+    /// Its Maildir, unless it is open.
+    pub fn maildir(&self) -> Option<&PlainSystem> {
+        self.maildir.as_ref()
+    }
+}
+
+impl<'a> Machine for PlainMachine<'a> {
+    ghost use Rattle.maildir_commands.proofs.Resting.{same_at};
+    ghost use Rattle.maildir_memory.specs.Laws.{held_may_stay};
+
+    type Source = &'a [u8];
+
+    type Maildir = PlainSystem;
+
+    ghost at = { λ machine. machine_with machine.text.now machine.maildir };
+
+    ghost quiet_is_honest = { λ _ _ quiet. quiet };
+
+    ghost fewer_honest = { λ _ _ _ _ honest. honest };
+
+    ghost same_paths = { λ _ _ _ _ same. same };
+
+    ghost same_maildir = { λ _ _ _ _ _. same_at };
+
+    ghost may_stay = { λ machine _ _ _. held_may_stay machine.maildir };
+
+    fn open_source(&mut self, _path: &str) -> io::Result<&'a [u8]> {
+        Ok(self.text)
+    }
+
+    fn open_maildir(&mut self, _path: &str) -> Result<PlainSystem, OpenFault> {
+        match self.maildir.take() {
+            Some(maildir) => Ok(maildir),
+            None => Err(OpenFault::Locked),
+        }
+    }
+
+    fn close_maildir(&mut self, _path: &str, maildir: PlainSystem) {
+        self.maildir = Some(maildir);
+    }
+}
