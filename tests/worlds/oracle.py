@@ -77,6 +77,8 @@ class Shelf:
         self.foreign: Counts = Counter()
         # what files held that people have edited since: an undo leaves these, and they count as there
         self.edited: Counts = Counter()
+        # what people took away that killed runs were to bring: an undo keeps nothing in place of that
+        self.unkept: Counts = Counter()
         self.taken: Counts = Counter()
         self.gone: Counts = Counter()
         self.seen: Counts = Counter()
@@ -126,7 +128,7 @@ class Shelf:
         """Mailboxes are undone. Returns how much of others went away, and how much of these is still there when it is
         over. What only these had, and people had taken away, may come again then."""
         others = union([self.foreign, *(its for mailbox, its in self.sure.items() if mailbox not in mailboxes)])
-        told = Counter(gone=sum(((self.seen & others) - now - self.edited).values()))
+        told = Counter(gone=sum(((self.seen & others) - now - self.edited - self.unkept).values()))
         if is_over:
             mine = union(self.had.pop(mailbox, Counter()) for mailbox in mailboxes)
             self.sure = {mailbox: its for mailbox, its in self.sure.items() if mailbox not in mailboxes}

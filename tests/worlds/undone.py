@@ -119,8 +119,7 @@ class Undone(Rewritten):
         for _, path in [*self.oracle.files()]:
             deed = self.draw.random()
             if deed < 0.1:
-                for number in self.begun & self.oracle.shelves["INBOX"].sure.keys():
-                    self.oracle.shelves["INBOX"].sure[number][content(path.read_bytes())] -= 1
+                self.oracle.shelves["INBOX"].unkept[content(path.read_bytes())] += len(self.begun)
                 self.stage.remove(path)
             elif deed < 0.3 and path.parent.name == "new":
                 read_flags(self, path, "FS")
