@@ -280,9 +280,11 @@ def wrong_of_left(comparison: Comparison, done: Sequence[Thing]) -> Iterator[str
 
 
 def is_in(thing: Thing, row: Row) -> bool:
-    """Whether a thing is in the folder, or belongs to the user, of a row."""
+    """Whether a thing is in the folder of a row, belongs to its user, or is a folder that has its mailbox: of which
+    kind a folder is, nobody knows if a file in it can't be read."""
     path = path_of(row)
-    return thing.user == (row["user"] or "") and (not path or thing.path.startswith(path + b"/"))
+    is_near = thing.path.startswith(path + b"/") or path.startswith(thing.path + b"/")
+    return thing.user == (row["user"] or "") and (not path or is_near)
 
 
 def wrong_mail(world: World, thing: Thing) -> Iterator[str]:
