@@ -56,8 +56,8 @@ class Shared(History):
         self.holds: dict[Box, list[int]] = {}
         self.begun: set[Box] = set()
         self.brought: set[Box] = set()
-        # whether names were changed after a killed run that left no file in `tmp`: then no later one knows how far that
-        # came
+        # whether names were changed after a killed run that left no file in `tmp`, or one of its files got another name:
+        # then no later one knows what it placed
         self.is_blurred = False
 
     def begin(self) -> None:
@@ -139,7 +139,7 @@ class Shared(History):
 
     def read(self) -> None:
         """Readers read mail, and perhaps delete some, while other programs may give files names of their own."""
-        before = len(self.steps)
+        count, before = len(self.steps), {path.name.split(":")[0] for _, path in self.oracle.files()}
         for _, path in [*self.oracle.files()]:
             deed, cur = self.draw.random(), path.parent.parent / "cur"
             if deed < self.way.renamed:
@@ -148,8 +148,9 @@ class Shared(History):
                 self.stage.rename(path, cur / (path.name + ":2,S"))
             elif deed > 1 - self.way.deleted:
                 self.stage.remove(path)
-        is_changed, tmp = len(self.steps) > before, self.maildir / f".{self.folder}/tmp"
-        self.is_blurred |= bool(self.begun) and is_changed and not any(tmp.glob("*"))
+        is_changed, tmp = len(self.steps) > count, self.maildir / f".{self.folder}/tmp"
+        is_renamed = bool({path.name.split(":")[0] for _, path in self.oracle.files()} - before)
+        self.is_blurred |= bool(self.begun) and (is_renamed or is_changed and not any(tmp.glob("*")))
         self.oracle.look()
 
     def live(self) -> None:
