@@ -56,8 +56,8 @@ class Shared(History):
         self.holds: dict[Box, list[int]] = {}
         self.begun: set[Box] = set()
         self.brought: set[Box] = set()
-        # whether names were changed after a killed run that left no file in `tmp`, or a file of it got another name: then
-        # no later one knows what it placed
+        # whether names were changed after a killed run that left no file in `tmp`, or a file of it got another name:
+        # then no later one knows what it placed
         self.is_blurred = False
 
     def begin(self) -> None:
