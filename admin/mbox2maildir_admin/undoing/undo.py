@@ -246,8 +246,8 @@ def planned(line: Line, file: File, has: Cores, gone: Mapping[bytes, list[File]]
         return Planned(Why.FOREIGN, line)
     if holders:
         # one that lacks its own has this one too
-        lacked = (one for one in reversed(theirs) if not any(one.line_of(other.path) for other in holders))
-        instead_of = next(lacked, None)
+        without = (one for one in reversed(theirs) if not any(one.line_of(other.path) for other in holders))
+        instead_of = next(without, None)
         if instead_of:
             theirs.remove(instead_of)
         return Planned(Why.SHARED, line, holders[-1].path, instead_of)
