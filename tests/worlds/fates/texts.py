@@ -36,10 +36,9 @@ class Content(NamedTuple):
     is_like_mail: bool = False
 
     def under(self, raw: bytes) -> "Content":
-        """What it is under a name. What nobody knows is an index under the name of one, if it does not look like mail,
-        and is not compressed."""
-        is_other = self.is_like_mail or "compressed" in self.says
-        is_index = self.is_unknown and raw.endswith(b".msf") and not is_other
+        """What it is under a name. What nobody knows is an index under the name of one, if it does not look like
+        mail."""
+        is_index = self.is_unknown and raw.endswith(b".msf") and not self.is_like_mail
         return no_mail(self.data) if is_index else self
 
 
