@@ -51,7 +51,10 @@ def renamed_mailbox(tree: History) -> None:
 
 
 def put(tree: History, box: Box, path: str) -> None:
-    """A mailbox has another path."""
+    """A mailbox has another path. If the ledger of its folder is lost, nobody may know it there."""
+    name = tree.target(box)
+    if not (tree.maildir / ("" if name == "INBOX" else f".{name.replace('/', '.')}") / LEDGER).exists():
+        tree.oracle.all.foreign += tree.oracle.all.had[box.number]
     tree.stage.move(tree.home / box.path, tree.home / path)
     tree.boxes[tree.boxes.index(box)] = box._replace(path=path)
 
