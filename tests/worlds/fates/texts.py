@@ -10,7 +10,7 @@ from random import Random
 from typing import NamedTuple
 
 from tests.support.splitter import split
-from tests.tables.kinds import LIKE_MAIL, NOT_KNOWN
+from tests.tables.kinds import ALONE, LIKE_MAIL, NOT_KNOWN
 from tests.tables.other_kinds import KINDS
 from tests.worlds.letters import PLAIN as LINES
 from tests.worlds.letters import SEEN, Letter, asctime, moment
@@ -143,7 +143,7 @@ def of_table() -> Iterator[tuple[str, Content]]:
         if "no mail" in kind:
             yield f"{kind} {number}", no_mail(data)
         elif kind.startswith("not known, compressed"):
-            yield f"{kind} {number}", not_known(data)._replace(says=kind)
+            yield f"{kind} {number}", not_known(data, ALONE in then)._replace(says=kind)
         elif kind == "not known" and then in (NOT_KNOWN, LIKE_MAIL):
             yield f"{kind} {number}", not_known(data, then == LIKE_MAIL)
         elif "messages" not in kind:
