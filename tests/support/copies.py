@@ -16,8 +16,7 @@ import mbox2maildir_admin
 from mbox2maildir_admin import cli
 from mbox2maildir_admin.flags.clients import labels_of
 from mbox2maildir_admin.maildir.folders import folder_of
-from mbox2maildir_admin.mbox.dates import reader_of_other_forms
-from mbox2maildir_admin.users.loading import load_for_children
+from mbox2maildir_admin.users.children import load_for_children
 from mbox2maildir_admin.version import version
 
 from tests.support.running import COMPANION, Desk
@@ -97,7 +96,6 @@ def load_companion() -> None:
         importlib.import_module(".".join(module.relative_to(package.parent).with_suffix("").parts))
     load_for_children()
     cli.command_line()
-    reader_of_other_forms()
     version()
     folder_of(labels_of("=?UTF-8?Q?=C3=BC?=")[0])
 

@@ -35,7 +35,7 @@ def do_migrate(given: argparse.Namespace) -> Status:
     """Migrates mailboxes, or lists the users whom a run would take. Returns the status."""
     task, reporter = task_of(given), printer_of(given)
     if given.list:
-        from ..users.listing import list_users
+        from ..users.spool import list_users
         from .spools import spool_of
 
         return Status.of(list_users(*spool_of(given)))

@@ -4,12 +4,11 @@ import os
 from typing import Optional
 
 from ..users.asked import Sources, asked_for
-from ..users.homes import Home
-from ..users.spool import Spool
+from ..users.homes import Spool
 
 
 def spool_of(given: argparse.Namespace) -> tuple[Spool, Optional[Sources]]:
     """The spool that the command line names, and the users who are asked for, if any are."""
     path, *names = given.operands
-    home = Home(os.fsencode(given.maildir), os.fsencode(given.tree) if given.tree else None)
-    return Spool(path, home), asked_for(names, os.fsencode(given.names) if given.names is not None else None)
+    spool = Spool(path, os.fsencode(given.maildir), os.fsencode(given.tree) if given.tree else None)
+    return spool, asked_for(names, os.fsencode(given.names) if given.names is not None else None)

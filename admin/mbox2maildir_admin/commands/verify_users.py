@@ -36,13 +36,13 @@ class Verifier(Migrant):
 
     command = "verify"
 
-    def has_more(self, root: bytes) -> bool:
+    def has_more(self) -> bool:
         """There is nothing else to compare."""
-        del root
         return False
 
-    def run(self, root: bytes, names: list[bytes], relay: Relay, program: Program) -> None:
-        """Compares the mailboxes at these paths with a Maildir."""
+    def run(self, names: list[bytes], relay: Relay, program: Program) -> None:
+        """Compares the mailboxes at these paths with the Maildir."""
+        root = self.root
 
         def verify(folder: bytes, file: bytes) -> bool:
             return verify_file(folder, file, program.path, relay, os.path.relpath(folder, root))

@@ -199,7 +199,7 @@ class Crew:
         finally:
             os._exit(status)
 
-    def become(self, child: Child, parent: Parent) -> None:
+    def become(self, child: Any, parent: Parent) -> None:
         """Makes this process the child before it may be interrupted."""
 
     def turn(self) -> None:

@@ -1,5 +1,5 @@
 """Whose mailboxes are migrated, and where the names of the users came from."""
-from collections.abc import Iterable, Sequence
+from collections.abc import Sequence
 from typing import Optional
 
 from ..faults import PlaceFault, naming
@@ -60,14 +60,6 @@ class Tally:
         self.users: dict[str, int] = {}
         self.not_asked = 0
         self.notes: list[str] = []
-
-    def expect(self, sources: Iterable[str]) -> None:
-        """Notes that names may come from these sources."""
-        self.users = dict.fromkeys(sources, 0)
-
-    def count(self, source: str) -> None:
-        """Counts one more user."""
-        self.users[source] = self.users.get(source, 0) + 1
 
     def words(self) -> list[str]:
         """The parts of the last line that say so."""

@@ -1,57 +1,53 @@
 """Processes that have only the rights of one user, and tell root what they do."""
+import gc
+import importlib
 import os
-import pwd
-import resource
 import signal
 import time
-from collections.abc import Callable
 from typing import Any, Optional
 
 from ..faults import Left, Reason
 from ..jobs.crew import BROKEN, Child, Crew, Parent
-from ..migration.telling import LONGEST, next_of, number_of, row_of
+from ..maildir.folders import folder_of
+from ..maildir.syncing import call_of_system
 from ..mbox.dates import reader_of_other_forms
 from ..migration.outcomes import Observer, row_left
+from ..migration.telling import LONGEST, next_of, number_of, row_of
 from ..nexts import Todo, task
-from ..signals import ENDING, INTERRUPTS
+from ..patterns import compile_all
 from ..terminal import named, shown
-from .descriptors import close_all_but
 from .disks import SYNC, Disks
 from .homes import Migrant
-from .keyring import joining
+from .rights import become, joining
 
 # how long a child may say nothing, and how long it has after a signal, in seconds
 SILENCE, GRACE = 900, 1
 UNREADABLE = Left("could not read what its process reported", Reason.PROCESS, task(Todo.LOOK_AT_MAILDIR))
-PATH = "/usr/local/sbin:/usr/local/bin:/usr/sbin:/usr/bin:/sbin:/bin"
 # for waitid; the module os has this name since Python 3.9
 STOPPED = getattr(os, "CLD_STOPPED", 5)
+# the modules that a child may need; those of the package load what else it may need of both
+NEEDED = (
+    *("concurrent.futures.thread", "csv", "email.header", "encodings.utf_16", "encodings.utf_32", "tempfile"),
+    *("urllib.parse", "..labels.remark", "..migration.workers", "..readings.unpacking"),
+)
 # how many remarks, lines and commands a row may have
 MOST = 64
 # what reading a line of a child may raise
 WRONG = ValueError, TypeError, AttributeError, LookupError, RecursionError, ArithmeticError
 
 
-def become(account: pwd.struct_passwd, kept: tuple[int, ...], join: Callable[[], object]) -> None:
-    """Gives a process the rights of a user, and some descriptors. It keeps nothing else of root's, and makes no core
-    dump, which would hold mail."""
-    os.setsid()
-    join()
-    nothing = os.open(os.devnull, os.O_RDWR)
-    for number in range(3):
-        os.dup2(nothing, number)
-    close_all_but(kept)
-    resource.setrlimit(resource.RLIMIT_CORE, (0, 0))
-    os.chdir("/")
-    os.umask(0o077)
-    os.initgroups(account.pw_name, account.pw_gid)
-    os.setgid(account.pw_gid)
-    os.setuid(account.pw_uid)
-    zone = {"TZ": os.environ["TZ"]} if "TZ" in os.environ else {}
-    os.environ.clear()
-    os.environ.update(PATH=PATH, HOME=account.pw_dir, USER=account.pw_name, LOGNAME=account.pw_name, **zone)
-    for number in ENDING:
-        signal.signal(number, INTERRUPTS.take)
+def load_for_children() -> None:
+    """Loads what is loaded when it is needed, and what a child may need: Python may load it from where users can't
+    read."""
+    for name in NEEDED:
+        importlib.import_module(name, __package__)
+    compile_all()
+    # what these load when they are called first; the last one has libraries of the system's, for the groups of a user
+    reader_of_other_forms()
+    folder_of("\u00e4")
+    call_of_system()
+    os.getgrouplist("root", 0)
+    gc.freeze()
 
 
 class UsersChild(Child):
@@ -118,8 +114,6 @@ class Children(Crew):
         super().__init__(jobs)
         self.takes.update(row=self.take_row, then=self.take_next, end=self.take_end)
         self.reporter, self.join, self.disks = reporter, joining(), Disks()
-        # a child may not be able to read the module
-        reader_of_other_forms()
 
     def __exit__(self, kind: Optional[type[BaseException]], *rest: object) -> None:
         if kind not in (None, KeyboardInterrupt):
@@ -128,19 +122,17 @@ class Children(Crew):
         super().__exit__(kind, *rest)
 
     def add(self, migrant: Migrant) -> None:
-        """Starts the child of a user. If as many as allowed are at work, it waits until one has ended."""
-        while len(self.children) >= self.jobs:
-            self.turn()
+        """Starts the child of a user, once fewer than as many as allowed are at work."""
+        self.wait(self.jobs - 1)
         self.start(UsersChild(migrant), migrant.work)
 
-    def wait(self) -> None:
-        """Waits until all have ended."""
-        while self.children:
+    def wait(self, most: int = 0) -> None:
+        """Waits until no more than this many are at work."""
+        while len(self.children) > most:
             self.turn()
 
-    def become(self, child: Child, parent: Parent) -> None:
+    def become(self, child: UsersChild, parent: Parent) -> None:
         """Makes this process the one of a user."""
-        assert isinstance(child, UsersChild)
         become(child.account, (parent.told, parent.alive), self.join)
 
     def take(self, child: UsersChild, line: bytes) -> None:

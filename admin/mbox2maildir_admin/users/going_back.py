@@ -20,11 +20,10 @@ from ..migration.outcomes import Fate, Observer
 from ..migration.steps import Options
 from ..migration.trees import Tree
 from ..program import Program
-from .accounts import home_of
 from .asked import Sources, Tally
-from .homes import Migrant, Relay, is_recorded
+from .homes import Migrant, Relay, Spool, is_recorded
 from .inboxes import MAKE, RELEASE, TAKE, InboxClerk, Inboxes
-from .spool import Spool, migrate_users
+from .spool import migrate_users
 
 
 # what is said of the mail of an inbox whose mailbox root has left
@@ -37,34 +36,29 @@ class Returner(Migrant):
     command, is_back = "back", True
 
     @property
-    def unnamed(self) -> tuple[Optional[bytes], ...]:
-        """The paths that are not named beside the user: the mailbox of the spool, even if it is not there, and the
-        home."""
-        return self.user.place, home_of(self.account)
-
-    @property
     def boxes(self) -> tuple[bytes, ...]:
         """The mailboxes that the spool has of the user, or would have."""
         return (*([] if self.user.is_left else [self.user.place]), *self.user.others)
 
     def clerk(self) -> Optional[InboxClerk]:
         """What root does for the child: it makes the inbox, and FILE.lock, which the child may not."""
-        if not self.home.inboxes:
+        if not self.spool.inboxes:
             return None
-        owner = b"%d %s" % (self.account.pw_uid, self.home.maildir)
-        return InboxClerk(self.home.inboxes, self.account, tuple(map(os.path.basename, self.boxes)), owner)
+        owner = b"%d %s" % (self.account.uid, self.spool.maildir)
+        return InboxClerk(self.spool.inboxes, self.account, tuple(map(os.path.basename, self.boxes)), owner)
 
-    def has_more(self, root: bytes) -> bool:
+    def has_more(self) -> bool:
         """Whether there is a Maildir, even if no mailbox is there: its mail is left then."""
-        return may_be(is_there, root)
+        return may_be(is_there, self.root)
 
     def names(self, relay: Relay) -> Iterator[bytes]:
         """The paths that mail may go back to."""
         yield from self.boxes
         yield from self.names_of_home(relay)
 
-    def run(self, root: bytes, names: list[bytes], relay: Relay, program: Program) -> None:
-        """Brings the mail of a Maildir back into the mailboxes at these paths."""
+    def run(self, names: list[bytes], relay: Relay, program: Program) -> None:
+        """Brings the mail of the Maildir back into the mailboxes at these paths."""
+        root = self.root
         if not is_there(root) and all(map(is_bare, names)):
             return
         has_none = not self.mailbox and names == [self.user.place]
@@ -75,7 +69,7 @@ class Returner(Migrant):
         options = self.options
         how = How(options.dry, options.now, options.dovecot, Asking(relay.parent, self.boxes))
         names_back = Names(paths, self.tree, NO_INBOX)
-        relay.next(bring_all(program, root, names_back, how, relay))
+        relay.parent.tell("then", bring_all(program, root, names_back, how, relay))
 
 
 def is_bare(path: bytes) -> bool:
@@ -147,8 +141,7 @@ def back_users(spool: Spool, asked: Optional[Sources], options: Options, observe
     with contextlib.ExitStack() as stack:
         if not options.dry:
             with naming(spool.path):
-                inboxes = stack.enter_context(Inboxes.open(spool.path))
-            spool = spool._replace(home=spool.home._replace(inboxes=inboxes))
+                spool = spool._replace(inboxes=stack.enter_context(contextlib.closing(Inboxes(spool.path))))
         migrate_users(spool, asked, options, observer, tally, Returner)
         # users end in any order
         observer.then = tuple(sorted(observer.then, key=str))

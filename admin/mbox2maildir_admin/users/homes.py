@@ -1,15 +1,15 @@
 """The mailboxes of one user, migrated with that user's rights into the user's home."""
+import marshal
 import os
-import stat
 from collections.abc import Iterator, Sequence
-from typing import NamedTuple, Optional, Union
+from typing import Any, NamedTuple, Optional, Union
 
+from .. import ADMIN
 from ..faults import Fault, Left, Reason
 from ..jobs.crew import Parent
-from ..migration.telling import Whose, told
 from ..ledger.prepared_lines import has_list
 from ..ledger.record import Record
-from ..looks import may_be
+from ..looks import is_link, is_there, may_be
 from ..maildir.folders import folders_in
 from ..maildir.making import want_own
 from ..migration.outcomes import Observer, Row
@@ -17,24 +17,40 @@ from ..migration.places import UserHome
 from ..migration.servers import Place, want_unread
 from ..migration.several import refuse, run_all
 from ..migration.steps import Options
-from ..nexts import Next
+from ..migration.telling import Whose, told
 from ..program import Program
 from ..terminal import named, shown, text_of
-from .accounts import home_of, own_name, want_home
+from .accounts import Account, why_no_home
 from .disks import synced_by_root
-from .found import Found
 from .inboxes import InboxClerk, Inboxes
 
 
-class Home(NamedTuple):
-    """The names of the Maildir and of the folder of mailboxes in each home, and what else is the same for all users."""
+class Found(NamedTuple):
+    """An account under one of its names, and the place of that name in the spool, with how many bytes the mailbox there
+    has: None if there is none, or if it is left."""
 
-    maildir: bytes
-    tree: Optional[bytes]
-    # where Dovecot looks for mail, if that was asked for
-    locations: Optional[Sequence[str]] = None
-    # the folder of the inboxes into which mail goes back, unless nothing is written
-    inboxes: Optional[Inboxes] = None
+    name: bytes
+    account: Account
+    place: bytes
+    size: Optional[int]
+    is_left: bool = False
+    # why it is not migrated unless it was before; and the files beside it that may be copies of it
+    why_not: Optional[Left] = None
+    beside: tuple[bytes, ...] = ()
+    # further mailboxes of the account
+    others: tuple[bytes, ...] = ()
+
+    def packed(self) -> bytes:
+        """A user who waits, as a few bytes: a child starts the later the more memory its parent has."""
+        name, account, *rest = self
+        words: list[Any] = [name, tuple(account), *rest]
+        return marshal.dumps(words)
+
+    @classmethod
+    def unpacked(cls, user: bytes) -> "Found":
+        """The user that these bytes are."""
+        name, account, *rest = marshal.loads(user)
+        return cls(name, Account(*account), *rest)
 
 
 class Migrant:
@@ -46,108 +62,118 @@ class Migrant:
     # has nothing of its user
     command, is_back = "migrate", False
 
-    def __init__(self, user: Found, home: Home, options: Options, program: bytes) -> None:
-        self.user, self.home, self.options, self.program = user, home, options, program
-        self.account, self.mailbox = user.account, user.mailbox
+    def __init__(self, user: Found, spool: "Spool", options: Options, program: bytes) -> None:
+        self.user, self.spool, self.options, self.program = user, spool, options, program
+        self.account, self.mailbox = user.account, None if user.size is None else user.place
+        # the Maildir, and the folder of mailboxes, if one is asked for
+        self.root = self.path_of(spool.maildir)
+        self.tree = self.path_of(spool.tree) if spool.tree and not user.why_not else None
+
+    def path_of(self, name: bytes) -> bytes:
+        """The path of this name in the home."""
+        return os.path.normpath(os.path.join(self.account.home, name))
 
     def whose(self) -> Whose:
         """The user as root knows it."""
         mailboxes = {one: one for one in self.user.beside}
         mailboxes.update({b"": self.mailbox} if self.mailbox else {})
-        return Whose(shown(self.user.name), text_of(own_name(self.account)), mailboxes, self.is_back)
-
-    def path_of(self, name: bytes) -> bytes:
-        """The path of this name in the home."""
-        return os.path.normpath(os.path.join(home_of(self.account), name))
-
-    @property
-    def tree(self) -> Optional[bytes]:
-        """The path of the folder of mailboxes, if one is asked for."""
-        return self.path_of(self.home.tree) if self.home.tree and not self.user.why_not else None
+        return Whose(shown(self.user.name), text_of(self.account.name), mailboxes, self.is_back)
 
     def clerk(self) -> Optional[InboxClerk]:
         """What does for the child what only root can do in the folder of the inboxes; None if nothing."""
         return None
 
-    @property
-    def unnamed(self) -> tuple[Optional[bytes], ...]:
-        """The paths that are not named beside the user: the mailbox of the spool, and the home."""
-        return self.mailbox, home_of(self.account)
-
     def work(self, parent: Parent) -> int:
         """Does the work of a child: the same as a `migrate` that its user runs. Returns the child's status."""
-        relay = Relay(parent, self)
-        try:
-            want_home(self.account)
-        except Left as left:
+        relay, left = Relay(parent, self), why_no_home(self.account)
+        if left:
             # the home belongs to what is left of the spool; otherwise it is the user that has one row
-            of_home = self.tree if self.user.is_left and self.tree else home_of(self.account)
-            for path in [self.mailbox, *self.user.beside] if self.mailbox else [of_home]:
+            of_home = self.tree if self.user.is_left and self.tree else self.account.home
+            for path in self.of_spool() or [of_home]:
                 relay.leave(path, left)
         else:
             self.work_on(list(self.names(relay)), relay, Program(self.program, parent.alive))
         parent.tell("end", relay.rows)
         return 0
 
+    def of_spool(self) -> list[bytes]:
+        """The paths in the spool."""
+        return [self.mailbox, *self.user.beside] if self.mailbox else []
+
     def names(self, relay: "Relay") -> Iterator[bytes]:
         """The paths that are to be migrated. If the folder of mailboxes can't be looked for, it is left."""
-        if self.mailbox:
-            yield self.mailbox
-            yield from self.user.beside
+        yield from self.of_spool()
         yield from self.names_of_home(relay)
 
     def names_of_home(self, relay: "Relay") -> Iterator[bytes]:
         """The same for what is in the home."""
-        tree = self.tree
-        if not tree:
-            return
-        try:
-            has_tree = self.has_tree(tree)
-        except (Fault, OSError) as fault:
-            relay.leave(tree, fault)
-        else:
-            yield from [tree] * has_tree
+        if self.tree:
+            try:
+                if self.has_tree(self.tree):
+                    yield self.tree
+            except (Fault, OSError) as fault:
+                relay.leave(self.tree, fault)
 
     def has_tree(self, tree: bytes) -> bool:
         """Whether the home has a folder of mailboxes. Raises Left if a symbolic link leads to it; none is followed."""
-        home = path = home_of(self.account)
-        for part in os.path.relpath(tree, home).split(b"/"):
+        path = self.account.home
+        for part in os.path.relpath(tree, path).split(b"/"):
             path = os.path.join(path, part)
-            try:
-                state = os.lstat(path)
-            except FileNotFoundError:
-                return False
-            if stat.S_ISLNK(state.st_mode) and path != tree:
+            if path != tree and is_link(path):
                 raise Left("%s is a symbolic link, which is not followed" % named(path), Reason.LINK)
-        return True
+        return is_there(tree)
 
     def work_on(self, names: list[bytes], relay: "Relay", program: Program) -> None:
         """Does the work for the mailboxes at these paths. If that cannot go on, those that have no row yet are left."""
-        root = self.path_of(self.home.maildir)
-        if not names and not self.has_more(root):
+        if not names and not self.has_more():
             return
         try:
-            want_own(root)
-            refuse(root, names)
+            want_own(self.root)
+            refuse(self.root, names)
             if self.options.prepare:
-                want_unread(Place(root, home_of(self.account)), self.home.locations, self.options.unread)
-            if self.user.why_not and not is_recorded(root, names[0]):
+                want_unread(Place(self.root, self.account.home), self.spool.locations, self.options.unread)
+            if self.user.why_not and not is_recorded(self.root, names[0]):
                 relay.leave_rest(names, self.user.why_not)
                 return
-            self.run(root, names, relay, program)
+            self.run(names, relay, program)
         except (Fault, OSError) as fault:
-            relay.leave_rest(names or [root], fault)
+            relay.leave_rest(names or [self.root], fault)
         except Exception as fault:  # pylint: disable=broad-except
-            relay.leave_rest(names or [root], Fault("internal error: %r" % fault, Reason.DEFECT))
+            relay.leave_rest(names or [self.root], Fault("internal error: %r" % fault, Reason.DEFECT))
 
-    def has_more(self, root: bytes) -> bool:
+    def has_more(self) -> bool:
         """Whether folders of the Maildir are only prepared, which is said even if no mailbox is there any more."""
-        return not self.options.prepare and may_be(lambda root: any(map(has_list, folders_in(root))), root)
+        return not self.options.prepare and may_be(lambda root: any(map(has_list, folders_in(root))), self.root)
 
-    def run(self, root: bytes, names: list[bytes], relay: "Relay", program: Program) -> None:
-        """Migrates the mailboxes at these paths into a Maildir."""
-        home = UserHome(home_of(self.account), bool(self.mailbox) or self.user.is_left, synced_by_root(relay.parent))
-        run_all(self.options, root, names, relay, program, home)
+    def run(self, names: list[bytes], relay: "Relay", program: Program) -> None:
+        """Migrates the mailboxes at these paths into the Maildir."""
+        has_inbox = bool(self.mailbox) or self.user.is_left
+        home = UserHome(self.account.home, has_inbox, synced_by_root(relay.parent))
+        run_all(self.options, self.root, names, relay, program, home)
+
+
+class Spool(NamedTuple):
+    """A folder with one mailbox per user, and what is the same for all users: the names of the Maildir and of the
+    folder of mailboxes in each home, the options, and what is done."""
+
+    path: bytes
+    maildir: bytes
+    tree: Optional[bytes]
+    options: Options = Options()
+    kind: type[Migrant] = Migrant
+    # where Dovecot looks for mail, if that was asked for
+    locations: Optional[Sequence[str]] = None
+    # the folder of the inboxes into which mail goes back, unless nothing is written
+    inboxes: Optional[Inboxes] = None
+
+    @property
+    def is_of_homes(self) -> bool:
+        """Whether each home is looked at, even if there is no mailbox of its user."""
+        return self.kind.is_back or bool(self.tree)
+
+    def words(self) -> list[str]:
+        """The command that does this for one user, with the options of the next one."""
+        return [ADMIN, self.kind.command, *self.options.of_next().words()]
 
 
 def is_recorded(maildir: bytes, mailbox: bytes) -> bool:
@@ -161,7 +187,7 @@ class Relay(Observer):
     home, otherwise a name below the home."""
 
     def __init__(self, parent: Parent, migrant: Migrant) -> None:
-        self.parent, self.migrant, self.home = parent, migrant, home_of(migrant.account)
+        self.parent, self.user = parent, migrant.user
         # the paths that have a row, and how many rows were told
         self.told: set[bytes] = set()
         self.rows = 0
@@ -172,15 +198,12 @@ class Relay(Observer):
 
     def row(self, row: Row) -> None:
         """Tells a row. The mailbox of a row may be gone from the spool."""
-        path = b"" if row.path in self.migrant.unnamed else os.path.relpath(row.path, self.home)
-        path = row.path if row.path in self.migrant.user.beside or path.startswith(b"../") else path
+        home = self.user.account.home
+        path = b"" if row.path in (self.user.place, home) else os.path.relpath(row.path, home)
+        path = row.path if row.path in self.user.beside or path.startswith(b"../") else path
         self.told.add(row.path)
         self.rows += 1
         self.parent.tell("row", told(row._replace(path=path)))
-
-    def next(self, then: Next) -> None:
-        """Tells what is to be done once all is done."""
-        self.parent.tell("then", then)
 
     def leave_rest(self, names: list[bytes], fault: Union[Fault, OSError]) -> None:
         """Tells that each path without a row is left or, if all have one, the last."""

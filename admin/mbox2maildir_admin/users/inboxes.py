@@ -2,16 +2,16 @@
 not there, and FILE.lock. A child never gets the rights for that, and names nothing: it says which of its own inboxes it
 means."""
 import contextlib
+import functools
 import os
-import pwd
 import stat
-from collections.abc import Iterator, Sequence
-from typing import Optional
+from collections.abc import Sequence
 
 from ..faults import Left, Reason
-from ..migration.telling import number_of
 from ..mbox.lock_file import LOCK, Spot, drop_lock, release_lock, taken
+from ..migration.telling import number_of
 from ..terminal import named
+from .accounts import Account
 
 # what a child asks for
 MAKE, TAKE, RELEASE = "make", "lock", "unlock"
@@ -24,123 +24,92 @@ class Inboxes:
     """A folder of inboxes, which stays open."""
 
     def __init__(self, path: bytes) -> None:
-        """Opens the folder."""
-        self.path = path
+        """Opens the folder, and removes the locks that a killed run left, whoever's they are."""
+        self.path = os.path.abspath(path)
         self.number = os.open(path, os.O_RDONLY | os.O_DIRECTORY | os.O_CLOEXEC)
-        # the mode of a new inbox, once it is known
-        self.mode: Optional[int] = None
+        for spot in self.spots():
+            if spot.name.endswith(LOCK):
+                drop_lock(spot)
 
-    @classmethod
-    @contextlib.contextmanager
-    def open(cls, path: bytes) -> Iterator["Inboxes"]:
-        """Opens a folder of inboxes, in which no lock of a run is left that was killed."""
-        self = cls(os.path.abspath(path))
-        try:
-            self.drop_locks()
-            yield self
-        finally:
-            os.close(self.number)
+    def close(self) -> None:
+        """Closes the folder."""
+        os.close(self.number)
 
-    def drop_locks(self) -> None:
-        """Removes the locks that a killed run left, whoever's they are."""
-        for name in os.listdir(self.number):
-            if os.fsencode(name).endswith(LOCK):
-                drop_lock(self.spot(os.fsencode(name)))
+    def spots(self) -> list[Spot]:
+        """All names of the folder."""
+        return [Spot(os.fsencode(name), self.number) for name in os.listdir(self.number)]
 
-    def spot(self, name: bytes) -> Spot:
-        """Where a name of the folder is."""
-        return Spot(name, self.number)
-
-    def mode_of_new(self) -> int:
+    @functools.cached_property
+    def mode(self) -> int:
         """The mode of a new inbox: its user's alone, unless all inboxes belong to the group of the folder, which may
         write to each."""
-        if self.mode is None:
-            group = os.fstat(self.number).st_gid
-            boxes = [one for one in self.states() if stat.S_ISREG(one.st_mode) and one.st_uid != 0]
-            are_shared = all(stat.S_IMODE(one.st_mode) == SHARED and one.st_gid == group for one in boxes)
-            self.mode = SHARED if boxes and are_shared else OWN
-        return self.mode
+        group = os.fstat(self.number).st_gid
+        states = [spot.state() for spot in self.spots() if not spot.name.endswith(LOCK)]
+        boxes = [one for one in states if one and stat.S_ISREG(one.st_mode) and one.st_uid != 0]
+        are_shared = all(stat.S_IMODE(one.st_mode) == SHARED and one.st_gid == group for one in boxes)
+        return SHARED if boxes and are_shared else OWN
 
-    def states(self) -> Iterator[os.stat_result]:
-        """The state of each name that is no lock. One that is gone by now, such as that of a delivery, has none."""
-        for name in map(os.fsencode, os.listdir(self.number)):
-            if not name.endswith(LOCK):
-                with contextlib.suppress(FileNotFoundError):
-                    yield os.lstat(self.spot_path(name))
-
-    def spot_path(self, name: bytes) -> bytes:
-        """The path of a name of the folder."""
-        return os.path.join(self.path, name)
-
-    def make(self, name: bytes, account: pwd.struct_passwd) -> None:
-        """Makes the inbox of an account, unless something has its name. It is on the disk then."""
-        spot = self.spot(name)
+    def make(self, spot: Spot, account: Account) -> None:
+        """Makes the inbox of an account, unless something has its name. It gets its name, if that is free, once it
+        belongs to its user and to the group of the folder. It is on the disk then."""
+        mode, beside = self.mode, spot.beside()
         if not spot.state():
-            self.make_new(spot, account)
+            with contextlib.suppress(FileNotFoundError):
+                beside.unlink()
+            number = beside.open(MADE, OWN)
+            try:
+                os.fchown(number, account.uid, os.fstat(self.number).st_gid)
+                os.fchmod(number, mode)
+                os.fsync(number)
+                with contextlib.suppress(FileExistsError):
+                    beside.link(spot)
+            finally:
+                os.close(number)
+                beside.unlink()
         os.fsync(self.number)
-
-    def make_new(self, spot: Spot, account: pwd.struct_passwd) -> None:
-        """Makes the inbox of an account. It gets its name, if that is free, once it belongs to its user and to the
-        group of the folder."""
-        mode, beside = self.mode_of_new(), spot.beside()
-        with contextlib.suppress(FileNotFoundError):
-            beside.unlink()
-        number = beside.open(MADE, OWN)
-        try:
-            os.fchown(number, account.pw_uid, os.fstat(self.number).st_gid)
-            os.fchmod(number, mode)
-            os.fsync(number)
-            with contextlib.suppress(FileExistsError):
-                beside.link(spot)
-        finally:
-            os.close(number)
-            beside.unlink()
 
 
 class InboxClerk:
     """Makes the inboxes of one user, and their locks. No other run is at work for the owner of the locks at the same
     time."""
 
-    def __init__(self, inboxes: Inboxes, account: pwd.struct_passwd, names: Sequence[bytes], owner: bytes) -> None:
+    def __init__(self, inboxes: Inboxes, account: Account, names: Sequence[bytes], owner: bytes) -> None:
         self.inboxes, self.account, self.names, self.owner = inboxes, account, names, owner
-        # the descriptors of the locks that are held, by the places of their names
-        self.held: dict[int, int] = {}
+        # the descriptors of the locks that are held, by the locks
+        self.held: dict[Spot, int] = {}
 
     def serve(self, what: str, number: object) -> None:
         """Does what the child asks for. Raises Left if that fails, and an error of Python's if it may not ask for
         it."""
-        place = number_of(number)
-        name = self.names[place]
+        name = self.names[number_of(number)]
         does = {MAKE: self.make, TAKE: self.take, RELEASE: self.release}[what]
         try:
-            does(place, name)
+            does(Spot(name if what == MAKE else name + LOCK, self.inboxes.number))
         except OSError as error:
-            path = named(self.inboxes.spot_path(name))
-            raise Left("%s: %s" % (path, error.strerror), Reason.ERROR) from error
+            path = os.path.join(self.inboxes.path, name)
+            raise Left("%s: %s" % (named(path), error.strerror), Reason.ERROR) from error
 
-    def make(self, place: int, name: bytes) -> None:
+    def make(self, inbox: Spot) -> None:
         """Makes an inbox that is not there."""
-        del place
-        self.inboxes.make(name, self.account)
+        self.inboxes.make(inbox, self.account)
 
-    def take(self, place: int, name: bytes) -> None:
+    def take(self, lock: Spot) -> None:
         """Takes the lock of an inbox. Where root may make none either, the other locks must do. Raises Left if it is
         there."""
-        self.release(place, name)
-        spot = self.inboxes.spot(name + LOCK)
-        drop_lock(spot, self.owner)
-        number = taken(spot, self.owner)
+        self.release(lock)
+        drop_lock(lock, self.owner)
+        number = taken(lock, self.owner)
         if number is not None:
-            self.held[place] = number
+            self.held[lock] = number
 
-    def release(self, place: int, name: bytes) -> None:
+    def release(self, lock: Spot) -> None:
         """Releases the lock of an inbox, if it is held."""
-        number = self.held.pop(place, None)
+        number = self.held.pop(lock, None)
         if number is not None:
-            release_lock(self.inboxes.spot(name + LOCK), number)
+            release_lock(lock, number)
 
     def end(self) -> None:
         """Releases all locks, since the child has ended."""
-        for place in list(self.held):
+        for lock in list(self.held):
             with contextlib.suppress(OSError):
-                self.release(place, self.names[place])
+                self.release(lock)

@@ -1,48 +1,29 @@
 """The mailboxes of a spool, each migrated by a child that has only its user's rights."""
-import functools
+import collections
 import os
-import pwd
-from collections.abc import Callable, Collection, Iterable
-from typing import AbstractSet, NamedTuple, Optional
+from collections.abc import Callable, Collection, Iterable, Iterator
+from typing import AbstractSet, Optional, Union
 
-from .. import ADMIN
-from ..faults import Fault, Left, Reason
+from ..faults import Fault, Left, PlaceFault, Reason
 from ..jobs.count import MOST, jobs_of, share_of
+from ..jobs.order import size_of
 from ..kinds.named import is_auxiliary, is_no_mail
+from ..looks import is_surely, is_there, may_be
 from ..maildir.folders import folder_path, on_disk
 from ..migration.outcomes import Fate, Observer, Row, row_left
 from ..migration.servers import locations
 from ..migration.steps import Options
-from ..nexts import run_next
+from ..nexts import Answer, Command, run_next
 from ..program import find_program
 from ..readings.copies import stem_of
-from ..terminal import named, operand, shown
-from .accounts import Accounts, first_uid, home_of, is_users, own_name, size_of_mailbox, want_entered, want_user
-from .asked import ACCOUNTS, SPOOL, Sources, Tally
-from .children import Children
-from .found import Found, Queue
-from .homes import Home, Migrant
-from .loading import load_for_children
+from ..terminal import complain, named, operand, put, shown, text_of
+from .accounts import MANY, NOBODY, Account, Accounts, size_of_mailbox, why_no_home
+from .asked import ACCOUNTS, ENDS, SPOOL, Sources, Tally
+from .children import Children, load_for_children
+from .homes import Found, Migrant, Spool
 
 # an account, however many names it has: its number and its home
 Key = tuple[int, bytes]
-# says why a name is left
-Leave = Callable[[bytes, Left], None]
-
-
-class Spool(NamedTuple):
-    """A folder with one mailbox per user, the names of what each home has, the options of the next command, and what is
-    done."""
-
-    path: bytes
-    home: Home
-    options: Options = Options()
-    kind: type[Migrant] = Migrant
-
-    @property
-    def is_of_homes(self) -> bool:
-        """Whether each home is looked at, even if there is no mailbox of its user."""
-        return self.kind.is_back or bool(self.home.tree)
 
 
 def migrate_users(
@@ -55,180 +36,103 @@ def migrate_users(
 ) -> None:
     """Migrates the mailboxes of a spool, and a folder of mailboxes of each home, user by user; or does something else
     with them."""
-    spool = spool._replace(path=os.path.abspath(spool.path), options=options.of_next(), kind=kind)
+    spool = spool._replace(path=os.path.abspath(spool.path), options=options, kind=kind)
     if options.prepare:
-        spool = spool._replace(home=spool.home._replace(locations=locations()))
-    load_for_children()
+        spool = spool._replace(locations=locations())
     program = os.path.abspath(find_program())
     jobs = reporter.at_once = jobs_of(options.jobs, MOST)
-    users, others = users_of(spool, asked, reporter, tally, jobs > 1)
-    reporter.total = len(users) + len(others)
+    waiting, others = users_of(spool, asked, reporter, tally, jobs > 1)
+    load_for_children()
+    reporter.total = len(waiting) + len(others)
     # only one process at a time can be at work for an account
-    for found, at_once in ((users, min(jobs, len(users))), (others, min(1, len(others)))):
+    for several, at_once in ((unpacked(waiting), min(jobs, len(waiting))), (others, min(1, len(others)))):
         with Children(at_once, reporter) as children:
-            for place, one in enumerate(found):
+            for place, one in enumerate(several):
                 reporter.begin()
                 # if there are fewer users than jobs, several folders of a user are at work
                 options = options._replace(jobs=share_of(jobs, at_once, place))
-                children.add(kind(one, spool.home, options, program))
+                children.add(kind(one, spool, options, program))
             children.wait()
 
 
-def report_left(reporter: Observer, name: bytes, left: Left) -> None:
-    """Reports why root itself leaves a user."""
-    reporter.row(row_left(b"", b"", left)._replace(user=shown(name)))
-
-
-def report_no_mail(reporter: Observer, name: bytes) -> None:
-    """Reports a name of the spool that is no mailbox."""
-    reporter.row(Row(b"", b"", "", None, Fate.NO_MAIL, user=shown(name)))
+def unpacked(waiting: "collections.deque[bytes]") -> Iterator[Found]:
+    """The users who wait, each once its turn has come."""
+    while waiting:
+        yield Found.unpacked(waiting.popleft())
 
 
 def users_of(
     spool: Spool, asked: Optional[Sources], reporter: Observer, tally: Tally, is_by_size: bool
-) -> tuple[Queue, list[Found]]:
+) -> "tuple[collections.deque[bytes], list[Found]]":
     """The users whose mailboxes are migrated: those that were asked for, otherwise those of the spool, and all users if
     homes have a folder of mailboxes; and further mailboxes of theirs. Says which names are left."""
-    names = frozenset(os.listdir(spool.path))
+    names, accounts = frozenset(os.listdir(spool.path)), Accounts()
     want_entered(spool.path)
-    users = Users(spool, names, functools.partial(report_left, reporter))
-    add_users(users, asked, reporter, tally)
+    if asked is not None:
+        tally.not_asked = len({stem_of(name, names) for name in names} - asked.keys())
+
+    def pass_over(name: bytes) -> None:
+        reporter.row(Row(b"", b"", "", None, Fate.NO_MAIL, user=shown(name)))
+
+    sources = names_of(spool, names, accounts, pass_over) if asked is None else asked
+    users = Users(spool, names, sources, accounts, reporter)
+    tally.users = dict.fromkeys([SPOOL, ACCOUNTS] if asked is None else asked.values(), 0)
+    for name, source, account in accounts_of(spool, sources, accounts, asked is not None):
+        if isinstance(account, Left):
+            users.leave(name, account)
+            users.leave_beside(name)
+        else:
+            users.add(name, account)
+            tally.users[source] += 1
     if spool.kind.is_back:
         users.join()
     found: Iterable[Found] = users.found.values()
-    # the largest mailbox begins first, lest it is alone at the end; one after the other, users keep the order of names
-    return Queue(sorted(found, key=lambda one: one.size, reverse=True) if is_by_size else found), users.others
+    if is_by_size:
+        # the largest mailbox begins first, lest it is alone at the end; otherwise users keep the order of names
+        found = sorted(found, key=lambda one: one.size or 0, reverse=True)
+    return collections.deque(map(Found.packed, found)), users.others
 
 
-def add_users(users: "Users", asked: Optional[Sources], reporter: Observer, tally: Tally) -> None:
-    """Adds the users whose mailboxes are migrated, and leaves all other names."""
-    spool, names, first = users.spool, users.names, first_uid()
-    if asked is None:
-        sources = names_of(spool, names, first, functools.partial(report_no_mail, reporter))
-    else:
-        sources, tally.not_asked = asked, len({stem_of(name, names) for name in names} - asked.keys())
-    users.asked = sources.keys()
-    tally.expect([SPOOL, ACCOUNTS] if asked is None else asked.values())
-    accounts = Accounts(len(sources))
-    for name, source in sources.items():
-        try:
-            account = user_of(name, accounts, first, asked is not None, spool)
-        except Left as left:
-            users.leave(name, left)
-            users.leave_beside(name)
+def list_users(spool: Spool, asked: Optional[Sources]) -> bool:
+    """Prints the name of each user whom a run takes, where the name came from, and how many bytes the mailbox in the
+    spool has, with tabs between them. Returns whether a list can hold all of these names."""
+    spool, accounts, can_hold = spool._replace(path=os.path.abspath(spool.path)), Accounts(), True
+    sources = names_of(spool, os.listdir(spool.path), accounts, lambda name: None) if asked is None else asked
+    for name, source, account in accounts_of(spool, sources, accounts, asked is not None):
+        if isinstance(account, Left) or source == ACCOUNTS and not may_have_mail(account, spool):
+            continue
+        if ENDS & {*name}:
+            complain("%s: a list cannot hold this name" % named(name))
+            can_hold = False
         else:
-            users.add(name, account, accounts)
-            tally.count(source)
+            put("%s\t%s\t%d" % (text_of(name), source, size_of(os.path.join(spool.path, name))))
+    return can_hold
 
 
-def user_of(name: bytes, accounts: Accounts, first: int, is_named: bool, spool: Spool) -> pwd.struct_passwd:
-    """The account of a name. Raises Left if it is not a user's, and was not asked for by its name."""
-    account = accounts.of_name(name)
-    if not is_users(account, first):
-        want_user(account, first, is_named, spool.path, [spool.kind.command, *spool.options.words()])
-    return account
+def may_have_mail(account: Account, spool: Spool) -> bool:
+    """Whether a home may have a Maildir or a folder of mailboxes. Of their names root looks at the first part alone,
+    lest it follows what is the user's. What could not be looked at may be there."""
+    parts = [os.path.normpath(name).split(b"/")[0] for name in (spool.maildir, spool.tree) if name]
+    return not is_surely(is_there, os.path.join(account.home, b".")) or any(
+        may_be(is_there, os.path.join(account.home, part)) for part in parts
+    )
 
 
-class Users:
-    """The users that are migrated. Each account is there once, under the name of its mailbox."""
-
-    def __init__(self, spool: Spool, names: AbstractSet[bytes], leave: Leave) -> None:
-        """Begins without users. `names` are those of the spool."""
-        self.spool, self.names, self.leave = spool, names, leave
-        self.copies = copies_among(names)
-        # all names that are looked at
-        self.asked: AbstractSet[bytes] = frozenset()
-        self.found: dict[Key, Found] = {}
-        # further mailboxes of the same accounts
-        self.others: list[Found] = []
-
-    def add(self, name: bytes, account: pwd.struct_passwd, accounts: Accounts) -> None:
-        """Adds a user. If something is wrong with the mailbox, that is said, and the home is looked at all the same."""
-        key, place = (account.pw_uid, home_of(account)), os.path.join(self.spool.path, name)
-        size, is_left = None, False
-        try:
-            size = self.size_at(place, account)
-        except Left as left:
-            self.leave(name, left)
-            is_left = True
-        mailbox = None if size is None else place
-        beside = self.beside_of(name, account) if mailbox else self.leave_beside(name)
-        other = self.other_name(name, key, accounts) if mailbox else None
-        if mailbox and other is not None:
-            self.others.append(Found(name, account, mailbox, False, self.why_not(key, other, mailbox), beside))
-            if other in self.asked:
-                return
-            mailbox, is_left, beside = None, True, ()
-        if mailbox or self.spool.is_of_homes and key not in self.found:
-            self.found[key] = Found(name, account, mailbox, is_left, None, beside, place, (), size or 0)
-
-    def join(self) -> None:
-        """Gives each account all of its mailboxes."""
-        for one in self.others:
-            key = one.account.pw_uid, home_of(one.account)
-            if key in self.found and one.mailbox:
-                self.found[key] = self.found[key]._replace(others=(*self.found[key].others, one.mailbox))
-        self.others.clear()
-
-    def beside_of(self, name: bytes, account: pwd.struct_passwd) -> tuple[bytes, ...]:
-        """The files beside the mailbox of this name that may be copies of it. Files of another owner are left."""
-        found = []
-        for other in self.copies_of(name):
-            try:
-                size_of_mailbox(os.path.join(self.spool.path, other), account)
-            except Left as left:
-                self.leave(other, left)
-            else:
-                found.append(os.path.join(self.spool.path, other))
-        return tuple(found)
-
-    def leave_beside(self, name: bytes) -> tuple[bytes, ...]:
-        """Leaves the files beside a mailbox that is left itself."""
-        for other in self.copies_of(name):
-            self.leave(other, Left("it may be a copy of %s, which is left" % named(name), Reason.COPY))
-        return ()
-
-    def copies_of(self, name: bytes) -> list[bytes]:
-        """The names of the spool that may be copies of the mailbox of this name."""
-        return [one for one in self.copies.get(name, ()) if not is_passed(self.spool.path, one)]
-
-    def size_at(self, place: bytes, account: pwd.struct_passwd) -> Optional[int]:
-        """How many bytes the mailbox has that the spool has at a place; None if only the home is looked at. Raises Left
-        if it can't be migrated."""
-        size = size_of_mailbox(place, account)
-        if size is None and not self.spool.is_of_homes:
-            raise Left("no mailbox of that name in %s" % named(self.spool.path), Reason.NO_MAILBOX)
-        return size
-
-    def why_not(self, key: Key, other: bytes, mailbox: bytes) -> Left:
-        """Why the mailbox of a further name of an account is left, and the command that migrates it, or checks it."""
-        root, kind = os.path.join(key[1], self.spool.home.maildir), self.spool.kind
-        if kind.command == "verify":
-            words = [operand(folder_path(root, on_disk("NAME")))]
-        else:
-            words = [*self.spool.options.words(), "--folder", "NAME", operand(root)]
-        then = run_next(ADMIN, kind.command, *words, operand(mailbox))
-        says = "%s is the same user, and its mailbox goes into INBOX" % named(other)
-        return Left(says, Reason.SAME_USER, then)
-
-    def other_name(self, name: bytes, key: Key, accounts: Accounts) -> Optional[bytes]:
-        """The other name of an account whose mailbox goes into its Maildir: the one that the system gives its number,
-        if the spool has that, or mail may go back there; otherwise the first one."""
-        try:
-            account = accounts.of_number(key[0])
-        except KeyError:
-            pass
-        else:
-            own = own_name(account)
-            # on the way back, an account has its place under its own name, even if no mailbox is there
-            is_place = own in self.names or self.spool.kind.is_back and own in self.asked
-            if is_place and own != name and home_of(account) == key[1]:
-                return own
-        taken = self.found.get(key)
-        return taken.name if taken and taken.mailbox else None
+def want_entered(spool: bytes) -> None:
+    """Checks that users can enter a folder. Raises Fault if not."""
+    here = spool
+    while True:
+        if not os.stat(here).st_mode & 0o001:
+            then = run_next("chmod", "711", operand(here))
+            raise PlaceFault("users may not enter %s" % named(here), Reason.NOT_OWN, then)
+        if here == b"/":
+            return
+        here = os.path.dirname(here)
 
 
-def names_of(spool: Spool, names: Collection[bytes], first: int, pass_over: Callable[[bytes], object]) -> Sources:
+def names_of(
+    spool: Spool, names: Collection[bytes], accounts: Accounts, pass_over: Callable[[bytes], object]
+) -> Sources:
     """The names of a spool that may be mailboxes and, if homes have a folder of mailboxes, those of all users.
     `pass_over` is told each name that is no mailbox."""
     found: dict[bytes, str] = {}
@@ -240,20 +144,146 @@ def names_of(spool: Spool, names: Collection[bytes], first: int, pass_over: Call
     # a file that may be a copy goes with its mailbox
     found = {name: source for name, source in found.items() if stem_of(name, found) == name}
     if spool.is_of_homes:
-        for account in pwd.getpwall():
-            if is_users(account, first):
-                found.setdefault(own_name(account), ACCOUNTS)
+        for account in filter(accounts.is_users, accounts.read()):
+            found.setdefault(account.name, ACCOUNTS)
     return {name: found[name] for name in sorted(found)}
 
 
-def copies_among(names: AbstractSet[bytes]) -> dict[bytes, list[bytes]]:
-    """The names of a spool that may be copies, by the names of their mailboxes. Each name is looked at once."""
-    found: dict[bytes, list[bytes]] = {}
-    for name in names:
-        stem = stem_of(name, names)
-        if stem != name:
-            found.setdefault(stem, []).append(name)
-    return {stem: sorted(copies) for stem, copies in found.items()}
+def accounts_of(
+    spool: Spool, sources: Sources, accounts: Accounts, are_named: bool
+) -> Iterator[tuple[bytes, str, Union[Account, Left]]]:
+    """The account of each name, with the source of the name, or why it is left."""
+    if len(sources) > MANY and not accounts.by_name:
+        accounts.read()
+    for name, source in sources.items():
+        try:
+            yield name, source, user_of(name, accounts, are_named, spool)
+        except Left as left:
+            yield name, source, left
+
+
+def user_of(name: bytes, accounts: Accounts, is_named: bool, spool: Spool) -> Account:
+    """The account of a name. Raises Left if it is not a user's, and was not asked for by its name, with what would do
+    it."""
+    account = accounts.of_name(name)
+    if accounts.is_users(account) or is_named and account.uid not in (0, *NOBODY):
+        return account
+    words, says = spool.words(), "a system account"
+    mailbox = operand(os.path.join(spool.path, account.name))
+    if account.uid == 0:
+        then = run_next(*words, operand(os.path.join(account.home, b"Maildir")), mailbox)
+    elif account.uid not in NOBODY and not why_no_home(account):
+        says += ", which must be named"
+        then = run_next(*words[:2], "--users", *words[2:], operand(spool.path), operand(account.name))
+    else:
+        # whatever is at that place, it is no place for mail
+        says += " without a home of its own"
+        then = (Answer(Command.of(*words, "MAILDIR", mailbox, user=text_of(account.name))),)
+    raise Left(says, Reason.SYSTEM_ACCOUNT, then)
+
+
+class Users:
+    """The users that are migrated. Each account is there once, under the name of its mailbox."""
+
+    def __init__(
+        self, spool: Spool, names: AbstractSet[bytes], asked: Sources, accounts: Accounts, reporter: Observer
+    ) -> None:
+        """Begins without users. `names` are those of the spool, and `asked` all that are looked at."""
+        self.spool, self.names, self.asked, self.accounts, self.reporter = spool, names, asked, accounts, reporter
+        # the names that may be copies, by the names of their mailboxes
+        self.copies: dict[bytes, list[bytes]] = {}
+        for name in sorted(names):
+            stem = stem_of(name, names)
+            if stem != name:
+                self.copies.setdefault(stem, []).append(name)
+        self.found: dict[Key, Found] = {}
+        # further mailboxes of the same accounts
+        self.others: list[Found] = []
+
+    def leave(self, name: bytes, fault: Union[Fault, OSError]) -> None:
+        """Reports why root itself leaves a user."""
+        row = row_left(os.path.join(self.spool.path, name), b"", fault)
+        self.reporter.row(row._replace(path=b"", user=shown(name)))
+
+    def add(self, name: bytes, account: Account) -> None:
+        """Adds a user. If something is wrong with the mailbox, that is said, and the home is looked at all the same."""
+        key, place = (account.uid, account.home), os.path.join(self.spool.path, name)
+        user = Found(name, account, place, None)
+        try:
+            user = user._replace(size=self.size_at(place, account))
+        except (Left, OSError) as fault:
+            self.leave(name, fault)
+            user = user._replace(is_left=True)
+        if user.size is None:
+            self.leave_beside(name)
+        else:
+            user = user._replace(beside=self.beside_of(name, account))
+            other = self.other_name(name, key)
+            if other is not None:
+                self.others.append(user._replace(why_not=self.why_not(account, other, place)))
+                if other in self.asked:
+                    return
+                user = Found(name, account, place, None, True)
+        if user.size is not None or self.spool.is_of_homes and key not in self.found:
+            self.found[key] = user
+
+    def join(self) -> None:
+        """Gives each account all of its mailboxes."""
+        for one in self.others:
+            key = one.account.uid, one.account.home
+            if key in self.found:
+                self.found[key] = self.found[key]._replace(others=(*self.found[key].others, one.place))
+        self.others.clear()
+
+    def beside_of(self, name: bytes, account: Account) -> tuple[bytes, ...]:
+        """The files beside the mailbox of this name that may be copies of it. Files of another owner are left."""
+        found = []
+        for other in self.copies_of(name):
+            path = os.path.join(self.spool.path, other)
+            try:
+                size_of_mailbox(path, account)
+                found.append(path)
+            except (Left, OSError) as fault:
+                self.leave(other, fault)
+        return tuple(found)
+
+    def leave_beside(self, name: bytes) -> None:
+        """Leaves the files beside a mailbox that is left itself."""
+        for other in self.copies_of(name):
+            self.leave(other, Left("it may be a copy of %s, which is left" % named(name), Reason.COPY))
+
+    def copies_of(self, name: bytes) -> list[bytes]:
+        """The names of the spool that may be copies of the mailbox of this name."""
+        return [one for one in self.copies.get(name, ()) if not is_passed(self.spool.path, one)]
+
+    def size_at(self, place: bytes, account: Account) -> Optional[int]:
+        """How many bytes the mailbox has that the spool has at a place; None if only the home is looked at. Raises Left
+        if it can't be migrated."""
+        size = size_of_mailbox(place, account)
+        if size is None and not self.spool.is_of_homes:
+            raise Left("no mailbox of that name in %s" % named(self.spool.path), Reason.NO_MAILBOX)
+        return size
+
+    def why_not(self, account: Account, other: bytes, mailbox: bytes) -> Left:
+        """Why the mailbox of a further name of an account is left, and the command that migrates it, or checks it."""
+        root, words = os.path.join(account.home, self.spool.maildir), self.spool.words()
+        if self.spool.kind.command == "verify":
+            words = [*words[:2], operand(folder_path(root, on_disk("NAME")))]
+        else:
+            words += ["--folder", "NAME", operand(root)]
+        says = "%s is the same user, and its mailbox goes into INBOX" % named(other)
+        return Left(says, Reason.SAME_USER, run_next(*words, operand(mailbox)))
+
+    def other_name(self, name: bytes, key: Key) -> Optional[bytes]:
+        """The other name of an account whose mailbox goes into its Maildir: the one that the system gives its number,
+        if the spool has that, or mail may go back there; otherwise the first one."""
+        own = self.accounts.of_number(key[0])
+        if own and own.name != name and own.home == key[1]:
+            # on the way back, an account has its place under its own name, even if no mailbox is there
+            if own.name in self.names or self.spool.kind.is_back and own.name in self.asked:
+                return own.name
+        taken = self.found.get(key)
+        return taken.name if taken and taken.size is not None else None
 
 
 def is_passed(spool: bytes, name: bytes) -> bool:
