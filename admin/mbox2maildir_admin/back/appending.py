@@ -1,113 +1,306 @@
-"""Appends to an open mailbox, which is locked, what is in a file beside: all of it, or nothing."""
+"""One mailbox, and the mail of its folder that goes back into it: what is appended is planned, and then carried out."""
 import contextlib
-import errno
-import functools
-import importlib
+import itertools
 import os
-from collections.abc import Callable
-from typing import Optional
+from collections.abc import Iterator, Sequence
+from typing import NamedTuple
 
 from ..faults import Left, Reason
+from ..ledger.history import Key, Note
+from ..ledger.ledger import Ledger
+from ..ledger.lines import END_LINE, RETURNED, Brought, Head
+from ..ledger.match import cores_of
+from ..ledger.record import Record
 from ..looks import is_there
-from ..mbox.files import BLOCK
+from ..maildir.space import Need, want_room
+from ..mbox.files import Reader
+from ..mbox.inventory import Inventory
+from ..mbox.locks import READING, WRITING, open_mailbox
 from ..mbox.mailbox import Mailbox
-from ..terminal import spelled
-from ..units import Line
-from .beside import Before, Beside, End, write_all
+from ..migration.known import Known
+from ..migration.outcomes import Fate, Observer, Row
+from ..migration.steps import Opened, Options
+from ..nexts import Remark, Todo, task
+from ..program import Program
+from ..readings.texts import disk_of
+from ..readings.unnamed import unnamed
+from ..terminal import NAMED, named
+from ..units import Say, Size, counted, silent
+from .beside import Beside, Draft
+from .dialect import Client, Letter
+from .mails import Mail, Target
+from .numbers import Numbering, numbering_of
+from .places import Keeper, Places
+from .reading import Entry, Style, are_at, forms_in, reading_now, styles_of
 
-CHANGED = "another program writes to it: stop that program, and run this again"
-NOT_CUT = "no room is left on its disk, not even to cut off what was appended in part: make room, and run this again"
-# the errors of a full disk
-FULL = errno.ENOSPC, errno.EDQUOT
-# the flag of the call fallocate by which the size of a file stays
-KEEP_SIZE = 1
+FILE_CHANGED = "%s was changed meanwhile: stop the program that did it, and run this again"
+MISREAD = "what was appended is not read back as it is, so it was taken back"
+REPLACED = "another file has its place meanwhile: run this again"
+NOT_HELD = "it cannot hold %s, which %s in the Maildir alone: %s"
+# the size and the SHA-256 of no mailbox
+NO_KEY = 0, "0" * 64
+# the row of a mailbox, and the mail that it cannot hold
+Returned = tuple[Row, Sequence[Mail]]
 
 
-def before_of(mailbox: Mailbox) -> Before:
-    """How a mailbox is now."""
-    return Before(mailbox.state.st_ino, *mailbox.key(), spelled(mailbox.path))
+class TakesNothing(Left):
+    """A mailbox to which nothing is appended: it is packed, of another kind, or nothing says how it is written."""
 
 
-def append(mailbox: Mailbox, beside: Beside) -> None:
-    """Appends all of it, and syncs. If that fails, or is interrupted, the mailbox is as it was before."""
-    try:
-        reserve(mailbox, beside.size)
-        reader = beside.reader()
-        for block in iter(lambda: reader.read(BLOCK), b""):
-            write_all(mailbox.number, block)
-        os.fsync(mailbox.number)
-        mailbox.take_state()
-        if beside.end_of(mailbox) is not End.WHOLE:
-            raise Left(CHANGED, Reason.CHANGED)
-    except OSError as error:
+class NotAsItIs(Left):
+    """A mailbox that would not be read, with what was appended, as it is to be."""
+
+
+class Way(NamedTuple):
+    """The way back out of a Maildir: the program, the Maildir and its record, the options, the mailboxes of its
+    folders, who makes what is missing there, and who is told."""
+
+    program: Program
+    root: bytes
+    record: Record
+    how: Options
+    places: Places
+    keeper: Keeper
+    observer: Observer
+
+    @property
+    def disk(self) -> bytes:
+        """A folder on the disk where copies are made."""
+        return disk_of(self.root, self.how.dry)
+
+    @contextlib.contextmanager
+    def opened(self, path: bytes, say: Say = silent) -> Iterator[Mailbox]:
+        """Opens a mailbox, and holds all of its locks."""
+        dry = self.how.dry
+        if dry and not is_there(path):
+            with Mailbox(path, os.open(os.devnull, os.O_RDONLY)) as mailbox:
+                yield mailbox
+            return
+        # root follows no symbolic link, which may lead anywhere
+        path = path if os.geteuid() == 0 else os.path.realpath(path)
+        with open_mailbox(path, say, False, not self.how.now, READING if dry else WRITING) as mailbox:
+            if mailbox.state.st_uid != os.geteuid():
+                raise Left("it belongs to another user", Reason.OTHER_OWNER, task(Todo.AS_OWNER))
+            with contextlib.ExitStack() as stack:
+                if not dry:
+                    stack.enter_context(self.keeper.locked(mailbox, os.path.realpath(self.root)))
+                    mailbox.take_state()
+                if not os.path.samestat(os.stat(path), mailbox.state):
+                    raise Left(REPLACED, Reason.CHANGED)
+                yield mailbox
+
+    def numbering(self, target: Target, opened: Opened) -> Numbering:
+        """What an open mailbox says of UIDs."""
+        return numbering_of(opened, self.record, target, self.places.name_of(target.path, target.folder), self.how)
+
+    def known(self, opened: Opened) -> Known:
+        """What is known of an open mailbox."""
+        return Known(self.record, Ledger(opened.folder, dry=self.how.dry), opened)
+
+    def append(self, target: Target) -> Returned:
+        """Appends to a mailbox what did not come from it. Raises TakesNothing if it takes none."""
+        with self.opened(target.path, self.observer.say(target.path)) as mailbox:
+            opened = Opened.into(self.root, target.folder, mailbox)
+            numbering, known = self.numbering(target, opened), self.known(opened)
+            for style in styles_of(known, self.disk):
+                with contextlib.suppress(NotAsItIs):
+                    return Appending(self, target, known, style, numbering).run()
+        raise TakesNothing("nothing can be appended to it", Reason.OTHER_KIND)
+
+    def number(self, target: Target) -> Numbering:
+        """Has a mailbox that takes no mail say which UIDs were given. Returns what is to be said of that, and of
+        keywords of what went back before."""
+        with self.opened(target.path, self.observer.say(target.path)) as mailbox:
+            opened = Opened.into(self.root, target.folder, mailbox)
+            numbering = self.numbering(target, opened)
+            if numbering.is_incomplete:
+                # what cannot be read as it was is said once mail goes back
+                with contextlib.suppress(Left):
+                    for style in itertools.islice(styles_of(self.known(opened), self.disk), 1):
+                        style.messages(mailbox, look=numbering.take)
+                numbering.end(target.returned, self.how.dry)
+            return numbering
+
+
+class Plan(NamedTuple):
+    """What goes back into a mailbox: the messages that are appended, which are in a draft of this size; those that it
+    has already, and those that it cannot hold; and whether it has more than the Maildir."""
+
+    entries: Sequence[Entry]
+    size: int
+    there: Sequence[Mail]
+    refused: Sequence[Mail]
+    has_more: bool
+
+
+class Appending:
+    """The mail that goes back into one open mailbox, which is read in one way."""
+
+    def __init__(self, way: Way, target: Target, known: Known, style: Style, numbering: Numbering) -> None:
+        """Reads the mailbox. Raises NotAsItIs if nothing that is appended would be read in this way."""
+        self.way, self.target, self.known, self.style, self.numbering = way, target, known, style, numbering
+        self.opened, self.mailbox, self.client = known.opened, known.opened.mailbox, Client()
+        self.inventory = style.messages(self.mailbox, way.program, self.look)
+        known.take_place(self.inventory)
+        if style.has_no_dates(self.mailbox, self.inventory):
+            raise NotAsItIs(MISREAD, Reason.MISREAD)
+
+    def look(self, text: Mailbox, inventory: Inventory) -> None:
+        """Takes what programs note of the messages that are there."""
+        self.client = Client.of(text, inventory)
+        self.numbering.take(text, inventory)
+
+    def run(self) -> Returned:
+        """Appends what the mailbox does not have."""
+        dry, was_empty = self.way.how.dry, not self.mailbox.size
+        with contextlib.ExitStack() as stack:
+            if dry:
+                draft = Draft(stack.enter_context(unnamed(self.way.disk)).fileno())
+            else:
+                draft = stack.enter_context(Draft.in_folder(self.opened.folder))
+            plan = self.planned(draft)
+            if not dry:
+                self.carry_out(plan, draft)
+        self.numbering.end([*self.target.returned, *plan.there, *(one.mail for one in plan.entries)], dry)
+        row = self.row(plan)
+        if plan.refused and not plan.entries and was_empty:
+            # what goes into none of the same form either
+            return left_unheld(row, plan.refused), ()
+        return row, plan.refused
+
+    def planned(self, draft: Draft) -> Plan:
+        """What becomes of the mail. What is appended is in the draft then."""
+        source = self.known.ledger.sources.get(self.known.path)
+        # how often the mailbox has each core, and no ledger says why
+        extra = cores_of(self.inventory)
+        extra.subtract(source.has() if source else ())
+        there: list[Mail] = []
+        rest: list[Mail] = []
+        for mail in self.target.mails:
+            has_it = extra[mail.core] > 0
+            extra[mail.core] -= has_it
+            (there if has_it else rest).append(mail)
+        refused: list[Mail] = []
+        entries = self.drafted(draft, rest)
+        bad = self.unheld(draft, entries)
+        while bad:
+            refused += bad
+            entries = self.drafted(draft, [one.mail for one in entries if one.mail not in bad])
+            bad = self.unheld(draft, entries)
+        return Plan(entries, draft.size if entries else 0, there, refused, bool(+extra))
+
+    def drafted(self, draft: Draft, mails: Sequence[Mail]) -> list[Entry]:
+        """Writes messages as the mailbox is to have them. What was removed meanwhile is left out."""
+        draft.clear()
+        draft.add(self.style.gap)
+        entries: list[Entry] = []
+        for number, (mail, fields) in enumerate(self.numbering.fields(mails), 1):
+            self.mailbox.say("reading file %d of %d" % (number, len(mails)))
+            letter = Letter.of(self.opened.folder, mail)
+            if not letter:
+                continue
+            letter = self.client.bare(letter)
+            core, bares = forms_in(letter.text)
+            if core != mail.core:
+                raise Left(FILE_CHANGED % named(mail.path), Reason.CHANGED)
+            notes = *fields, *self.client.fields(letter, core, number)
+            text = self.style.dialect.spelled(letter._replace(notes=notes))
+            entries.append(Entry(mail, bares, draft.size, len(text), letter.taken))
+            draft.add(text)
+        return entries
+
+    def unheld(self, draft: Draft, entries: Sequence[Entry]) -> list[Mail]:
+        """The messages of a draft that the mailbox cannot hold. Raises NotAsItIs if it holds each of them, but not
+        all."""
+        is_empty = not self.mailbox.size
+        with Mailbox(draft.path, os.dup(draft.number)) as text:
+            are_held = not entries or self.style.gives(text, entries)
+            # nothing is asked about the first message of a text, which is not the first one of the mailbox
+            bad = list(self.style.unheld(text, entries[: not is_empty] if are_held else entries, is_empty))
+        if not bad and not are_held:
+            raise NotAsItIs(MISREAD, Reason.MISREAD)
+        return bad
+
+    def carry_out(self, plan: Plan, draft: Draft) -> None:
+        """Appends what was drafted, and has the ledger say so."""
+        mailbox, ledger = self.mailbox, self.known.ledger
+        if not plan.entries:
+            if plan.there:
+                os.fsync(mailbox.number)
+                ledger.note(END_LINE % self.begin(plan, mailbox.key()))
+            return
+        want_room(Need.of(os.path.dirname(mailbox.path), [], plan.size))
+        reads = reading_now(mailbox)
+        beside = draft.finish(mailbox, [one.start for one in plan.entries])
+        key = self.key_after(beside)
+        number = self.begin(plan, key)
+        if self.numbering.first:
+            # a further run knows the numbers of the Maildir as those of the mailbox
+            self.way.record.add(Note.NUMBERED, Key(self.opened.name, *key), len(plan.entries), mailbox.path)
+        beside.append_to(mailbox)
+        self.want_right(beside, plan.entries, reads)
+        # once the ledger says that it went back, no run may take it for a part, and cut it off
+        beside.remove()
+        ledger.note(END_LINE % number)
+
+    def key_after(self, beside: Beside) -> tuple[Size, str]:
+        """The size and the SHA-256 of the mailbox once all is appended."""
+        assert self.mailbox.digest, "it is digested while it is read"
+        hashed = self.mailbox.digest.hash.copy()
+        for block in Reader(beside.number, end=beside.size).blocks():
+            hashed.update(block)
+        return Size(self.mailbox.size + beside.size), hashed.hexdigest()
+
+    def begin(self, plan: Plan, key: tuple[int, str]) -> int:
+        """Notes in the ledger what goes back, and what is there already. Returns the number of the batch."""
+        inventory = self.inventory
+        places = {inventory.core(place): place for place in range(len(inventory))} if plan.there else {}
+        lines = [Brought(RETURNED, one.before, one.core, inventory.bare(places[one.core])) for one in plan.there]
+        lines += [Brought(RETURNED, one.mail.before, one.mail.core, one.bares[-1]) for one in plan.entries]
+        # a mailbox that has more than the Maildir is not done, whatever its bytes are
+        key = NO_KEY if plan.has_more else key
+        head = Head(len(lines), 0, 0, (), key, self.style.words, self.known.path, self.mailbox.state.st_ino)
+        return self.known.ledger.begin(head, lines)
+
+    def want_right(self, beside: Beside, entries: Sequence[Entry], reads: str) -> None:
+        """Raises Left if a message of the mailbox with what was appended is not as it is to be: then the mailbox is as
+        it was before."""
+        cores = self.inventory.cores
         try:
-            take_back(mailbox, beside)
-        except OSError as other:
-            if other.errno in FULL:
-                raise Left(NOT_CUT, Reason.NO_ROOM) from other
+            look = self.numbering.take if self.numbering.is_incomplete else None
+            found = self.style.messages(self.mailbox, self.way.program, look)
+            is_right = are_at(entries, found, len(self.inventory)) and found.cores[: len(cores)] == cores
+            if not is_right or reading_now(self.mailbox) != reads:
+                raise NotAsItIs(MISREAD, Reason.MISREAD)
+        except BaseException:
+            beside.take_back(self.mailbox)
             raise
-        if error.errno in FULL:
-            raise Left("no room is left on its disk", Reason.NO_ROOM) from error
-        raise
-    except BaseException:
-        take_back(mailbox, beside)
-        raise
+
+    def row(self, plan: Plan) -> Row:
+        """The row of the mailbox."""
+        count, there, is_dry = len(plan.entries) + len(plan.there), len(plan.there), self.way.how.dry
+        fate = (Fate.WOULD_BACK if is_dry else Fate.BACK) if count else Fate.NOTHING_NEW
+        says = [Remark("there-already", "%s there already" % counted(there, "message"), there)] if there else []
+        taken = [one.taken for one in plan.entries if one.taken]
+        if taken:
+            names = {name.lower(): named(name) for name in itertools.chain.from_iterable(taken)}
+            left_out = "fields left out of %s: %s" % (counted(len(taken), "message"), ", ".join(names.values()))
+            says.append(Remark("fields-left-out", left_out))
+        remarks = (*self.mailbox.remarks, *says, *self.numbering.remarks, *self.target.remarks)
+        row = Row(self.target.path, self.target.folder, self.style.dialect.word, count, fate, size=plan.size)
+        return row._replace(remarks=remarks, next=self.numbering.next, is_back=True)
 
 
-def reserve(mailbox: Mailbox, size: int) -> None:
-    """Has the disk keep room for so many bytes more, if it can. Raises OSError if there is none: nothing else shows a
-    quota before it is met, and then some disks cut no file either."""
-    error = call_of_system()(mailbox.number, mailbox.size, size)
-    if error in FULL:
-        # ext4 keeps what it found
-        with contextlib.suppress(OSError):
-            os.ftruncate(mailbox.number, mailbox.size)
-        raise OSError(error, os.strerror(error))
+def files_of(mails: Sequence[Mail]) -> str:
+    """The files of mail, as a row names them."""
+    more = " and %d more" % (len(mails) - NAMED) if mails[NAMED:] else ""
+    return ", ".join(named(one.path) for one in mails[:NAMED]) + more
 
 
-@functools.lru_cache(maxsize=None)
-def call_of_system() -> Callable[[int, int, int], int]:
-    """Returns the call that has a disk keep room in an open file, from an offset on, and returns its error, or 0. If
-    Python cannot make it, it does nothing."""
-    try:
-        ctypes = importlib.import_module("ctypes")
-        fallocate = ctypes.CDLL(None, use_errno=True).fallocate64
-    except (ImportError, OSError, AttributeError):
-        return lambda number, offset, size: 0
-
-    def call(number: int, offset: int, size: int) -> int:
-        failed = fallocate(number, KEEP_SIZE, ctypes.c_int64(offset), ctypes.c_int64(size))
-        return int(ctypes.get_errno()) if failed else 0
-
-    return call
-
-
-def take_back(mailbox: Mailbox, beside: Beside) -> bool:
-    """Cuts a mailbox back to how it was, if all that follows is what was being appended, in the same file. Returns
-    whether it is as it was. The file beside is gone then."""
-    mailbox.take_state()
-    end = beside.end_of(mailbox)
-    is_same = mailbox.state.st_ino == beside.before.inode
-    if end is End.OTHER or end is not End.NOTHING and not is_same:
-        return False
-    if end is not End.NOTHING:
-        os.ftruncate(mailbox.number, beside.before.size)
-        os.fsync(mailbox.number)
-        mailbox.take_state()
-    beside.remove()
-    return True
-
-
-def recover(mailbox: Mailbox, beside: Beside) -> Optional[Line]:
-    """Takes back what a killed run has appended in part. What it appended as a whole stays, to be found by its
-    messages. Returns the line of a message that is not complete, and stays, since something else has changed since;
-    None if there is none."""
-    if beside.end_of(mailbox) is not End.WHOLE and not take_back(mailbox, beside):
-        torn = beside.torn_in(mailbox)
-        beside.remove()
-        return None if torn is None else mailbox.line_at(torn)
-    if is_there(beside.path):
-        # what it has may not be on the disk yet
-        os.fsync(mailbox.number)
-        beside.remove()
-    return None
+def left_unheld(row: Row, refused: Sequence[Mail]) -> Row:
+    """The row of a mailbox that cannot hold some of the mail, which no other one takes."""
+    stay = "stays" if len(refused) == 1 else "stay"
+    why = NOT_HELD % (counted(len(refused), "message"), stay, files_of(refused))
+    return row._replace(
+        fate=Fate.LEFT, reason=row.reason or Reason.NOT_HELD, why="; ".join(filter(None, [row.why, why]))
+    )

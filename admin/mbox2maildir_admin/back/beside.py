@@ -1,24 +1,30 @@
-"""What is going to be appended to a mailbox, in a file of the Maildir, with how the mailbox was before.
+"""What is going to be appended to a mailbox, in a file of the Maildir, with how the mailbox was before; and how all of
+it is appended, or nothing.
 
 The file gets its name once it is whole and on the disk. So whatever ends a run, the next one knows which bytes at the
 end of the mailbox are of it, and takes them back, unless anything else has changed there.
 """
 import contextlib
 import enum
+import errno
+import functools
 import hashlib
+import importlib
 import os
 import re
+from collections.abc import Callable, Iterator, Sequence
 from typing import NamedTuple, Optional
 
 from ..faults import Fault, Left, Reason
 from ..maildir.making import GOES_BACK, sync_folder
-from ..mbox.files import BLOCK, Reader, open_plain
+from ..mbox.files import Reader, open_plain
 from ..mbox.mailbox import Mailbox
-from ..readings.unnamed import unnamed
-from ..terminal import named
-from ..units import Offset
+from ..terminal import named, spelled
+from ..units import Line, Offset
 
 NO_FILE = "%s is not a regular file: remove it, and run this again"
+CHANGED = "another program writes to it: stop that program, and run this again"
+NOT_CUT = "no room is left on its disk, not even to cut off what was appended in part: make room, and run this again"
 # the ending of its name while it is not whole; and its last line, before which is where each message begins
 UNFINISHED = b".new"
 FOOT = b"\nmbox2maildir-back 1\t%d\t%d\t%s\t%s\t%d\t%s\t%d\n"
@@ -31,6 +37,10 @@ LONGEST_FOOT = 1 << 15
 OTHER_MAIL, MOST_LOOKED_AT = re.compile(rb"(?:\r?\n)?From "), 1 << 16
 HOLE = re.compile(rb"\0+")
 FLAGS = os.O_NOFOLLOW | os.O_CLOEXEC
+# the errors of a full disk
+FULL = errno.ENOSPC, errno.EDQUOT
+# the flag of the call fallocate by which the size of a file stays
+KEEP_SIZE = 1
 
 
 class End(enum.Enum):
@@ -43,30 +53,19 @@ class End(enum.Enum):
     OTHER = "other"
 
 
-class Before(NamedTuple):
-    """How a mailbox was: the inode of its file, its size and its SHA-256; and its path, as lines of a record spell
-    it."""
+class Beside(NamedTuple):
+    """The file beside, which is open: the inode, the size and the SHA-256 that the mailbox had, and its path, as lines
+    of a record spell it; and of what is to be appended the size, the SHA-256, and where each message begins in it."""
 
+    path: bytes
+    number: int
     inode: int
+    before: int
+    digest_before: str
+    mailbox: str
     size: int
     digest: str
-    path: str
-
-
-class Tail(NamedTuple):
-    """What is to be appended: how many bytes, their SHA-256, and where each message begins in them."""
-
-    size: int
-    digest: str
-    starts: list[int]
-
-
-class Beside:
-    """The file beside, which is open: how the mailbox was, and what is to be appended."""
-
-    def __init__(self, path: bytes, number: int, before: Before, tail: Tail) -> None:
-        self.path, self.number, self.before = path, number, before
-        self.size, self.digest, self.starts = tail
+    starts: Sequence[int]
 
     @classmethod
     def left_in(cls, folder: bytes) -> Optional["Beside"]:
@@ -79,53 +78,55 @@ class Beside:
             return None
         except Fault as fault:
             raise Left(NO_FILE % named(path), Reason.NO_FILE) from fault
-        whole = os.fstat(number).st_size
-        foot = os.pread(number, LONGEST_FOOT, max(0, whole - LONGEST_FOOT))
-        found = FOOT_HERE.search(foot)
-        if found:
-            *of_box, length, digest, more = (one.decode() for one in found.groups())
-            starts = os.pread(number, int(more), int(length)).split(b",")
-            tail = Tail(int(length), digest, [int(start) for start in starts if start])
-            self = cls(path, number, Before(int(of_box[0]), int(of_box[1]), *of_box[2:]), tail)
-            if whole == self.size + int(more) + len(found[0]) and self.hexdigest() == self.digest:
-                return self
-        os.close(number)
-        os.unlink(path)
-        return None
+        found = cls.of(path, number)
+        if not found:
+            os.close(number)
+            os.unlink(path)
+        return found
 
-    def hexdigest(self) -> str:
-        """The SHA-256 of what is to be appended."""
-        hashed, reader = hashlib.sha256(), self.reader()
-        for block in iter(lambda: reader.read(BLOCK), b""):
-            hashed.update(block)
-        return hashed.hexdigest()
-
-    def reader(self) -> Reader:
-        """Reads what is to be appended."""
-        return Reader(self.number, end=self.size)
+    @classmethod
+    def of(cls, path: bytes, number: int) -> Optional["Beside"]:
+        """What an open file is, if it is whole."""
+        size = os.fstat(number).st_size
+        found = FOOT_HERE.search(os.pread(number, LONGEST_FOOT, max(0, size - LONGEST_FOOT)))
+        if not found:
+            return None
+        inode, before, digest_before, mailbox, length, digest, more = (one.decode() for one in found.groups())
+        starts = [int(start) for start in os.pread(number, int(more), int(length)).split(b",") if start]
+        self = cls(path, number, int(inode), int(before), digest_before, mailbox, int(length), digest, starts)
+        is_whole = size == self.size + int(more) + len(found[0]) and digest_of(number, self.size) == digest
+        return self if is_whole else None
 
     def end_of(self, mailbox: Mailbox) -> End:
         """What follows in a mailbox how it was before."""
-        follows = mailbox.size - self.before.size
+        follows = mailbox.size - self.before
         if not self.is_begun_by(mailbox):
             return End.OTHER
         if not follows or follows == self.same(mailbox) == self.size:
             return End.WHOLE if follows else End.NOTHING
         is_ours = self.same(mailbox, True) == min(follows, self.size)
-        return End.PART if is_ours and self.is_empty_after(mailbox) else End.OTHER
-
-    def is_empty_after(self, mailbox: Mailbox) -> bool:
-        """Whether nothing but NUL follows in a mailbox what was to be appended: a repair of a disk may give a file all
-        of its blocks."""
-        reader = Reader(mailbox.number, Offset(self.before.size + self.size), mailbox.size)
-        return not any(block.strip(b"\0") for block in iter(lambda: reader.read(BLOCK), b""))
+        # a repair of a disk may give a file all of its blocks
+        rest = Reader(mailbox.number, Offset(self.before + self.size), mailbox.size)
+        return End.PART if is_ours and not any(block.strip(b"\0") for block in rest.blocks()) else End.OTHER
 
     def is_begun_by(self, mailbox: Mailbox) -> bool:
         """Whether a mailbox begins with what it was before."""
-        return digest_of_beginning(mailbox, self.before.size) == self.before.digest
+        return digest_of(mailbox.number, self.before) == self.digest_before
 
-    def torn_in(self, mailbox: Mailbox) -> Optional[Offset]:
-        """The offset of the message that was appended in part; None if none was, or if the mailbox does not begin as
+    def same(self, mailbox: Mailbox, with_holes: bool = False) -> int:
+        """How many of the bytes that follow in a mailbox are the first ones that were to be appended. In a hole, a disk
+        has NUL in the place of some."""
+        its, count = Reader(mailbox.number, Offset(self.before), mailbox.size), 0
+        for block in Reader(self.number, end=self.size).blocks():
+            other = its.read(len(block))
+            other = filled(other, block) if with_holes else other
+            count += len(os.path.commonprefix([block, other]))
+            if block != other:
+                break
+        return count
+
+    def torn_in(self, mailbox: Mailbox) -> Optional[Line]:
+        """The line of the message that was appended in part; None if none was, or if the mailbox does not begin as
         before, which shows nothing."""
         if not self.is_begun_by(mailbox):
             return None
@@ -134,29 +135,64 @@ class Beside:
         start = max((start for start in self.starts if start < count + has_hole), default=None)
         if start is None or count == self.size:
             return None
-        begins = Offset(self.before.size + start)
-        return begins if has_hole or is_torn(mailbox.at(begins, MOST_LOOKED_AT), count - start) else None
+        begins = Offset(self.before + start)
+        is_cut = has_hole or is_torn(mailbox.at(begins, MOST_LOOKED_AT), count - start)
+        return mailbox.line_at(begins) if is_cut else None
 
-    def same(self, mailbox: Mailbox, with_holes: bool = False) -> int:
-        """How many of the bytes that follow in a mailbox are the first ones that were to be appended. In a hole, a disk
-        has NUL in the place of some."""
-        mine, its, count = self.reader(), Reader(mailbox.number, Offset(self.before.size), mailbox.size), 0
-        while True:
-            block = mine.read(BLOCK)
-            other = its.read(len(block))
-            other = filled(other, block) if with_holes else other
-            count += len(os.path.commonprefix([block, other]))
-            if not other or block != other:
-                return count
+    def append_to(self, mailbox: Mailbox) -> None:
+        """Appends all of it, and syncs. If that fails, or is interrupted, the mailbox is as it was before."""
+        try:
+            reserve(mailbox, self.size)
+            for block in Reader(self.number, end=self.size).blocks():
+                write_all(mailbox.number, block)
+            os.fsync(mailbox.number)
+            mailbox.take_state()
+            if self.end_of(mailbox) is not End.WHOLE:
+                raise Left(CHANGED, Reason.CHANGED)
+        except BaseException as fault:
+            try:
+                self.take_back(mailbox)
+            except OSError as other:
+                if other.errno in FULL:
+                    raise Left(NOT_CUT, Reason.NO_ROOM) from other
+                raise
+            if getattr(fault, "errno", None) in FULL:
+                raise Left("no room is left on its disk", Reason.NO_ROOM) from fault
+            raise
+
+    def take_back(self, mailbox: Mailbox) -> bool:
+        """Cuts a mailbox back to how it was, if all that follows is what was being appended, in the same file. Returns
+        whether it is as it was. This is gone then."""
+        mailbox.take_state()
+        end = self.end_of(mailbox)
+        if end is End.OTHER or end is not End.NOTHING and mailbox.state.st_ino != self.inode:
+            return False
+        if end is not End.NOTHING:
+            os.ftruncate(mailbox.number, self.before)
+            os.fsync(mailbox.number)
+            mailbox.take_state()
+        self.remove()
+        return True
+
+    def recover(self, mailbox: Mailbox) -> Optional[Line]:
+        """Takes back what a killed run has appended in part. What it appended as a whole stays, to be found by its
+        messages. Returns the line of a message that is not complete, and stays, since something else has changed
+        since; None if there is none. This is gone then."""
+        torn = None
+        if self.end_of(mailbox) is End.WHOLE:
+            # what it has may not be on the disk yet
+            os.fsync(mailbox.number)
+        elif self.take_back(mailbox):
+            return None
+        else:
+            torn = self.torn_in(mailbox)
+        self.remove()
+        return torn
 
     def remove(self) -> None:
         """Removes it, whose work is done."""
         os.unlink(self.path)
         sync_folder(os.path.dirname(self.path))
-
-    def close(self) -> None:
-        """Closes it."""
-        os.close(self.number)
 
 
 def filled(text: bytes, other: bytes) -> bytes:
@@ -174,78 +210,89 @@ def is_torn(text: bytes, count: int) -> bool:
 
 
 class Draft:
-    """The file while it is written. It is gone in the end, unless it was finished."""
+    """A file for what is going to be appended, while it is written."""
 
-    def __init__(self, path: bytes, number: int) -> None:
-        self.path, self.number = path, number
-        self.clear()
+    def __init__(self, number: int, path: bytes = b"") -> None:
+        self.number, self.path, self.size = number, path, 0
 
     @classmethod
-    def in_folder(cls, folder: bytes) -> "Draft":
-        """The one of a folder. What has its name is worth nothing."""
+    @contextlib.contextmanager
+    def in_folder(cls, folder: bytes) -> Iterator["Draft"]:
+        """The one of a folder, which is gone in the end, unless it was finished. What has its name is worth nothing."""
         path = os.path.join(folder, GOES_BACK + UNFINISHED)
         with contextlib.suppress(FileNotFoundError):
             os.unlink(path)
-        return cls(path, os.open(path, os.O_RDWR | os.O_CREAT | os.O_EXCL | FLAGS, 0o600))
-
-    @classmethod
-    def unnamed(cls, disk: bytes) -> "Draft":
-        """One without a name, on the disk of a folder."""
-        with unnamed(disk) as file:
-            return cls(b"", os.dup(file.fileno()))
+        number = os.open(path, os.O_RDWR | os.O_CREAT | os.O_EXCL | FLAGS, 0o600)
+        try:
+            yield cls(number, path)
+        finally:
+            os.close(number)
+            with contextlib.suppress(FileNotFoundError):
+                os.unlink(path)
 
     def clear(self) -> None:
         """Begins anew."""
         os.ftruncate(self.number, 0)
         os.lseek(self.number, 0, os.SEEK_SET)
-        self.hashed, self.size = hashlib.sha256(), 0
-        self.starts: list[int] = []
-
-    def __enter__(self) -> "Draft":
-        return self
-
-    def __exit__(self, *_: object) -> None:
-        os.close(self.number)
-        with contextlib.suppress(FileNotFoundError):
-            os.unlink(self.path)
-
-    def text(self) -> Mailbox:
-        """What was written, as a text that is closed by itself."""
-        return Mailbox(self.path, os.dup(self.number))
+        self.size = 0
 
     def add(self, piece: bytes) -> None:
         """Adds bytes."""
         write_all(self.number, piece)
-        self.hashed.update(piece)
         self.size += len(piece)
 
-    def begin(self, message: bytes) -> None:
-        """Adds a message."""
-        self.starts.append(self.size)
-        self.add(message)
-
-    def finish(self, before: Before) -> Beside:
-        """Puts it on the disk, and gives it its name."""
-        digest, starts = self.hashed.hexdigest(), b",".join(b"%d" % start for start in self.starts)
-        of_box = before.inode, before.size, before.digest.encode(), before.path.encode()
-        write_all(self.number, starts + FOOT % (*of_box, self.size, digest.encode(), len(starts)))
-        os.fsync(self.number)
+    def finish(self, mailbox: Mailbox, starts: Sequence[int]) -> Beside:
+        """Puts it on the disk, and gives it its name. Its messages begin at these places."""
+        of_mailbox = mailbox.state.st_ino, *mailbox.key(), spelled(mailbox.path)
+        digest, listed = digest_of(self.number, self.size), b",".join(b"%d" % start for start in starts)
         path = self.path[: -len(UNFINISHED)]
+        beside = Beside(path, self.number, *of_mailbox, self.size, digest, starts)
+        words = (one.encode() if isinstance(one, str) else one for one in beside[2:-1])
+        write_all(self.number, listed + FOOT % (*words, len(listed)))
+        os.fsync(self.number)
         os.rename(self.path, path)
         sync_folder(os.path.dirname(path))
-        return Beside(path, os.dup(self.number), before, Tail(self.size, digest, self.starts))
+        return beside
 
 
 def write_all(number: int, piece: bytes) -> None:
     """Writes all of the bytes. Raises OSError if the disk is full."""
-    written = os.write(number, piece) if piece else 0
+    written = 0
     while written < len(piece):
         written += os.write(number, piece[written:])
 
 
-def digest_of_beginning(mailbox: Mailbox, size: int) -> str:
-    """The SHA-256 of the first bytes of a mailbox."""
-    hashed, reader = hashlib.sha256(), Reader(mailbox.number, end=size)
-    for block in iter(lambda: reader.read(BLOCK), b""):
+def digest_of(number: int, size: int) -> str:
+    """The SHA-256 of the first bytes of an open file."""
+    hashed = hashlib.sha256()
+    for block in Reader(number, end=size).blocks():
         hashed.update(block)
     return hashed.hexdigest()
+
+
+def reserve(mailbox: Mailbox, size: int) -> None:
+    """Has the disk keep room for so many bytes more, if it can. Raises OSError if there is none: nothing else shows a
+    quota before it is met, and then some disks cut no file either."""
+    error = call_of_system()(mailbox.number, mailbox.size, size)
+    if error in FULL:
+        # ext4 keeps what it found
+        with contextlib.suppress(OSError):
+            os.ftruncate(mailbox.number, mailbox.size)
+        raise OSError(error, os.strerror(error))
+
+
+@functools.lru_cache(maxsize=None)
+def call_of_system() -> Callable[[int, int, int], int]:
+    """Returns the call that has a disk keep room in an open file, from an offset on, and returns its error, or 0. If
+    Python cannot make it, it does nothing."""
+    try:
+        ctypes = importlib.import_module("ctypes")
+        fallocate = ctypes.CDLL(None, use_errno=True).fallocate64
+    except (ImportError, OSError, AttributeError):
+        return lambda number, offset, size: 0
+
+    def call(number: int, offset: int, size: int) -> int:
+        failed = fallocate(number, KEEP_SIZE, ctypes.c_int64(offset), ctypes.c_int64(size))
+        return int(ctypes.get_errno()) if failed else 0
+
+    return call

@@ -1,21 +1,47 @@
-"""The dialect of a mailbox, by its reading, and how a message is written in it."""
+"""The dialect of a mailbox, by its reading, and how a message is written in it, with what mail programs note of it in
+fields of its header.
+
+`migrate` reads the flags of a mail program only if each message has its fields. Those that a message has already are
+taken out only there: elsewhere they may be its sender's.
+"""
+import contextlib
+import os
 import re
 import time
 from typing import NamedTuple, Optional
 
+from ..flags.clients import CLIENTS, EVOLUTION, THUNDERBIRD, kept_in
 from ..kinds.starts import FIELD
+from ..maildir.files import names_of
+from ..mbox.bases import before_info
 from ..mbox.dates import TOO_LATE
+from ..mbox.fields import HIDDEN, Header, pattern_of
+from ..mbox.files import open_file
+from ..mbox.inventory import Inventory
+from ..mbox.mailbox import Mailbox
 from ..mbox.pieces import header_of
 from ..readings.reading import BY_LENGTHS, CR, CRLF, MBOXCL2, MBOXO, MBOXRD, UNQUOTED, Reading
+from ..units import Place
+from .mails import Mail
 
 FROM, FROM_OR_QUOTED = re.compile(rb"^(?=From )", re.M), re.compile(rb"^(?=>*From )", re.M)
 RETURN_PATH = re.compile(rb"^Return-Path:[ \t]*<?([!-;=?-~]{1,256})>?[ \t]*\r?$", re.I | re.M)
 NOBODY = b"MAILER-DAEMON"
 # the first day and the last one of which each program knows what a date means; midnight of January 1, 1970 means none
 FIRST_TIME, LAST_TIME = 1, TOO_LATE - 86400
-# the flags of a Maildir, and their letters in the fields of an mbox
-STATUS = {"S": b"R"}
+# the flags of a Maildir, and their letters in a field of an mbox
 X_STATUS = {"R": b"A", "F": b"F", "D": b"T", "T": b"D"}
+# the names of the fields of mail programs, in lower case
+BY_THUNDERBIRD, BY_EVOLUTION, BY_GMAIL = CLIENTS
+KEPT: dict[str, tuple[bytes, ...]] = {
+    BY_THUNDERBIRD: (b"x-mozilla-keys", b"x-mozilla-status", b"x-mozilla-status2"),
+    BY_EVOLUTION: (b"x-evolution",),
+    BY_GMAIL: (b"x-gm-thrid", b"x-gmail-labels"),
+}
+# the number that Evolution gave a message, which no other one of the mailbox has
+EVOLUTION_NUMBER = re.compile(rb"^X-Evolution:[ \t]*([0-9a-f]{8})-", re.I | re.M)
+# what Gmail's numbers have fewer bits than
+THREAD_BITS = 63
 
 
 class Letter(NamedTuple):
@@ -28,6 +54,24 @@ class Letter(NamedTuple):
     time: int = FIRST_TIME
     notes: tuple[bytes, ...] = ()
     taken: tuple[bytes, ...] = ()
+
+    @classmethod
+    def of(cls, folder: bytes, mail: Mail) -> Optional["Letter"]:
+        """The message of a file, which programs may have renamed; None if it was removed meanwhile."""
+        for name, path in [(mail.name, mail.path), *names_of(folder)]:
+            if before_info(name) != mail.before:
+                continue
+            with contextlib.suppress(FileNotFoundError), open_file(path, os.O_NOFOLLOW) as file:
+                flags = name.partition(b":2,")[2].decode("ascii", "replace")
+                return cls(file.readall(), flags, os.path.basename(os.path.dirname(path)) == b"cur", mail.time)
+        return None
+
+    def fields(self, line_end: bytes) -> bytes:
+        """The fields for its flags, and the further ones."""
+        status = b"R" * ("S" in self.flags) + b"O" * self.is_old
+        others = b"".join(value for flag, value in X_STATUS.items() if flag in self.flags)
+        flags = [b"Status: " + status] * bool(status) + [b"X-Status: " + others] * bool(others)
+        return b"".join(field + line_end for field in (*flags, *self.notes))
 
 
 class Dialect(NamedTuple):
@@ -45,21 +89,16 @@ class Dialect(NamedTuple):
             return None
         return cls(reading.word, reading.ends == CRLF)
 
-    @property
-    def line_end(self) -> bytes:
-        """What ends its lines."""
-        return b"\r\n" if self.crlf else b"\n"
-
     def spelled(self, letter: Letter) -> bytes:
         """A message as the mailbox has it: the From_ line, the message, and the line that ends it."""
         header, gap, body = parted(letter.text)
-        from_line = b"From %s %s\n" % (sender_in(header), date_of(letter.time))
-        header, body = self.ended(self.quoted(header)), self.ended(self.quoted(body))
+        sender = RETURN_PATH.search(header)
+        from_line = b"From %s %s\n" % (sender[1] if sender else NOBODY, date_of(letter.time))
+        header, body = self.quoted(header), self.quoted(body)
         end = b"\r\n" if header.endswith(b"\r\n") else b"\n"
-        fields = fields_of(letter, end)
+        fields = letter.fields(end)
         if self.word in BY_LENGTHS:
-            size = len(body) + body.count(b"\n") * self.crlf
-            fields += b"Content-Length: %d%s" % (size, end)
+            fields += b"Content-Length: %d%s" % (len(body) + body.count(b"\n") * self.crlf, end)
         # what no field follows is not certainly a From_ line; a line that begins with a blank would go on with a field
         if FIELD.match(header) or header.startswith((b" ", b"\t")):
             header += fields
@@ -69,27 +108,21 @@ class Dialect(NamedTuple):
         return text.replace(b"\n", b"\r\n") if self.crlf else text
 
     def quoted(self, text: bytes) -> bytes:
-        """A text with a `>` before each line that needs one."""
+        """A text whose last line has ended, with a `>` before each line that needs one."""
+        text += b"\n" * (text != b"" and not text.endswith(b"\n"))
         if self.word == MBOXCL2:
             return text
         return (FROM if self.word == MBOXO else FROM_OR_QUOTED).sub(b">", text)
 
-    @staticmethod
-    def ended(text: bytes) -> bytes:
-        """A text whose last line has ended."""
-        return text if not text or text.endswith(b"\n") else text + b"\n"
-
     def gaps_after(self, end: bytes) -> tuple[bytes, ...]:
         """What may be missing before a From_ line after a text that ends so. By its length, the last message may lack
         the end of its last line, and the text has that in place of an empty line."""
-        gap = self.gap_after(end)
-        return (gap, b"") if self.word in BY_LENGTHS and gap == self.line_end else (gap,)
-
-    def gap_after(self, end: bytes) -> bytes:
-        """What is missing before a From_ line after a text that ends so."""
+        line_end = b"\r\n" if self.crlf else b"\n"
         if not end or end.endswith((b"\n\n", b"\n\r\n")):
-            return b""
-        return self.line_end * (1 if end.endswith(b"\n") else 2)
+            return (b"",)
+        if not end.endswith(b"\n"):
+            return (line_end * 2,)
+        return (line_end, b"") if self.word in BY_LENGTHS else (line_end,)
 
 
 def parted(text: bytes) -> tuple[bytes, bytes, bytes]:
@@ -98,20 +131,48 @@ def parted(text: bytes) -> tuple[bytes, bytes, bytes]:
     return text[:end], text[end:body], text[body:]
 
 
-def sender_in(header: bytes) -> bytes:
-    """The sender of the envelope, by the field that a delivery writes; a word for nobody if there is none."""
-    found = RETURN_PATH.search(header)
-    return found[1] if found else NOBODY
-
-
 def date_of(seconds: int) -> bytes:
     """A time as From_ lines have it, in the zone of this machine."""
     return time.asctime(time.localtime(min(max(seconds, FIRST_TIME), LAST_TIME))).encode()
 
 
-def fields_of(letter: Letter, end: bytes) -> bytes:
-    """The fields for the flags of a message, and the further ones."""
-    status = b"".join(value for flag, value in STATUS.items() if flag in letter.flags) + b"O" * letter.is_old
-    others = b"".join(value for flag, value in X_STATUS.items() if flag in letter.flags)
-    flags = [b"Status: " + status] * bool(status) + [b"X-Status: " + others] * bool(others)
-    return b"".join(field + end for field in (*flags, *letter.notes))
+class Client(NamedTuple):
+    """The program that keeps flags in a mailbox, if one does, and the highest number that it has given."""
+
+    program: str = ""
+    last: int = 0
+
+    @classmethod
+    def of(cls, mailbox: Mailbox, inventory: Inventory) -> "Client":
+        """That of a text with these messages."""
+        kept = kept_in(mailbox, inventory) if len(inventory) else None
+        if not kept:
+            return cls()
+        headers = (Header.at(mailbox, inventory.offset(Place(place))).text for place in range(len(inventory)))
+        found = filter(None, map(EVOLUTION_NUMBER.search, headers))
+        return cls(kept.program, max((int(one[1], 16) for one in found), default=0))
+
+    def bare(self, letter: Letter) -> Letter:
+        """A message without the fields of this program, and without those by which mailboxes are read everywhere."""
+        header, gap, body = parted(letter.text)
+        fields = pattern_of((*HIDDEN, *KEPT.get(self.program, ())))
+        taken = tuple(found[0].split(b":")[0].strip() for found in fields.finditer(b"\n" + header))
+        return letter._replace(text=fields.sub(b"", b"\n" + header)[1:] + gap + body, taken=taken) if taken else letter
+
+    def fields(self, letter: Letter, core: bytes, number: int) -> list[bytes]:
+        """The fields for a message with this core, which is the one of this number that goes back."""
+        if self.program == BY_THUNDERBIRD:
+            return [b"X-Mozilla-Status: %04x" % bits_of(letter.flags, THUNDERBIRD), b"X-Mozilla-Status2: 00000000"]
+        if self.program == BY_EVOLUTION:
+            return [b"X-Evolution: %08x-%04x" % (self.last + number, bits_of(letter.flags, EVOLUTION))]
+        if self.program == BY_GMAIL:
+            # the thread is of this message alone
+            thread = int.from_bytes(core, "big") >> 1 & (1 << THREAD_BITS) - 1
+            labels = [b"Opened" if "S" in letter.flags else b"Unread", *[b"Starred"] * ("F" in letter.flags)]
+            return [b"X-GM-THRID: %d" % thread, b"X-Gmail-Labels: " + b",".join(labels)]
+        return []
+
+
+def bits_of(flags: str, table: dict[int, str]) -> int:
+    """The number whose bits give these flags."""
+    return sum(bit for bit, flag in table.items() if flag in flags)

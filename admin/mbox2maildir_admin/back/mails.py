@@ -6,7 +6,7 @@ one: IMAP keeps some names and changes others. Any further file is new, also a c
 import collections
 import os
 from collections.abc import Iterable, Iterator, Sequence
-from typing import NamedTuple, Optional
+from typing import NamedTuple, Optional, TypeVar
 
 from .. import ADMIN
 from ..faults import Fault, PlaceFault, Reason
@@ -22,13 +22,40 @@ from ..maildir.making import SUBFOLDERS
 from ..mbox.bases import BASE, before_info
 from ..mbox.core import forms_of
 from ..mbox.files import open_file
-from ..nexts import run_next
+from ..nexts import Remark, run_next
 from ..terminal import named, operand
 from ..units import Say, silent
 
 DAMAGED = "the ledger of %s is damaged in line %d, so nothing shows which mail came from the old mailboxes"
 NOT_DONE = "a migrate into %s was interrupted: run it again first"
 NOT_UNDONE = "the undo of %s was interrupted: run it again first"
+One = TypeVar("One")
+
+
+class Mail(NamedTuple):
+    """A file of mail: its folder, its name and its path, the core of what it holds, and its time in seconds."""
+
+    folder: bytes
+    name: bytes
+    path: bytes
+    core: bytes
+    time: int
+
+    @property
+    def before(self) -> bytes:
+        """Its name without its info."""
+        return before_info(self.name)
+
+
+class Target(NamedTuple):
+    """A mailbox, its folder by the name on the disk, the mail that goes back into it, what is said of that, and what
+    went back before."""
+
+    path: bytes
+    folder: bytes
+    mails: Sequence[Mail]
+    remarks: tuple[Remark, ...] = ()
+    returned: Sequence[Mail] = ()
 
 
 class Slot(NamedTuple):
@@ -49,65 +76,13 @@ class Slot(NamedTuple):
         lines = [line for line in self.file.lines if line.state is State.HELD] or self.file.lines
         return {line.path for line in lines}
 
-    @property
-    def is_returned(self) -> bool:
-        """Whether a mailbox has it since it went back."""
-        return any(line.state is State.HELD and line.message.word == RETURNED for line in self.file.lines)
+    def went_back(self, state: State) -> bool:
+        """Whether a mailbox has it since it went back, or had it, by the state of its lines."""
+        return any(line.state is state and line.message.word == RETURNED for line in self.file.lines)
 
-
-class Mail(NamedTuple):
-    """A file of mail: its folder, its name and its path, the core of what it holds, and its time in seconds."""
-
-    folder: bytes
-    name: bytes
-    path: bytes
-    core: bytes
-    time: int
-
-    @property
-    def before(self) -> bytes:
-        """Its name without its info."""
-        return before_info(self.name)
-
-
-class Sorted(NamedTuple):
-    """What is new, in the order of its time; what was moved, with the message that it is; the messages that were
-    changed, and those that were deleted; the paths of all mailboxes that the ledgers have; and what went back before,
-    and is in its folder."""
-
-    new: Sequence[Mail]
-    moved: Sequence[tuple[Mail, Slot]]
-    changed: Sequence[Slot]
-    deleted: Sequence[Slot]
-    paths: frozenset[str] = frozenset()
-    returned: Sequence[Mail] = ()
-
-
-def sorted_by(lines: Iterable[tuple[bytes, list[Line]]], mails: Iterable[Mail]) -> Sorted:
-    """Finds the file of each message that mailboxes brought, by the lines about each folder, and the files of all: by
-    its name, or by its core, in the folder; then in other folders."""
-    left = {mail.path: mail for mail in mails}
-    homes: collections.defaultdict[bytes, dict[bytes, bytes]] = collections.defaultdict(dict)
-    for mail in left.values():
-        homes[mail.folder][mail.before] = mail.path
-    several = (Slot(folder, file) for folder, its in lines for file in files_of(its, homes[folder]))
-    slots = [slot for slot in several if slot.file.is_held or went_back(slot.file)]
-    slots.sort(key=lambda slot: not slot.file.is_held)
-    found = [(left.pop(homes[slot.folder][slot.file.name]), slot) for slot in slots if slot.file.name]
-    for way in range(len(forms_by(b"", b"", b""))):
-        free = by_form((forms_by(mail.folder, mail.before, mail.core)[way], path) for path, mail in left.items())
-        for slot in slots:
-            form = forms_by(slot.folder, slot.file.lines[0].message.name, slot.core)[way]
-            if slot.file.name is None and slot.file.find(free, form):
-                found.append((left.pop(slot.file.name or b""), slot))
-    return Sorted(
-        sorted(left.values(), key=lambda mail: (mail.time, mail.name, mail.folder)),
-        [(mail, slot) for mail, slot in found if mail.folder != slot.folder],
-        [slot for mail, slot in found if mail.core != slot.core],
-        [slot for slot in slots if slot.file.is_held and slot.file.name is None],
-        frozenset(path for slot in slots for path in slot.paths),
-        [mail for mail, slot in found if mail.folder == slot.folder and slot.is_returned],
-    )
+    def forms(self) -> Sequence[bytes]:
+        """By what it is found if its message has another name."""
+        return forms_by(self.folder, self.file.lines[0].message.name, self.core)
 
 
 def forms_by(folder: bytes, name: bytes, core: bytes) -> Sequence[bytes]:
@@ -116,9 +91,57 @@ def forms_by(folder: bytes, name: bytes, core: bytes) -> Sequence[bytes]:
     return folder + core, name if BASE.fullmatch(name) else b"", core
 
 
-def went_back(file: File) -> bool:
-    """Whether a file went back to a mailbox, which no longer has its message."""
-    return any(line.state is State.FORMER and line.message.word == RETURNED for line in file.lines)
+class Sorted(NamedTuple):
+    """By folders: what is new, in the order of its time; the folders of messages that were moved there; the messages
+    that were changed, and those that were deleted; and what went back before, and is in its folder. And the paths of
+    all mailboxes that the ledgers have."""
+
+    new: dict[bytes, list[Mail]]
+    moved: dict[bytes, list[bytes]]
+    changed: dict[bytes, list[Slot]]
+    deleted: dict[bytes, list[Slot]]
+    returned: dict[bytes, list[Mail]]
+    paths: frozenset[str]
+
+    @classmethod
+    def by(cls, lines: Iterable[tuple[bytes, list[Line]]], mails: Iterable[Mail]) -> "Sorted":
+        """Finds the file of each message that mailboxes brought, by the lines about each folder, and the files of all:
+        by its name, or by its core, in the folder; then in other folders."""
+        left = {mail.path: mail for mail in mails}
+        homes: collections.defaultdict[bytes, dict[bytes, bytes]] = collections.defaultdict(dict)
+        for mail in left.values():
+            homes[mail.folder][mail.before] = mail.path
+        several = (Slot(folder, file) for folder, its in lines for file in files_of(its, homes[folder]))
+        slots = [slot for slot in several if slot.file.is_held or slot.went_back(State.FORMER)]
+        slots.sort(key=lambda slot: not slot.file.is_held)
+        found = [(left.pop(homes[slot.folder][slot.file.name]), slot) for slot in slots if slot.file.name]
+        for way in range(len(forms_by(b"", b"", b""))):
+            free = by_form((forms_by(mail.folder, mail.before, mail.core)[way], path) for path, mail in left.items())
+            for slot in slots:
+                if slot.file.name is None and slot.file.find(free, slot.forms()[way]):
+                    found.append((left.pop(slot.file.name or b""), slot))
+        new = sorted(left.values(), key=lambda mail: (mail.time, mail.name, mail.folder))
+        its_own = [(mail, slot) for mail, slot in found if mail.folder == slot.folder]
+        return cls(
+            by_folder((mail.folder, mail) for mail in new),
+            by_folder((mail.folder, slot.folder) for mail, slot in found if mail.folder != slot.folder),
+            by_folder((slot.folder, slot) for mail, slot in found if mail.core != slot.core),
+            by_folder((slot.folder, slot) for slot in slots if slot.file.is_held and slot.file.name is None),
+            by_folder((mail.folder, mail) for mail, slot in its_own if slot.went_back(State.HELD)),
+            frozenset(path for slot in slots for path in slot.paths),
+        )
+
+    def folders(self) -> set[bytes]:
+        """The folders with mail that goes back, and those about which something is to be said."""
+        return {*self.new, *self.moved, *self.changed, *self.deleted}
+
+
+def by_folder(pairs: Iterable[tuple[bytes, One]]) -> dict[bytes, list[One]]:
+    """What each folder has."""
+    found: collections.defaultdict[bytes, list[One]] = collections.defaultdict(list)
+    for folder, one in pairs:
+        found[folder].append(one)
+    return found
 
 
 def lines_about(root: bytes) -> Iterator[tuple[bytes, list[Line]]]:
@@ -187,6 +210,6 @@ def core_in(path: bytes) -> Optional[bytes]:
 def sorted_mail(root: bytes, say: Say = silent) -> Sorted:
     """Which mail of a Maildir is new, and what became of the rest. Raises Fault if nothing shows that."""
     try:
-        return sorted_by(lines_about(root), mails_of(root, say))
+        return Sorted.by(lines_about(root), mails_of(root, say))
     except OSError as error:
         raise PlaceFault("%s: %s" % (named(error.filename or root), error.strerror), Reason.ERROR) from error

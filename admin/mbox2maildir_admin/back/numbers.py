@@ -2,37 +2,105 @@
 
 Dovecot 2.3 takes over a higher last UID in `X-IMAPbase`, with its index and without, and keeps an `X-UID` that is not
 higher. If a Maildir goes on with the UIDs of its mailbox, the messages that go back keep theirs. If it was to, and no
-longer does, UIDVALIDITY is new.
+longer does, UIDVALIDITY is new. Dovecot takes a keyword of a message only if the first message names it. Those that
+have no room there, Dovecot adds by commands, once it serves the mailbox.
 """
-import contextlib
+import collections
 import fcntl
+import io
 import os
+import pwd
+import re
 import time
-from collections.abc import Iterator, Sequence
+from collections.abc import Iterable, Iterator, Sequence
 from typing import NamedTuple, Optional
 
-from ..faults import Left, Reason
-from ..flags.dovecot_headers import FIELD, HEAD, MOST_VALIDITY, Field, Head, Reading, head_of, internal_head
+from ..faults import Fault, Left, Reason
+from ..flags.dovecot_headers import (
+    FIELD,
+    HEAD,
+    LETTERS,
+    LONGEST_KEYWORD,
+    MOST_VALIDITY,
+    NO_KEYWORD,
+    Field,
+    Head,
+    Reading,
+    head_of,
+    internal_head,
+)
 from ..kinds.starts import text_start
 from ..ledger.history import names_of
 from ..ledger.ledger import Ledger
 from ..ledger.record import Record, is_gone
+from ..mbox.bases import before_info
 from ..mbox.fields import Header
-from ..mbox.files import BLOCK
+from ..mbox.files import BLOCK, open_file
 from ..mbox.inventory import Inventory
 from ..mbox.mailbox import Mailbox
 from ..mbox.pieces import LONGEST_NAME
-from ..migration.steps import Opened
-from ..nexts import NOTHING, Next, Remark, run_next
+from ..migration.dovecot import KEYWORDS, LIST
+from ..migration.steps import Opened, Options
+from ..nexts import NOTHING, Answer, Command, Does, Next, Remark, run_next
+from ..terminal import NAMED, named, text_of
 from ..units import Place
-from .keywords import NO_BASE, Keywords, Listed, commands_for, of_this_user
-from .mails import Mail
-from .places import name_in
-from .steps import How, Target
+from .mails import Mail, Target
 
 # so many bytes each disk writes at once, or not at all
 SECTOR = 512
 NOT_KEPT = "another program has changed its first message meanwhile: stop that program, and run this again"
+RAISED, ANEW = "its next UID is %d now", "its UIDVALIDITY is %d now, so mail programs fetch all of it anew"
+NO_DOVECOT = "without --dovecot, Dovecot may give a UID twice"
+NOT_RAISED = "its first message has no room for its next UID: run the command below before a mail program looks at it"
+ADDED = "Dovecot is to add keywords, because %s: %s"
+NO_BASE, NO_ROOM = "it had given the mailbox no UIDs", "the first message has no room for their names"
+# in the place of a UID
+NONE = 1 << 32
+# the first line of a list in the form of Dovecot 1.1 and later, and its parts; each further line is a file
+FORM, VALIDITY, NEXT = re.compile(rb"3 [^\n]*\n"), re.compile(rb" V([0-9]{1,10})\b"), re.compile(rb" N([0-9]{1,10})\b")
+FILE = re.compile(rb"([0-9]{1,10}) (?:[^\n]* )?:([^\n]+)\n")
+KEYWORD = re.compile(rb"([0-9]{1,2}) ([^\n]+)\n?")
+
+
+class Listed(NamedTuple):
+    """What Dovecot keeps beside the mail of a folder: UIDVALIDITY, the next UID, UIDs by the names of files without
+    their infos, and keywords by their letters."""
+
+    validity: int
+    following: int
+    uids: dict[bytes, int]
+    keywords: dict[str, bytes]
+
+    @classmethod
+    def of(cls, folder: bytes) -> Optional["Listed"]:
+        """What Dovecot keeps in a folder; None if there is no list of a form that is known. Lines that were added later
+        raise the next UID."""
+        lines = iter(lines_of(folder, LIST))
+        first = next(lines, b"")
+        validity, following = VALIDITY.search(first), NEXT.search(first)
+        if not FORM.fullmatch(first) or not validity or not following:
+            return None
+        files = filter(None, map(FILE.fullmatch, lines))
+        uids = {before_info(one[2]): int(one[1]) for one in files}
+        highest = max([int(following[1]) - 1, *uids.values()])
+        if not 0 < int(validity[1]) <= MOST_VALIDITY or highest >= MOST_VALIDITY:
+            return None
+        named_there = filter(None, map(KEYWORD.fullmatch, lines_of(folder, KEYWORDS)))
+        keywords = {
+            chr(ord("a") + int(one[1])): one[2]
+            for one in named_there
+            if int(one[1]) < LETTERS and len(one[2]) <= LONGEST_KEYWORD and not NO_KEYWORD.search(one[2])
+        }
+        return cls(int(validity[1]), highest + 1, uids, keywords)
+
+
+def lines_of(folder: bytes, name: bytes) -> Iterable[bytes]:
+    """The lines of a file of a folder; none if it is no plain file."""
+    try:
+        with open_file(os.path.join(folder, name), os.O_NOFOLLOW) as file:
+            yield from io.BufferedReader(file)
+    except (Fault, OSError):
+        return
 
 
 class Base(NamedTuple):
@@ -51,7 +119,7 @@ class Base(NamedTuple):
     @classmethod
     def of(cls, mailbox: Mailbox) -> Optional["Base"]:
         """That of a mailbox; None if it has none."""
-        start = text_start(mailbox) if mailbox.size else None
+        start = text_start(mailbox)
         if start is None:
             return None
         header = Header.at(mailbox, start)
@@ -63,7 +131,7 @@ class Base(NamedTuple):
                 return cls(head, header.offset, header.text, found.start(3), found.end(3), rest)
         return None
 
-    def header_with(self, validity: int, last: int, keywords: Sequence[bytes]) -> Optional[bytes]:
+    def header_with(self, wanted: Head, keywords: Sequence[bytes]) -> Optional[bytes]:
         """The header with these numbers, and with these keywords after those that are named. Unless the rest may move,
         it grows into the blanks that Dovecot leaves in a header; None if there are too few, or if a power cut could
         take bytes away, since the disk does not write all that changes at once."""
@@ -71,13 +139,11 @@ class Base(NamedTuple):
         found = HEAD.match(value)
         assert found, "it is a head"
         names = value[found.end() :].rstrip()
-        text = b"".join(
-            [
-                *(value[: found.start(1)], b"%0*d" % (len(found[1]), validity), value[found.end(1) : found.start(2)]),
-                *(b"%0*d" % (len(found[2]), last), names, *(b" " + one for one in keywords)),
-                value[found.end() + len(names) :],
-            ]
-        )
+        numbers = [
+            *(value[: found.start(1)], b"%0*d" % (len(found[1]), wanted.validity)),
+            *(value[found.end(1) : found.start(2)], b"%0*d" % (len(found[2]), wanted.last)),
+        ]
+        text = b" ".join([b"".join(numbers) + names, *keywords]) + value[found.end() + len(names) :]
         header = self.header[: self.begin] + text + self.header[self.end :]
         if self.rest:
             return header
@@ -92,11 +158,13 @@ class Base(NamedTuple):
 
     def write(self, mailbox: Mailbox, header: bytes) -> None:
         """Writes the header anew, by one call, and syncs it. Raises Left if that is not what is read then."""
-        same, text = len(os.path.commonprefix([header, self.header])), header + self.rest
-        if not self.rest:
-            text = text[: len(text) - len(os.path.commonprefix([text[::-1], self.header[::-1]]))]
-        with in_place(mailbox.number):
-            os.pwrite(mailbox.number, text[same:], self.offset + same)
+        flags = fcntl.fcntl(mailbox.number, fcntl.F_GETFL)
+        # the file is not opened anew, since its locks would be gone once that is closed
+        fcntl.fcntl(mailbox.number, fcntl.F_SETFL, flags & ~os.O_APPEND)
+        try:
+            os.pwrite(mailbox.number, header + self.rest, self.offset)
+        finally:
+            fcntl.fcntl(mailbox.number, fcntl.F_SETFL, flags)
         os.fsync(mailbox.number)
         mailbox.take_state()
         if mailbox.at(self.offset, len(header)) != header:
@@ -114,100 +182,70 @@ def without_blanks(header: bytes, count: int) -> Optional[bytes]:
     return None if count else header
 
 
-@contextlib.contextmanager
-def in_place(number: int) -> Iterator[None]:
-    """Writes go to where they are to go, and not to the end. The file is not opened anew, since its locks would be gone
-    once that is closed."""
-    flags = fcntl.fcntl(number, fcntl.F_GETFL)
-    fcntl.fcntl(number, fcntl.F_SETFL, flags & ~os.O_APPEND)
-    try:
-        yield
-    finally:
-        fcntl.fcntl(number, fcntl.F_SETFL, flags)
-
-
-RAISED, ANEW = "its next UID is %d now", "its UIDVALIDITY is %d now, so mail programs fetch all of it anew"
-NO_DOVECOT = "without --dovecot, Dovecot may give a UID twice"
-NOT_RAISED = "its first message has no room for its next UID: run the command below before a mail program looks at it"
-# in the place of a UID
-NONE = 1 << 32
-
-
-class Numbers(NamedTuple):
-    """What a mailbox is to say: UIDVALIDITY, and the last UID that was given; whether the UIDs of the Maildir are its
-    own; and, if it is empty, its keywords."""
-
-    validity: int
-    last: int
-    is_same: bool
-    keywords: Sequence[bytes] = ()
-
-    def field(self) -> bytes:
-        """The field of a first message that says so."""
-        return b" ".join([b"X-IMAPbase: %d %010d" % (self.validity, self.last), *self.keywords])
-
-
 class Numbering:
-    """The numbers of one mailbox, and of the mail that goes back into it."""
+    """What one mailbox says of UIDs and keywords, and the mail that goes back into it."""
 
-    def __init__(
-        self, listed: Optional[Listed], is_numbered: bool, name: str = "", moment: Optional[int] = None
-    ) -> None:
-        """`is_numbered` says whether the folder got the numbers of the mailbox when it was migrated. `name` is that by
-        which Dovecot knows the mailbox."""
-        self.listed, self.is_numbered, self.name = listed, is_numbered, name
-        self.moment = int(time.time()) if moment is None else moment
+    def __init__(self, name: str = "", listed: Optional[Listed] = None, is_numbered: bool = False) -> None:
+        """`name` is that by which Dovecot knows the mailbox, if it does. `is_numbered` says whether the folder got the
+        numbers of the mailbox when it was migrated."""
+        self.name, self.listed, self.is_numbered = name, listed, is_numbered
         self.remarks: list[Remark] = []
         self.next: Next = NOTHING
-        self.keywords = Keywords(listed)
-        # what the first message of an empty mailbox says; whether the UIDs of the Maildir count, the last one that a
-        # message of the mailbox has, and the last one that was given
-        self.first: Optional[Numbers] = None
-        self.is_same, self.last, self.given = False, 0, 0
-        # the messages that went back, and may lack keywords; the UID of each message by its core, if any lacks some
-        self.lacking: Sequence[Mail] = ()
-        self.numbered: list[tuple[bytes, int]] = []
+        # the keywords that the mailbox names, in lower case, and why it names no others
+        self.known: set[bytes] = set()
+        self.why = NO_ROOM
+        # the field of the first message of an empty mailbox that says all this
+        self.first = b""
+        # whether the UIDs of the Maildir count, and the last one that was given
+        self.is_same, self.given = False, 0
+        # whether mail that went back may have keywords that the mailbox does not name; and the messages that were
+        # looked at last, with their UIDs
+        self.is_incomplete = False
+        self.inventory = Inventory()
+        self.uids: Sequence[int] = ()
 
-    def prepare(self, mailbox: Mailbox, mails: Sequence[Mail], is_dry: bool) -> None:
+    def prepare(self, mailbox: Mailbox, target: Target, is_dry: bool) -> None:
         """Has the mailbox say what it is to say of its UIDs and keywords, before mail is appended: if that is
         interrupted, some UIDs are never given."""
-        words = self.keywords.names(mails)
-        if not mailbox.size:
-            if self.listed:
-                self.first = Numbers(self.listed.validity, self.listed.following - 1, True, words)
-                self.is_same = True
-                self.keywords.know(words)
-            return
-        base = Base.of(mailbox)
-        if not base:
-            self.keywords.why = NO_BASE
-            return
-        self.keywords.know(base.head.keywords)
+        base = Base.of(mailbox) if mailbox.size else None
+        if base:
+            self.raise_numbers(mailbox, base, target.mails, is_dry)
+        elif mailbox.size:
+            self.why = NO_BASE
+        elif self.listed:
+            numbers, names = (self.listed.validity, self.listed.following - 1), self.unknown(target.mails)
+            self.first, self.is_same = b" ".join([b"X-IMAPbase: %d %010d" % numbers, *names]), True
+            self.know(names)
+        self.is_incomplete = bool(self.unknown([*target.returned, *target.mails]))
+
+    def raise_numbers(self, mailbox: Mailbox, base: Base, mails: Sequence[Mail], is_dry: bool) -> None:
+        """Has the first message say all that it has room for."""
+        self.know(base.head.keywords)
         wanted = self.wanted(base.head)
-        header = base.header_with(wanted.validity, wanted.last, [])
+        header = base.header_with(wanted, [])
         new: list[bytes] = []
-        for one in self.keywords.unknown(mails):
-            longer = base.header_with(wanted.validity, wanted.last, [*new, one])
-            header = longer or header
-            new += [one] * bool(longer)
-        self.keywords.know(new)
-        self.is_same, self.given = wanted.is_same, wanted.last
+        for one in self.unknown(mails):
+            longer = base.header_with(wanted, [*new, one])
+            if longer:
+                header, new = longer, [*new, one]
+        self.know(new)
+        self.is_same, self.given = self.listed is not None and self.listed.validity == wanted.validity, wanted.last
         self.tell(base.head, wanted, bool(header))
         if header and header != base.header and not is_dry:
             base.write(mailbox, header)
 
-    def wanted(self, head: Head) -> Numbers:
+    def wanted(self, head: Head) -> Head:
         """What a mailbox with this head is to say."""
         is_same = self.listed is not None and self.listed.validity == head.validity
         if self.listed and is_same and self.is_numbered:
-            return Numbers(head.validity, max(head.last, self.listed.following - 1), True)
+            return head._replace(last=max(head.last, self.listed.following - 1))
         if is_same or self.is_numbered:
-            used = max(head.validity, self.listed.validity if self.listed else 0)
-            validity = max(self.moment, used + 1)
-            return Numbers(validity if validity <= MOST_VALIDITY else self.moment, head.last, False)
-        return Numbers(head.validity, head.last, False)
+            moment, used = int(time.time()), max(head.validity, self.listed.validity if self.listed else 0)
+            validity = max(moment, used + 1)
+            return head._replace(validity=validity if validity <= MOST_VALIDITY else moment)
+        return head
 
-    def tell(self, head: Head, wanted: Numbers, has_room: bool) -> None:
+    def tell(self, head: Head, wanted: Head, has_room: bool) -> None:
         """Says what is new; of what has no room, what has Dovecot write it."""
         more: list[str] = []
         if wanted.last > head.last:
@@ -220,26 +258,28 @@ class Numbering:
             self.remarks = [Remark("uids-not-raised", NOT_RAISED)]
             self.next = run_next("doveadm", "mailbox", "update", *of_this_user(), *more, self.name)
 
-    def lack(self, mails: Sequence[Mail]) -> None:
-        """Takes messages that went back, the last one last, if any of them lacks a keyword."""
-        self.lacking = mails if self.keywords.unknown(mails) else ()
+    def know(self, names: Iterable[bytes]) -> None:
+        """The mailbox names these keywords."""
+        self.known.update(map(bytes.lower, names))
+
+    def keywords(self, mail: Mail) -> list[bytes]:
+        """The keywords of a file."""
+        of_letters = self.listed.keywords if self.listed else {}
+        letters = mail.name.partition(b":2,")[2].decode("latin-1")
+        return [of_letters[letter] for letter in letters if letter in of_letters]
+
+    def unknown(self, mails: Iterable[Mail]) -> list[bytes]:
+        """The keywords of files that the mailbox does not name, in their order."""
+        return sorted({one for mail in mails for one in self.keywords(mail) if one.lower() not in self.known})
 
     def take(self, mailbox: Mailbox, inventory: Inventory) -> None:
         """Takes the UIDs of the messages that are in a text."""
-        if (self.is_same or self.lacking) and len(inventory):
+        if self.is_same or self.is_incomplete:
             reading = Reading()
             reading.last = self.given
             for place in map(Place, range(len(inventory))):
                 reading.add(Header.at(mailbox, inventory.offset(place)).text)
-            self.last = max(reading.uids)
-            pairs = ((inventory.core(Place(place)), uid) for place, uid in enumerate(reading.uids))
-            self.numbered = list(pairs) if self.lacking else []
-
-    def end(self, is_dry: bool) -> None:
-        """Has Dovecot add what messages lack in the text that was looked at last."""
-        wanted = self.keywords.uids(self.lacking, self.numbered)
-        self.remarks += self.keywords.remarks(self.keywords.unknown(self.lacking) if is_dry else [*wanted])
-        self.next = (*self.next, *([] if is_dry else commands_for(wanted, self.name)))
+            self.inventory, self.uids = inventory, reading.uids
 
     def uid(self, mail: Mail) -> int:
         """The UID of a file that its message keeps; a higher number than any if it gets a new one."""
@@ -247,28 +287,71 @@ class Numbering:
 
     def fields(self, mails: Sequence[Mail]) -> Iterator[tuple[Mail, list[bytes]]]:
         """Mail in the order of its UIDs, each with its fields. What has no UID gets a higher one."""
-        first, last = self.first, self.last
+        first, last = self.first, max(self.uids, default=0)
         for mail in sorted(mails, key=self.uid):
-            fields, uid = [], self.uid(mail)
-            if first:
-                fields.append(first.field())
-                first = None
+            fields, uid = [first] * bool(first), self.uid(mail)
+            first = b""
             if last < uid < NONE:
                 fields.append(b"X-UID: %d" % uid)
                 last = uid
-            yield mail, fields + self.keywords.fields(mail)
+            names = [one for one in self.keywords(mail) if one.lower() in self.known]
+            yield mail, fields + [b"X-Keywords: " + b" ".join(names)] * bool(names)
+
+    def end(self, mails: Sequence[Mail], is_dry: bool) -> None:
+        """Has Dovecot add the keywords that the mailbox does not name to the messages of files, the last of which went
+        back last, in the text that was looked at last. Of equal messages, the last ones went back."""
+        wanted: dict[bytes, list[int]] = {name: [] for name in self.unknown(mails)}
+        if not wanted:
+            return
+        uids: collections.defaultdict[bytes, list[int]] = collections.defaultdict(list)
+        for place, uid in enumerate(self.uids):
+            uids[self.inventory.core(place)].append(uid)
+        for mail in reversed(mails):
+            uid = uids[mail.core].pop() if uids[mail.core] else 0
+            for name in self.unknown([mail]) if uid else ():
+                wanted[name].append(uid)
+        names = [name for name, its in wanted.items() if its or is_dry]
+        if names:
+            more = " and %d more" % (len(names) - NAMED) if names[NAMED:] else ""
+            says = ADDED % (self.why, " ".join(map(named, names[:NAMED])) + more)
+            self.remarks.append(Remark("keywords-added", says))
+        if not is_dry:
+            self.next = (*self.next, *(self.adding(name, wanted[name]) for name in names))
+
+    def adding(self, name: bytes, uids: Iterable[int]) -> Answer:
+        """The command by which Dovecot adds a keyword to the messages with these UIDs."""
+        words = [*["--"] * name.startswith(b"-"), text_of(name), "mailbox", self.name, "uid", ranges_of(uids)]
+        return Answer(Command.of("doveadm", "flags", "add", *of_this_user(), *words), Does.ADD_KEYWORDS)
 
 
-def numbering_of(opened: Opened, record: Record, target: Target, how: How) -> Numbering:
-    """The numbers of an open mailbox and of its folder, whatever their names are now. The mailbox says from now on what
-    it is to say before its mail is appended."""
+def of_this_user() -> list[str]:
+    """The option by which a command of doveadm concerns whoever runs this: 2.4 looks up no user without it."""
+    try:
+        return ["-u", pwd.getpwuid(os.geteuid()).pw_name]
+    except KeyError:
+        return []
+
+
+def ranges_of(uids: Iterable[int]) -> str:
+    """Numbers as IMAP has a set of them."""
+    ranges: list[list[int]] = []
+    for uid in sorted(uids):
+        if ranges and uid == ranges[-1][1] + 1:
+            ranges[-1][1] = uid
+        else:
+            ranges.append([uid, uid])
+    return ",".join("%d" % low if low == high else "%d:%d" % (low, high) for low, high in ranges)
+
+
+def numbering_of(opened: Opened, record: Record, target: Target, name: str, how: Options) -> Numbering:
+    """The numbers of an open mailbox, which Dovecot knows by this name, and of its folder, whatever their names are
+    now. The mailbox says from now on what it is to say before its mail is appended."""
     gone = filter(is_gone, Ledger(opened.folder).paths())
     is_numbered = record.has_numbered({*gone, *names_of(opened.mailbox.path)})
     if not how.dovecot:
-        numbering = Numbering(None, False)
+        numbering = Numbering()
         numbering.remarks += [Remark("uids-not-raised", NO_DOVECOT)] * is_numbered
         return numbering
-    numbering = Numbering(Listed.of(opened.folder), is_numbered, name_in(how.trees, target.path, target.folder))
-    numbering.prepare(opened.mailbox, target.mails, how.dry)
-    numbering.lack([*target.returned, *target.mails])
+    numbering = Numbering(name, Listed.of(opened.folder), is_numbered)
+    numbering.prepare(opened.mailbox, target, how.dry)
     return numbering

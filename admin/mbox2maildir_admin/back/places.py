@@ -1,8 +1,10 @@
 """Which mailbox the mail of a folder goes back to: the one that the folder has its mail from, wherever both are now;
-else the one of the folder's name; else a new one."""
+else the one of the folder's name; else a new one. And who makes that, and FILE.lock beside a mailbox."""
 import collections
+import contextlib
 import os
-from collections.abc import Iterator, Sequence
+from collections.abc import Iterable, Iterator, Sequence
+from contextlib import AbstractContextManager
 from typing import NamedTuple, Optional
 
 from ..faults import Left, Reason
@@ -11,6 +13,9 @@ from ..ledger.ledger import Ledger
 from ..ledger.record import Record, is_gone, unspelled
 from ..looks import is_file, is_folder, is_link, is_there
 from ..maildir.folders import INBOX, folder_named, folder_on_disk, folder_path, folders_in, name_given, without_utf7
+from ..maildir.making import sync_folder
+from ..mbox.lock_file import drop_lock, lock_file_of, spot_of
+from ..mbox.mailbox import Mailbox
 from ..migration.places import Planned, recorded
 from ..migration.trees import Tree
 from ..readings.copies import COMPRESSED
@@ -24,13 +29,6 @@ GONE = "its mailbox is gone: %s"
 BESIDE = b"-back"
 # how many names are tried for a new mailbox
 NAMES = 100
-
-
-class Place(NamedTuple):
-    """A mailbox, and whether it is made if it is not there."""
-
-    path: bytes
-    is_new: bool = False
 
 
 class Names(NamedTuple):
@@ -79,32 +77,27 @@ class Places:
                 return INBOX if place == self.root else os.path.basename(place)
         return INBOX
 
-    def all_of(self, folder: bytes) -> list[bytes]:
-        """The mailboxes of a folder."""
-        return self.found.get(folder, [])
+    def name_of(self, path: bytes, folder: bytes) -> str:
+        """The name by which Dovecot knows the mailbox of a folder: that of its path below a tree."""
+        below = [os.path.relpath(path, tree) for tree in self.trees]
+        names = [one for one in below if one.split(b"/")[0] != b".."]
+        return without_utf7(text_of(names[0] if names else name_given(folder)))
 
-    def first(self, folder: bytes) -> Optional[bytes]:
-        """The first mailbox of a folder; None if it has none."""
-        return next(iter(self.all_of(folder)), None)
-
-    def of(self, folder: bytes) -> list[Place]:
+    def of(self, folder: bytes) -> list[bytes]:
         """The mailboxes of a folder, of which the first one that takes mail gets it; those that brought mail come
         first. Raises Left if there is none, and none can be made."""
         paths = Ledger(folder_path(self.root, folder)).paths()
-        found = self.all_of(folder)
-        there = list(filter(is_there, found))
-        there.sort(key=lambda one: not set(names_of(one)) & set(paths))
+        found = self.found.get(folder, [])
+        there = sorted(filter(is_there, found), key=lambda one: not set(names_of(one)) & set(paths))
         if there:
-            return [Place(one) for one in there]
+            return there
         if paths and all(map(is_gone, paths)):
             raise Left(GONE % named(unspelled(paths[0])), Reason.MISSING)
-        if folder == INBOX:
-            if not found:
-                raise Left(self.names.no_inbox, Reason.NO_MAILBOX)
-            return [Place(found[0], True)]
-        return [self.new(folder, paths)]
+        if folder == INBOX and not found:
+            raise Left(self.names.no_inbox, Reason.NO_MAILBOX)
+        return [found[0] if folder == INBOX else self.new(folder, paths)]
 
-    def new(self, folder: bytes, paths: Sequence[str]) -> Place:
+    def new(self, folder: bytes, paths: Sequence[str]) -> bytes:
         """The new mailbox of a folder, in the first tree."""
         if not self.trees and self.names.tree:
             raise Left(TREE_GONE % (folder_named(folder), named(self.names.tree)), Reason.MISSING)
@@ -113,10 +106,10 @@ class Places:
         parts, tree = name_given(folder).split(b"/"), self.trees[0]
         nested = os.path.join(tree, *parts)
         if folder_on_disk(os.path.relpath(nested, tree)) == folder and self.is_free(nested, paths):
-            return Place(nested, True)
+            return nested
         return self.first_free(os.path.join(tree, b"-".join(parts)), paths)
 
-    def beside(self, path: bytes, folder: bytes, tried: Sequence[bytes] = ()) -> Place:
+    def beside(self, path: bytes, folder: bytes, tried: Sequence[bytes]) -> bytes:
         """The new mailbox beside one that takes nothing, and beside further ones that were tried. That of an inbox
         outside of the first tree is in the tree: its owner may make none in a spool, and would not see it there."""
         if folder == INBOX and self.trees and os.path.relpath(path, self.trees[0]).startswith(b"../"):
@@ -124,13 +117,12 @@ class Places:
         path = next((path[: -len(end)] for end in COMPRESSED if path.endswith(end)), path)
         return self.first_free(path + BESIDE, Ledger(folder_path(self.root, folder)).paths(), tried)
 
-    def first_free(self, path: bytes, paths: Sequence[str], tried: Sequence[bytes] = ()) -> Place:
+    def first_free(self, path: bytes, paths: Sequence[str], tried: Sequence[bytes] = ()) -> bytes:
         """The first of the names for a new mailbox that is free, and was not tried."""
-        names = [path, *(b"%s-%d" % (path, number) for number in range(2, NAMES))]
-        found = next((one for one in names if one not in tried and self.is_free(one, paths)), None)
-        if found is None:
-            raise Left("no name is free for a new mailbox: %s" % named(path), Reason.NO_MAILBOX)
-        return Place(found, True)
+        for one in (path, *(b"%s-%d" % (path, number) for number in range(2, NAMES))):
+            if one not in tried and self.is_free(one, paths):
+                return one
+        raise Left("no name is free for a new mailbox: %s" % named(path), Reason.NO_MAILBOX)
 
     @staticmethod
     def is_free(path: bytes, paths: Sequence[str]) -> bool:
@@ -150,8 +142,34 @@ def has_folders(record: Record) -> bool:
     return any(one.key.folder != INBOX for one in record.lines())
 
 
-def name_in(trees: Sequence[bytes], path: bytes, folder: bytes) -> str:
-    """The name by which Dovecot knows the mailbox of a folder: that of its path below a tree."""
-    below = [os.path.relpath(path, tree) for tree in trees]
-    names = [one for one in below if one.split(b"/")[0] != b".."]
-    return without_utf7(text_of(names[0] if names else name_given(folder)))
+class Keeper:
+    """Who makes what is missing at the place of a mailbox: here, this process, with its own rights."""
+
+    def locked(self, mailbox: Mailbox, owner: bytes) -> "AbstractContextManager[None]":
+        """Holds FILE.lock for an open mailbox. `owner` is the Maildir whose mail goes back. Raises Left if another
+        program has it."""
+        return lock_file_of(mailbox, owner)
+
+    def drop_locks(self, paths: Iterable[bytes], owner: bytes) -> None:
+        """Removes FILE.lock of each of these mailboxes which a killed run left."""
+        for path in paths:
+            drop_lock(spot_of(path), owner)
+
+    def make(self, path: bytes) -> None:
+        """Makes a mailbox, if it is not there, which only its owner may read, and the folders above it. They are on the
+        disk then."""
+        above = os.path.dirname(os.path.abspath(path))
+        make_folders(above)
+        with contextlib.suppress(FileExistsError):
+            os.close(os.open(path, os.O_WRONLY | os.O_CREAT | os.O_EXCL | os.O_NOFOLLOW | os.O_CLOEXEC, 0o600))
+        # a run that was killed may have made it, and not synced
+        sync_folder(above)
+
+
+def make_folders(path: bytes) -> None:
+    """Makes a folder that is not there, and those above it."""
+    if not is_folder(path):
+        above = os.path.dirname(path)
+        make_folders(above)
+        os.mkdir(path, 0o700)
+        sync_folder(above)

@@ -1,8 +1,7 @@
 """How a mailbox is read, before and after something is appended, and whether that gives back what was written."""
 import contextlib
 import io
-import os
-from collections.abc import Callable, Iterable, Iterator, Sequence
+from collections.abc import Callable, Iterator, Sequence
 from typing import NamedTuple, Optional
 
 from ..faults import Fault, Left, Reason
@@ -17,46 +16,100 @@ from ..program import Program
 from ..readings.plans import plan_of
 from ..readings.reading import MBOXRD, Reading
 from ..readings.texts import form_of, text_then
-from ..readings.unnamed import unnamed
+from ..readings.unnamed import text_of
 from .dialect import Dialect, Letter
+from .mails import Mail
 
 NO_LONGER = "it can no longer be read as it was read when it was migrated (%s)"
 # takes a text, and its messages
 Look = Callable[[Mailbox, Inventory], object]
 # begins what stands for the reading of a mailbox that would be left
 ASKED = "?"
+# how many bytes at the end of a mailbox show whether its last message has ended
+ENDS = 3
 # the first message of a text is never in question, so others are tried behind this one
 ANOTHER = b"Subject: another\n\nyes\n"
 
 
-class Forms(NamedTuple):
-    """The core of a message whose last line has ended, as it has in a mailbox; and the bare forms that one may give
-    back."""
+class Entry(NamedTuple):
+    """A message that is going to be appended: its file, the bare forms in which a mailbox may give it back, where its
+    text is in the draft, and the names of the fields that were taken out of it."""
 
-    core: bytes
-    bares: tuple[bytes, ...]
-
-    @classmethod
-    def of(cls, text: bytes) -> "Forms":
-        """The forms of a message."""
-        pairs = [forms_of_text(one) for one in ([text] if text.endswith(b"\n") else [text, text + b"\n"])]
-        return cls(pairs[-1][0], tuple(bare for _, bare in pairs))
-
-    def is_at(self, inventory: Inventory, place: int) -> bool:
-        """Whether a text has this message at a place."""
-        return inventory.core(place) == self.core and inventory.bare(place) in self.bares
+    mail: Mail
+    bares: Sequence[bytes]
+    start: int
+    size: int
+    taken: Sequence[bytes]
 
 
-class Written(NamedTuple):
-    """A message as a mailbox has it, and its forms."""
+class Style(NamedTuple):
+    """How a mailbox is read and written: by which words, in which dialect, what is missing at its end, whether
+    something is asked about it anyhow, and a folder on whose disk copies are made."""
 
-    forms: Forms
-    text: bytes
+    words: str
+    dialect: Dialect
+    gap: bytes
+    is_asked: bool
+    disk: bytes
+
+    def messages(self, mailbox: Mailbox, program: Optional[Program] = None, look: Optional[Look] = None) -> Inventory:
+        """The messages of a mailbox that is so read. If a program is given, it must list the same messages. `look` gets
+        the text that was read, and its messages."""
+        if not mailbox.size:
+            return Inventory()
+        with text_then(mailbox, Reading.of_words(self.words)._replace(bare=False), self.disk) as text:
+            if not text:
+                raise Left(NO_LONGER % self.words, Reason.ANOTHER_READING)
+            with contextlib.ExitStack() as stack:
+                listing = stack.enter_context(program.listing(text.mailbox.number, text.start)) if program else None
+                inventory = text.messages(listing)
+            if look:
+                look(text.mailbox, inventory)
+            return inventory
+
+    def has_no_dates(self, mailbox: Mailbox, inventory: Inventory) -> bool:
+        """Whether the From_ lines of a mailbox have no date, and nothing is asked about them. Once one has a date, the
+        others may be text."""
+        start = text_start(mailbox) if len(inventory) > 1 and not self.is_asked else None
+        return start is not None and not is_dated(mailbox.from_line_at(start))
+
+    def gives(self, text: Mailbox, entries: Sequence[Entry], first: int = 0) -> bool:
+        """Whether a text has exactly these messages from a place on, and nobody would be asked how it is read."""
+        try:
+            is_clear = self.is_asked or not reading_now(text).startswith(ASKED)
+            return is_clear and are_at(entries, self.messages(text), first)
+        except Fault:
+            return False
+
+    def unheld(self, draft: Mailbox, entries: Sequence[Entry], is_empty: bool) -> Iterator[Mail]:
+        """The mail of those entries of a draft that a mailbox does not give back, each behind another one, as it is
+        going to stand. If the mailbox is empty, that is the first one of these."""
+        before = b"" if is_empty else self.dialect.spelled(Letter(ANOTHER))
+        for one in entries:
+            its = draft.at(one.start, one.size)
+            with text_of(draft, [before, its], self.disk) as text:
+                if not self.gives(text, [one], bool(before)):
+                    yield one.mail
+                else:
+                    before = before or its
 
 
-def forms_of_text(text: bytes) -> tuple[bytes, bytes]:
-    """The core and the bare form of a message."""
-    return forms_of(io.BytesIO(text).read)
+def styles_of(known: Known, disk: bytes) -> Iterator[Style]:
+    """How an open mailbox may be read and written: by the words of its ledger, also if it was moved from its path
+    there, and by those by which it is read now. Programs that deliver without lengths may have changed that since it
+    was migrated. Nothing can be appended to one that is packed, or of another kind."""
+    ledger, mailbox = known.ledger, known.opened.mailbox
+    if mailbox.size and (text_start(mailbox) is None or form_of(mailbox)):
+        return
+    now, paths = reading_now(mailbox), [known.path]
+    if known.path not in ledger.paths():
+        same = (one for one in ledger.paths() if ledger.is_of(one, mailbox.key(), mailbox.state.st_ino))
+        paths = list(filter(is_gone, same))
+    for words in dict.fromkeys([*map(ledger.words_of, paths[:1]), now]):
+        dialect = Dialect.of_words(words)
+        if dialect:
+            for gap in dialect.gaps_after(mailbox.at(mailbox.size - ENDS, ENDS)):
+                yield Style(words, dialect, gap, now.startswith(ASKED), disk)
 
 
 def reading_now(mailbox: Mailbox) -> str:
@@ -69,104 +122,16 @@ def reading_now(mailbox: Mailbox) -> str:
         return ASKED + left.reason.word
 
 
-def takes_mail(mailbox: Mailbox, words: str) -> Optional[Dialect]:
-    """The dialect of a mailbox that is read by these words; None if it takes nothing: it is packed, or of another kind,
-    or the words name no dialect."""
-    if mailbox.size and (text_start(mailbox) is None or form_of(mailbox)):
-        return None
-    return Dialect.of_words(words)
+def forms_in(text: bytes) -> tuple[bytes, Sequence[bytes]]:
+    """The core of a message whose last line has ended, as it has in a mailbox; and the bare forms in which one may give
+    it back."""
+    pairs = [forms_of(io.BytesIO(one).read) for one in ([text] if text.endswith(b"\n") else [text, text + b"\n"])]
+    return pairs[-1][0], [bare for _, bare in pairs]
 
 
-def ways_to_read(known: Known) -> Iterator[tuple[str, Dialect]]:
-    """The words by which an open mailbox may be read, each with its dialect: those of its ledger, and those by which it
-    is read now. Programs that deliver without lengths may have changed that since it was migrated."""
-    path, now = path_in(known), reading_now(known.opened.mailbox)
-    for words in dict.fromkeys([known.ledger.words_of(path) if path else now, now]):
-        dialect = takes_mail(known.opened.mailbox, words)
-        if dialect:
-            yield words, dialect
-
-
-def has_no_dates(mailbox: Mailbox, inventory: Inventory) -> bool:
-    """Whether the From_ lines of a mailbox have no date, and nothing is asked about them. Once one has a date, the
-    others may be text."""
-    start = text_start(mailbox)
-    is_dateless = len(inventory) > 1 and start is not None and not is_dated(mailbox.from_line_at(start))
-    return is_dateless and not reading_now(mailbox).startswith(ASKED)
-
-
-def path_in(known: Known) -> str:
-    """The path of a mailbox as its ledger spells it, also if it was moved from there; empty if the ledger does not have
-    it."""
-    ledger, mailbox = known.ledger, known.opened.mailbox
-    paths = ledger.paths()
-    if known.path in paths:
-        return known.path
-    same = (one for one in paths if ledger.is_of(one, mailbox.key(), mailbox.state.st_ino))
-    return next(filter(is_gone, same), "")
-
-
-def messages_by(
-    words: str, mailbox: Mailbox, disk: bytes, program: Optional[Program] = None, look: Optional[Look] = None
-) -> Inventory:
-    """The messages of a mailbox that is read by these words. A copy is on the disk of a folder. If a program is
-    given, it must list the same messages. `look` gets the text that was read, and its messages."""
-    if not mailbox.size:
-        return Inventory()
-    with text_then(mailbox, Reading.of_words(words)._replace(bare=False), disk) as text:
-        if not text:
-            raise Left(NO_LONGER % words, Reason.ANOTHER_READING)
-        with contextlib.ExitStack() as stack:
-            listing = stack.enter_context(program.listing(text.mailbox.number, text.start)) if program else None
-            inventory = text.messages(listing)
-        if look:
-            look(text.mailbox, inventory)
-        return inventory
-
-
-def are_at(forms: Sequence[Forms], inventory: Inventory, first: int = 0) -> bool:
+def are_at(entries: Sequence[Entry], inventory: Inventory, first: int = 0) -> bool:
     """Whether a text has these messages, and no others, from a place on."""
-    if len(inventory) != first + len(forms):
-        return False
-    return all(form.is_at(inventory, first + place) for place, form in enumerate(forms))
-
-
-class Held(NamedTuple):
-    """Tells whether a mailbox gives messages back: by which words it is read, in which dialect it is written, whether
-    something is asked about it anyhow, and a folder on whose disk copies are made."""
-
-    words: str
-    dialect: Dialect
-    is_asked: bool
-    disk: bytes
-
-    @classmethod
-    def by(cls, mailbox: Mailbox, words: str, dialect: Dialect, disk: bytes) -> "Held":
-        """That of a mailbox as it is now."""
-        return cls(words, dialect, reading_now(mailbox).startswith(ASKED), disk)
-
-    def are(self, forms: Sequence[Forms], text: Mailbox) -> bool:
-        """Whether a text has exactly these messages, and nobody would be asked how it is read."""
-        try:
-            is_clear = self.is_asked or not reading_now(text).startswith(ASKED)
-            return is_clear and are_at(forms, messages_by(self.words, text, self.disk))
-        except Fault:
-            return False
-
-    def unheld(self, several: Iterable[Written], is_empty: bool) -> Iterator[int]:
-        """The places of messages that it does not give back, each behind another one, as it is going to stand. If the
-        mailbox is empty, that is the first one of these."""
-        before = [] if is_empty else [Written(Forms.of(ANOTHER), self.dialect.spelled(Letter(ANOTHER)))]
-        for place, one in enumerate(several):
-            if not self.has(*before, one):
-                yield place
-            else:
-                before = before or [one]
-
-    def has(self, *several: Written) -> bool:
-        """Whether it gives back these messages."""
-        with unnamed(self.disk) as file:
-            file.write(b"".join(one.text for one in several))
-            file.flush()
-            with Mailbox(b"", os.dup(file.fileno())) as mailbox:
-                return self.are([one.forms for one in several], mailbox)
+    return len(inventory) == first + len(entries) and all(
+        inventory.core(place) == one.mail.core and inventory.bare(place) in one.bares
+        for place, one in enumerate(entries, first)
+    )

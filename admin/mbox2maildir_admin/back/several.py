@@ -1,8 +1,5 @@
 """The mail of a Maildir on its way back, folder by folder."""
 import collections
-import contextlib
-import functools
-import itertools
 import os
 from collections.abc import Iterator, Sequence
 from typing import Optional, Union
@@ -17,39 +14,36 @@ from ..maildir.making import GOES_BACK, RECORD
 from ..maildir.roots import real_place, want_roots_alone
 from ..mbox.files import is_empty
 from ..migration.outcomes import Fate, Observer, Row, row_left
+from ..migration.steps import Options
 from ..nexts import NOTHING, Next, Remark, run_next
 from ..program import Program, find_program
-from ..progress import Beat
 from ..terminal import named, operand
 from ..units import counted
-from .appending import FULL
-from .beside import Beside
-from .mails import Mail, Sorted, sorted_mail
-from .places import Names, Place, Places
-from .returning import Returning
+from .appending import Returned, TakesNothing, Way, files_of
+from .beside import FULL, Beside
+from .mails import Sorted, Target, sorted_mail
+from .places import Keeper, Names, Places
 from .subscriptions import rows_of
-from .steps import How, Outcome, TakesNothing, Target, files_of
 
 NO_RECORD = "%s: it has no record, so nothing shows which mail came from the old mailboxes"
 TORN = "the message that begins in line %d is cut: a run was killed there, and another program has written after it"
 NOT_READ_BACK = "what would be appended to it would not be read back as it is"
 DISK_FULL = "no room is left on its disk, or on that of the Maildir"
 CANNOT_HOLD, TAKES_NOTHING = "%(path)s cannot hold %(files)s", "%(path)s takes nothing"
-Remarks = tuple[Remark, ...]
+MOVED = "%s that people moved here from %s %s in the mailbox of that"
 # what became of a message in the Maildir, and what is said of those that a mailbox has
 DELETED, EDITED = "deleted", "changed"
-SAYS = (
-    (DELETED, "%s that %s deleted in the Maildir %s still there"),
-    (EDITED, "%s that %s changed in the Maildir %s there as before"),
-)
+STANDS = {
+    DELETED: "%s that %s deleted in the Maildir %s still there",
+    EDITED: "%s that %s changed in the Maildir %s there as before",
+}
 UNLESS = ", unless somebody has removed %s from the mailbox"
-# stands for the first mailbox of a folder
-FIRST = b""
 # what the name of a Maildir ends in that has been moved aside
 ASIDE = b".back"
+Remarks = tuple[Remark, ...]
 
 
-def bring_back(root: bytes, names: Sequence[bytes], how: How, observer: Observer) -> Next:
+def bring_back(root: bytes, names: Sequence[bytes], how: Options, observer: Observer) -> Next:
     """Brings the mail back that is in a Maildir of the user who runs this, and did not come from the mailboxes at some
     paths. Returns what moves the Maildir aside."""
     if os.geteuid() == 0:
@@ -57,7 +51,7 @@ def bring_back(root: bytes, names: Sequence[bytes], how: How, observer: Observer
         root = real_place(root)
         want_roots_alone(root)
     want_migrated(root)
-    return bring_all(Program(find_program()), root, Names(names), how, observer)
+    return bring_all(Program(find_program()), root, Names(names), how, Keeper(), observer)
 
 
 def want_migrated(root: bytes) -> None:
@@ -66,173 +60,198 @@ def want_migrated(root: bytes) -> None:
         raise PlaceFault(NO_RECORD % named(root), Reason.NO_MAILDIR)
 
 
-def bring_all(program: Program, root: bytes, names: Names, how: How, observer: Observer) -> Next:
+def bring_all(program: Program, root: bytes, names: Names, how: Options, keeper: Keeper, observer: Observer) -> Next:
     """Does it by a program, whoever runs this, and whatever was migrated."""
     os.umask(0o077)
     with Record.open(root, not how.dry) as record:
-        places = Places(root, record, names)
-        return Several(program, root, record, how._replace(trees=places.trees), observer).run(places)
+        return Several(Way(program, root, record, how, Places(root, record, names), keeper, observer)).run()
 
 
 class Several:
     """The folders of a Maildir whose mail goes back."""
 
-    def __init__(self, program: Program, root: bytes, record: Record, how: How, observer: Observer) -> None:
-        self.program, self.root, self.record, self.how, self.observer = program, root, record, how, observer
+    def __init__(self, way: Way) -> None:
+        self.way, self.places, self.is_dry = way, way.places, way.how.dry
         # whether nothing is left, and the mailboxes to which mail would go back
         self.is_right, self.would = True, set[bytes]()
 
-    def run(self, places: Places) -> Next:
-        """Brings back the mail of each folder, and tells its row."""
-        say = Beat(functools.partial(self.observer.progress, named(self.root)))
-        found = sorted_mail(self.root, say)
-        self.observer.rest(named(self.root))
-        if not self.how.dry:
-            self.drop_locks(places, found)
-        mails, returned = by_folder(found.new), by_folder(found.returned)
-        folders = list(self.folders(found, {*mails, *places.found}))
-        self.observer.total += len(folders)
+    def run(self) -> Next:
+        """Brings back the mail of each folder, and tells its row. Returns what moves the Maildir aside, once all of its
+        mail is back."""
+        root, observer = self.way.root, self.way.observer
+        found = sorted_mail(root, observer.say(root))
+        observer.rest(named(root))
+        if not self.is_dry:
+            self.drop_locks(found)
+        folders = list(self.folders(found))
+        observer.total += len(folders)
         for folder in folders:
-            self.observer.begin()
-            standing = Standing(found, self.root, folder, places.all_of(folder))
-            target = Target(b"", folder, mails[folder], moved_to(found, folder), returned[folder])
-            for row in self.rows(target, places):
-                self.tell(standing.row(row))
-            for row in standing.rest():
-                self.tell(row)
-        tree = next(iter(places.trees), None) if self.how.dovecot else None
-        for row in rows_of(self.root, tree, places, self.how.dry, self.would):
+            observer.begin()
+            stands = self.standing(found, folder)
+            for row in self.rows(self.target(found, folder)):
+                self.tell(row._replace(remarks=(*row.remarks, *stands.pop(row.path, ()))))
+            for path in sorted(stands):
+                self.tell(nothing_new(path, folder, stands[path]))
+        tree = self.places.trees[0] if self.way.how.dovecot and self.places.trees else None
+        for row in rows_of(root, tree, self.places, self.is_dry, self.would):
             self.tell(row)
-        return self.aside()
+        if self.is_dry or not self.is_right:
+            return NOTHING
+        names = (root.rstrip(b"/") + ASIDE + end for end in (b"", *(b"-%d" % number for number in range(2, 100))))
+        name = next((name for name in names if not may_be(is_there, name)), None)
+        return run_next("mv", "-nT", operand(root), operand(name)) if name else NOTHING
 
     def tell(self, row: Row) -> None:
         """Tells a row."""
         self.is_right = self.is_right and not row.left_for
         self.would |= {row.path} if row.fate is Fate.WOULD_BACK else set()
-        self.observer.row(row)
+        self.way.observer.row(row)
 
-    def drop_locks(self, places: Places, found: Sorted) -> None:
+    def drop_locks(self, found: Sorted) -> None:
         """Removes the locks that a killed run left, also beside mailboxes that are not named now. If a ledger had noted
         that all is back, nothing may go back there any more, and nobody else would remove them."""
-        noted = map(unspelled, found.paths.union(line.path for line in self.record.lines()))
-        paths = {*noted, *itertools.chain.from_iterable(places.found.values())}
-        self.how.keeper.drop_locks(sorted(paths), os.path.realpath(self.root))
+        noted = map(unspelled, found.paths.union(line.path for line in self.way.record.lines()))
+        paths = {*noted, *(path for several in self.places.found.values() for path in several)}
+        self.way.keeper.drop_locks(sorted(paths), os.path.realpath(self.way.root))
 
-    def folders(self, found: Sorted, wanted: set[bytes]) -> Iterator[bytes]:
+    def folders(self, found: Sorted) -> Iterator[bytes]:
         """The folders with mail that goes back, or with a mailbox, and those about which something is to be said."""
-        wanted.update(slot.folder for slot in (*found.deleted, *found.changed))
-        wanted.update(mail.folder for mail, _ in found.moved)
-        for path in folders_in(self.root):
-            folder = INBOX if path == self.root else os.path.basename(path)
+        wanted = {*found.folders(), *self.places.found}
+        for path in folders_in(self.way.root):
+            folder = INBOX if path == self.way.root else os.path.basename(path)
             if folder in wanted or is_there(os.path.join(path, GOES_BACK)):
                 yield folder
 
-    def rows(self, target: Target, places: Places) -> Iterator[Row]:
+    def target(self, found: Sorted, folder: bytes) -> Target:
+        """The mail of a folder that goes back, wherever it goes to, and what is said of messages that people moved
+        there."""
+        path = next(iter(self.places.found.get(folder, ())), folder_path(self.way.root, folder))
+        remarks = []
+        for other, count in collections.Counter(found.moved.get(folder, ())).items():
+            stays = "stays" if count == 1 else "stay"
+            remarks.append(Remark("moved", MOVED % (counted(count, "message"), folder_named(other), stays)))
+        return Target(path, folder, found.new.get(folder, ()), tuple(remarks), found.returned.get(folder, ()))
+
+    def standing(self, found: Sorted, folder: bytes) -> dict[bytes, Remarks]:
+        """What is said of the messages of a folder that were deleted or changed there, and stand in its mailboxes as
+        before, by these."""
+        paths = self.places.found.get(folder, [])
+        deleted, changed = found.deleted.get(folder, ()), found.changed.get(folder, ())
+        if not paths or not deleted and not changed:
+            return {}
+        # in one that had another size when it was read last, nobody knows what it has now
+        sizes = {source.key[0] for source in Ledger(folder_path(self.way.root, folder)).sources.values()}
+        remarks: collections.defaultdict[bytes, Remarks] = collections.defaultdict(tuple)
+        for word, slots in ((DELETED, deleted), (EDITED, changed)):
+            counts: collections.Counter[bytes] = collections.Counter()
+            for slot in slots:
+                # one that the record knows by another path has the place of the first one
+                counts.update([one for one in paths if slot.paths.intersection(names_of(one))] or paths[:1])
+            for path, count in counts.items():
+                is_sure = not may_be(lambda one: size_at(one) not in sizes, path)
+                remarks[path] += (standing(word, count, is_sure),)
+        return remarks
+
+    def rows(self, target: Target) -> Iterator[Row]:
         """The row of the mailbox to which the mail of a folder goes back; and those of mailboxes beside it, which get
         what it cannot hold."""
-        folder, mails = target.folder, target.mails
-        path = folder_path(self.root, folder)
         try:
-            yield from self.recovered(folder, places)
-            if not mails:
-                yield self.numbered(target._replace(path=places.first(folder) or path))
+            yield from self.recovered(target.folder)
+            if not target.mails:
+                yield self.numbered(target)
                 return
-            several = places.of(folder)
+            several = self.places.of(target.folder)
         except (Fault, OSError) as fault:
-            yield left(path, folder, fault, len(mails), target.remarks)
+            yield left(target._replace(path=folder_path(self.way.root, target.folder)), fault)
             return
-        for place in several:
-            found = self.brought(place, target._replace(path=place.path))
+        for path in several:
+            found = self.brought(target._replace(path=path))
             if found:
-                yield found.row
-                yield from self.rows_beside(Target(place.path, folder, found.refused), places, CANNOT_HOLD)
+                row, refused = found
+                yield row
+                yield from self.rows_beside(Target(path, target.folder, refused), CANNOT_HOLD)
                 return
-        yield from self.rows_beside(target._replace(path=several[0].path), places, TAKES_NOTHING)
+        yield from self.rows_beside(target._replace(path=several[0]), TAKES_NOTHING)
+
+    def recovered(self, folder: bytes) -> Iterator[Row]:
+        """Takes back what a killed run appended in part. The row of a mailbox in which a message stays cut."""
+        beside = None if self.is_dry else Beside.left_in(folder_path(self.way.root, folder))
+        if not beside:
+            return
+        try:
+            paths = [unspelled(beside.mailbox), *self.places.found.get(folder, ())]
+            paths = list(filter(is_file, paths))
+            same = [one for one in paths if os.stat(one).st_ino == beside.inode]
+            # another file at its path may be a copy of it
+            for path in (same or paths)[:1]:
+                with self.way.opened(path) as mailbox:
+                    line = beside.recover(mailbox)
+                if line is not None:
+                    yield left(Target(path, folder, ()), Left(TORN % line, Reason.TORN))
+            if not paths:
+                beside.remove()
+        finally:
+            os.close(beside.number)
 
     def numbered(self, target: Target) -> Row:
         """The row of a mailbox that takes no mail, once it says which UIDs the folder has given."""
         row = nothing_new(target.path, target.folder, target.remarks)
-        if not self.how.dovecot or not is_file(row.path):
+        if not self.way.how.dovecot or not is_file(row.path):
             return row
-        say = Beat(functools.partial(self.observer.progress, named(row.path)))
-        numbering = Returning(self.program, self.root, self.record, self.how, say).number(target)
+        numbering = self.way.number(target)
         return row._replace(remarks=(*numbering.remarks, *row.remarks), next=numbering.next)
 
-    def recovered(self, folder: bytes, places: Places) -> Iterator[Row]:
-        """Takes back what a killed run appended in part. The row of a mailbox in which a message stays cut."""
-        beside = None if self.how.dry else Beside.left_in(folder_path(self.root, folder))
-        if not beside:
-            return
-        with contextlib.closing(beside):
-            paths = [one for one in (unspelled(beside.before.path), *places.all_of(folder)) if is_file(one)]
-            same = [one for one in paths if os.stat(one).st_ino == beside.before.inode]
-            # another file at its path may be a copy of it
-            for path in (same or paths)[:1]:
-                line = Returning(self.program, self.root, self.record, self.how).recover(path, beside)
-                if line is not None:
-                    yield left(path, folder, Left(TORN % line, Reason.TORN), 0)
-            if is_there(beside.path):
-                beside.remove()
+    def rows_beside(self, target: Target, why: str) -> Iterator[Row]:
+        """The rows of the mailboxes beside one that does not get this mail. What one of them cannot hold goes into the
+        next one."""
+        beside, tried = target, list[bytes]()
+        while beside.mails:
+            try:
+                tried.append(self.places.beside(target.path, target.folder, tried))
+            except (Fault, OSError) as fault:
+                yield left(beside._replace(path=target.path), fault)
+                return
+            beside = beside._replace(path=tried[-1], returned=())
+            found = self.brought(beside)
+            if not found:
+                yield left(beside._replace(remarks=()), Left(NOT_READ_BACK, Reason.NOT_HELD))
+                return
+            row, refused = found
+            its = [one for one in beside.mails if one not in refused]
+            if its:
+                says = Remark("beside", why % {"path": named(target.path), "files": files_of(its)})
+                yield row._replace(remarks=(says, *row.remarks))
+            beside = beside._replace(mails=refused)
 
-    def rows_beside(self, target: Target, places: Places, why: str, tried: Sequence[bytes] = ()) -> Iterator[Row]:
-        """The rows of the mailboxes beside one that does not get this mail, if there is some. What one of them cannot
-        hold goes into the next one."""
-        path, folder, mails, remarks, _ = target
-        if not mails:
-            return
-        try:
-            other = places.beside(path, folder, tried)
-        except (Fault, OSError) as fault:
-            yield left(path, folder, fault, len(mails), remarks)
-            return
-        found = self.brought(other, Target(other.path, folder, mails, remarks))
-        if not found:
-            yield left(other.path, folder, Left(NOT_READ_BACK, Reason.NOT_HELD), len(mails))
-            return
-        its = [one for one in mails if one not in found.refused]
-        if its:
-            says = Remark("beside", why % {"path": named(path), "files": files_of(its)})
-            yield found.row._replace(remarks=(says, *found.row.remarks))
-        yield from self.rows_beside(target._replace(mails=found.refused), places, why, (*tried, other.path))
-
-    def brought(self, place: Place, target: Target) -> Optional[Outcome]:
+    def brought(self, target: Target) -> Optional[Returned]:
         """What became of a mailbox to which mail goes back, and which is made if it is missing; None if it takes
         nothing."""
-        how = self.how
+        way, how = self.way, self.way.how
         try:
-            say = Beat(functools.partial(self.observer.progress, named(target.path)))
-            is_missing = place.is_new and not is_there(place.path)
+            is_missing = not is_there(target.path)
             if is_missing and not how.dry:
                 # none is made that would stay empty
-                would = Returning(self.program, self.root, self.record, how._replace(dry=True), say).run(target)
-                if would.row.left_for:
-                    return would
+                row, refused = way._replace(how=how._replace(dry=True)).append(target)
+                if row.left_for:
+                    return row, refused
             # the name of an empty one may not be on the disk yet
-            if not how.dry and (is_missing or is_empty(place.path)):
-                how.keeper.make(place.path)
-                # nobody else knows of a new one
-                how = how._replace(now=how.now or is_missing)
-            return Returning(self.program, self.root, self.record, how, say).run(target)
+            if not how.dry and (is_missing or is_empty(target.path)):
+                way.keeper.make(target.path)
+            # nobody else knows of a new one
+            return way._replace(how=how._replace(now=how.now or is_missing)).append(target)
         except TakesNothing:
-            self.observer.rest(named(target.path))
+            way.observer.rest(named(target.path))
             return None
         except (Fault, OSError) as fault:
-            return Outcome(left(target.path, target.folder, fault, len(target.mails), target.remarks), ())
-
-    def aside(self) -> Next:
-        """What moves the Maildir aside, once all of its mail is back."""
-        if self.how.dry or not self.is_right:
-            return NOTHING
-        names = (self.root.rstrip(b"/") + ASIDE + end for end in (b"", *(b"-%d" % number for number in range(2, 100))))
-        name = next((name for name in names if not may_be(is_there, name)), None)
-        return run_next("mv", "-nT", operand(self.root), operand(name)) if name else NOTHING
+            return left(target, fault), ()
 
 
-def left(path: bytes, folder: bytes, fault: Union[Fault, OSError], count: int, remarks: Remarks = ()) -> Row:
-    """The row of a mailbox to which nothing went back, of so many messages."""
+def left(target: Target, fault: Union[Fault, OSError]) -> Row:
+    """The row of a mailbox to which nothing went back."""
     if isinstance(fault, OSError) and fault.errno in FULL:
         fault = Left(DISK_FULL, Reason.NO_ROOM)
-    return row_left(path, folder, fault)._replace(messages=count, remarks=remarks, is_back=True)
+    row = row_left(target.path, target.folder, fault)
+    return row._replace(messages=len(target.mails), remarks=target.remarks, is_back=True)
 
 
 def nothing_new(path: bytes, folder: bytes, remarks: Remarks) -> Row:
@@ -240,65 +259,14 @@ def nothing_new(path: bytes, folder: bytes, remarks: Remarks) -> Row:
     return Row(path, folder, "", 0, Fate.NOTHING_NEW, remarks=remarks, is_back=True)
 
 
-def by_folder(mails: Sequence[Mail]) -> dict[bytes, list[Mail]]:
-    """Mail by its folders."""
-    found: collections.defaultdict[bytes, list[Mail]] = collections.defaultdict(list)
-    for mail in mails:
-        found[mail.folder].append(mail)
-    return found
-
-
-def moved_to(found: Sorted, folder: bytes) -> Remarks:
-    """What is said of the messages that people moved to a folder."""
-    came = collections.Counter(slot.folder for mail, slot in found.moved if mail.folder == folder)
-    says = "%s that people moved here from %s %s in the mailbox of that"
-    words = (
-        says % (counted(count, "message"), folder_named(other), "stays" if count == 1 else "stay")
-        for other, count in came.items()
-    )
-    return tuple(Remark("moved", one) for one in words)
-
-
-class Standing:
-    """The messages of a folder that were deleted or changed there, and stand in its mailboxes as before."""
-
-    def __init__(self, found: Sorted, root: bytes, folder: bytes, paths: Sequence[bytes]) -> None:
-        self.folder = folder
-        # how many, by the mailboxes; one that the record knows by another path has the place of the first one
-        self.counts: collections.defaultdict[bytes, collections.Counter[str]]
-        self.counts = collections.defaultdict(collections.Counter)
-        names = {path: set(names_of(path)) for path in paths}
-        for word, slots in ((DELETED, found.deleted), (EDITED, found.changed)):
-            for slot in slots:
-                if slot.folder == folder:
-                    for path in [one for one in paths if names[one] & slot.paths] or [FIRST]:
-                        self.counts[path][word] += 1
-        # the mailboxes that had another size when they were read last, so that nobody knows what they have now
-        noted = Ledger(folder_path(root, folder)).sources.values() if self.counts else ()
-        sizes = {source.key[0] for source in noted}
-        self.unsure = {path for path in paths if may_be(lambda one: size_at(one) not in sizes, path)}
-
-    def row(self, row: Row) -> Row:
-        """The row of a mailbox, with what stands in it."""
-        counts = self.counts.pop(row.path, collections.Counter()) + self.counts.pop(FIRST, collections.Counter())
-        return row._replace(remarks=(*row.remarks, *standing_in(counts, row.path not in self.unsure)))
-
-    def rest(self) -> Iterator[Row]:
-        """The rows of further mailboxes in which some stand."""
-        for path in sorted(self.counts):
-            yield self.row(nothing_new(path, self.folder, ()))
-
-
 def size_at(path: bytes) -> int:
     """How many bytes the file at a path has; 0 if there is none."""
     return os.path.getsize(path) if is_file(path) else 0
 
 
-def standing_in(counts: "collections.Counter[str]", is_sure: bool) -> Iterator[Remark]:
-    """What is said of so many messages that stand in a mailbox, if it has not changed since it was read."""
-    for word, says in SAYS:
-        count = counts[word]
-        if count:
-            *verbs, them = ("was", "is", "it") if count == 1 else ("were", "are", "them")
-            unless = "" if is_sure else UNLESS % them
-            yield Remark(word, says % (counted(count, "message"), *verbs) + unless, stands=count if is_sure else 0)
+def standing(word: str, count: int, is_sure: bool) -> Remark:
+    """What is said of so many messages that stand in a mailbox, and were deleted or changed, unless it has changed
+    since it was read."""
+    *verbs, them = ("was", "is", "it") if count == 1 else ("were", "are", "them")
+    says = STANDS[word] % (counted(count, "message"), *verbs) + ("" if is_sure else UNLESS % them)
+    return Remark(word, says, stands=count if is_sure else 0)

@@ -52,7 +52,7 @@ class Lists:
         if folder_of(name) == INBOX:
             return name
         with contextlib.suppress(Left):
-            path = self.places.of(folder_of(name))[0].path
+            path = self.places.of(folder_of(name))[0]
             parts = os.path.relpath(path, self.tree).split(b"/")
             if parts[0] != b".." and (path in self.would or is_there(path)):
                 return tuple(parts)

@@ -1,7 +1,6 @@
 """The command `back`: the mail that did not come from the old mailboxes goes into them."""
 import argparse
 
-from ..back.steps import How
 from ..back.several import bring_back
 from ..faults import Status
 from ..migration.outcomes import Row
@@ -23,8 +22,7 @@ def do_back(given: argparse.Namespace) -> Status:
             back_users(*spool_of(given), options, reporter, tally)
         else:
             root, *names = given.operands
-            how = How(options.dry, options.now, options.dovecot)
-            reporter.then = bring_back(root, names, how, reporter)
+            reporter.then = bring_back(root, names, options, reporter)
 
     shows = Shows(Row.is_said if given.all else None, given.users, not given.dry_run)
     reporter = reporter_of(given, shows, {}, "bringing mail back")

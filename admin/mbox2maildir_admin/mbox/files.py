@@ -3,6 +3,7 @@ import errno
 import io
 import os
 import stat
+from collections.abc import Iterator
 from typing import Optional
 
 from ..faults import Fault, Reason
@@ -95,6 +96,10 @@ class Reader:
         block = os.pread(self.number, count, self.offset)
         self.offset = Offset(self.offset + len(block))
         return block
+
+    def blocks(self) -> Iterator[bytes]:
+        """All that follows."""
+        return iter(lambda: self.read(BLOCK), b"")
 
 
 class LineEnds:

@@ -5,9 +5,8 @@ import os
 from collections.abc import Iterable, Iterator, Sequence
 from typing import Optional
 
-from ..back.places import Names
+from ..back.places import Keeper, Names
 from ..back.several import bring_all, want_migrated
-from ..back.steps import How, Keeper
 from ..faults import Left, Reason, naming
 from ..jobs.crew import Parent
 from ..looks import is_folder, is_link, is_there, may_be
@@ -66,10 +65,8 @@ class Returner(Migrant):
         if not has_none or has_own_names(root):
             want_migrated(root)
         paths = [one for one in names if one not in self.user.others or is_recorded(root, one)]
-        options = self.options
-        how = How(options.dry, options.now, options.dovecot, Asking(relay.parent, self.boxes))
-        names_back = Names(paths, self.tree, NO_INBOX)
-        relay.parent.tell("then", bring_all(program, root, names_back, how, relay))
+        names_back, keeper = Names(paths, self.tree, NO_INBOX), Asking(relay.parent, self.boxes)
+        relay.parent.tell("then", bring_all(program, root, names_back, self.options, keeper, relay))
 
 
 def is_bare(path: bytes) -> bool:

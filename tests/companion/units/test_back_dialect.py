@@ -2,8 +2,7 @@
 import unittest
 from typing import Optional
 
-from mbox2maildir_admin.back.notes import Client
-from mbox2maildir_admin.back.dialect import LAST_TIME, Dialect, Letter, date_of, parted
+from mbox2maildir_admin.back.dialect import LAST_TIME, Client, Dialect, Letter, date_of, parted
 
 MAIL, HEAD = b"Subject: one\n\nFrom me\n>From you\nend\n", b"Subject: one\n"
 # the word of a dialect, and whether its lines end in CR LF; a message, its flags, and whether a reader has met it; and
@@ -75,8 +74,8 @@ class DialectTest(unittest.TestCase):
         for text, parts in PARTS:
             self.assertEqual(parted(text), parts)
         for end, gap in GAPS:
-            self.assertEqual(Dialect().gap_after(end), gap)
-        self.assertEqual(Dialect("mboxrd", True).gap_after(b"x\r\n"), b"\r\n")
+            self.assertEqual(Dialect().gaps_after(end), (gap,))
+        self.assertEqual(Dialect("mboxrd", True).gaps_after(b"x\r\n"), (b"\r\n",))
 
     def test_readings(self) -> None:
         for words, wanted in READINGS:
