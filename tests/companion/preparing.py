@@ -7,6 +7,7 @@ import pwd
 import re
 import shutil
 import subprocess
+import sys
 import time
 from collections.abc import Sequence
 from pathlib import Path
@@ -14,6 +15,7 @@ from pathlib import Path
 from tests.support import accounts
 from tests.support.checks import LATER, equal, match_in, matches
 from tests.support.homes import (
+    ADMIN,
     by_json,
     check_all,
     expect,
@@ -23,6 +25,7 @@ from tests.support.homes import (
     run_printed,
     script,
     subjects,
+    want_strace,
     want_users,
 )
 from tests.support.mail import A, B, ONE, THREE, TWO
@@ -238,6 +241,22 @@ def started_again(home: Path) -> None:
     equal("the mail", subjects(home / "M/.a"), ["new", "one"])
 
 
+def read_once(home: Path) -> None:
+    """A pass verifies what it stores, and neither the next pass nor that of the day reads this again."""
+    want_strace()
+    doveconf(home, MBOX)
+    box, calls = mailbox(home / "box", ONE + TWO), home / "calls"
+    strace = ["/usr/bin/env", "strace", "-qq", "-y", "-e", "signal=none", "-e", "trace=read,pread64", "-o", str(calls)]
+    for option, more, count in (("--prepare", b"", 2), ("--prepare", b"", 0), ("--now", THREE, 1)):
+        with open(box, "ab") as file:
+            file.write(more)
+        words = [sys.executable, "-I", "-S", "-B", str(home / "bin" / ADMIN.name), "migrate", option, "M", "box"]
+        ran = Desk(home).run([*strace, *words])
+        equal(f"{option}: its status: {ran.output}", ran.status, 0)
+        read = set(re.findall(r"read(?:64)?\(\d+<[^<>]*/M/new/([^<>]*)>", calls.read_text()))
+        equal(f"{option}: how many files of mail are read", len(read), count)
+
+
 # what a pass says of a list that is open to others
 LIST = "mbox2maildir-prepared"
 OPEN = "it does not belong to you, or others may write to it: look at it, and move it away"
@@ -388,6 +407,7 @@ if __name__ == "__main__":
         spoilt,
         left_over,
         started_again,
+        read_once,
         words_hold,
         without_deleted_mail,
         of_users,

@@ -22,6 +22,7 @@ from ..ledger.prepared import Prepared
 from ..ledger.prepared_lines import in_milliseconds, milliseconds_since
 from ..ledger.record import unspelled
 from ..looks import is_folder
+from ..maildir.dating import Dating
 from ..maildir.mounts import want_syncs
 from ..maildir.space import Need, want_room
 from ..maildir.traces import times_of
@@ -406,7 +407,8 @@ class Transfer:
             words = len(contents.inventory), unspelled(self.path), contents.words
             self.record.add(Note.PREPARED, self.known.key, *words)
         self.conversion.convert(opened, contents, placing, 0, True)
-        # flags are those of the last pass: a mail program may change them until then
+        # flags are those of the last pass: a mail program may change them until then. A date changes a file's ctime
+        Dating(contents.text, one.part).give_all(opened.folder)
         prepared.note_facts()
         self.remarks += finish(one)
         text = text_of(choice, contents)
