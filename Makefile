@@ -5,18 +5,16 @@
 # make quick      test within a minute what a change most often breaks, by the program that is there
 # make install    copy the program, its companion, their pages and completions below PREFIX
 # make uninstall  remove what install has copied there
-# make deb        make a Debian package of the same, in build/; make rpm one of RPM, and make tarball a plain one
-# make dist       make a tarball of what git tracks, in build/
+# make release    make what a user takes, in build/release: a Debian package, an RPM, a tarball, the sources, SHA256SUMS
 # make bench      time the program on generated mail beside cat, sha256sum and a plain C program (SIZE=megabytes)
 # make clean      remove build/
 #
-# Each needs the command rt and a shell, but for uninstall, dist and clean; where build/mbox2maildir is newer than the
-# sources, install and the packages need no rt. make test wants python3 besides, make deb dpkg-dev and debhelper, make rpm
-# binutils and rpmbuild, make tarball binutils, make dist git, and make bench gcc and python3.
+# Each needs the command rt and a shell, but for uninstall and clean; where build/mbox2maildir is newer than the sources,
+# install and release need no rt. make test wants python3 besides, make bench gcc and python3, and make release git,
+# binutils, dpkg-dev, debhelper and rpmbuild.
 
 PREFIX ?= /usr/local
-VERSION := $(shell cat VERSION)
-DIST ?= build
+RELEASE ?= build/release
 
 PROGRAM = build/mbox2maildir
 CRATE = crates/mbox2maildir
@@ -55,13 +53,8 @@ install: $(PROGRAM)
 uninstall:
 	packaging/install --remove '$(DESTDIR)$(PREFIX)'
 
-deb rpm tarball: $(PROGRAM)
-	packaging/package $@ $(PROGRAM) '$(DIST)'
-
-dist:
-	mkdir -p '$(DIST)'
-	git archive --prefix=mbox2maildir-$(VERSION)/ -o '$(DIST)/mbox2maildir-$(VERSION).tar.gz' HEAD
-	cd '$(DIST)' && sha256sum mbox2maildir-$(VERSION).tar.gz >mbox2maildir-$(VERSION).tar.gz.sha256
+release: $(PROGRAM)
+	packaging/release $(PROGRAM) '$(RELEASE)'
 
 bench: $(PROGRAM)
 	bench/run
@@ -69,4 +62,4 @@ bench: $(PROGRAM)
 clean:
 	rm -rf build
 
-.PHONY: all run test quick install uninstall deb rpm tarball dist bench clean
+.PHONY: all run test quick install uninstall release bench clean

@@ -28,7 +28,7 @@ MANUAL = TOP / "docs/mbox2maildir.1"
 MANUAL_OF_ADMIN = TOP / "docs/mbox2maildir-admin.1"
 MANUALS = sorted(TOP.glob("docs/*.1"))
 # the files that say something about a package
-PACKAGED = [TOP / "packaging/package", TOP / "debian/control", TOP / "debian/README.source"]
+PACKAGED = [TOP / "packaging/release", TOP / "debian/control", TOP / "debian/README.source"]
 LEFT, SCHEMA = TOP / "docs/LEFT.md", TOP / "docs/rows.schema.json"
 INSTALLED = "/usr/share/doc/mbox2maildir"
 LINK = re.compile(r"\]\(([^)#]*)(?:#([^)]*))?\)")

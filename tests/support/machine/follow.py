@@ -282,12 +282,10 @@ class Follower:
 def install() -> None:
     """Installs the package, or both programs as the page says of an older glibc."""
     folder = Path("/") / GLIBC
-    kind, place = ("tarball", folder) if folder.exists() else ("deb", Path("/srv"))
-    root(f"cd /srv/source && TMPDIR=/var/tmp packaging/package {kind} /srv/program {place}")
-    if kind == "deb":
-        root("apt-get -qy install /srv/mbox2maildir_*.deb")
+    if folder.exists():
+        root(f"cd {folder}\ncp /srv/release/*-linux-* .\n{REFERENCE.block('dpkg-deb -x libc6_')}")
     else:
-        root(f"cd {folder}\n{REFERENCE.block('dpkg-deb -x libc6_')}")
+        root("apt-get -qy install /srv/release/mbox2maildir_*.deb")
 
 
 def reasons(said: str) -> dict[str, int]:

@@ -11,8 +11,8 @@ from tests.support.checks import TOP, program
 # where roots are kept: to make one takes some minutes
 ROOTS = Path(os.environ.get("ROOTS", "/var/tmp/mbox2maildir-roots"))
 MIRROR = "http://deb.debian.org/debian"
-# what makes the package, and what each machine has
-TOOLS = ["build-essential", "debhelper", "iproute2", "procps", "python3", "sse4.2-support"]
+# what each machine has
+TOOLS = ["iproute2", "procps", "python3", "sse4.2-support"]
 SERVERS = ["dovecot-imapd", "dovecot-lmtpd", "dovecot-pop3d", "procmail"]
 # a suite whose glibc is too old, the one from which the pages take another, and where that package is
 OLD_GLIBC = {"bullseye": "bookworm"}
@@ -22,11 +22,11 @@ postfix postfix/main_mailer_type select Local only
 postfix postfix/mailname string host.example
 man-db man-db/auto-update boolean false
 """
-# the machine's own folder, its root, the sources and the program come before the command; what changes is in memory,
+# the machine's own folder, its root, the sources and the release come before the command; what changes is in memory,
 # and so is /tmp, which is small
 ENTER = """\
 set -eu
-own=$1 root=$2 top=$3 program=$4
+own=$1 root=$2 top=$3 release=$4
 shift 4
 mount --make-rprivate /
 mount -t tmpfs tmpfs "$own"
@@ -40,7 +40,7 @@ mount -t tmpfs -o mode=1777,size=1m tmpfs tmp
 mkdir srv/source
 mount --bind "$top" srv/source
 mount -o remount,bind,ro srv/source
-cp "$program" srv/program
+cp -r "$release" srv/release
 hostname host.example
 ip link set lo up
 exec chroot . "$@"
@@ -85,9 +85,11 @@ class Root(NamedTuple):
         """Runs a command in the root, in the folder of the sources, and returns its status. Nothing of what it changes
         is kept, and what it started ends with it."""
         spaces = ["unshare", "--mount", "--pid", "--net", "--uts", "--ipc", "--fork", "--kill-child"]
-        with tempfile.TemporaryDirectory() as own:
+        with tempfile.TemporaryDirectory() as own, tempfile.TemporaryDirectory() as release:
+            # one package is for each suite
+            subprocess.run([TOP / "packaging/release", program(), release, "deb", "tarball"], check=True)
             inside = [*ENVIRONMENT, "sh", "-c", 'cd /srv/source && exec "$@"', "sh", *words]
-            enter = [*spaces, "sh", "-c", ENTER, "sh", own, str(self.path), str(TOP), str(program())]
+            enter = [*spaces, "sh", "-c", ENTER, "sh", own, str(self.path), str(TOP), release]
             return subprocess.call([*enter, *inside], stdin=subprocess.DEVNULL, stderr=subprocess.STDOUT)
 
 
