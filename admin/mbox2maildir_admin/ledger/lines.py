@@ -27,8 +27,10 @@ NAME = pattern(rb"[!-~]+\Z")
 # what the first line of a ledger begins with: the number stands for the form of its lines
 BEGINS = b"mbox2maildir\t3\t"
 HEAD = pattern(BEGINS + rb"([0-9a-f]{32})\Z")
-# the beginning of a ledger of another version, perhaps behind lines that were cut
-OF_ANOTHER = pattern(rb"(?:.*\t\n)*(?!%s)mbox2maildir\t.*[^\t\n]\n" % BEGINS)
+# what a list of what is prepared begins with
+FIRST_LINE = b"mbox2maildir-prepared\t1"
+# the beginning of a ledger or a list of another version, perhaps behind lines that were cut
+OF_ANOTHER = pattern(rb"(?:.*\t\n)*(?!%s|%s\n)mbox2maildir(?:-prepared)?\t.*[^\t\n]\n" % (BEGINS, FIRST_LINE))
 BY_ANOTHER = (
     "%s: this version did not write it: finish with the version that did, or move this file away and run migrate with "
     "--again"
@@ -249,7 +251,7 @@ def texts_in(folder: bytes, name: bytes = LEDGER) -> Iterator[bytes]:
         raise PlaceFault("%s: %s" % (named(path), error.strerror), Reason.LEDGER) from error
     with file:
         want_trusted(path, os.fstat(file.fileno()))
-        if name == LEDGER and OF_ANOTHER.match(file.peek(PIECE)):
+        if OF_ANOTHER.match(file.peek(PIECE)):
             raise PlaceFault(BY_ANOTHER % named(path), Reason.LEDGER)
         for lines in iter(lambda: file.readlines(PIECE), []):
             yield b"".join(lines[:-1] if not lines[-1].endswith(b"\n") else lines)

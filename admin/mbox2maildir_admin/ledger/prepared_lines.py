@@ -10,9 +10,8 @@ from ..looks import is_there
 from ..maildir.making import PREPARED, sync_folder
 from ..mbox.bases import before_info
 from ..patterns import pattern
-from .lines import append, lines_in
+from .lines import FIRST_LINE, append, lines_in
 
-FIRST_LINE = b"mbox2maildir-prepared\t1"
 BEGUN = pattern(
     rb"@\t(\d{1,18})-([0-9a-f]{64})\t(\d{1,20}(?:,\d{1,20})*)\t(\d{1,18})\t([!-~][ -~]*)\t([^\t]*)\t([^\t]+)\Z"
 )
