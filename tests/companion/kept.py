@@ -1,12 +1,11 @@
 #!/usr/bin/env -S python3 -B
-"""What a later version has to keep. The folder `kept` was written by one: Maildirs with their books, mailboxes, what was
-printed of these with `--json`, and the words that scripts use. Each case goes on in a copy, as in a restored backup: the
-files have other inodes and times, and only the paths in the books are made those of the copy. With `--make`, this
-version writes the folder anew."""
+"""What later versions keep. One version wrote the folder `kept`: Maildirs with their books, mailboxes, what `--json`
+printed of them, and the words that scripts use. Most cases go on in a copy, as in a restored backup: its files have
+other inodes and times, and only the paths in the books are those of the copy. With `--make`, this version writes the
+folder anew."""
 import json
 import re
 import shutil
-import subprocess
 import sys
 from collections.abc import Callable, Iterator
 from contextlib import contextmanager
@@ -27,11 +26,10 @@ from tests.support.homes import (
     mailbox,
     restore,
     run,
-    subjects,
 )
 from tests.support.ledgers import LEDGER, RECORD
 from tests.support.mail import A, ONE, THREE, TWO
-from tests.support.running import Row, Run
+from tests.support.running import Desk, Row, Run
 from tests.support.schema import SCHEMA
 from tests.support.stories import LIST
 
@@ -42,6 +40,8 @@ HOME = "/home-of-the-folder" * 5
 FOUR, FIVE, SIX = (ONE.replace(b"one", word) for word in (b"four", b"five", b"six"))
 # a message in which a line looks like the start of another one
 PATCH = A + b"\nhello\nFrom the first of May we are here.\n\n"
+# what a killed `back` was going to append
+BACK = "mbox2maildir-back"
 # what is another one in each run, and what is told in sentences or is a command
 FREE = {"seconds", "last_pass_seconds", "host", "version", "says", "argv"}
 
@@ -100,17 +100,16 @@ def home_as_long() -> Iterator[Path]:
 
 
 def take_out(home: Path, path: str = "") -> None:
-    """Copies the folder to a home, in whose books this path, or else its own, is that of the home. git keeps no empty
-    folders, and no modes."""
+    """Copies the folder to a home, whose books name this path, or else that of the home. git keeps no empty folders,
+    and no modes."""
     shutil.copytree(PLACE, home, dirs_exist_ok=True)
-    for book in home.rglob("mbox2maildir-*"):
-        if book.is_file() and book.parent.name != "bin":
-            book.write_bytes(book.read_bytes().replace(HOME.encode(), (path or str(home)).encode()))
-            book.chmod(0o600)
-            for sub in ("new", "cur", "tmp"):
-                (book.parent / sub).mkdir(exist_ok=True)
-            for folder in (book.parent, *(book.parent.glob("*/"))):
-                folder.chmod(0o700)
+    for kept in PLACE.rglob("mbox2maildir-*"):
+        book = home / kept.relative_to(PLACE)
+        book.write_bytes(kept.read_bytes().replace(HOME.encode(), (path or str(home)).encode()))
+        book.chmod(0o600)
+        for sub in ("new", "cur", "tmp"):
+            (book.parent / sub).mkdir(exist_ok=True)
+        book.parent.chmod(0o700)
 
 
 def make() -> None:
@@ -123,10 +122,10 @@ def make() -> None:
         for path in [path for path in PLACE.rglob("*") if path.is_file()]:
             path.write_bytes(path.read_bytes().replace(str(home).encode(), HOME.encode()))
         SAID.write_text("".join(lines).replace(str(home), HOME), encoding="utf-8")
-    WORDS.write_text("".join(f"{line}\n" for line in words()), encoding="utf-8")
+    WORDS.write_text("".join(f"{line}\n" for line in words_kept()), encoding="utf-8")
 
 
-def words() -> Iterator[str]:
+def words_kept() -> Iterator[str]:
     """What scripts use, each in a line: commands and options, statuses, the words of --as, and fields with their
     types."""
     yield from (f"mbox2maildir {one}" for one in re.findall(r"(?m)^\.Cm (\w+)$", section_of(MANUAL, "SYNOPSIS")))
@@ -144,8 +143,7 @@ def words() -> Iterator[str]:
 
 def helped(*words: str) -> str:
     """What the companion prints as help."""
-    command = [TOP / "admin/mbox2maildir-admin", *words, "--help"]
-    return subprocess.run(command, check=True, stdout=subprocess.PIPE, text=True).stdout
+    return Desk(TOP, TOP / "admin").run([*words, "--help"]).out
 
 
 def section_of(page: Path, name: str) -> str:
@@ -204,7 +202,7 @@ ANSWERED, INBOX = "Answered/one Answered/two", "four one two"
 
 def same_words() -> None:
     """Each word, option, status and field is still there. A later version may have more."""
-    kept, now = text_of(WORDS).splitlines(), set(words())
+    kept, now = text_of(WORDS).splitlines(), set(words_kept())
     equal("what is gone", [line for line in kept if line not in now], [])
 
 
@@ -295,6 +293,16 @@ def of_a_higher_number(home: Path) -> None:
         book.write_bytes(text)
 
 
+def torn_by_a_later_version(home: Path) -> None:
+    """What a later version was going to append when it was killed stays, and nothing else goes back."""
+    deliver(home / "M", FIVE, 2)
+    box, beside = home / "box", mailbox(home / f"M/{BACK}", FIVE + b"0\nmbox2maildir-back 2\tother\tfields\n")
+    before = box.read_bytes(), beside.read_bytes()
+    ran = run("back --now M box", home)
+    equal(ran.output, (ran.status, ran.output.count(f"M/{BACK}: this version did not write it: ")), (1, 1))
+    equal("nothing is written", (box.read_bytes(), beside.read_bytes()), before)
+
+
 def at_another_place(home: Path) -> None:
     """The books name a place that is gone. What has not changed since is done."""
     equal("mailboxes", fates("migrate --now M box other", home), "done before, done before")
@@ -308,7 +316,7 @@ def taken_out(check: Callable[[Path], None], path: str = "") -> None:
         check(home)
 
 
-CASES = [done_before, grown, answered, begun, undone, back, last_pass, of_a_higher_number]
+CASES = [done_before, grown, answered, begun, undone, back, last_pass, of_a_higher_number, torn_by_a_later_version]
 
 if __name__ == "__main__":
     if sys.argv[1:] == ["--make"]:

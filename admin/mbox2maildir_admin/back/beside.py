@@ -23,6 +23,7 @@ from ..terminal import named, spelled
 from ..units import Line, Offset
 
 NO_FILE = "%s is not a regular file: remove it, and run this again"
+BY_ANOTHER = "%s: this version did not write it: run back again with the version that did"
 CHANGED = "another program writes to it: stop that program, and run this again"
 NOT_CUT = "no room is left on its disk, not even to cut off what was appended in part: make room, and run this again"
 # the ending of its name while it is not whole; and its last line, before which is where each message begins
@@ -32,6 +33,7 @@ FOOT_HERE = re.compile(
     rb"\nmbox2maildir-back 1\t(\d{1,20})\t(\d{1,18})\t([0-9a-f]{64})\t([^\t\n]+)"
     rb"\t(\d{1,18})\t([0-9a-f]{64})\t(\d{1,18})\n\Z"
 )
+FOOT_OF_ANOTHER = re.compile(rb"\nmbox2maildir-back (?!1\t)[^\n]*\n\Z")
 LONGEST_FOOT = 1 << 15
 # what another program writes after a message that was torn, and how many bytes are looked at for that
 OTHER_MAIL, MOST_LOOKED_AT = re.compile(rb"(?:\r?\n)?From "), 1 << 16
@@ -70,7 +72,7 @@ class Beside(NamedTuple):
     @classmethod
     def left_in(cls, folder: bytes) -> Optional["Beside"]:
         """The one that a killed run left in a folder; None if there is none. One without all of its bytes says nothing,
-        and goes. Raises Left if something else has its name."""
+        and goes. Raises Left if something else has its name, or if another version wrote it."""
         path = os.path.join(folder, GOES_BACK)
         try:
             number = open_plain(path, os.O_NOFOLLOW)
@@ -88,7 +90,11 @@ class Beside(NamedTuple):
     def of(cls, path: bytes, number: int) -> Optional["Beside"]:
         """What an open file is, if it is whole."""
         size = os.fstat(number).st_size
-        found = FOOT_HERE.search(os.pread(number, LONGEST_FOOT, max(0, size - LONGEST_FOOT)))
+        foot = os.pread(number, LONGEST_FOOT, max(0, size - LONGEST_FOOT))
+        found = FOOT_HERE.search(foot)
+        if FOOT_OF_ANOTHER.search(foot):
+            os.close(number)
+            raise Left(BY_ANOTHER % named(path), Reason.OTHER)
         if not found:
             return None
         inode, before, digest_before, mailbox, length, digest, more = (one.decode() for one in found.groups())
