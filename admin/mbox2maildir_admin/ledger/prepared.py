@@ -22,13 +22,12 @@ from ..mbox.inventory import NO_DATE, Inventory
 from ..nexts import Remark
 from ..terminal import named
 from ..units import Say, silent
-from .lines import CUT, append, lines_in
+from .lines import CUT, FIRST_LINE, append, lines_in
 from .prepared_lines import (
     BEGUN,
     FAILED,
     FILE,
     FINISHES,
-    FIRST_LINE,
     MADE,
     NEXT_LIST,
     READ_AGAIN,
