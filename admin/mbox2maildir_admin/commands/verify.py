@@ -8,8 +8,8 @@ from collections.abc import Iterator
 from itertools import islice
 
 from ..faults import Status
-from ..labels.checks import checks_of
 from ..labels.noted import Noted, noted_of
+from ..labels.parts import checks_of
 from ..maildir.checking import Check, State
 from ..maildir.either import Either
 from ..maildir.files import paths_of

@@ -1,17 +1,23 @@
-"""The labels in the header of a message of a Takeout."""
+"""The labels in the headers of messages of a Takeout, and what is said of one that is migrated without its labels."""
+import collections
 import re
-from collections.abc import Iterator
+from collections.abc import Iterable, Iterator
 from typing import Optional
 
 from ..flags.clients import labels_in
+from ..flags.gmail import Own, own_names
 from ..mbox.fields import VALUE, Header
 from ..mbox.inventory import Inventory
 from ..mbox.mailbox import Mailbox
+from ..nexts import Remark
 from ..units import Place
 
 # Google writes both fields before those that were sent; what a sender writes comes after them
 THREAD, LABELS = rb"X-GM-THRID" + VALUE, rb"X-Gmail-Labels" + VALUE
 FIRST = re.compile(rb"(?:%s\n%s|%s\n%s)(?:\n|\Z)" % (THREAD, LABELS, LABELS, THREAD), re.I)
+# Gmail's folders that nobody looks for in INBOX
+SAID = {Own.JUNK: "Spam", Own.TRASH: "Trash", Own.SENT: "Sent", Own.DRAFTS: "Drafts"}
+SAYS = "labelled %s: with --labels, labels become folders"
 
 
 def field_of(header: bytes) -> Optional[bytes]:
@@ -20,13 +26,22 @@ def field_of(header: bytes) -> Optional[bytes]:
     return (found[3] if found[2] is None else found[2]) if found else None
 
 
-def labels_of(header: bytes) -> Optional[list[str]]:
-    """The labels of a message, each once; None if they cannot be read."""
-    labels = labels_in((field_of(header) or b"").decode("latin-1"))
-    return None if labels is None else list(dict.fromkeys(filter(None, labels)))
+def labels_of(field: bytes) -> Optional[tuple[str, ...]]:
+    """The labels that are the value of a field, each once; None if they cannot be read."""
+    labels = labels_in(field.decode("latin-1"))
+    return None if labels is None else tuple(dict.fromkeys(filter(None, labels)))
 
 
 def headers_in(mailbox: Mailbox, inventory: Inventory) -> Iterator[bytes]:
     """The headers of the messages of a text."""
     for place in map(Place, range(len(inventory))):
         yield Header.at(mailbox, inventory.offset(place)).text
+
+
+def remarks_on_labels(headers: Iterable[bytes]) -> list[Remark]:
+    """How many of some messages have labels of Gmail's folders that are not INBOX."""
+    several = [set(labels_of(field_of(header) or b"") or ()) for header in headers]
+    own = own_names(label for labels in several for label in labels)
+    roles = collections.Counter(role for labels in several for role in {own.get(label) for label in labels})
+    counts = ["%s %d" % (name, roles[role]) for role, name in SAID.items() if roles[role]]
+    return [Remark("labelled", SAYS % ", ".join(counts))] if counts else []

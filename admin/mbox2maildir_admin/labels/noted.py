@@ -1,5 +1,6 @@
 """What the record notes of a mailbox that goes into the folders of its labels: what was said about labels, and which
 folders these are. It is noted before the first message is placed, and that it is undone after the last one is gone."""
+import itertools
 import os
 from typing import NamedTuple, Optional
 
@@ -43,21 +44,13 @@ def quoted(name: bytes) -> str:
     return quote(name, safe="")
 
 
-def line_at(record: History, path: bytes) -> Optional[Entry]:
-    """The line about the mailbox of a path that names the folders of its labels; None if it went into none."""
-    lines = record.labelled()
-    found = next((lines[name] for name in names_of(path) if name in lines), None) if lines else None
-    return found if found and found.plan != NOTHING else None
-
-
 def line_of(record: History, mailbox: Mailbox) -> Optional[Entry]:
-    """The same for an open mailbox, which may have been moved."""
-    found = line_at(record, mailbox.path)
-    gone = [one for one in record.labelled().values() if one.key.size == mailbox.size and one.plan != NOTHING]
-    for line in [] if found else gone:
-        if line.key[1:] == mailbox.key() and is_gone(line.path):
-            return line
-    return found
+    """The line about an open mailbox, which may have been moved, that names the folders of its labels; None if it went
+    into none."""
+    lines = {path: line for path, line in record.labelled().items() if line.plan != NOTHING}
+    here = (lines[name] for name in (names_of(mailbox.path) if lines else ()) if name in lines)
+    gone = (one for one in lines.values() if one.key.size == mailbox.size and one.key[1:] == mailbox.key())
+    return next(itertools.chain(here, (one for one in gone if is_gone(one.path))), None)
 
 
 def note(record: Record, mailbox: Mailbox, noted: Noted, messages: int) -> None:

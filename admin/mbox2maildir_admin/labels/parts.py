@@ -1,14 +1,22 @@
-"""A text of those messages of another one that go into one folder."""
+"""A text of those messages of a Takeout that go into one folder, and whether each of them is there."""
 import array
 import contextlib
 import hashlib
-from collections.abc import Iterator, Sequence
+from collections.abc import Callable, Iterator, Sequence
 
 from ..faults import Fault, Reason
+from ..maildir.checking import Check
+from ..maildir.folders import folder_path
 from ..mbox.inventory import Inventory
-from ..readings.texts import Text
+from ..readings.texts import ReadingOf, Text, disk_of, open_text
 from ..readings.unnamed import copy_of_some
-from ..units import Offset, Place
+from ..units import Offset, Place, Say
+from .fields import headers_in
+from .noted import Noted
+from .sorting import Sorting
+
+# what a look into a folder shows of the messages of a text, and how many of them are there without fields
+Looking = Callable[[bytes, Text, Say], tuple[Check, int]]
 
 
 @contextlib.contextmanager
@@ -29,3 +37,18 @@ def want_same(part: Inventory, inventory: Inventory, places: Sequence[int]) -> N
 def word_of(places: Sequence[int]) -> str:
     """The word for the messages at these places, which go into a folder."""
     return hashlib.sha256(array.array("Q", places).tobytes()).hexdigest()[:32]
+
+
+def checks_of(
+    maildir: bytes, file: bytes, noted: Noted, recorded: ReadingOf, look: Looking, say: Say
+) -> Iterator[tuple[bytes, Check, int]]:
+    """Looks into each folder of a Takeout, which is read as it was when it was recorded, and gives what was found."""
+    with open_text(file, maildir, say, recorded) as text:
+        inventory = text.messages(with_cores=False)
+        found = Sorting(headers_in(text.mailbox, inventory), noted.choosing).sorted()
+        for folder, places in found.places.items():
+            with part_of(text, inventory, places, disk_of(maildir)) as part:
+                check, bare = look(folder_path(maildir, folder), part, say)
+            # it was decided then that no mail is in its From_ lines
+            check.doubts = ()
+            yield folder, check, bare

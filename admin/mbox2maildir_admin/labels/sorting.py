@@ -1,6 +1,7 @@
 """Which folders each message of a Takeout goes into, by its labels."""
 import array
 import collections
+import functools
 from collections.abc import Iterable, Mapping, Sequence
 from typing import NamedTuple
 
@@ -33,17 +34,12 @@ class LabelsLeft(Left):
 
 
 class Sorted(NamedTuple):
-    """The places of the messages that each folder gets, by its name on the disk; the labels that give it; and the flags
-    of all messages."""
+    """The places of the messages that each folder gets, by its name on the disk; the labels of different names, if they
+    give one folder; and the flags of all messages."""
 
     places: Mapping[bytes, Places]
     labels: Mapping[bytes, Sequence[str]]
     kept: Kept
-
-    def alike(self, folder: bytes) -> Sequence[str]:
-        """Labels of different names that give one folder; none if only one gives it."""
-        labels = self.labels.get(folder, ())
-        return labels if len(labels) > 1 else ()
 
 
 class Sorting:
@@ -53,23 +49,20 @@ class Sorting:
         """Takes the headers of the messages. Raises LabelsLeft if one has no labels, or if they cannot be read."""
         self.choosing = choosing
         self.messages: list[tuple[str, ...]] = []
-        # how many messages have each label, and the number of the first one that has it
+        # how many messages have each label
         self.counts: collections.Counter[str] = collections.Counter()
-        self.first: dict[str, int] = {}
         known: dict[bytes, tuple[str, ...]] = {}
         for number, header in enumerate(headers, 1):
             field = field_of(header)
             if field is None:
                 raise LabelsLeft(NO_LABELS % number)
             if field not in known:
-                labels = labels_of(header)
+                labels = labels_of(field)
                 if labels is None:
                     raise LabelsLeft(UNREADABLE % number)
-                known[field] = tuple(labels)
+                known[field] = labels
             self.messages.append(known[field])
             self.counts.update(known[field])
-            for label in known[field]:
-                self.first.setdefault(label, number)
         # what the labels stand for that make no folders of their names: what was said of them comes first
         said = {label: gives for label, gives in choosing.given if gives != FOLDER}
         own = {**own_names(self.counts), **{label: Own(gives) for label, gives in said.items()}}
@@ -82,17 +75,14 @@ class Sorting:
             why = why_no_label(label)
             if why:
                 says = self.choosing.with_given((label, NONE)), Does.LABEL_NONE
-                raise LabelsLeft(NO_FOLDER % (self.first[label], named(label), why), says)
+                first = next(number for number, labels in enumerate(self.messages, 1) if label in labels)
+                raise LabelsLeft(NO_FOLDER % (first, named(label), why), says)
         half = len(self.messages) / 2
         asked = [label for label in users if self.counts[label] > half and not self.choosing.gives(label)]
         if asked:
-            answers = [
-                (self.choosing.with_given(*((label, gives) for label in asked)), does)
-                for gives, does in ((NONE, Does.LABEL_NONE), (FOLDER, Does.LABEL_FOLDER))
-            ]
-            for read in asked:
-                given = ((label, READ if label == read else NONE) for label in asked)
-                answers.append((self.choosing.with_given(*given), Does.LABEL_READ))
+            ways = [(dict.fromkeys(asked, NONE), Does.LABEL_NONE), (dict.fromkeys(asked, FOLDER), Does.LABEL_FOLDER)]
+            ways += [({**dict.fromkeys(asked, NONE), read: READ}, Does.LABEL_READ) for read in asked]
+            answers = [(self.choosing.with_given(*given.items()), does) for given, does in ways]
             names = "the labels %s" if len(asked) > 1 else "the label %s"
             counts = " and ".join(str(self.counts[label]) for label in asked)
             its = names % " and ".join(map(named, asked)), counts, len(self.messages)
@@ -103,11 +93,10 @@ class Sorting:
         self.want_decided()
         places: dict[bytes, "array.array[int]"] = collections.defaultdict(lambda: array.array("Q"))
         labels: collections.defaultdict[bytes, dict[str, None]] = collections.defaultdict(dict)
-        known: dict[tuple[str, ...], dict[bytes, list[str]]] = {}
+        # most messages have the labels of others
+        folders_of = functools.lru_cache(maxsize=None)(self.folders_of)
         for place, its in enumerate(self.messages):
-            if its not in known:
-                known[its] = self.folders_of(its)
-            for folder, names in known[its].items():
+            for folder, names in folders_of(its).items():
                 places[folder].append(place)
                 labels[folder].update(dict.fromkeys(names))
         if len(places) > MOST and self.choosing.word == SOME:
@@ -115,10 +104,10 @@ class Sorting:
             raise LabelsLeft(TOO_MANY % len(places), *says)
         order = sorted(places, key=lambda folder: (folder != INBOX, folder))
         kept = Kept(GMAIL, *letters_by(self.messages, self.roles))
-        its_labels = {one: list(its) for one, its in labels.items()}
-        return Sorted({folder: places[folder] for folder in order}, its_labels, kept)
+        alike = {folder: list(its) for folder, its in labels.items() if len(its) > 1}
+        return Sorted({folder: places[folder] for folder in order}, alike, kept)
 
-    def folders_of(self, labels: Sequence[str]) -> dict[bytes, list[str]]:
+    def folders_of(self, labels: tuple[str, ...]) -> dict[bytes, list[str]]:
         """The folders of a message with these labels, and the labels that give each. Names of one meaning, such as
         `Draft` and `Drafts`, count as one label."""
         users = [label for label in labels if label not in self.roles]

@@ -56,6 +56,8 @@ class Match:
         # the places that the mailbox did not have before, and how often it no longer has a core
         self.new: Sequence[int] = range(len(inventory))
         self.lost: collections.Counter[bytes] = collections.Counter()
+        # of these, what only left the folder of a label, and is in the Takeout all the same
+        self.unlabelled: collections.Counter[bytes] = collections.Counter()
         # by place: 1 if a run that was killed has placed the message under its base
         self.mine = bytearray(len(inventory))
         # what stands for other new messages, by their places, and those of them that such a run has placed; the places
@@ -296,6 +298,10 @@ class Match:
             lines = [one for one in self.lines.get(core, ()) if one.path == self.path and one.state is State.HELD]
             held = sorted((one.message for one in lines), key=lambda one: (one.bare in forms, one.name in self.present))
             self.dropped += held[:count]
+
+    def count_gone(self) -> int:
+        """How many messages the mailbox no longer has that it brought."""
+        return sum(self.lost.values()) - sum(self.unlabelled.values())
 
     def count_new(self) -> int:
         """How many messages the mailbox did not have before."""

@@ -51,6 +51,11 @@ class Migration:
         self.verified: collections.defaultdict[bytes, set[int]] = collections.defaultdict(set)
         self.kept: Optional[Ledger] = None
 
+    @property
+    def disk(self) -> bytes:
+        """A folder on the disk where copies are made."""
+        return disk_of(self.root, self.how.dry)
+
     def work_for(self, work: "Work") -> None:
         """Makes this the migration of a worker. Its parent writes the record, and knows the space that all workers
         need."""
@@ -91,7 +96,7 @@ class Migration:
         """A mailbox that is open and locked or, while people use it, a copy of it."""
         if not self.how.prepare:
             return open_mailbox(path, say=say, follow=follow, quiet=quiet)
-        disk = disk_of(self.root, self.how.dry)
+        disk = self.disk
 
         def make(size: int) -> IO[bytes]:
             self.want_room(Need.of(disk, [], size))
@@ -103,7 +108,7 @@ class Migration:
         """The row of a mailbox that is left for this reason, unless it is no mbox text. What may be asked about one is
         asked once this reason is gone."""
         mailbox = opened.mailbox
-        with contextlib.suppress(Question), choice_of(mailbox, disk_of(self.root, self.how.dry), read_begun):
+        with contextlib.suppress(Question), choice_of(mailbox, self.disk, read_begun):
             pass
         return row_left(mailbox.path, b"", why, None, mailbox.size)
 

@@ -21,6 +21,7 @@ from .steps import Bringing
 # the words for messages that no mailbox brought, and for those that a mailbox no longer has, with what is said of them
 THERE, NO_LONGER = "there-already", "lost"
 GONE = "%s gone from it that it had brought"
+UNLABELLED = "the label was taken from %s; the mail stays here"
 
 
 def remarks_on(one: Bringing, match: Match, ledger: Ledger, dry: bool) -> Iterator[Remark]:
@@ -70,7 +71,9 @@ def remarks_on_new(match: Match) -> Iterator[Remark]:
 def remarks_on_lost(match: Match) -> Iterator[Remark]:
     """What is to be said of messages that the mailbox no longer has, and that it brought, also in runs that were
     killed."""
-    lost = sum(match.lost.values()) + left_by_killed(match)
+    unlabelled, lost = sum(match.unlabelled.values()), match.count_gone() + left_by_killed(match)
+    if unlabelled:
+        yield Remark("unlabelled", UNLABELLED % counted(unlabelled, "message"))
     if lost:
         yield Remark(NO_LONGER, GONE % counted(lost, "message"))
 

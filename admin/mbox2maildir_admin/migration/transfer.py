@@ -11,7 +11,6 @@ from collections.abc import Callable, Iterator
 from typing import Any, Optional
 
 from ..faults import Fault, Left, Reason
-from ..kinds.look import Look, Read
 from ..ledger.files import hides_none
 from ..ledger.gone import BACK, back_in, gone_before, gone_from, unexplained
 from ..ledger.history import Note
@@ -30,7 +29,7 @@ from ..nexts import NOTHING, Answer, Does, Next, Remark
 from ..progress import Spent
 from ..readings.plans import Plan, Question
 from ..readings.reading import UNDECIDED
-from ..readings.texts import AtOnce, Choice, choice_of, disk_of, read_messages
+from ..readings.texts import Choice, choice_at_once, disk_of, read_messages
 from ..units import counted
 from .answers import (
     AS_ANSWERED,
@@ -173,15 +172,12 @@ class Transfer:
         if self.same:
             yield self.same.choice
             return
-        at_once, is_bare, decision = AtOnce(self.program), self.how.extra.IS_BARE, self.how.decision
+        mailbox, is_bare, decision = self.opened.mailbox, self.how.extra.IS_BARE, self.how.decision
         if decision == UNDECIDED:
             decision = noted_last(self.record, self.opened)
-        read: Read = at_once.read
-        if is_bare or decision.word:
-            read = Look.read
-        with choice_of(self.opened.mailbox, self.disk, read, decision) as choice:
+        with choice_at_once(self.program, mailbox, self.disk, decision, is_bare) as choice:
             self.remarks += [AS_ANSWERED] * (decision.noted and choice.plan.answer is not None)
-            yield choice._replace(plan=choice.plan.bared(is_bare), known=at_once.known)
+            yield choice
 
     def bring(self, choice: Choice) -> Outcome:
         """Brings what is new, once it is chosen which text stands for the mailbox."""
@@ -342,7 +338,7 @@ class Transfer:
         if strangers:
             rest = self.matched_again(self.ledger, contents)
             raise self.left_to_store(PARTLY_THERE % len(strangers), Reason.PARTLY_THERE, contents, rest)
-        source, lost = self.ledger.sources.get(self.path), sum(match.lost.values())
+        source, lost = self.ledger.sources.get(self.path), match.count_gone()
         is_much = source is not None and lost > max(FEW, source.count() // TENTH)
         if is_much and match.count_new() >= lost:
             raise Left(EDITED % counted(lost, "message"), Reason.REWRITTEN, self.command(Does.STORES, again=True))

@@ -243,6 +243,19 @@ def choice_of(
         yield Choice(text, plan, form is not None)
 
 
+@contextlib.contextmanager
+def choice_at_once(
+    program: Program, mailbox: Mailbox, folder: bytes, decision: Reading, is_bare: bool = False
+) -> Iterator[Choice]:
+    """The same, with the messages if they can be read in the pass in which the text is looked at."""
+    at_once = AtOnce(program)
+    read: Read = at_once.read
+    if is_bare or decision.word:
+        read = Look.read
+    with choice_of(mailbox, folder, read, decision) as choice:
+        yield choice._replace(plan=choice.plan.bared(is_bare), known=at_once.known)
+
+
 def plan_of_packed(text: Mailbox, form: Form, read: Read, decision: Reading) -> Plan:
     """The plan of what a mailbox holds. It is looked at like a file."""
     try:

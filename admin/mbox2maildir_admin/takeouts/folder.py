@@ -18,8 +18,7 @@ from ..maildir.space import Need
 from ..mbox.inventory import Inventory
 from ..migration.converting import Conversion
 from ..migration.known import Elsewhere, Known
-from ..migration.outcomes import Outcome, Row
-from ..migration.remarks import GONE, NO_LONGER
+from ..migration.outcomes import Row
 from ..migration.steps import Bringing, Contents, Extra, Opened, Options
 from ..migration.transfer import Transfer
 from ..nexts import NOTHING, Next, Remark
@@ -27,9 +26,6 @@ from ..readings.plans import Plan
 from ..readings.reading import Reading
 from ..readings.texts import Choice, Text, read_messages
 from ..terminal import named
-from ..units import counted
-
-UNLABELLED = "the label was taken from %s; the mail stays here"
 
 
 class OfLabels(Extra):
@@ -96,11 +92,9 @@ class FolderTransfer(Transfer):
         reading = source.choice.plan.reading._replace(part=word_of(self.places))
         self.plan = source.choice.plan._replace(messages=len(self.places), reading=reading)
         self.known = KnownPart(self.record, ledger, opened, reading.part)
-        labels = list(map(named, source.sorted.alike(opened.name)))
+        labels = source.sorted.labels.get(opened.name)
         if labels:
-            self.remarks.append(Remark("same-folder", "its labels are %s" % " and ".join(labels)))
-        # how many messages of this folder have lost its label, and how many are gone from the Takeout
-        self.unlabelled = self.gone = 0
+            self.remarks.append(Remark("same-folder", "its labels are %s" % " and ".join(map(named, labels))))
 
     @contextlib.contextmanager
     def choice(self) -> Iterator[Choice]:
@@ -117,33 +111,11 @@ class FolderTransfer(Transfer):
             want_same(inventory, source.inventory, self.places)
             yield Contents(text.mailbox, text.start, inventory, choice.plan.reading, text)
 
-    def want_sure(self, contents: Contents, match: Match) -> None:
-        """Raises Left if nobody knows what the files of the folder are, or whether it is the same Takeout. What has
-        lost its label is not gone."""
-        lost = match.lost
-        match.lost = lost - self.source.cores
-        self.gone = sum(match.lost.values())
-        self.unlabelled = sum(lost.values()) - self.gone
-        try:
-            super().want_sure(contents, match)
-        finally:
-            match.lost = lost
-
-    def run(self) -> Outcome:
-        """Does what is left to do, and returns what became of the folder."""
-        ended = super().run()
-        remarks = tuple(self.remarks_of(ended.row)) if self.unlabelled else ended.row.remarks
-        return ended._replace(row=ended.row._replace(remarks=remarks))
-
-    def remarks_of(self, row: Row) -> Iterator[Remark]:
-        """What is to be said of the folder. What has lost its label is not gone."""
-        for remark in row.remarks:
-            if remark.word != NO_LONGER:
-                yield remark
-                continue
-            yield Remark("unlabelled", UNLABELLED % counted(self.unlabelled, "message"))
-            if self.gone:
-                yield Remark(NO_LONGER, GONE % counted(self.gone, "message"))
+    def matched(self, contents: Contents) -> Match:
+        """The messages of the folder. What has lost its label is not gone."""
+        match = super().matched(contents)
+        match.unlabelled = match.lost & self.source.cores
+        return match
 
     def row(self, plan: Plan, then: Next = NOTHING) -> Row:
         """The row of the folder, with the size of its messages."""

@@ -3,10 +3,9 @@ import contextlib
 import functools
 import os
 from collections.abc import Iterator, Sequence
-from typing import Optional
+from typing import Any, Optional
 
 from ..faults import Fault, Left, Reason
-from ..kinds.look import Look, Read
 from ..labels.choosing import ONE, Choosing
 from ..labels.fields import headers_in
 from ..labels.noted import Noted, line_of, note
@@ -22,18 +21,16 @@ from ..maildir.space import Need
 from ..maildir.syncing import Syncs
 from ..mbox.locks import open_mailbox
 from ..migration.answers import answer_to
-from ..migration.converting import settled
 from ..migration.mailbox import Migration
 from ..migration.outcomes import Fate, Observer, Outcome, Row, row_left, seen
 from ..migration.preparing import is_prepared
-from ..migration.several import refuse
+from ..migration.several import Several, refuse
 from ..migration.steps import Opened, Options
 from ..nexts import Answer
 from ..program import Program, find_program
-from ..progress import Beat
 from ..readings.plans import NoMail, OtherKind, Question
 from ..readings.reading import UNDECIDED
-from ..readings.texts import AtOnce, Choice, choice_of, disk_of, read_messages
+from ..readings.texts import Choice, choice_at_once, read_messages
 from ..terminal import named
 from .folder import FolderTransfer, Source
 
@@ -64,17 +61,18 @@ class Takeout:
     def __init__(self, migration: Migration, choosing: Optional[Choosing], observer: Observer) -> None:
         self.migration, self.choosing, self.observer = migration, choosing, observer
         self.how, self.record, self.root = migration.how, migration.record, migration.root
-        self.syncs = Syncs(self.settle)
-
-    @property
-    def disk(self) -> bytes:
-        """A folder on the disk where copies are made."""
-        return disk_of(self.root, self.how.dry)
+        self.syncs = Syncs(Several.settle)
 
     def run(self, path: bytes) -> None:
         """Does what is left to do, and reports what became of each folder, or why the Takeout is left."""
         self.observer.begin()
-        say = Beat(functools.partial(self.progress, named(path)))
+        tell = self.observer.say(path)
+
+        def say(*words: Any) -> None:
+            # others may have waited for long enough meanwhile
+            self.syncs.sync_in_time()
+            tell(*words)
+
         try:
             with open_mailbox(path, say=say, follow=True, quiet=not self.how.now) as mailbox:
                 try:
@@ -87,16 +85,12 @@ class Takeout:
         except (Fault, OSError) as fault:
             self.observer.row(row_left(path, b"", fault))
 
-    def progress(self, who: str, doing: str, place: Optional[int] = None, size: Optional[int] = None) -> None:
-        """Passes on how far it is. Syncs if others have waited for long enough meanwhile."""
-        self.syncs.sync_in_time()
-        self.observer.progress(who, doing, place, size)
-
     def migrate(self, opened: Opened) -> None:
         """Migrates an open Takeout. Raises Fault if it is left."""
         line = line_of(self.record, opened.mailbox)
         self.want_none_prepared(opened)
-        self.want_labelled(opened, line)
+        if not line:
+            self.want_labelled(opened)
         choosing = self.chosen(opened, Noted.of(line) if line else None)
         try:
             with self.chosen_text(opened, line) as choice, self.read(choice, choosing) as source:
@@ -108,11 +102,13 @@ class Takeout:
                 for folder in folders:
                     self.observer.begin(folder != folders[0])
                     ended = self.bring(source, Opened.into(self.root, folder, opened.mailbox))
-                    self.syncs.add(ended.folder, ended)
+                    self.syncs.add(ended.folder, (ended, self.observer.row))
         except LabelsLeft as left:
             command = functools.partial(self.how.command, self.root, opened)
             left.next = tuple(Answer(command(labels=choosing), does) for choosing, does in left.says)
             raise
+        except Question as question:
+            raise self.how.asked(self.root, opened, question) from question
         except OtherKind as other:
             other.put(self.how.where(self.root, opened))
             raise
@@ -127,11 +123,9 @@ class Takeout:
                 undo = how.undo_command(self.root, opened._replace(name=name), path)
                 raise Left(ONLY_PREPARED % named(folder), Reason.PREPARED, (Answer(undo),))
 
-    def want_labelled(self, opened: Opened, line: Optional[Entry]) -> None:
+    def want_labelled(self, opened: Opened) -> None:
         """Raises Left if the mailbox went into one folder before, with the command that undoes that."""
         mailbox = opened.mailbox
-        if line:
-            return
         folders = self.record.folders_of(mailbox.path)
         if not folders and mailbox.size in self.record.sizes:
             lines = self.record.lines_of(*mailbox.key())
@@ -156,31 +150,25 @@ class Takeout:
     def chosen_text(self, opened: Opened, line: Optional[Entry]) -> Iterator[Choice]:
         """Chooses the text that stands for the mailbox, as it is certain, decided, or was answered before. Raises Left
         if a human must decide."""
-        decision = self.how.decision
+        its = self.migration.program, opened.mailbox, self.migration.disk
         with contextlib.ExitStack() as stack:
-            for is_last in (False, True):
-                at_once = AtOnce(self.migration.program)
-                read: Read = at_once.read
-                if decision.word:
-                    read = Look.read
-                try:
-                    choice = stack.enter_context(choice_of(opened.mailbox, self.disk, read, decision))
-                    break
-                except Question as question:
-                    several = (opened._replace(name=name) for name in (Noted.of(line).folders if line else ()))
-                    answers = (answer_to(self.record, one, question) for one in several)
-                    answer = question.by_tie(self.how.answer) or next(filter(None, answers), None)
-                    if is_last or not answer or self.how.decision != UNDECIDED:
-                        raise self.how.asked(self.root, opened, question) from question
-                    decision = answer
-            yield choice._replace(known=at_once.known)
+            try:
+                choice = stack.enter_context(choice_at_once(*its, self.how.decision))
+            except Question as question:
+                several = (opened._replace(name=name) for name in (Noted.of(line).folders if line else ()))
+                answers = (answer_to(self.record, one, question) for one in several)
+                answer = question.by_tie(self.how.answer) or next(filter(None, answers), None)
+                if not answer or self.how.decision != UNDECIDED:
+                    raise
+                choice = stack.enter_context(choice_at_once(*its, answer))
+            yield choice
 
     @contextlib.contextmanager
     def read(self, choice: Choice, choosing: Choosing) -> Iterator[Source]:
         """Reads the text, and sorts its messages by their labels."""
         if choice.plan.is_copied:
-            self.migration.want_room(Need.of(self.disk, [], choice.mailbox.size))
-        with choice.text(self.disk) as text:
+            self.migration.want_room(Need.of(self.migration.disk, [], choice.mailbox.size))
+        with choice.text(self.migration.disk) as text:
             inventory = read_messages(self.migration.program, text, choice)
             if len(inventory) == 0:
                 raise LabelsLeft(NO_MESSAGE)
@@ -206,8 +194,3 @@ class Takeout:
             return self.migration.migrate(opened, functools.partial(FolderTransfer, source))
         except (Fault, OSError) as fault:
             return Outcome(row_left(opened.mailbox.path, opened.name, fault))
-
-    def settle(self, several: Sequence[tuple[Outcome, Optional[OSError]]]) -> None:
-        """Notes what became of folders whose disks were synced, and tells their rows."""
-        for row in settled(several):
-            self.observer.row(row)

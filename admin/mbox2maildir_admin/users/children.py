@@ -28,7 +28,7 @@ STOPPED = getattr(os, "CLD_STOPPED", 5)
 # the modules that a child may need; those of the package load what else it may need of both
 NEEDED = (
     *("concurrent.futures.thread", "csv", "email.header", "encodings.utf_16", "encodings.utf_32", "tempfile"),
-    *("urllib.parse", "..labels.remark", "..migration.workers", "..readings.unpacking"),
+    *("urllib.parse", "..labels.fields", "..migration.workers", "..readings.unpacking"),
 )
 # how many remarks, lines and commands a row may have
 MOST = 64
