@@ -80,6 +80,9 @@ class Beside(NamedTuple):
             return None
         except Fault as fault:
             raise Left(NO_FILE % named(path), Reason.NO_FILE) from fault
+        if FOOT_OF_ANOTHER.search(end_in(number)):
+            os.close(number)
+            raise Left(BY_ANOTHER % named(path), Reason.OTHER)
         found = cls.of(path, number)
         if not found:
             os.close(number)
@@ -89,19 +92,14 @@ class Beside(NamedTuple):
     @classmethod
     def of(cls, path: bytes, number: int) -> Optional["Beside"]:
         """What an open file is, if it is whole."""
-        size = os.fstat(number).st_size
-        foot = os.pread(number, LONGEST_FOOT, max(0, size - LONGEST_FOOT))
-        found = FOOT_HERE.search(foot)
-        if FOOT_OF_ANOTHER.search(foot):
-            os.close(number)
-            raise Left(BY_ANOTHER % named(path), Reason.OTHER)
+        found = FOOT_HERE.search(end_in(number))
         if not found:
             return None
         inode, before, digest_before, mailbox, length, digest, more = (one.decode() for one in found.groups())
         starts = [int(start) for start in os.pread(number, int(more), int(length)).split(b",") if start]
         self = cls(path, number, int(inode), int(before), digest_before, mailbox, int(length), digest, starts)
-        is_whole = size == self.size + int(more) + len(found[0]) and digest_of(number, self.size) == digest
-        return self if is_whole else None
+        has_all = os.fstat(number).st_size == self.size + int(more) + len(found[0])
+        return self if has_all and digest_of(number, self.size) == digest else None
 
     def end_of(self, mailbox: Mailbox) -> End:
         """What follows in a mailbox how it was before."""
@@ -199,6 +197,11 @@ class Beside(NamedTuple):
         """Removes it, whose work is done."""
         os.unlink(self.path)
         sync_folder(os.path.dirname(self.path))
+
+
+def end_in(number: int) -> bytes:
+    """The end of an open file."""
+    return os.pread(number, LONGEST_FOOT, max(0, os.fstat(number).st_size - LONGEST_FOOT))
 
 
 def filled(text: bytes, other: bytes) -> bytes:
