@@ -11,7 +11,8 @@ from ..ledger.ledger import Ledger
 from ..ledger.lines import END_LINE, RETURNED, Brought, Head
 from ..ledger.match import cores_of
 from ..ledger.record import Record
-from ..looks import is_there
+from ..looks import is_file, is_there
+from ..maildir.making import GOES_BACK
 from ..maildir.space import Need, want_room
 from ..mbox.files import Reader
 from ..mbox.inventory import Inventory
@@ -37,6 +38,8 @@ FILE_CHANGED = "%s was changed meanwhile: stop the program that did it, and run 
 MISREAD = "what was appended is not read back as it is, so it was taken back"
 REPLACED = "another file has its place meanwhile: run this again"
 NOT_HELD = "it cannot hold %s, which %s in the Maildir alone: %s"
+# the ending of the name of a draft
+UNFINISHED = b".new"
 # the size and the SHA-256 of no mailbox
 NO_KEY = 0, "0" * 64
 # the row of a mailbox, and the mail that it cannot hold
@@ -68,6 +71,12 @@ class Way(NamedTuple):
         """A folder on the disk where copies are made."""
         return disk_of(self.root, self.how.dry)
 
+    def known(self, target: Target, mailbox: Mailbox) -> tuple[Numbering, Known]:
+        """What an open mailbox says of UIDs from now on, and what is known of it."""
+        opened, name = Opened.into(self.root, target.folder, mailbox), self.places.name_of(target.path, target.folder)
+        numbering = numbering_of(opened, self.record, target, name, self.how)
+        return numbering, Known(self.record, Ledger(opened.folder, dry=self.how.dry), opened)
+
     @contextlib.contextmanager
     def opened(self, path: bytes, say: Say = silent) -> Iterator[Mailbox]:
         """Opens a mailbox, and holds all of its locks."""
@@ -89,37 +98,30 @@ class Way(NamedTuple):
                     raise Left(REPLACED, Reason.CHANGED)
                 yield mailbox
 
-    def numbering(self, target: Target, opened: Opened) -> Numbering:
-        """What an open mailbox says of UIDs."""
-        return numbering_of(opened, self.record, target, self.places.name_of(target.path, target.folder), self.how)
-
-    def known(self, opened: Opened) -> Known:
-        """What is known of an open mailbox."""
-        return Known(self.record, Ledger(opened.folder, dry=self.how.dry), opened)
-
     def append(self, target: Target) -> Returned:
         """Appends to a mailbox what did not come from it. Raises TakesNothing if it takes none."""
         with self.opened(target.path, self.observer.say(target.path)) as mailbox:
-            opened = Opened.into(self.root, target.folder, mailbox)
-            numbering, known = self.numbering(target, opened), self.known(opened)
+            numbering, known = self.known(target, mailbox)
             for style in styles_of(known, self.disk):
                 with contextlib.suppress(NotAsItIs):
                     return Appending(self, target, known, style, numbering).run()
         raise TakesNothing("nothing can be appended to it", Reason.OTHER_KIND)
 
-    def number(self, target: Target) -> Numbering:
-        """Has a mailbox that takes no mail say which UIDs were given. Returns what is to be said of that, and of
-        keywords of what went back before."""
+    def number(self, target: Target) -> Row:
+        """The row of a mailbox that takes no mail, once it says which UIDs were given. It also says what keywords of
+        mail that went back before are to be added."""
+        row = nothing_new(target)
+        if not self.how.dovecot or not is_file(target.path):
+            return row
         with self.opened(target.path, self.observer.say(target.path)) as mailbox:
-            opened = Opened.into(self.root, target.folder, mailbox)
-            numbering = self.numbering(target, opened)
+            numbering, known = self.known(target, mailbox)
             if numbering.is_incomplete:
                 # what cannot be read as it was is said once mail goes back
                 with contextlib.suppress(Left):
-                    for style in itertools.islice(styles_of(self.known(opened), self.disk), 1):
+                    for style in itertools.islice(styles_of(known, self.disk), 1):
                         style.messages(mailbox, look=numbering.take)
                 numbering.end(target.returned, self.how.dry)
-            return numbering
+        return row._replace(remarks=(*numbering.remarks, *row.remarks), next=numbering.next)
 
 
 class Plan(NamedTuple):
@@ -157,7 +159,7 @@ class Appending:
             if dry:
                 draft = Draft(stack.enter_context(unnamed(self.way.disk)).fileno())
             else:
-                draft = stack.enter_context(Draft.in_folder(self.opened.folder))
+                draft = stack.enter_context(Draft.at(os.path.join(self.opened.folder, GOES_BACK + UNFINISHED)))
             plan = self.planned(draft)
             if not dry:
                 self.carry_out(plan, draft)
@@ -165,7 +167,9 @@ class Appending:
         row = self.row(plan)
         if plan.refused and not plan.entries and was_empty:
             # what goes into none of the same form either
-            return left_unheld(row, plan.refused), ()
+            stay = "stays" if len(plan.refused) == 1 else "stay"
+            why = NOT_HELD % (counted(len(plan.refused), "message"), stay, files_of(plan.refused))
+            return row._replace(fate=Fate.LEFT, reason=Reason.NOT_HELD, why=why), ()
         return row, plan.refused
 
     def planned(self, draft: Draft) -> Plan:
@@ -231,7 +235,7 @@ class Appending:
             return
         want_room(Need.of(os.path.dirname(mailbox.path), [], plan.size))
         reads = reading_now(mailbox)
-        beside = draft.finish(mailbox, [one.start for one in plan.entries])
+        beside = Beside.made(draft, self.opened.folder, mailbox, [one.start for one in plan.entries])
         key = self.key_after(beside)
         number = self.begin(plan, key)
         if self.numbering.first:
@@ -291,16 +295,12 @@ class Appending:
         return row._replace(remarks=remarks, next=self.numbering.next, is_back=True)
 
 
+def nothing_new(target: Target) -> Row:
+    """The row of a mailbox to which no mail goes back."""
+    return Row(target.path, target.folder, "", 0, Fate.NOTHING_NEW, remarks=target.remarks, is_back=True)
+
+
 def files_of(mails: Sequence[Mail]) -> str:
     """The files of mail, as a row names them."""
     more = " and %d more" % (len(mails) - NAMED) if mails[NAMED:] else ""
     return ", ".join(named(one.path) for one in mails[:NAMED]) + more
-
-
-def left_unheld(row: Row, refused: Sequence[Mail]) -> Row:
-    """The row of a mailbox that cannot hold some of the mail, which no other one takes."""
-    stay = "stays" if len(refused) == 1 else "stay"
-    why = NOT_HELD % (counted(len(refused), "message"), stay, files_of(refused))
-    return row._replace(
-        fate=Fate.LEFT, reason=row.reason or Reason.NOT_HELD, why="; ".join(filter(None, [row.why, why]))
-    )

@@ -5,14 +5,12 @@ The file gets its name once it is whole and on the disk. So whatever ends a run,
 end of the mailbox are of it, and takes them back, unless anything else has changed there.
 """
 import contextlib
-import enum
 import errno
-import functools
 import hashlib
 import importlib
 import os
 import re
-from collections.abc import Callable, Iterator, Sequence
+from collections.abc import Iterator, Sequence
 from typing import NamedTuple, Optional
 
 from ..faults import Fault, Left, Reason
@@ -26,8 +24,7 @@ NO_FILE = "%s is not a regular file: remove it, and run this again"
 BY_ANOTHER = "%s: this version did not write it: run back again with the version that did"
 CHANGED = "another program writes to it: stop that program, and run this again"
 NOT_CUT = "no room is left on its disk, not even to cut off what was appended in part: make room, and run this again"
-# the ending of its name while it is not whole; and its last line, before which is where each message begins
-UNFINISHED = b".new"
+# its last line, before which is where each message begins
 FOOT = b"\nmbox2maildir-back 1\t%d\t%d\t%s\t%s\t%d\t%s\t%d\n"
 FOOT_HERE = re.compile(
     rb"\nmbox2maildir-back 1\t(\d{1,20})\t(\d{1,18})\t([0-9a-f]{64})\t([^\t\n]+)"
@@ -38,21 +35,10 @@ LONGEST_FOOT = 1 << 15
 # what another program writes after a message that was torn, and how many bytes are looked at for that
 OTHER_MAIL, MOST_LOOKED_AT = re.compile(rb"(?:\r?\n)?From "), 1 << 16
 HOLE = re.compile(rb"\0+")
-FLAGS = os.O_NOFOLLOW | os.O_CLOEXEC
 # the errors of a full disk
 FULL = errno.ENOSPC, errno.EDQUOT
 # the flag of the call fallocate by which the size of a file stays
 KEEP_SIZE = 1
-
-
-class End(enum.Enum):
-    """What follows, in a mailbox, how it was before: nothing; the beginning of what was to be appended, perhaps with
-    holes; all of that; or anything else, also if it was not before as it was."""
-
-    NOTHING = "nothing"
-    PART = "part"
-    WHOLE = "whole"
-    OTHER = "other"
 
 
 class Beside(NamedTuple):
@@ -68,6 +54,19 @@ class Beside(NamedTuple):
     size: int
     digest: str
     starts: Sequence[int]
+
+    @classmethod
+    def made(cls, draft: "Draft", folder: bytes, mailbox: Mailbox, starts: Sequence[int]) -> "Beside":
+        """Makes that of a folder of what was drafted for a mailbox, whose messages begin at these places."""
+        path, size, digest = os.path.join(folder, GOES_BACK), draft.size, digest_of(draft.number, draft.size)
+        of_mailbox = mailbox.state.st_ino, *mailbox.key(), spelled(mailbox.path)
+        self, listed = cls(path, draft.number, *of_mailbox, size, digest, starts), b",".join(
+            b"%d" % one for one in starts
+        )
+        words = (one.encode() if isinstance(one, str) else one for one in self[2:-1])
+        draft.add(listed + FOOT % (*words, len(listed)))
+        draft.put(path)
+        return self
 
     @classmethod
     def left_in(cls, folder: bytes) -> Optional["Beside"]:
@@ -101,17 +100,16 @@ class Beside(NamedTuple):
         has_all = os.fstat(number).st_size == self.size + int(more) + len(found[0])
         return self if has_all and digest_of(number, self.size) == digest else None
 
-    def end_of(self, mailbox: Mailbox) -> End:
-        """What follows in a mailbox how it was before."""
-        follows = mailbox.size - self.before
-        if not self.is_begun_by(mailbox):
-            return End.OTHER
-        if not follows or follows == self.same(mailbox) == self.size:
-            return End.WHOLE if follows else End.NOTHING
-        is_ours = self.same(mailbox, True) == min(follows, self.size)
-        # a repair of a disk may give a file all of its blocks
+    def is_whole_in(self, mailbox: Mailbox) -> bool:
+        """Whether a mailbox is as it was before, with all that was to be appended, and nothing else."""
+        return self.is_begun_by(mailbox) and mailbox.size - self.before == self.same(mailbox) == self.size
+
+    def is_alone_in(self, mailbox: Mailbox) -> bool:
+        """Whether a mailbox is as it was before, with no more than the beginning of what was to be appended, perhaps
+        with holes. A repair of a disk may give a file all of its blocks, with NULs."""
+        is_ours = self.same(mailbox, True) == min(mailbox.size - self.before, self.size)
         rest = Reader(mailbox.number, Offset(self.before + self.size), mailbox.size)
-        return End.PART if is_ours and not any(block.strip(b"\0") for block in rest.blocks()) else End.OTHER
+        return is_ours and self.is_begun_by(mailbox) and not any(block.strip(b"\0") for block in rest.blocks())
 
     def is_begun_by(self, mailbox: Mailbox) -> bool:
         """Whether a mailbox begins with what it was before."""
@@ -151,7 +149,7 @@ class Beside(NamedTuple):
                 write_all(mailbox.number, block)
             os.fsync(mailbox.number)
             mailbox.take_state()
-            if self.end_of(mailbox) is not End.WHOLE:
+            if not self.is_whole_in(mailbox):
                 raise Left(CHANGED, Reason.CHANGED)
         except BaseException as fault:
             try:
@@ -168,10 +166,10 @@ class Beside(NamedTuple):
         """Cuts a mailbox back to how it was, if all that follows is what was being appended, in the same file. Returns
         whether it is as it was. This is gone then."""
         mailbox.take_state()
-        end = self.end_of(mailbox)
-        if end is End.OTHER or end is not End.NOTHING and mailbox.state.st_ino != self.inode:
+        has_more = mailbox.size != self.before
+        if not self.is_alone_in(mailbox) or has_more and mailbox.state.st_ino != self.inode:
             return False
-        if end is not End.NOTHING:
+        if has_more:
             os.ftruncate(mailbox.number, self.before)
             os.fsync(mailbox.number)
             mailbox.take_state()
@@ -183,7 +181,7 @@ class Beside(NamedTuple):
         messages. Returns the line of a message that is not complete, and stays, since something else has changed
         since; None if there is none. This is gone then."""
         torn = None
-        if self.end_of(mailbox) is End.WHOLE:
+        if self.is_whole_in(mailbox):
             # what it has may not be on the disk yet
             os.fsync(mailbox.number)
         elif self.take_back(mailbox):
@@ -219,19 +217,19 @@ def is_torn(text: bytes, count: int) -> bool:
 
 
 class Draft:
-    """A file for what is going to be appended, while it is written."""
+    """A file while it is written, which then gets the name of another one, or of none. It is gone in the end, unless it
+    got its name."""
 
     def __init__(self, number: int, path: bytes = b"") -> None:
         self.number, self.path, self.size = number, path, 0
 
     @classmethod
     @contextlib.contextmanager
-    def in_folder(cls, folder: bytes) -> Iterator["Draft"]:
-        """The one of a folder, which is gone in the end, unless it was finished. What has its name is worth nothing."""
-        path = os.path.join(folder, GOES_BACK + UNFINISHED)
+    def at(cls, path: bytes) -> Iterator["Draft"]:
+        """The one at a path. What is there is worth nothing."""
         with contextlib.suppress(FileNotFoundError):
             os.unlink(path)
-        number = os.open(path, os.O_RDWR | os.O_CREAT | os.O_EXCL | FLAGS, 0o600)
+        number = os.open(path, os.O_RDWR | os.O_CREAT | os.O_EXCL | os.O_NOFOLLOW | os.O_CLOEXEC, 0o600)
         try:
             yield cls(number, path)
         finally:
@@ -250,18 +248,11 @@ class Draft:
         write_all(self.number, piece)
         self.size += len(piece)
 
-    def finish(self, mailbox: Mailbox, starts: Sequence[int]) -> Beside:
-        """Puts it on the disk, and gives it its name. Its messages begin at these places."""
-        of_mailbox = mailbox.state.st_ino, *mailbox.key(), spelled(mailbox.path)
-        digest, listed = digest_of(self.number, self.size), b",".join(b"%d" % start for start in starts)
-        path = self.path[: -len(UNFINISHED)]
-        beside = Beside(path, self.number, *of_mailbox, self.size, digest, starts)
-        words = (one.encode() if isinstance(one, str) else one for one in beside[2:-1])
-        write_all(self.number, listed + FOOT % (*words, len(listed)))
+    def put(self, path: bytes) -> None:
+        """Puts it on the disk, and gives it its name there."""
         os.fsync(self.number)
         os.rename(self.path, path)
         sync_folder(os.path.dirname(path))
-        return beside
 
 
 def write_all(number: int, piece: bytes) -> None:
@@ -280,28 +271,18 @@ def digest_of(number: int, size: int) -> str:
 
 
 def reserve(mailbox: Mailbox, size: int) -> None:
-    """Has the disk keep room for so many bytes more, if it can. Raises OSError if there is none: nothing else shows a
-    quota before it is met, and then some disks cut no file either."""
-    error = call_of_system()(mailbox.number, mailbox.size, size)
+    """Has the disk keep room for so many bytes more, if it can, and Python can ask it. Raises OSError if there is none:
+    nothing else shows a quota before it is met, and then some disks cut no file either."""
+    try:
+        # the module is loaded only here, so that the other commands do not wait for it
+        ctypes = importlib.import_module("ctypes")
+        fallocate = ctypes.CDLL(None, use_errno=True).fallocate64
+    except (ImportError, OSError, AttributeError):
+        return
+    failed = fallocate(mailbox.number, KEEP_SIZE, ctypes.c_int64(mailbox.size), ctypes.c_int64(size))
+    error = ctypes.get_errno() if failed else 0
     if error in FULL:
         # ext4 keeps what it found
         with contextlib.suppress(OSError):
             os.ftruncate(mailbox.number, mailbox.size)
         raise OSError(error, os.strerror(error))
-
-
-@functools.lru_cache(maxsize=None)
-def call_of_system() -> Callable[[int, int, int], int]:
-    """Returns the call that has a disk keep room in an open file, from an offset on, and returns its error, or 0. If
-    Python cannot make it, it does nothing."""
-    try:
-        ctypes = importlib.import_module("ctypes")
-        fallocate = ctypes.CDLL(None, use_errno=True).fallocate64
-    except (ImportError, OSError, AttributeError):
-        return lambda number, offset, size: 0
-
-    def call(number: int, offset: int, size: int) -> int:
-        failed = fallocate(number, KEEP_SIZE, ctypes.c_int64(offset), ctypes.c_int64(size))
-        return int(ctypes.get_errno()) if failed else 0
-
-    return call

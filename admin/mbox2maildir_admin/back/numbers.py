@@ -29,6 +29,7 @@ from ..flags.dovecot_headers import (
     head_of,
     internal_head,
 )
+from ..flags.dovecot_list import FIRST
 from ..kinds.starts import text_start
 from ..ledger.history import names_of
 from ..ledger.ledger import Ledger
@@ -56,8 +57,7 @@ ADDED = "Dovecot is to add keywords, because %s: %s"
 NO_BASE, NO_ROOM = "it had given the mailbox no UIDs", "the first message has no room for their names"
 # in the place of a UID
 NONE = 1 << 32
-# the first line of a list in the form of Dovecot 1.1 and later, and its parts; each further line is a file
-FORM, VALIDITY, NEXT = re.compile(rb"3 [^\n]*\n"), re.compile(rb" V([0-9]{1,10})\b"), re.compile(rb" N([0-9]{1,10})\b")
+# a line of a list about a file, and one about a keyword
 FILE = re.compile(rb"([0-9]{1,10}) (?:[^\n]* )?:([^\n]+)\n")
 KEYWORD = re.compile(rb"([0-9]{1,2}) ([^\n]+)\n?")
 
@@ -76,22 +76,19 @@ class Listed(NamedTuple):
         """What Dovecot keeps in a folder; None if there is no list of a form that is known. Lines that were added later
         raise the next UID."""
         lines = iter(lines_of(folder, LIST))
-        first = next(lines, b"")
-        validity, following = VALIDITY.search(first), NEXT.search(first)
-        if not FORM.fullmatch(first) or not validity or not following:
+        first = FIRST.match(next(lines, b""))
+        if not first:
             return None
-        files = filter(None, map(FILE.fullmatch, lines))
-        uids = {before_info(one[2]): int(one[1]) for one in files}
-        highest = max([int(following[1]) - 1, *uids.values()])
-        if not 0 < int(validity[1]) <= MOST_VALIDITY or highest >= MOST_VALIDITY:
+        validity, following = map(int, first.groups())
+        uids = {before_info(one[2]): int(one[1]) for one in map(FILE.fullmatch, lines) if one}
+        highest = max([following - 1, *uids.values()])
+        if not 0 < validity <= MOST_VALIDITY or highest >= MOST_VALIDITY:
             return None
-        named_there = filter(None, map(KEYWORD.fullmatch, lines_of(folder, KEYWORDS)))
-        keywords = {
-            chr(ord("a") + int(one[1])): one[2]
-            for one in named_there
-            if int(one[1]) < LETTERS and len(one[2]) <= LONGEST_KEYWORD and not NO_KEYWORD.search(one[2])
-        }
-        return cls(int(validity[1]), highest + 1, uids, keywords)
+        keywords = {}
+        for one in filter(None, map(KEYWORD.fullmatch, lines_of(folder, KEYWORDS))):
+            if int(one[1]) < LETTERS and len(one[2]) <= LONGEST_KEYWORD and not NO_KEYWORD.search(one[2]):
+                keywords[chr(ord("a") + int(one[1]))] = one[2]
+        return cls(validity, highest + 1, uids, keywords)
 
 
 def lines_of(folder: bytes, name: bytes) -> Iterable[bytes]:
@@ -157,12 +154,15 @@ class Base(NamedTuple):
         return (self.offset + first) // SECTOR == (self.offset + last) // SECTOR
 
     def write(self, mailbox: Mailbox, header: bytes) -> None:
-        """Writes the header anew, by one call, and syncs it. Raises Left if that is not what is read then."""
+        """Writes what is new of the header, by one call, and syncs it. Raises Left if that is not what is read then."""
+        same, text = len(os.path.commonprefix([header, self.header])), header + self.rest
+        if not self.rest:
+            text = text[: len(text) - len(os.path.commonprefix([text[::-1], self.header[::-1]]))]
         flags = fcntl.fcntl(mailbox.number, fcntl.F_GETFL)
         # the file is not opened anew, since its locks would be gone once that is closed
         fcntl.fcntl(mailbox.number, fcntl.F_SETFL, flags & ~os.O_APPEND)
         try:
-            os.pwrite(mailbox.number, header + self.rest, self.offset)
+            os.pwrite(mailbox.number, text[same:], self.offset + same)
         finally:
             fcntl.fcntl(mailbox.number, fcntl.F_SETFL, flags)
         os.fsync(mailbox.number)

@@ -39,18 +39,17 @@ class Names(NamedTuple):
     tree: Optional[bytes] = None
     no_inbox: str = NO_INBOX
 
-    def trees(self, record: Record) -> list[bytes]:
-        """The folders of mailboxes. None is made where folders came from mailboxes: it would be in the way of these,
-        which are elsewhere."""
-        made = [self.tree] if self.tree and not is_there(self.tree) and not has_folders(record) else []
-        return list(filter(is_folder, self.paths)) or made
-
 
 class Places:
     """The mailboxes of the folders of a Maildir, among those at some paths."""
 
     def __init__(self, root: bytes, record: Record, names: Names) -> None:
-        self.root, self.record, self.trees, self.names = root, record, names.trees(record), names
+        self.root, self.record, self.names = root, record, names
+        self.trees = list(filter(is_folder, names.paths))
+        # none is made where folders came from mailboxes: it would be in the way of these, which are elsewhere
+        has_folders = any(one.key.folder != INBOX for one in record.lines())
+        if not self.trees and names.tree and not is_there(names.tree) and not has_folders:
+            self.trees = [names.tree]
         # by folders, as they are named on the disk: the mailboxes, in the order of the names
         self.found: collections.defaultdict[bytes, list[bytes]] = collections.defaultdict(list)
         for name in names.paths:
@@ -135,11 +134,6 @@ class Places:
         while not is_there(above):
             above = os.path.dirname(above)
         return is_folder(above)
-
-
-def has_folders(record: Record) -> bool:
-    """Whether a folder other than INBOX came from a mailbox."""
-    return any(one.key.folder != INBOX for one in record.lines())
 
 
 class Keeper:

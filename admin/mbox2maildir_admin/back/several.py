@@ -19,7 +19,7 @@ from ..nexts import NOTHING, Next, Remark, run_next
 from ..program import Program, find_program
 from ..terminal import named, operand
 from ..units import counted
-from .appending import Returned, TakesNothing, Way, files_of
+from .appending import Returned, TakesNothing, Way, files_of, nothing_new
 from .beside import FULL, Beside
 from .mails import Sorted, Target, sorted_mail
 from .places import Keeper, Names, Places
@@ -31,12 +31,8 @@ NOT_READ_BACK = "what would be appended to it would not be read back as it is"
 DISK_FULL = "no room is left on its disk, or on that of the Maildir"
 CANNOT_HOLD, TAKES_NOTHING = "%(path)s cannot hold %(files)s", "%(path)s takes nothing"
 MOVED = "%s that people moved here from %s %s in the mailbox of that"
-# what became of a message in the Maildir, and what is said of those that a mailbox has
-DELETED, EDITED = "deleted", "changed"
-STANDS = {
-    DELETED: "%s that %s deleted in the Maildir %s still there",
-    EDITED: "%s that %s changed in the Maildir %s there as before",
-}
+DELETED = "deleted", "%s that %s deleted in the Maildir %s still there"
+EDITED = "changed", "%s that %s changed in the Maildir %s there as before"
 UNLESS = ", unless somebody has removed %s from the mailbox"
 # what the name of a Maildir ends in that has been moved aside
 ASIDE = b".back"
@@ -91,13 +87,14 @@ class Several:
             for row in self.rows(self.target(found, folder)):
                 self.tell(row._replace(remarks=(*row.remarks, *stands.pop(row.path, ()))))
             for path in sorted(stands):
-                self.tell(nothing_new(path, folder, stands[path]))
+                self.tell(nothing_new(Target(path, folder, (), stands[path])))
         tree = self.places.trees[0] if self.way.how.dovecot and self.places.trees else None
         for row in rows_of(root, tree, self.places, self.is_dry, self.would):
             self.tell(row)
         if self.is_dry or not self.is_right:
             return NOTHING
-        names = (root.rstrip(b"/") + ASIDE + end for end in (b"", *(b"-%d" % number for number in range(2, 100))))
+        ends = b"", *(b"-%d" % number for number in range(2, 100))
+        names = (root.rstrip(b"/") + ASIDE + end for end in ends)
         name = next((name for name in names if not may_be(is_there, name)), None)
         return run_next("mv", "-nT", operand(root), operand(name)) if name else NOTHING
 
@@ -136,20 +133,20 @@ class Several:
         """What is said of the messages of a folder that were deleted or changed there, and stand in its mailboxes as
         before, by these."""
         paths = self.places.found.get(folder, [])
-        deleted, changed = found.deleted.get(folder, ()), found.changed.get(folder, ())
-        if not paths or not deleted and not changed:
+        if not paths or folder not in found.deleted and folder not in found.changed:
             return {}
+        names = {path: set(names_of(path)) for path in paths}
         # in one that had another size when it was read last, nobody knows what it has now
         sizes = {source.key[0] for source in Ledger(folder_path(self.way.root, folder)).sources.values()}
         remarks: collections.defaultdict[bytes, Remarks] = collections.defaultdict(tuple)
-        for word, slots in ((DELETED, deleted), (EDITED, changed)):
+        for says, slots in ((DELETED, found.deleted), (EDITED, found.changed)):
             counts: collections.Counter[bytes] = collections.Counter()
-            for slot in slots:
+            for slot in slots.get(folder, ()):
                 # one that the record knows by another path has the place of the first one
-                counts.update([one for one in paths if slot.paths.intersection(names_of(one))] or paths[:1])
+                counts.update([one for one in paths if names[one] & slot.paths] or paths[:1])
             for path, count in counts.items():
                 is_sure = not may_be(lambda one: size_at(one) not in sizes, path)
-                remarks[path] += (standing(word, count, is_sure),)
+                remarks[path] += (standing(says, count, is_sure),)
         return remarks
 
     def rows(self, target: Target) -> Iterator[Row]:
@@ -158,7 +155,7 @@ class Several:
         try:
             yield from self.recovered(target.folder)
             if not target.mails:
-                yield self.numbered(target)
+                yield self.way.number(target)
                 return
             several = self.places.of(target.folder)
         except (Fault, OSError) as fault:
@@ -192,14 +189,6 @@ class Several:
                 beside.remove()
         finally:
             os.close(beside.number)
-
-    def numbered(self, target: Target) -> Row:
-        """The row of a mailbox that takes no mail, once it says which UIDs the folder has given."""
-        row = nothing_new(target.path, target.folder, target.remarks)
-        if not self.way.how.dovecot or not is_file(row.path):
-            return row
-        numbering = self.way.number(target)
-        return row._replace(remarks=(*numbering.remarks, *row.remarks), next=numbering.next)
 
     def rows_beside(self, target: Target, why: str) -> Iterator[Row]:
         """The rows of the mailboxes beside one that does not get this mail. What one of them cannot hold goes into the
@@ -254,19 +243,14 @@ def left(target: Target, fault: Union[Fault, OSError]) -> Row:
     return row._replace(messages=len(target.mails), remarks=target.remarks, is_back=True)
 
 
-def nothing_new(path: bytes, folder: bytes, remarks: Remarks) -> Row:
-    """The row of a mailbox of whose folder no mail goes back."""
-    return Row(path, folder, "", 0, Fate.NOTHING_NEW, remarks=remarks, is_back=True)
-
-
 def size_at(path: bytes) -> int:
     """How many bytes the file at a path has; 0 if there is none."""
     return os.path.getsize(path) if is_file(path) else 0
 
 
-def standing(word: str, count: int, is_sure: bool) -> Remark:
-    """What is said of so many messages that stand in a mailbox, and were deleted or changed, unless it has changed
-    since it was read."""
+def standing(what: tuple[str, str], count: int, is_sure: bool) -> Remark:
+    """What is said of so many messages that stand in a mailbox, unless it has changed since it was read."""
+    word, says = what
     *verbs, them = ("was", "is", "it") if count == 1 else ("were", "are", "them")
-    says = STANDS[word] % (counted(count, "message"), *verbs) + ("" if is_sure else UNLESS % them)
-    return Remark(word, says, stands=count if is_sure else 0)
+    unless = "" if is_sure else UNLESS % them
+    return Remark(word, says % (counted(count, "message"), *verbs) + unless, stands=count if is_sure else 0)

@@ -6,15 +6,14 @@ from collections.abc import Container, Iterator
 from typing import Optional
 
 from ..faults import Fault, Left, Reason
-from ..looks import is_folder, is_there
+from ..looks import is_folder, is_there, state_at
 from ..maildir.folders import INBOX, folder_of_place, folder_path, on_disk
-from ..maildir.making import sync_folder
 from ..migration.dovecot import FORM, OLD_SUBSCRIPTIONS, SUBSCRIPTIONS, lines_of
 from ..migration.outcomes import Fate, Row, row_left
 from ..nexts import Remark
 from ..terminal import is_text
 from ..units import counted
-from .beside import FLAGS, write_all
+from .beside import Draft
 from .places import Places
 
 KIND = "subscriptions"
@@ -39,13 +38,11 @@ class Lists:
         What else the list of the tree has stays, as RFC 3501, 6.3.6 wants it, whether it is there or not."""
         old = {folder_of_old(name): name for name in reversed(self.old)}
         wanted = {folder_of(name): old.get(folder_of(name)) or self.name_of(name) for name in self.new}
-        is_ours = self.places.record.has_subscriptions()
-        kept = [name for name in self.old if folder_of_old(name) in wanted or not (is_ours and self.is_there(name))]
+        left = [name for name in self.old if folder_of_old(name) not in wanted]
+        if self.places.record.has_subscriptions():
+            left = [name for name in left if not is_folder(folder_path(self.root, folder_of_old(name)))]
+        kept = [name for name in self.old if folder_of_old(name) in wanted or name in left]
         return list(dict.fromkeys([*kept, *filter(None, wanted.values())]))
-
-    def is_there(self, name: Name) -> bool:
-        """Whether the Maildir has the folder of a mailbox."""
-        return is_folder(folder_path(self.root, folder_of_old(name)))
 
     def name_of(self, name: Name) -> Optional[Name]:
         """The name of the mailbox for a folder; None if it has no mailbox in the tree. INBOX has one anywhere."""
@@ -105,24 +102,10 @@ def rows_of(root: bytes, tree: Optional[bytes], places: Places, is_dry: bool, wo
 
 def write(path: bytes, text: bytes) -> None:
     """Puts a text in the place of a plain file, or of nothing, whatever ends a run. Its mode stays."""
-    mode = 0o600
-    if is_there(path):
-        state = os.lstat(path)
-        if not stat.S_ISREG(state.st_mode):
-            raise Left("it is no plain file", Reason.SUBSCRIPTIONS)
-        mode = stat.S_IMODE(state.st_mode)
-    part = path + PART
-    with contextlib.suppress(FileNotFoundError):
-        os.unlink(part)
-    number = os.open(part, os.O_WRONLY | os.O_CREAT | os.O_EXCL | FLAGS, 0o600)
-    try:
-        write_all(number, text)
-        os.fchmod(number, mode)
-        os.fsync(number)
-        os.rename(part, path)
-    except BaseException:
-        os.unlink(part)
-        raise
-    finally:
-        os.close(number)
-    sync_folder(os.path.dirname(path))
+    state = state_at(path, False)
+    if state and not stat.S_ISREG(state.st_mode):
+        raise Left("it is no plain file", Reason.SUBSCRIPTIONS)
+    with Draft.at(path + PART) as draft:
+        draft.add(text)
+        os.fchmod(draft.number, stat.S_IMODE(state.st_mode) if state else 0o600)
+        draft.put(path)
