@@ -60,9 +60,8 @@ class Beside(NamedTuple):
         """Makes that of a folder of what was drafted for a mailbox, whose messages begin at these places."""
         path, size, digest = os.path.join(folder, GOES_BACK), draft.size, digest_of(draft.number, draft.size)
         of_mailbox = mailbox.state.st_ino, *mailbox.key(), spelled(mailbox.path)
-        self, listed = cls(path, draft.number, *of_mailbox, size, digest, starts), b",".join(
-            b"%d" % one for one in starts
-        )
+        self = cls(path, draft.number, *of_mailbox, size, digest, starts)
+        listed = b",".join(b"%d" % start for start in starts)
         words = (one.encode() if isinstance(one, str) else one for one in self[2:-1])
         draft.add(listed + FOOT % (*words, len(listed)))
         draft.put(path)
