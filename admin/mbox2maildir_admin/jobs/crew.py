@@ -145,11 +145,7 @@ class Crew:
         """Takes how many are at work at most."""
         self.jobs = jobs
         # what takes the words of each line, by the first one of these
-        self.takes: dict[str, Callable[..., object]] = {
-            "at": self.take_progress,
-            "ask": self.take_question,
-            "failed": self.take_fault,
-        }
+        self.takes: dict[str, Callable[..., object]] = {"failed": self.take_fault}
         # the processes, by the pipes that they tell by
         self.children: dict[int, Any] = {}
         self.poll = select.poll()
@@ -230,12 +226,6 @@ class Crew:
         """Takes a line of a process."""
         what, *words = json.loads(line)
         self.takes[what](child, *words)
-
-    def take_progress(self, child: Any, who: str, doing: str, *numbers: Any) -> None:
-        """Takes how far a mailbox is."""
-
-    def take_question(self, child: Any, what: str, *words: Any) -> None:
-        """Takes what a process asks for."""
 
     def take_fault(self, child: Any, fault: object) -> None:
         """Takes a fault of a process itself, with which it ends."""

@@ -27,11 +27,11 @@ class Noted(NamedTuple):
         return " ".join(["word=%s" % self.choosing.word, *labels, *("in=%s" % quoted(one) for one in self.folders)])
 
     @classmethod
-    def of(cls, line: Entry) -> "Noted":
-        """Reads the words of a line."""
+    def of(cls, line: Optional[Entry]) -> "Noted":
+        """Reads the words of a line; without one, nothing was noted."""
         from urllib.parse import unquote_to_bytes
 
-        pairs = [word.partition("=")[::2] for word in (line.plan or "").split(" ")]
+        pairs = [word.partition("=")[::2] for word in (line.plan or "" if line else "").split(" ")]
         given = tuple((os.fsdecode(unquote_to_bytes(label)), gives) for gives, label in pairs if gives in GIVES)
         folders = tuple(unquote_to_bytes(name) for what, name in pairs if what == "in")
         return cls(Choosing(dict(pairs).get("word", ""), given), folders)

@@ -132,7 +132,8 @@ class Several:
         plan = plan if folder else self.pairs.without_folders_in_inbox(plan, self.files_given())
         self.observer.total += len(plan)
         # a symbolic link may give a folder two names, and it has one ledger
-        groups = groups_of([one.folder and real_path(one.folder_in(self.migration.root)) for one in plan])
+        folders = [one.folder and real_path(one.folder_in(self.migration.root)) for one in plan if how.jobs != 1]
+        groups = groups_of(folders)
         jobs, rows = min(jobs_of(how.jobs, len(groups)), len(groups)), InOrder(self.observer.row)
         try:
             if jobs > 1 and has_record(plan, self.migration.record):

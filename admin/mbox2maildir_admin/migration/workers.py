@@ -81,7 +81,8 @@ class Workers(Crew):
 
     def __init__(self, jobs: int, groups: Sequence[Places], orders: Orders) -> None:
         super().__init__(jobs)
-        self.takes.update(begins=lambda _: orders.observer.begin(), became=self.take_row)
+        self.takes.update(at=self.take_progress, ask=self.take_question, became=self.take_row)
+        self.takes["begins"] = lambda _: orders.observer.begin()
         self.orders = orders
         # the mailboxes that nobody has begun with
         self.groups = collections.deque(groups)

@@ -10,7 +10,6 @@ from ..labels.choosing import ONE, Choosing
 from ..labels.fields import headers_in
 from ..labels.noted import Noted, line_of, note
 from ..labels.sorting import LabelsLeft, Sorting
-from ..ledger.history import Entry
 from ..ledger.ledger import Ledger
 from ..ledger.prepared import Prepared
 from ..ledger.prepared_lines import has_list
@@ -91,9 +90,10 @@ class Takeout:
         self.want_none_prepared(opened)
         if not line:
             self.want_labelled(opened)
-        choosing = self.chosen(opened, Noted.of(line) if line else None)
+        noted = Noted.of(line)
+        choosing = self.chosen(opened, noted)
         try:
-            with self.chosen_text(opened, line) as choice, self.read(choice, choosing) as source:
+            with self.chosen_text(opened, noted) as choice, self.read(choice, choosing) as source:
                 self.want_room(source)
                 folders = tuple(source.sorted.places)
                 self.record.make()
@@ -134,12 +134,12 @@ class Takeout:
             undo = self.how._replace(is_labelled=False).undo_command(self.root, opened._replace(name=folders[-1]))
             raise Left(WITHOUT_LABELS, Reason.ANOTHER_READING, (Answer(undo),))
 
-    def chosen(self, opened: Opened, noted: Optional[Noted]) -> Choosing:
+    def chosen(self, opened: Opened, noted: Noted) -> Choosing:
         """What is said about labels now, and was said before. Raises Left if the two contradict each other."""
-        before, now = noted.choosing if noted else Choosing(), self.choosing
+        before, now = noted.choosing, self.choosing
         if now is None:
             return before
-        is_other = noted is not None and (before.word == ONE) != (now.word == ONE)
+        is_other = noted.folders and (before.word == ONE) != (now.word == ONE)
         if is_other or any(before.gives(label) not in ("", gives) for label, gives in now.given):
             undo = self.how.undo_command(self.root, opened)
             says = OTHERWISE % " ".join(before.words())
@@ -147,7 +147,7 @@ class Takeout:
         return before.with_given(*now.given)._replace(word=now.word or before.word)
 
     @contextlib.contextmanager
-    def chosen_text(self, opened: Opened, line: Optional[Entry]) -> Iterator[Choice]:
+    def chosen_text(self, opened: Opened, noted: Noted) -> Iterator[Choice]:
         """Chooses the text that stands for the mailbox, as it is certain, decided, or was answered before. Raises Left
         if a human must decide."""
         its = self.migration.program, opened.mailbox, self.migration.disk
@@ -155,7 +155,7 @@ class Takeout:
             try:
                 choice = stack.enter_context(choice_at_once(*its, self.how.decision))
             except Question as question:
-                several = (opened._replace(name=name) for name in (Noted.of(line).folders if line else ()))
+                several = (opened._replace(name=name) for name in noted.folders)
                 answers = (answer_to(self.record, one, question) for one in several)
                 answer = question.by_tie(self.how.answer) or next(filter(None, answers), None)
                 if not answer or self.how.decision != UNDECIDED:

@@ -1,6 +1,5 @@
 """The undo of a Takeout: of each folder that the record names. It is undone once each of them is."""
 import collections
-import functools
 from collections.abc import Iterator
 from typing import Optional
 
@@ -17,9 +16,8 @@ from ..migration.several import refuse
 from ..migration.steps import Opened, Options
 from ..nexts import Remark
 from ..readings.reading import Reading
-from ..terminal import named
 from ..undoing.undo import Undo
-from ..units import Say, silent
+from ..units import Say
 
 
 def undo_takeout(root: bytes, path: bytes, options: Options, observer: Observer) -> None:
@@ -27,8 +25,7 @@ def undo_takeout(root: bytes, path: bytes, options: Options, observer: Observer)
     root = real_place(root)
     refuse(root, [path], Options(options.dry, now=options.now, undo=True))
     with Record.open(root, not options.dry) as record:
-        rows = TakeoutUndo(root, record, options).rows(path, functools.partial(observer.progress, named(path)))
-        for row in rows:
+        for row in TakeoutUndo(root, record, options).rows(path, observer.say(path)):
             observer.total += 1
             observer.begin()
             observer.row(row)
@@ -42,7 +39,7 @@ class TakeoutUndo(Undo):
         # how often it has each core as it was read
         self.known: dict[Reading, collections.Counter[bytes]] = {}
 
-    def rows(self, path: bytes, say: Say = silent) -> Iterator[Row]:
+    def rows(self, path: bytes, say: Say) -> Iterator[Row]:
         """Undoes it folder by folder. What was undone by a run that was killed has no row."""
         try:
             with open_mailbox(path, say=say, follow=True, quiet=not self.options.now) as mailbox:
@@ -63,8 +60,7 @@ class TakeoutUndo(Undo):
         """The folders that have or had something of it, wherever they are now."""
         path = opened.mailbox.path
         paths = {*names_of(path), *([line.path] if line else [])}
-        named_there = [*(Noted.of(line).folders if line else ()), *self.record.folders_with(paths)]
-        for name in dict.fromkeys(named_there):
+        for name in dict.fromkeys([*Noted.of(line).folders, *self.record.folders_with(paths)]):
             folder = self.record.name_now(name, path)
             last = self.record.last_of(folder, paths)
             ledger = Ledger(folder_path(self.root, folder))

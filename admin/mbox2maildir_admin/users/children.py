@@ -1,6 +1,7 @@
 """Processes that have only the rights of one user, and tell root what they do."""
 import gc
 import importlib
+import math
 import os
 import signal
 import time
@@ -42,11 +43,10 @@ def load_for_children() -> None:
     for name in NEEDED:
         importlib.import_module(name, __package__)
     compile_all()
-    # what these load when they are called first; the last one has libraries of the system's, for the groups of a user
+    # what these load when they are called first
     reader_of_other_forms()
     folder_of("\u00e4")
     call_of_system()
-    os.getgrouplist("root", 0)
     gc.freeze()
 
 
@@ -56,11 +56,12 @@ class UsersChild(Child):
     def __init__(self, migrant: Migrant) -> None:
         super().__init__()
         self.whose, self.account, self.clerk = migrant.whose(), migrant.account, migrant.clerk()
+        # a system may read much to find them, and each child would do that anew
+        self.groups = os.getgrouplist(os.fsdecode(self.account.name), self.account.gid)
         # how many rows came, how often it told what is next, and how many rows it says it told: -1 before it ends
         self.rows, self.then, self.rows_told = 0, 0, -1
-        # why it was killed, and when it must have ended if it was told to
-        self.why: Optional[str] = None
-        self.deadline: Optional[float] = None
+        # why it was killed, and when it must have ended, if it was told to
+        self.why, self.deadline = "", math.inf
 
     def hear(self) -> list[bytes]:
         """Reads what it tells. Of a line that is too long, only as much is kept as shows that it is."""
@@ -75,7 +76,7 @@ class UsersChild(Child):
 
     def kill(self, why: str = "") -> None:
         """Kills it and what it started, such as a `convert` that outlived it, and keeps the reason."""
-        self.why = self.why or why or None
+        self.why = self.why or why
         try:
             os.killpg(self.pid, signal.SIGKILL)
         except ProcessLookupError:
@@ -92,19 +93,19 @@ class UsersChild(Child):
             # it is still in the table of processes, so that no other group can have its number
             self.kill()
             return os.waitpid(self.pid, 0)[1]
-        elif self.deadline is not None and now > self.deadline:
+        elif now > self.deadline:
             self.kill(BROKEN)
         elif now - self.heard > SILENCE:
             self.kill("its process reported nothing for %d minutes" % (SILENCE // 60))
         return None
 
-    def wrong_end(self, status: int) -> Optional[str]:
-        """What is wrong with an end that has this status; None if it ended well."""
+    def wrong_end(self, status: int) -> str:
+        """What is wrong with an end that has this status; empty if it ended well."""
         if self.why or status or self.rows_told < 0:
             return self.why or self.why_ended(status)
         if self.rows_told != self.rows:
             return "its process reported %d rows, but %d arrived" % (self.rows_told, self.rows)
-        return None
+        return ""
 
 
 class Children(Crew):
@@ -112,7 +113,8 @@ class Children(Crew):
 
     def __init__(self, jobs: int, reporter: Observer) -> None:
         super().__init__(jobs)
-        self.takes.update(row=self.take_row, then=self.take_next, end=self.take_end)
+        self.takes.update(at=self.take_progress, ask=self.take_question, row=self.take_row)
+        self.takes.update(then=self.take_next, end=self.take_end)
         self.reporter, self.join, self.disks = reporter, joining(), Disks()
 
     def __exit__(self, kind: Optional[type[BaseException]], *rest: object) -> None:
@@ -133,7 +135,7 @@ class Children(Crew):
 
     def become(self, child: UsersChild, parent: Parent) -> None:
         """Makes this process the one of a user."""
-        become(child.account, (parent.told, parent.alive), self.join)
+        become(child.account, child.groups, (parent.told, parent.alive), self.join)
 
     def take(self, child: UsersChild, line: bytes) -> None:
         """Takes a line. If it can't be read, it counts as a row of something that is left."""

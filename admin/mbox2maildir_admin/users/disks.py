@@ -17,10 +17,8 @@ class Disks:
     """Syncs disks for children, as root."""
 
     def __init__(self) -> None:
-        # the disks for which children wait, with each of these
-        self.waiting: list[tuple[int, Child]] = []
-        # the folders by which the disks are synced, by the numbers of these
-        self.opened: dict[int, int] = {}
+        # the disks for which children wait: a folder of each that is open, and these children
+        self.waiting: dict[int, tuple[int, list[Child]]] = {}
         # the disks of which a sync failed, with why: the system reports each error only once
         self.failed: dict[int, Left] = {}
 
@@ -34,16 +32,15 @@ class Disks:
             child.refuse(UNSEEN)
             return
         disk = os.fstat(folder).st_dev
-        self.waiting.append((disk, child))
-        if disk in self.opened:
+        if disk in self.waiting:
             os.close(folder)
-        else:
-            self.opened[disk] = folder
+        self.waiting.setdefault(disk, (folder, []))[1].append(child)
 
     def sync(self) -> None:
-        """Syncs each disk for which a child waits, and then answers all. If a sync fails, or has failed before, that is
-        the answer to each who waits for that disk."""
-        for disk, folder in self.opened.items():
+        """Syncs each disk for which a child waits, and answers. If a sync fails, or has failed before, that is the
+        answer to each who waits for that disk."""
+        waiting, self.waiting = self.waiting, {}
+        for disk, (folder, children) in waiting.items():
             try:
                 if disk not in self.failed:
                     call_of_system()(folder)
@@ -51,12 +48,11 @@ class Disks:
                 self.failed[disk] = Left(error.strerror, Reason.SYNC_FAILED)
             finally:
                 os.close(folder)
-        waiting, self.waiting, self.opened = self.waiting, [], {}
-        for disk, child in waiting:
-            if disk in self.failed:
-                child.refuse(self.failed[disk])
-            else:
-                child.answer()
+            for child in children:
+                if disk in self.failed:
+                    child.refuse(self.failed[disk])
+                else:
+                    child.answer()
 
 
 def synced_by_root(parent: Parent) -> Callable[[bytes], None]:

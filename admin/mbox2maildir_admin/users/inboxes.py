@@ -82,16 +82,15 @@ class InboxClerk:
         """Does what the child asks for. Raises Left if that fails, and an error of Python's if it may not ask for
         it."""
         name = self.names[number_of(number)]
-        does = {MAKE: self.make, TAKE: self.take, RELEASE: self.release}[what]
+        inbox, lock = Spot(name, self.inboxes.number), Spot(name + LOCK, self.inboxes.number)
         try:
-            does(Spot(name if what == MAKE else name + LOCK, self.inboxes.number))
+            if what == MAKE:
+                self.inboxes.make(inbox, self.account)
+            else:
+                {TAKE: self.take, RELEASE: self.release}[what](lock)
         except OSError as error:
             path = os.path.join(self.inboxes.path, name)
             raise Left("%s: %s" % (named(path), error.strerror), Reason.ERROR) from error
-
-    def make(self, inbox: Spot) -> None:
-        """Makes an inbox that is not there."""
-        self.inboxes.make(inbox, self.account)
 
     def take(self, lock: Spot) -> None:
         """Takes the lock of an inbox. Where root may make none either, the other locks must do. Raises Left if it is

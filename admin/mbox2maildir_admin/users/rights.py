@@ -4,7 +4,7 @@ import os
 import resource
 import signal
 import sys
-from collections.abc import Callable
+from collections.abc import Callable, Sequence
 
 from ..signals import ENDING, INTERRUPTS
 from .accounts import Account
@@ -19,9 +19,9 @@ OF_32_BITS = {"i386": 288, "i486": 288, "i586": 288, "i686": 288, "x86_64": 288,
 JOIN_SESSION_KEYRING = 1
 
 
-def become(account: Account, kept: tuple[int, ...], join: Callable[[], object]) -> None:
-    """Gives a process the rights of a user, and some descriptors. It makes no core dump, which would hold mail. `join`
-    gives it a session keyring of its own."""
+def become(account: Account, groups: Sequence[int], kept: tuple[int, ...], join: Callable[[], object]) -> None:
+    """Gives a process the rights of a user, who is in these groups, and some descriptors. It makes no core dump, which
+    would hold mail. `join` gives it a session keyring of its own."""
     os.setsid()
     join()
     nothing = os.open(os.devnull, os.O_RDWR)
@@ -31,11 +31,10 @@ def become(account: Account, kept: tuple[int, ...], join: Callable[[], object]) 
     resource.setrlimit(resource.RLIMIT_CORE, (0, 0))
     os.chdir("/")
     os.umask(0o077)
-    name = os.fsdecode(account.name)
-    os.initgroups(name, account.gid)
+    os.setgroups(groups)
     os.setgid(account.gid)
     os.setuid(account.uid)
-    zone = {"TZ": os.environ["TZ"]} if "TZ" in os.environ else {}
+    name, zone = os.fsdecode(account.name), {"TZ": os.environ["TZ"]} if "TZ" in os.environ else {}
     os.environ.clear()
     os.environ.update(PATH=PATH, HOME=os.fsdecode(account.home), USER=name, LOGNAME=name, **zone)
     for number in ENDING:

@@ -1,7 +1,7 @@
 """The mailboxes of a spool, each migrated by a child that has only its user's rights."""
 import collections
 import os
-from collections.abc import Callable, Collection, Iterable, Iterator
+from collections.abc import Iterable, Iterator
 from typing import AbstractSet, Optional, Union
 
 from ..faults import Fault, Left, PlaceFault, Reason
@@ -66,17 +66,18 @@ def users_of(
 ) -> "tuple[collections.deque[bytes], list[Found]]":
     """The users whose mailboxes are migrated: those that were asked for, otherwise those of the spool, and all users if
     homes have a folder of mailboxes; and further mailboxes of theirs. Says which names are left."""
-    names, accounts = frozenset(os.listdir(spool.path)), Accounts()
+    listed, accounts = frozenset(os.listdir(spool.path)), Accounts()
     want_entered(spool.path)
-    if asked is not None:
-        tally.not_asked = len({stem_of(name, names) for name in names} - asked.keys())
-
-    def pass_over(name: bytes) -> None:
-        reporter.row(Row(b"", b"", "", None, Fate.NO_MAIL, user=shown(name)))
-
-    sources = names_of(spool, names, accounts, pass_over) if asked is None else asked
+    names = mailboxes_among(listed, spool)
+    sources = sources_of(spool, names, accounts) if asked is None else asked
+    if asked is None:
+        tally.users = {SPOOL: 0, ACCOUNTS: 0}
+        for name in listed - names:
+            reporter.row(Row(b"", b"", "", None, Fate.NO_MAIL, user=shown(name)))
+    else:
+        tally.users = dict.fromkeys(asked.values(), 0)
+        tally.not_asked = len({stem_of(name, listed) for name in listed} - asked.keys())
     users = Users(spool, names, sources, accounts, reporter)
-    tally.users = dict.fromkeys([SPOOL, ACCOUNTS] if asked is None else asked.values(), 0)
     for name, source, account in accounts_of(spool, sources, accounts, asked is not None):
         if isinstance(account, Left):
             users.leave(name, account)
@@ -97,7 +98,8 @@ def list_users(spool: Spool, asked: Optional[Sources]) -> bool:
     """Prints the name of each user whom a run takes, where the name came from, and how many bytes the mailbox in the
     spool has, with tabs between them. Returns whether a list can hold all of these names."""
     spool, accounts, can_hold = spool._replace(path=os.path.abspath(spool.path)), Accounts(), True
-    sources = names_of(spool, os.listdir(spool.path), accounts, lambda name: None) if asked is None else asked
+    names = mailboxes_among(os.listdir(spool.path), spool) if asked is None else frozenset()
+    sources = sources_of(spool, names, accounts) if asked is None else asked
     for name, source, account in accounts_of(spool, sources, accounts, asked is not None):
         if isinstance(account, Left) or source == ACCOUNTS and not may_have_mail(account, spool):
             continue
@@ -130,19 +132,15 @@ def want_entered(spool: bytes) -> None:
         here = os.path.dirname(here)
 
 
-def names_of(
-    spool: Spool, names: Collection[bytes], accounts: Accounts, pass_over: Callable[[bytes], object]
-) -> Sources:
-    """The names of a spool that may be mailboxes and, if homes have a folder of mailboxes, those of all users.
-    `pass_over` is told each name that is no mailbox."""
-    found: dict[bytes, str] = {}
-    for name in names:
-        if is_passed(spool.path, name):
-            pass_over(name)
-        else:
-            found[name] = SPOOL
+def mailboxes_among(names: Iterable[bytes], spool: Spool) -> AbstractSet[bytes]:
+    """The names of a spool that may be mailboxes, or copies of one."""
+    return frozenset(name for name in names if not is_passed(spool.path, name))
+
+
+def sources_of(spool: Spool, names: AbstractSet[bytes], accounts: Accounts) -> Sources:
+    """The names of a spool that may be mailboxes and, if homes have a folder of mailboxes, those of all users."""
     # a file that may be a copy goes with its mailbox
-    found = {name: source for name, source in found.items() if stem_of(name, found) == name}
+    found = {name: SPOOL for name in names if stem_of(name, names) == name}
     if spool.is_of_homes:
         for account in filter(accounts.is_users, accounts.read()):
             found.setdefault(account.name, ACCOUNTS)
@@ -238,7 +236,7 @@ class Users:
     def beside_of(self, name: bytes, account: Account) -> tuple[bytes, ...]:
         """The files beside the mailbox of this name that may be copies of it. Files of another owner are left."""
         found = []
-        for other in self.copies_of(name):
+        for other in self.copies.get(name, ()):
             path = os.path.join(self.spool.path, other)
             try:
                 size_of_mailbox(path, account)
@@ -249,12 +247,8 @@ class Users:
 
     def leave_beside(self, name: bytes) -> None:
         """Leaves the files beside a mailbox that is left itself."""
-        for other in self.copies_of(name):
+        for other in self.copies.get(name, ()):
             self.leave(other, Left("it may be a copy of %s, which is left" % named(name), Reason.COPY))
-
-    def copies_of(self, name: bytes) -> list[bytes]:
-        """The names of the spool that may be copies of the mailbox of this name."""
-        return [one for one in self.copies.get(name, ()) if not is_passed(self.spool.path, one)]
 
     def size_at(self, place: bytes, account: Account) -> Optional[int]:
         """How many bytes the mailbox has that the spool has at a place; None if only the home is looked at. Raises Left
