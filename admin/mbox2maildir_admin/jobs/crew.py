@@ -77,8 +77,8 @@ class Parent:
             self.tell("at", who, doing, *(() if place is None else (place, size)))
 
 
-# what a process does: it returns its status
-Work = Callable[[Parent], int]
+# what a process does
+Work = Callable[[Any], object]
 
 
 class Child:
@@ -141,6 +141,9 @@ class Child:
 class Crew:
     """Several processes that are at work at the same time. All of them have ended in the end."""
 
+    # as what a process sees its parent
+    parent = Parent
+
     def __init__(self, jobs: int) -> None:
         """Takes how many are at work at most."""
         self.jobs = jobs
@@ -172,7 +175,7 @@ class Crew:
         with INTERRUPTS.held(), blocked() as mask:
             child.pid = os.fork()
             if not child.pid:
-                self.run(child, work, Parent(told, alive), mask)
+                self.run(child, work, self.parent(told, alive), mask)
             os.close(told)
             os.close(alive)
             self.children[child.tells] = child
@@ -187,7 +190,8 @@ class Crew:
             self.become(child, parent)
             signal.pthread_sigmask(signal.SIG_SETMASK, mask)
             with INTERRUPTS.let_through():
-                status = work(parent)
+                work(parent)
+            status = 0
         except KeyboardInterrupt:
             status = BROKEN_OFF
         except Exception as fault:  # pylint: disable=broad-except

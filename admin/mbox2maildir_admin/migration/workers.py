@@ -19,39 +19,36 @@ from .places import Planned
 from .telling import bytes_of, fields_of, row_of, value_of
 
 
-class Work:
+class Work(Parent):
     """The work of a worker: it asks its parent for whatever concerns other workers too."""
-
-    def __init__(self, parent: Parent) -> None:
-        self.parent, self.progress, self.alive = parent, parent.progress, parent.alive
 
     def groups(self) -> Iterator[Places]:
         """The next groups of mailboxes, as long as there are any."""
-        return iter(lambda: tuple(self.parent.ask("next")), ())
+        return iter(lambda: tuple(self.ask("next")), ())
 
     def begin(self) -> None:
         """Tells that work on a mailbox begins."""
-        self.parent.tell("begins")
+        self.tell("begins")
 
     def write(self, *entries: Entry) -> None:
         """Has lines written into the record. Raises Fault if that fails."""
         for entry in entries:
-            refusal = self.parent.refusal("line", *entry)
+            refusal = self.refusal("line", *entry)
             if refusal:
                 raise PlaceFault(*refusal)
 
     def want_room(self, need: Need) -> None:
         """Waits until nobody else at work counts on the same space on a disk. Raises Left if the disk lacks space
         then."""
-        self.parent.ask("needs", *need)
+        self.ask("needs", *need)
         want_room(need)
 
     def end(self, place: int, ended: Outcome) -> None:
         """Tells what became of the mailbox at a place in the plan."""
-        self.parent.next_time = 0.0
+        self.next_time = 0.0
         # JSON would keep no fractions of the times of a state
         state = ended.state and ended.state.__reduce__()[1]
-        self.parent.tell("became", place, fields_of(ended.row), *ended[1:-1], state)
+        self.tell("became", place, fields_of(ended.row), *ended[1:-1], state)
 
 
 class Orders(NamedTuple):
@@ -79,6 +76,8 @@ class Worker(Child):
 class Workers(Crew):
     """Several workers."""
 
+    parent = Work
+
     def __init__(self, jobs: int, groups: Sequence[Places], orders: Orders) -> None:
         super().__init__(jobs)
         self.takes.update(at=self.take_progress, ask=self.take_question, became=self.take_row)
@@ -102,14 +101,9 @@ class Workers(Crew):
         while self.groups or self.children:
             if self.groups and len(self.children) < self.jobs:
                 # they are its own even if it ends before it asks for them, lest one after the other starts for them
-                self.start(Worker(self.groups.popleft()), self.work)
+                self.start(Worker(self.groups.popleft()), self.orders.work)
             self.turn()
             yield
-
-    def work(self, parent: Parent) -> int:
-        """Does the work of a worker."""
-        self.orders.work(Work(parent))
-        return 0
 
     def take_question(self, child: Worker, what: str, *words: Any) -> None:
         """Takes what a worker asks for: the mailboxes of the next folder, of which there are none once all are begun;

@@ -83,8 +83,8 @@ class Migrant:
         """What does for the child what only root can do in the folder of the inboxes; None if nothing."""
         return None
 
-    def work(self, parent: Parent) -> int:
-        """Does the work of a child: the same as a `migrate` that its user runs. Returns the child's status."""
+    def work(self, parent: Parent) -> None:
+        """Does the work of a child: the same as a `migrate` that its user runs."""
         relay, left = Relay(parent, self), why_no_home(self.account)
         if left:
             # the home belongs to what is left of the spool; otherwise it is the user that has one row
@@ -94,7 +94,6 @@ class Migrant:
         else:
             self.work_on(list(self.names(relay)), relay, Program(self.program, parent.alive))
         parent.tell("end", relay.rows)
-        return 0
 
     def of_spool(self) -> list[bytes]:
         """The paths in the spool."""
