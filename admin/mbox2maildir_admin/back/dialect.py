@@ -33,7 +33,10 @@ FIRST_TIME, LAST_TIME = 1, TOO_LATE - 86400
 X_STATUS = {"R": b"A", "F": b"F", "D": b"T", "T": b"D"}
 # the names of the fields of mail programs, in lower case
 BY_THUNDERBIRD, BY_EVOLUTION, BY_GMAIL = CLIENTS
+# stands for any program: if each message of an empty mailbox had the field of one, flags of before would count there
+ANY = "any"
 KEPT: dict[str, tuple[bytes, ...]] = {
+    ANY: (b"x-mozilla-status", b"x-evolution", b"x-gm-thrid"),
     BY_THUNDERBIRD: (b"x-mozilla-keys", b"x-mozilla-status", b"x-mozilla-status2"),
     BY_EVOLUTION: (b"x-evolution",),
     BY_GMAIL: (b"x-gm-thrid", b"x-gmail-labels"),
@@ -137,7 +140,8 @@ def date_of(seconds: int) -> bytes:
 
 
 class Client(NamedTuple):
-    """The program that keeps flags in a mailbox, if one does, and the highest number that it has given."""
+    """The program that keeps flags in a mailbox, if one does, and the highest number that it has given. In an empty one
+    any program may."""
 
     program: str = ""
     last: int = 0
