@@ -3,7 +3,7 @@ import os
 import re
 import shlex
 import sys
-from collections.abc import Iterable
+from collections.abc import Iterable, Sequence
 from typing import IO, Union
 
 from . import ADMIN
@@ -57,6 +57,12 @@ def spelled(path: bytes) -> str:
 def operand(name: bytes) -> str:
     """Returns a name as a word of a command that is never an option."""
     return text_of(b"./" + name if name.startswith(b"-") else name)
+
+
+def first_of(names: Sequence[bytes], between: str = ", ") -> str:
+    """Returns the first of some names, as they stand in a sentence, and how many more there are."""
+    more = " and %d more" % (len(names) - NAMED) if names[NAMED:] else ""
+    return between.join(map(named, names[:NAMED])) + more
 
 
 def option(name: str, value: bytes) -> list[str]:

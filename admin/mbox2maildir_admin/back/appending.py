@@ -25,10 +25,10 @@ from ..nexts import Remark, Todo, task
 from ..program import Program
 from ..readings.texts import disk_of
 from ..readings.unnamed import unnamed
-from ..terminal import NAMED, named
+from ..terminal import first_of, named
 from ..units import Say, Size, counted, silent
 from .beside import Beside, Draft
-from .dialect import Client, Letter
+from .dialect import ANY, Client, Letter
 from .mails import Mail, Target
 from .numbers import Numbering, numbering_of
 from .places import Keeper, Places
@@ -141,7 +141,7 @@ class Appending:
     def __init__(self, way: Way, target: Target, known: Known, style: Style, numbering: Numbering) -> None:
         """Reads the mailbox. Raises NotAsItIs if nothing that is appended would be read in this way."""
         self.way, self.target, self.known, self.style, self.numbering = way, target, known, style, numbering
-        self.opened, self.mailbox, self.client = known.opened, known.opened.mailbox, Client()
+        self.opened, self.mailbox, self.client = known.opened, known.opened.mailbox, Client(ANY)
         self.inventory = style.messages(self.mailbox, way.program, self.look)
         known.take_place(self.inventory)
         if style.has_no_dates(self.mailbox, self.inventory):
@@ -168,7 +168,7 @@ class Appending:
         if plan.refused and not plan.entries and was_empty:
             # what goes into none of the same form either
             stay = "stays" if len(plan.refused) == 1 else "stay"
-            why = NOT_HELD % (counted(len(plan.refused), "message"), stay, files_of(plan.refused))
+            why = NOT_HELD % (counted(len(plan.refused), "message"), stay, first_of([one.path for one in plan.refused]))
             return row._replace(fate=Fate.LEFT, reason=Reason.NOT_HELD, why=why), ()
         return row, plan.refused
 
@@ -298,9 +298,3 @@ class Appending:
 def nothing_new(target: Target) -> Row:
     """The row of a mailbox to which no mail goes back."""
     return Row(target.path, target.folder, "", 0, Fate.NOTHING_NEW, remarks=target.remarks, is_back=True)
-
-
-def files_of(mails: Sequence[Mail]) -> str:
-    """The files of mail, as a row names them."""
-    more = " and %d more" % (len(mails) - NAMED) if mails[NAMED:] else ""
-    return ", ".join(named(one.path) for one in mails[:NAMED]) + more

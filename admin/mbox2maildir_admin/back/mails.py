@@ -17,7 +17,7 @@ from ..ledger.lines import RETURNED
 from ..ledger.prepared_lines import has_list
 from ..looks import is_folder
 from ..maildir.files import listings_of
-from ..maildir.folders import INBOX, folder_named, folders_in
+from ..maildir.folders import folder_named, folders_in, name_of
 from ..maildir.making import SUBFOLDERS
 from ..mbox.bases import BASE, before_info
 from ..mbox.core import forms_of
@@ -121,13 +121,13 @@ class Sorted(NamedTuple):
                 if slot.file.name is None and slot.file.find(free, slot.forms()[way]):
                     found.append((left.pop(slot.file.name or b""), slot))
         new = sorted(left.values(), key=lambda mail: (mail.time, mail.name, mail.folder))
-        its_own = [(mail, slot) for mail, slot in found if mail.folder == slot.folder]
+        at_home = [(mail, slot) for mail, slot in found if mail.folder == slot.folder]
         return cls(
             by_folder((mail.folder, mail) for mail in new),
             by_folder((mail.folder, slot.folder) for mail, slot in found if mail.folder != slot.folder),
             by_folder((slot.folder, slot) for mail, slot in found if mail.core != slot.core),
             by_folder((slot.folder, slot) for slot in slots if slot.file.is_held and slot.file.name is None),
-            by_folder((mail.folder, mail) for mail, slot in its_own if slot.went_back(State.HELD)),
+            by_folder((mail.folder, mail) for mail, slot in at_home if slot.went_back(State.HELD)),
             frozenset(path for slot in slots for path in slot.paths),
         )
 
@@ -147,7 +147,7 @@ def by_folder(pairs: Iterable[tuple[bytes, One]]) -> dict[bytes, list[One]]:
 def lines_about(root: bytes) -> Iterator[tuple[bytes, list[Line]]]:
     """The lines about the folders of a Maildir. Raises Fault if not all of them are known."""
     for path in folders_in(root):
-        folder = INBOX if path == root else os.path.basename(path)
+        folder = name_of(root, path)
         ledger = Ledger(path)
         want_whole(root, folder, ledger)
         yield folder, [line for line in ledger.entries(None) if line.state is not State.UNDONE]
@@ -177,7 +177,7 @@ def mails_of(root: bytes, say: Say = silent) -> Iterator[Mail]:
     """The files of mail in all folders of a Maildir. Each is read."""
     for path in folders_in(root):
         if all(is_folder(os.path.join(path, sub)) for sub in SUBFOLDERS[1:]):
-            yield from mails_in(INBOX if path == root else os.path.basename(path), path, say)
+            yield from mails_in(name_of(root, path), path, say)
 
 
 def mails_in(folder: bytes, path: bytes, say: Say) -> Iterator[Mail]:

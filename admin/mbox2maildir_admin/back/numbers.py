@@ -43,7 +43,7 @@ from ..mbox.pieces import LONGEST_NAME
 from ..migration.dovecot import KEYWORDS, LIST
 from ..migration.steps import Opened, Options
 from ..nexts import NOTHING, Answer, Command, Does, Next, Remark, run_next
-from ..terminal import NAMED, named, text_of
+from ..terminal import first_of, text_of
 from ..units import Place
 from .mails import Mail, Target
 
@@ -312,9 +312,7 @@ class Numbering:
                 wanted[name].append(uid)
         names = [name for name, its in wanted.items() if its or is_dry]
         if names:
-            more = " and %d more" % (len(names) - NAMED) if names[NAMED:] else ""
-            says = ADDED % (self.why, " ".join(map(named, names[:NAMED])) + more)
-            self.remarks.append(Remark("keywords-added", says))
+            self.remarks.append(Remark("keywords-added", ADDED % (self.why, first_of(names, " "))))
         if not is_dry:
             self.next = (*self.next, *(self.adding(name, wanted[name]) for name in names))
 

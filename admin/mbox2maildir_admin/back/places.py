@@ -12,7 +12,16 @@ from ..ledger.history import names_of
 from ..ledger.ledger import Ledger
 from ..ledger.record import Record, is_gone, unspelled
 from ..looks import is_file, is_folder, is_link, is_there
-from ..maildir.folders import INBOX, folder_named, folder_on_disk, folder_path, folders_in, name_given, without_utf7
+from ..maildir.folders import (
+    INBOX,
+    folder_named,
+    folder_on_disk,
+    folder_path,
+    folders_in,
+    name_given,
+    name_of,
+    without_utf7,
+)
 from ..maildir.making import sync_folder
 from ..mbox.lock_file import drop_lock, lock_file_of, spot_of
 from ..mbox.mailbox import Mailbox
@@ -73,7 +82,7 @@ class Places:
         for place in folders_in(self.root):
             ledger = Ledger(place)
             if any(source.inode == inode and is_gone(one) for one, source in ledger.sources.items()):
-                return INBOX if place == self.root else os.path.basename(place)
+                return name_of(self.root, place)
         return INBOX
 
     def name_of(self, path: bytes, folder: bytes) -> str:

@@ -9,7 +9,7 @@ from ..ledger.history import names_of
 from ..ledger.ledger import Ledger
 from ..ledger.record import Record, unspelled
 from ..looks import is_file, is_there, may_be
-from ..maildir.folders import INBOX, folder_named, folder_path, folders_in
+from ..maildir.folders import folder_named, folder_path, folders_in, name_of
 from ..maildir.making import GOES_BACK, RECORD
 from ..maildir.roots import real_place, want_roots_alone
 from ..mbox.files import is_empty
@@ -17,9 +17,9 @@ from ..migration.outcomes import Fate, Observer, Row, row_left
 from ..migration.steps import Options
 from ..nexts import NOTHING, Next, Remark, run_next
 from ..program import Program, find_program
-from ..terminal import named, operand
+from ..terminal import first_of, named, operand
 from ..units import counted
-from .appending import Returned, TakesNothing, Way, files_of, nothing_new
+from .appending import Returned, TakesNothing, Way, nothing_new
 from .beside import FULL, Beside
 from .mails import Sorted, Target, sorted_mail
 from .places import Keeper, Names, Places
@@ -115,7 +115,7 @@ class Several:
         """The folders with mail that goes back, or with a mailbox, and those about which something is to be said."""
         wanted = {*found.folders(), *self.places.found}
         for path in folders_in(self.way.root):
-            folder = INBOX if path == self.way.root else os.path.basename(path)
+            folder = name_of(self.way.root, path)
             if folder in wanted or is_there(os.path.join(path, GOES_BACK)):
                 yield folder
 
@@ -206,9 +206,9 @@ class Several:
                 yield left(beside._replace(remarks=()), Left(NOT_READ_BACK, Reason.NOT_HELD))
                 return
             row, refused = found
-            its = [one for one in beside.mails if one not in refused]
-            if its:
-                says = Remark("beside", why % {"path": named(target.path), "files": files_of(its)})
+            files = [one.path for one in beside.mails if one not in refused]
+            if files:
+                says = Remark("beside", why % {"path": named(target.path), "files": first_of(files)})
                 yield row._replace(remarks=(says, *row.remarks))
             beside = beside._replace(mails=refused)
 

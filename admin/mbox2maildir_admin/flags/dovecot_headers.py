@@ -15,7 +15,7 @@ from ..mbox.pieces import LONGEST_NAME
 from ..mbox.plain import NOTE
 from ..nexts import Remark
 from ..patterns import pattern
-from ..terminal import NAMED, named
+from ..terminal import first_of
 from ..units import Offset, Place
 
 # the highest UIDVALIDITY, how many keywords the name of a file has letters for, and the highest UID. Dovecot's next UID
@@ -147,9 +147,7 @@ class Reading:
             yield Remark("new-uids", "some messages get new UIDs, because a message before them has none")
         left = self.keywords[LETTERS:]
         if left:
-            more = " and %d more" % (len(left) - NAMED) if left[NAMED:] else ""
-            lost = " ".join(map(named, left[:NAMED])) + more
-            yield Remark("keywords-lost", "only %d keywords are kept; lost: %s" % (LETTERS, lost))
+            yield Remark("keywords-lost", "only %d keywords are kept; lost: %s" % (LETTERS, first_of(left, " ")))
 
     def is_used_up(self) -> bool:
         """Whether too few numbers are left for new mail."""

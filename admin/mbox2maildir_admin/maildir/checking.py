@@ -3,13 +3,13 @@ import collections
 import enum
 import functools
 import os
-from collections.abc import Callable, Iterator, Sequence
+from collections.abc import Callable, Iterator
 from typing import NamedTuple, Optional
 
 from ..looks import is_there
 from ..mbox.bases import BASE, before_info, is_own
 from ..mbox.inventory import Inventory
-from ..terminal import NAMED, named
+from ..terminal import first_of
 from ..units import Place, Say, counted, silent
 from .ahead import Digested, File, Read, readable, threads_for
 from .either import Others
@@ -205,8 +205,3 @@ class Check:
         if self.doubts:
             counts += "; %s may contain mail" % counted(len(self.doubts), "From_ line")
         return counts
-
-
-def first_of(paths: Sequence[bytes]) -> str:
-    """The names of the first of some paths."""
-    return ", ".join(map(named, paths[:NAMED])) + (" and %d more" % (len(paths) - NAMED) if len(paths) > NAMED else "")
