@@ -14,20 +14,19 @@ from ..ledger.ledger import Ledger
 from ..ledger.prepared import Prepared
 from ..ledger.prepared_lines import has_list
 from ..ledger.record import Record, is_gone, unspelled
-from ..maildir.folders import INBOX, folder_path, folders_in, name_of
+from ..maildir.folders import folder_path, folders_in, name_of
 from ..maildir.roots import real_place
 from ..maildir.space import Need
 from ..maildir.syncing import Syncs
-from ..mbox.locks import open_mailbox
 from ..migration.answers import answer_to
-from ..migration.mailbox import Migration
-from ..migration.outcomes import Fate, Observer, Outcome, Row, row_left, seen
+from ..migration.mailbox import Making, Migration
+from ..migration.outcomes import Observer, Outcome, row_left, seen
 from ..migration.preparing import is_prepared
 from ..migration.several import Several, refuse
 from ..migration.steps import Opened, Options
 from ..nexts import Answer
 from ..program import Program, find_program
-from ..readings.plans import NoMail, OtherKind, Question
+from ..readings.plans import Question
 from ..readings.reading import UNDECIDED
 from ..readings.texts import Choice, choice_at_once, read_messages
 from ..terminal import named
@@ -48,22 +47,21 @@ def migrate_takeouts(root: bytes, names: Sequence[bytes], options: Options, obse
     os.umask(0o077)
     with Record.to_migrate(root, options.dry) as record:
         how = options._replace(names=names, is_labelled=True)
-        migration = Migration(Program(find_program()), root, record, how)
+        takeouts = Takeouts(root, record, how, observer)
         observer.total += len(names)
         for name in names:
-            Takeout(migration, options.labels, observer).run(name)
+            takeouts.report(name)
 
 
-class Takeout:
-    """A Takeout on its way into the folders of its labels."""
+class Takeouts(Migration):
+    """Migrates Takeouts into the folders of their labels."""
 
-    def __init__(self, migration: Migration, choosing: Optional[Choosing], observer: Observer) -> None:
-        self.migration, self.choosing, self.observer = migration, choosing, observer
-        self.how, self.record, self.root = migration.how, migration.record, migration.root
-        self.syncs = Syncs(Several.settle)
+    def __init__(self, root: bytes, record: Record, how: Options, observer: Observer) -> None:
+        super().__init__(Program(find_program()), root, record, how)
+        self.observer, self.syncs = observer, Syncs(Several.settle)
 
-    def run(self, path: bytes) -> None:
-        """Does what is left to do, and reports what became of each folder, or why the Takeout is left."""
+    def report(self, path: bytes) -> None:
+        """Does what is left to do of a Takeout, and reports what became of each folder, or why it is left."""
         self.observer.begin()
         tell = self.observer.say(path)
 
@@ -73,19 +71,19 @@ class Takeout:
             tell(*words)
 
         try:
-            with open_mailbox(path, say=say, follow=True, quiet=not self.how.now) as mailbox:
-                try:
-                    self.migrate(Opened.into(self.root, INBOX, mailbox))
-                finally:
-                    # what was verified is done, even if a signal ends this
-                    self.syncs.sync()
-        except NoMail as found:
-            self.observer.row(Row(path, b"", found.kind, None, Fate.NO_MAIL))
-        except (Fault, OSError) as fault:
-            self.observer.row(row_left(path, b"", fault))
+            self.add(self.run(path, b"", say, follow=True))
+        finally:
+            # what was verified is done, even if a signal ends this
+            self.syncs.sync()
 
-    def migrate(self, opened: Opened) -> None:
-        """Migrates an open Takeout. Raises Fault if it is left."""
+    def add(self, ended: Outcome) -> None:
+        """Reports what became of a folder, once its disk is synced."""
+        self.syncs.add(ended.folder, (ended, self.observer.row))
+
+    def migrate(self, opened: Opened, making: Optional[Making] = None) -> Outcome:
+        """Migrates an open Takeout, and reports what became of each folder but the last, which it returns. Raises Fault
+        if the Takeout is left."""
+        del making
         line = line_of(self.record, opened.mailbox)
         self.want_none_prepared(opened)
         if not line:
@@ -94,24 +92,21 @@ class Takeout:
         choosing = self.chosen(opened, noted)
         try:
             with self.chosen_text(opened, noted) as choice, self.read(choice, choosing) as source:
-                self.want_room(source)
+                self.want_room_for(source)
                 folders = tuple(source.sorted.places)
                 self.record.make()
                 note(self.record, opened.mailbox, Noted(choosing, folders), len(source.inventory))
                 self.observer.total += len(folders) - 1
-                for folder in folders:
-                    self.observer.begin(folder != folders[0])
-                    ended = self.bring(source, Opened.into(self.root, folder, opened.mailbox))
-                    self.syncs.add(ended.folder, (ended, self.observer.row))
+                for folder in folders[:-1]:
+                    self.add(self.bring(source, folder, opened))
+                    self.observer.begin()
+                return self.bring(source, folders[-1], opened)
         except LabelsLeft as left:
             command = functools.partial(self.how.command, self.root, opened)
             left.next = tuple(Answer(command(labels=choosing), does) for choosing, does in left.says)
             raise
         except Question as question:
             raise self.how.asked(self.root, opened, question) from question
-        except OtherKind as other:
-            other.put(self.how.where(self.root, opened))
-            raise
 
     def want_none_prepared(self, opened: Opened) -> None:
         """Raises Left if a folder is only prepared, with the command that removes what is there."""
@@ -136,7 +131,7 @@ class Takeout:
 
     def chosen(self, opened: Opened, noted: Noted) -> Choosing:
         """What is said about labels now, and was said before. Raises Left if the two contradict each other."""
-        before, now = noted.choosing, self.choosing
+        before, now = noted.choosing, self.how.labels
         if now is None:
             return before
         is_other = noted.folders and (before.word == ONE) != (now.word == ONE)
@@ -150,7 +145,7 @@ class Takeout:
     def chosen_text(self, opened: Opened, noted: Noted) -> Iterator[Choice]:
         """Chooses the text that stands for the mailbox, as it is certain, decided, or was answered before. Raises Left
         if a human must decide."""
-        its = self.migration.program, opened.mailbox, self.migration.disk
+        its = self.program, opened.mailbox, self.disk
         with contextlib.ExitStack() as stack:
             try:
                 choice = stack.enter_context(choice_at_once(*its, self.how.decision))
@@ -167,14 +162,14 @@ class Takeout:
     def read(self, choice: Choice, choosing: Choosing) -> Iterator[Source]:
         """Reads the text, and sorts its messages by their labels."""
         if choice.plan.is_copied:
-            self.migration.want_room(Need.of(self.migration.disk, [], choice.mailbox.size))
-        with choice.text(self.migration.disk) as text:
-            inventory = read_messages(self.migration.program, text, choice)
+            self.want_room(Need.of(self.disk, [], choice.mailbox.size))
+        with choice.text(self.disk) as text:
+            inventory = read_messages(self.program, text, choice)
             if len(inventory) == 0:
                 raise LabelsLeft(NO_MESSAGE)
             yield Source(choice, text, inventory, Sorting(headers_in(text.mailbox, inventory), choosing).sorted())
 
-    def want_room(self, source: Source) -> None:
+    def want_room_for(self, source: Source) -> None:
         """Raises Left if the disk has too little room for what no folder has, with the largest of the texts of
         folders."""
         sizes: list[int] = []
@@ -186,11 +181,12 @@ class Takeout:
                 if brought[core] < 0:
                     sizes.append(source.inventory.sizes[place])
         most = max(sum(source.sizes(folder)) for folder in source.sorted.places)
-        self.migration.want_room(Need.of(self.root, sizes, 0 if self.how.dry else most))
+        self.want_room(Need.of(self.root, sizes, 0 if self.how.dry else most))
 
-    def bring(self, source: Source, opened: Opened) -> Outcome:
+    def bring(self, source: Source, folder: bytes, opened: Opened) -> Outcome:
         """Brings the messages of one folder."""
         try:
-            return self.migration.migrate(opened, functools.partial(FolderTransfer, source))
+            into = Opened.into(self.root, folder, opened.mailbox)
+            return super().migrate(into, functools.partial(FolderTransfer, source))
         except (Fault, OSError) as fault:
-            return Outcome(row_left(opened.mailbox.path, opened.name, fault))
+            return Outcome(row_left(opened.mailbox.path, folder, fault))
