@@ -2,44 +2,24 @@
 import calendar
 import datetime
 import functools
-import importlib
 import re
 import time
-from collections.abc import Callable, Sequence
-from typing import Any, Optional
+from collections.abc import Sequence
+from typing import Optional
 
 from ..patterns import pattern
 from .files import LONG
 
 MONTHS = {name: number for number, name in enumerate("jan feb mar apr may jun jul aug sep oct nov dec".split(), 1)}
 WEEKDAY = r"(?i:mon|tue|wed|thu|fri|sat|sun)"
-# the names of zones by their hours east of Greenwich; one that several zones have stands for what mail mostly means
-ZONES_AT = {
-    -10: "HST",
-    -9: "AKST",
-    -8: "PST AKDT",
-    -7: "MST PDT",
-    -6: "CST MDT",
-    -5: "EST CDT",
-    -4: "AST EDT",
-    -3.5: "NST",
-    -3: "ADT",
-    -2.5: "NDT",
-    0: "Z UT UTC GMT WET",
-    1: "WEST BST CET MET MEZ",
-    2: "CEST MEST MESZ EET",
-    3: "EEST MSK",
-    4: "MSD",
-    8: "SGT HKT AWST",
-    9: "JST KST",
-    9.5: "ACST",
-    10: "AEST",
-    10.5: "ACDT",
-    11: "AEDT",
-    12: "NZST",
-    13: "NZDT",
-}
-ZONES = {name: hours for hours, names in ZONES_AT.items() for name in names.split()}
+# the names of zones with their hours east of Greenwich; one that several zones have stands for what mail mostly means
+NAMED_ZONES = (
+    "HST -10, AKST -9, AKDT -8, PST -8, PDT -7, MST -7, MDT -6, CST -6, CDT -5, EST -5, EDT -4, AST -4, ADT -3, "
+    "NST -3.5, NDT -2.5, Z 0, UT 0, UTC 0, GMT 0, WET 0, WEST 1, BST 1, CET 1, MET 1, MEZ 1, CEST 2, MEST 2, MESZ 2, "
+    "EET 2, EEST 3, MSK 3, MSD 4, SGT 8, HKT 8, AWST 8, JST 9, KST 9, ACST 9.5, ACDT 10.5, AEST 10, AEDT 11, NZST 12, "
+    "NZDT 13"
+)
+ZONES = {name: float(hours) for name, hours in map(str.split, NAMED_ZONES.split(", "))}
 MONTH = "(?P<{0}month>(?i:%s))" % "|".join(MONTHS)
 CLOCK = r"(?P<{0}hour>[01]?\d|2[0-3]):(?P<{0}minute>[0-5]\d)(?::(?P<{0}second>[0-5]\d|60))?"
 ZONE = r"(?:\s+(?P<{0}zone>(?:GMT|UTC)?[-+]\d{{4}}|[A-Z]+(?:\s+DST)?)\b)?"
@@ -78,22 +58,17 @@ def is_dated(line: bytes) -> bool:
     return PLAIN.match(text[-PLAIN_LENGTH:]) is not None or ENDS_DATED.search(text) is not None
 
 
-def date_in(text: bytes) -> Optional[Sequence[str]]:
-    """The parts of the first date in a text, and its zone, if it has one."""
-    found = HAS_DATE.search(text.decode("latin-1"))
-    if not found:
-        return iso_date_in(text)
-    *parts, zone = found.group(*FORMS[found["month"] is None])
-    return (*parts, zone or found["last_zone"])
-
-
 def ends_in_iso(line: bytes) -> Optional[re.Match[str]]:
     """The date of ISO 8601 at the end of a line."""
     return ISO.search(line[-LONG:].decode("latin-1"))
 
 
-def iso_date_in(text: bytes) -> Optional[Sequence[str]]:
-    """The parts of such a date, and its zone, as those of another date."""
+def date_in(text: bytes) -> Optional[Sequence[str]]:
+    """The parts of the first date in a text, and its zone, if it has one."""
+    found = HAS_DATE.search(text.decode("latin-1"))
+    if found:
+        *parts, zone = found.group(*FORMS[found["month"] is None])
+        return (*parts, zone or found["last_zone"])
     found = ends_in_iso(text)
     if not found:
         return None
@@ -110,7 +85,7 @@ def seconds_of(text: bytes) -> Optional[int]:
     years = int(year) + (0 if len(year) > 2 else 2000 if year < "50" else 1900)
     moment = (years, MONTHS[month.lower()], int(day), int(hour), int(minute), int(second or 0))
     try:
-        seconds = seconds_east(moment, east_of(zone)) if zone else seconds_here(moment)
+        seconds = seconds_at(moment, zone)
     except (ValueError, OverflowError):
         return None
     return None if moment == UNKNOWN or seconds == 0 else seconds
@@ -131,56 +106,28 @@ def midnight_by(_: tuple[str, str], day: bytes, year: bytes) -> Optional[int]:
     return first if is_dated(lines[0]) and first and first > 0 and last == first + 86399 else None
 
 
-def seconds_east(moment: Moment, east: Optional[int]) -> Optional[int]:
-    """A moment so many seconds east of Greenwich, in seconds since 1970. Raises ValueError if there is no such day."""
+def seconds_at(moment: Moment, zone: str) -> Optional[int]:
+    """A moment in a zone, or else in that of TZ or of this machine, in seconds since 1970; None if the zone is not
+    known. Raises ValueError if there is no such day."""
     days = datetime.date(*moment[:3]).toordinal() - FIRST_DAY
-    return None if east is None else 86400 * days + clock_of(moment) - east
-
-
-def seconds_here(moment: Moment) -> int:
-    """The same for the zone of TZ or of this machine."""
-    midnight = midnight_of(time.tzname, *moment[:3])
-    if midnight is None or moment[5] > 59:
-        return int(time.mktime(moment + (0, 0, -1)))
-    return midnight + clock_of(moment)
-
-
-@functools.lru_cache(maxsize=1 << 13)
-def midnight_of(_: tuple[str, str], *day: int) -> Optional[int]:
-    """When a day begins in the zone of these names; None if the clock is changed on that day. No zone changes it twice
-    within two days. A `mktime` for each message would ask for /etc/localtime as often; mail is not always sorted, and
-    the days of 22 years take 1.3 MB."""
-    year, month, number = day
-    datetime.date(year, month, number)
-    first, last = (int(time.mktime((year, month, number, *clock, 0, 0, -1))) for clock in ((0, 0, 0), (23, 59, 59)))
-    return first if last == first + 86399 else None
-
-
-def clock_of(moment: Moment) -> int:
-    """How many seconds after midnight a moment is."""
-    return 3600 * moment[3] + 60 * moment[4] + moment[5]
+    if not zone:
+        return int(time.mktime((*moment, 0, 0, -1)))
+    east = east_of(zone)
+    return None if east is None else 86400 * days + 3600 * moment[3] + 60 * moment[4] + moment[5] - east
 
 
 def seconds_of_header(text: bytes) -> Optional[int]:
     """The date in a `Date` header, in seconds since 1970. It may be in the forms of `seconds_of`, or in another form
-    that mail has; in that one a date without a zone is in UTC."""
+    that Python reads; in that one a date without a zone is in UTC. It may be anything, for strangers' mail, so a day
+    that does not exist, or one before 1970 or after 2099, is no date."""
     seconds = seconds_of(text[:LONG])
-    return seconds_of_other_form(text[:LONG].decode("latin-1")) if seconds is None else seconds
+    if seconds is not None:
+        return seconds
+    # hardly any date needs this module, and loading it takes a tenth of the time in which the companion starts
+    from email.utils import parsedate_tz
 
-
-def reader_of_other_forms() -> Callable[[str], Optional[tuple[Any, ...]]]:
-    """Returns the function of Python's that reads dates. Hardly any date needs its module, and loading it takes a tenth
-    of the time in which the companion starts."""
-    read: Callable[[str], Optional[tuple[Any, ...]]] = importlib.import_module("email.utils").parsedate_tz
-    return read
-
-
-def seconds_of_other_form(text: str) -> Optional[int]:
-    """The date in a text as Python reads it. It may be anything, for strangers' mail, so a day that does not exist, or
-    one before 1970 or after 2099, is no date."""
-    read = reader_of_other_forms()
     try:
-        found = read(text)
+        found = parsedate_tz(text[:LONG].decode("latin-1"))
         if found is None or found[:6] == UNKNOWN:
             return None
         datetime.datetime(*found[:5])

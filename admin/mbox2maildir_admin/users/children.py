@@ -11,7 +11,6 @@ from ..faults import Left, Reason
 from ..jobs.crew import BROKEN, Child, Crew, Parent
 from ..maildir.folders import folder_of
 from ..maildir.syncing import call_of_system
-from ..mbox.dates import reader_of_other_forms
 from ..migration.outcomes import Observer, row_left
 from ..migration.telling import LONGEST, next_of, number_of, row_of
 from ..nexts import Todo, task
@@ -28,8 +27,8 @@ UNREADABLE = Left("could not read what its process reported", Reason.PROCESS, ta
 STOPPED = getattr(os, "CLD_STOPPED", 5)
 # the modules that a child may need; those of the package load what else it may need of both
 NEEDED = (
-    *("concurrent.futures.thread", "csv", "email.header", "encodings.utf_16", "encodings.utf_32", "tempfile"),
-    *("urllib.parse", "..labels.fields", "..migration.workers", "..readings.unpacking"),
+    *("concurrent.futures.thread", "csv", "email.header", "email.utils", "encodings.utf_16", "encodings.utf_32"),
+    *("tempfile", "urllib.parse", "..labels.fields", "..migration.workers", "..readings.unpacking"),
 )
 # how many remarks, lines and commands a row may have
 MOST = 64
@@ -44,7 +43,6 @@ def load_for_children() -> None:
         importlib.import_module(name, __package__)
     compile_all()
     # what these load when they are called first
-    reader_of_other_forms()
     folder_of("\u00e4")
     call_of_system()
     gc.freeze()
