@@ -28,11 +28,10 @@ from ..readings.unnamed import unnamed
 from ..terminal import first_of, named
 from ..units import Say, Size, counted, silent
 from .beside import Beside, Draft
-from .dialect import ANY, Client, Letter
+from .dialect import ANY, Client, Entry, Letter, Style, are_at, forms_in, reading_now, styles_of
 from .mails import Mail, Target
 from .numbers import Numbering, numbering_of
 from .places import Keeper, Places
-from .reading import Entry, Style, are_at, forms_in, reading_now, styles_of
 
 FILE_CHANGED = "%s was changed meanwhile: stop the program that did it, and run this again"
 MISREAD = "what was appended is not read back as it is, so it was taken back"

@@ -93,15 +93,13 @@ def forms_by(folder: bytes, name: bytes, core: bytes) -> Sequence[bytes]:
 
 class Sorted(NamedTuple):
     """By folders: what is new, in the order of its time; the folders of messages that were moved there; the messages
-    that were changed, and those that were deleted; and what went back before, and is in its folder. And the paths of
-    all mailboxes that the ledgers have."""
+    that were changed, and those that were deleted; and what went back before, and is in its folder."""
 
     new: dict[bytes, list[Mail]]
     moved: dict[bytes, list[bytes]]
     changed: dict[bytes, list[Slot]]
     deleted: dict[bytes, list[Slot]]
     returned: dict[bytes, list[Mail]]
-    paths: frozenset[str]
 
     @classmethod
     def by(cls, lines: Iterable[tuple[bytes, list[Line]]], mails: Iterable[Mail]) -> "Sorted":
@@ -128,7 +126,6 @@ class Sorted(NamedTuple):
             by_folder((slot.folder, slot) for mail, slot in found if mail.core != slot.core),
             by_folder((slot.folder, slot) for slot in slots if slot.file.is_held and slot.file.name is None),
             by_folder((mail.folder, mail) for mail, slot in at_home if slot.went_back(State.HELD)),
-            frozenset(path for slot in slots for path in slot.paths),
         )
 
     def folders(self) -> set[bytes]:

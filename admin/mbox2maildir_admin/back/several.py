@@ -78,7 +78,7 @@ class Several:
         found = sorted_mail(root, observer.say(root))
         observer.rest(named(root))
         if not self.is_dry:
-            self.drop_locks(found)
+            self.drop_locks()
         folders = list(self.folders(found))
         observer.total += len(folders)
         for folder in folders:
@@ -88,9 +88,9 @@ class Several:
                 self.tell(row._replace(remarks=(*row.remarks, *stands.pop(row.path, ()))))
             for path in sorted(stands):
                 self.tell(nothing_new(Target(path, folder, (), stands[path])))
-        tree = self.places.trees[0] if self.way.how.dovecot and self.places.trees else None
-        for row in rows_of(root, tree, self.places, self.is_dry, self.would):
-            self.tell(row)
+        if self.way.how.dovecot and self.places.trees:
+            for row in rows_of(self.places, self.is_dry, self.would):
+                self.tell(row)
         if self.is_dry or not self.is_right:
             return NOTHING
         ends = b"", *(b"-%d" % number for number in range(2, 100))
@@ -104,11 +104,11 @@ class Several:
         self.would |= {row.path} if row.fate is Fate.WOULD_BACK else set()
         self.way.observer.row(row)
 
-    def drop_locks(self, found: Sorted) -> None:
+    def drop_locks(self) -> None:
         """Removes the locks that a killed run left, also beside mailboxes that are not named now. If a ledger had noted
         that all is back, nothing may go back there any more, and nobody else would remove them."""
-        noted = map(unspelled, found.paths.union(line.path for line in self.way.record.lines()))
-        paths = {*noted, *(path for several in self.places.found.values() for path in several)}
+        noted = {unspelled(line.path) for line in self.way.record.lines()}
+        paths = noted.union(*self.places.found.values())
         self.way.keeper.drop_locks(sorted(paths), os.path.realpath(self.way.root))
 
     def folders(self, found: Sorted) -> Iterator[bytes]:

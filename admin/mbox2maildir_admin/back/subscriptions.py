@@ -26,11 +26,10 @@ Name = tuple[bytes, ...]
 class Lists:
     """The two lists of names, the mailboxes by their folders, and the paths of those that a dry run would make."""
 
-    def __init__(self, root: bytes, tree: bytes, places: Places, would: Container[bytes]) -> None:
-        self.root, self.tree, self.places, self.would = root, tree, places, would
-        self.path = os.path.join(tree, OLD_SUBSCRIPTIONS)
-        self.old, self.has_tabs = names_in(self.path, b"/")
-        self.new, _ = names_in(os.path.join(root, SUBSCRIPTIONS), b".")
+    def __init__(self, places: Places, would: Container[bytes]) -> None:
+        self.root, self.tree, self.places, self.would = places.root, places.trees[0], places, would
+        self.old, self.has_tabs = names_in(os.path.join(self.tree, OLD_SUBSCRIPTIONS), b"/")
+        self.new, _ = names_in(os.path.join(self.root, SUBSCRIPTIONS), b".")
 
     def names(self) -> list[Name]:
         """What the tree is to be subscribed to: the folders of the list of the Maildir that have a mailbox there, by
@@ -78,16 +77,14 @@ def folder_of_old(name: Name) -> bytes:
     return on_disk(folder_of_place(b"/".join(name).decode()))
 
 
-def rows_of(root: bytes, tree: Optional[bytes], places: Places, is_dry: bool, would: Container[bytes]) -> Iterator[Row]:
-    """Writes the list of a tree, and gives its row, if anything is to change in it. In a dry run, mail would go back to
-    the mailboxes at some paths."""
-    if tree is None:
-        return
-    path = os.path.join(tree, OLD_SUBSCRIPTIONS)
+def rows_of(places: Places, is_dry: bool, would: Container[bytes]) -> Iterator[Row]:
+    """Writes the list of the first tree, and gives its row, if anything is to change in it. In a dry run, mail would go
+    back to the mailboxes at some paths."""
+    path = os.path.join(places.trees[0], OLD_SUBSCRIPTIONS)
     try:
-        if not is_there(os.path.join(root, SUBSCRIPTIONS)):
+        if not is_there(os.path.join(places.root, SUBSCRIPTIONS)):
             return
-        lists = Lists(root, tree, places, would)
+        lists = Lists(places, would)
         names = lists.names()
         if set(names) == set(lists.old):
             return
