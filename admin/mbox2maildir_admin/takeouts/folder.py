@@ -59,9 +59,9 @@ class Source:
         """How often each core is among its messages."""
         return cores_of(self.inventory)
 
-    def sizes(self, folder: bytes) -> list[int]:
-        """How many bytes each message of a folder has."""
-        return [self.inventory.sizes[place] for place in self.sorted.places[folder]]
+    def size(self, folder: bytes) -> int:
+        """How many bytes the messages of a folder have."""
+        return sum(self.inventory.sizes[place] for place in self.sorted.places[folder])
 
 
 class KnownPart(Known):
@@ -105,7 +105,7 @@ class FolderTransfer(Transfer):
     def read(self, choice: Choice) -> Iterator[Contents]:
         """Reads the text of the messages of this folder. The program must list them."""
         source = self.source
-        self.want_room(Need.of(self.disk, [], sum(source.sizes(self.opened.name))))
+        self.want_room(Need.of(self.disk, [], source.size(self.opened.name)))
         with part_of(source.text, source.inventory, self.places, self.disk) as text:
             inventory = read_messages(self.program, text, choice)
             want_same(inventory, source.inventory, self.places)
@@ -119,4 +119,4 @@ class FolderTransfer(Transfer):
 
     def row(self, plan: Plan, then: Next = NOTHING) -> Row:
         """The row of the folder, with the size of its messages."""
-        return super().row(plan, then)._replace(size=sum(self.source.sizes(self.opened.name)))
+        return super().row(plan, then)._replace(size=self.source.size(self.opened.name))

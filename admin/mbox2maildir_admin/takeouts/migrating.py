@@ -180,7 +180,7 @@ class Takeouts(Migration):
                 brought[core] -= 1
                 if brought[core] < 0:
                     sizes.append(source.inventory.sizes[place])
-        most = max(sum(source.sizes(folder)) for folder in source.sorted.places)
+        most = max(map(source.size, source.sorted.places))
         self.want_room(Need.of(self.root, sizes, 0 if self.how.dry else most))
 
     def bring(self, source: Source, folder: bytes, opened: Opened) -> Outcome:
