@@ -13,14 +13,14 @@ from ..ledger.match import cores_of
 from ..ledger.record import Record
 from ..looks import is_file, is_there
 from ..maildir.making import GOES_BACK
-from ..maildir.space import Need, want_room
+from ..maildir.disk import Need, want_room
 from ..mbox.files import Reader
 from ..mbox.inventory import Inventory
 from ..mbox.locks import READING, WRITING, open_mailbox
 from ..mbox.mailbox import Mailbox
-from ..migration.known import Known
+from ..migration.known import Known, Opened
 from ..migration.outcomes import Fate, Observer, Row
-from ..migration.steps import Opened, Options
+from ..migration.options import Options
 from ..nexts import Remark, Todo, task
 from ..program import Program
 from ..readings.texts import disk_of

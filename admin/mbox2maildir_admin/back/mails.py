@@ -11,10 +11,9 @@ from typing import NamedTuple, Optional, TypeVar
 from .. import ADMIN
 from ..faults import Fault, PlaceFault, Reason
 from ..ledger.assign import File, by_form, files_of
-from ..ledger.batches import Line, State
+from ..ledger.lines import RETURNED, Line, State
 from ..ledger.ledger import Ledger
-from ..ledger.lines import RETURNED
-from ..ledger.prepared_lines import has_list
+from ..ledger.prepared import has_list
 from ..looks import is_folder
 from ..maildir.files import listings_of
 from ..maildir.folders import folder_named, folders_in, name_of

@@ -41,7 +41,8 @@ from ..mbox.inventory import Inventory
 from ..mbox.mailbox import Mailbox
 from ..mbox.pieces import LONGEST_NAME
 from ..migration.dovecot import KEYWORDS, LIST
-from ..migration.steps import Opened, Options
+from ..migration.options import Options
+from ..migration.known import Opened
 from ..nexts import NOTHING, Answer, Command, Does, Next, Remark, run_next
 from ..terminal import first_of, text_of
 from ..units import Place

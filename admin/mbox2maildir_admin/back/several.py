@@ -10,11 +10,10 @@ from ..ledger.ledger import Ledger
 from ..ledger.record import Record, unspelled
 from ..looks import is_file, is_there, may_be
 from ..maildir.folders import folder_named, folder_path, folders_in, name_of
-from ..maildir.making import GOES_BACK, RECORD
-from ..maildir.roots import real_place, want_roots_alone
+from ..maildir.making import GOES_BACK, RECORD, real_place, want_roots_alone
 from ..mbox.files import is_empty
 from ..migration.outcomes import Fate, Observer, Row, row_left
-from ..migration.steps import Options
+from ..migration.options import Options
 from ..nexts import NOTHING, Next, Remark, run_next
 from ..program import Program, find_program
 from ..terminal import first_of, named, operand

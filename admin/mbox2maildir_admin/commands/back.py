@@ -5,7 +5,7 @@ from ..back.several import bring_back
 from ..faults import Status
 from ..migration.outcomes import Row
 from ..migration.rows import Reporter, Shows
-from ..migration.steps import Options
+from ..migration.options import Options
 from ..users.asked import Tally
 from ..users.going_back import back_users
 from .of_users import jobs_in

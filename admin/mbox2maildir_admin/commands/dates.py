@@ -8,7 +8,7 @@ from typing import Optional
 from ..faults import Status
 from ..maildir.dating import Dating
 from ..maildir.either import Either
-from ..maildir.syncing import Syncs
+from ..maildir.disk import Syncs
 from ..mbox.mailbox import is_still
 from ..progress import say_of
 from ..readings.texts import open_text

@@ -15,7 +15,7 @@ from ..kinds.making import Where
 from ..kinds.others import Holds
 from ..ledger.history import History
 from ..looks import is_folder
-from ..maildir.space import trial_folder
+from ..maildir.disk import trial_folder
 from ..mbox.mailbox import Mailbox
 from ..migration.outcomes import Detail, Fate, Observer, Row
 from ..migration.rows import Shows

@@ -10,7 +10,7 @@ from ..maildir.folders import why_no_folder
 from ..migration.block import Typed
 from ..migration.outcomes import Row, row_left
 from ..migration.rows import Reporter, Shows
-from ..migration.steps import Options
+from ..migration.options import Options
 from ..nexts import run_next
 from ..readings.reading import UNDECIDED
 from ..terminal import complain, has_terminal, named, operand

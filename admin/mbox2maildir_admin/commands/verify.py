@@ -1,8 +1,8 @@
 """The command `verify`: whether each message is in the Maildir, or in the Maildirs of many users."""
 import argparse
 import collections
-import functools
 import importlib
+import functools
 import os
 from collections.abc import Iterator
 from itertools import islice
@@ -12,7 +12,7 @@ from ..labels.noted import Noted, noted_of
 from ..labels.parts import checks_of
 from ..maildir.checking import Check, State
 from ..maildir.either import Either
-from ..maildir.files import paths_of
+from ..maildir.files import forms_in, paths_of
 from ..maildir.folders import INBOX
 from ..mbox.inventory import IN_MEMORY, Inventory
 from ..migration.outcomes import Detail, Fate, Observer, Row
@@ -143,8 +143,6 @@ def take_alike(maildir: bytes, text: Text, check: Check) -> int:
     themselves: another mailbox has brought it. Returns how many."""
     if not check.count(State.NOWHERE):
         return 0
-    # only this one needs what knows bare forms
-    forms_in = importlib.import_module("..ledger.files", __package__).forms_in
     inventory, taken, count = text.messages(), {*check.paths.values()}, 0
     wanted: collections.defaultdict[bytes, list[Place]] = collections.defaultdict(list)
     for found in check.found(State.NOWHERE):

@@ -8,7 +8,7 @@ from ..looks import is_folder, is_link
 from ..maildir.folders import INBOX
 from ..migration.places import Pairs, Planned, recorded
 from ..migration.rows import Reporter
-from ..migration.steps import Options
+from ..migration.options import Options
 from ..migration.trees import Tree, link_left
 from ..program import Program
 from ..users.asked import Tally

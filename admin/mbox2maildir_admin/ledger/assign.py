@@ -13,8 +13,7 @@ from collections.abc import Container, Iterable, Iterator, Mapping
 from enum import IntEnum
 from typing import NamedTuple, Optional
 
-from .batches import Line, State
-from .lines import FOREIGN, NAMELESS, SHARED, Brought
+from .lines import FOREIGN, NAMELESS, SHARED, Brought, Line, State
 
 
 class Why(IntEnum):

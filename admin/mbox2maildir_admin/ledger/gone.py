@@ -1,14 +1,23 @@
-"""Where a folder and its ledger differ: what is gone of the mail that mailboxes brought, and what came back. People
-delete mail, and others may too. So this is only said. And files that have names which only this program gives, though
-no ledger has them."""
+"""Where a folder and its ledger differ: what is gone of the mail that mailboxes brought, what came back, and files that
+have names which only this program gives, though no ledger has them. People delete mail, and others may too. So most of
+this is only said.
+
+What is left in the folder, and the kernel's times, show how far a run came that was killed. The program places messages
+in their order. It writes each into a file of `tmp` that has the same base. If such a file is left, all messages before
+it were placed. If none is left, the last message that is there is the last one that was placed, unless somebody changed
+a name after that: then nobody knows. The kernel's clock ticks, so nothing shows that a name was changed within a tick
+after the last message was placed.
+"""
 import array
 import collections
 import contextlib
+import os
+from collections.abc import Sequence
 
 from ..faults import Fault
-from ..maildir.files import names_of
+from ..maildir.files import names_in, names_of
 from ..maildir.folders import folders_in
-from ..maildir.traces import Traces, times_of
+from ..maildir.making import SUBFOLDERS
 from ..mbox.bases import BASE, Table, base_in, before_info, is_own
 from ..mbox.core import SHORT
 from ..nexts import Remark
@@ -17,8 +26,58 @@ from .ledger import Ledger
 from .lines import LOST, digest_at, pieces_in
 from .match import Match
 
+# the most by which the times differ that the kernel gives a file and its folder in one rename, in nanoseconds
+RENAME_TICK = 20000000
+SECOND = 10**9
 GONE = "%d of the %d messages that were placed in its folder are gone, or another program renamed them"
 BACK = "up to %s that had been deleted or moved came back"
+
+
+def times_of(folder: bytes) -> tuple[int, ...]:
+    """The times at which names in `tmp`, `new` and `cur` were last changed, in nanoseconds since 1970; none if one of
+    these folders is missing."""
+    try:
+        return tuple(os.stat(os.path.join(folder, sub)).st_mtime_ns for sub in SUBFOLDERS)
+    except FileNotFoundError:
+        return ()
+
+
+def may_be_gone(folder: bytes, table: Table, before: tuple[int, ...]) -> list[int]:
+    """The places of the messages of a table that have no file, and that a run may have placed, in this order, that was
+    killed. `before` has the times at which names had last been changed when it began."""
+    # by place: when the file of the message was last renamed, in nanoseconds since 1970; 0 if there is none
+    changes = array.array("q", bytes(8 * len(table)))
+    for name, path in names_of(folder):
+        place = table.own_place(name)
+        if place is not None:
+            with contextlib.suppress(FileNotFoundError):
+                changes[place] = os.lstat(path).st_ctime_ns
+    return [place for place in range(came_to(folder, table, before, changes)) if not changes[place]]
+
+
+def came_to(folder: bytes, table: Table, before: tuple[int, ...], changes: Sequence[int]) -> int:
+    """The place before which it may have placed all messages."""
+    times, placed = times_of(folder), [place for place, change in enumerate(changes) if change]
+    if before and times[:1] == before[:1] and times[0] % SECOND:
+        # it made no file; a disk whose times are whole seconds does not show that
+        return 0
+    left = [table.own_place(name) for name in names_in(os.path.join(folder, SUBFOLDERS[0])) if is_own(name)]
+    in_tmp = [place for place in left if place is not None and not changes[place]]
+    if in_tmp:
+        return max(in_tmp)
+    if times and is_untouched([changes[place] for place in placed], before, times):
+        return placed[-1] if placed else 0
+    return len(table)
+
+
+def is_untouched(changes: Sequence[int], before: tuple[int, ...], times: tuple[int, ...]) -> bool:
+    """Whether nobody has changed a name since the last of some files was placed, or since the run began."""
+    if not changes:
+        return times[1:] == before[1:]
+    last = max(times[1:])
+    # if the clock was set back, or something else was done with the file, one of them is long before the other
+    is_last = last <= min(changes[-1], times[0]) + RENAME_TICK and changes[-1] <= last + RENAME_TICK
+    return is_last and all(one <= other for one, other in zip(changes, changes[1:]))
 
 
 def gone_from(ledger: Ledger) -> list[Remark]:
@@ -78,7 +137,7 @@ def gone_of(ledger: Ledger, number: int) -> collections.Counter[bytes]:
     there = {before.own_place(name) for name, _ in names_of(ledger.folder)} if len(before) else set()
     gone = [places[0][place] for place in range(len(before)) if place not in there]
     if len(after):
-        gone += [places[1][place] for place in Traces(ledger.folder, after, batch.head.times).may_be_gone()]
+        gone += [places[1][place] for place in may_be_gone(ledger.folder, after, batch.head.times)]
     return collections.Counter(digest_at(batch.cores, at) for at in gone)
 
 

@@ -19,9 +19,8 @@ from typing import Optional
 from ..maildir.files import names_of
 from ..maildir.making import LEDGER, SyncNames, sync_folder
 from ..mbox.bases import before_info
+from ..mbox.core import SHORT
 from ..terminal import is_text
-from .batches import Batch, Line, Lines, Source, State
-from .files import Hides, hides_none
 from .lines import (
     ALL_PLACED,
     BATCH,
@@ -40,12 +39,103 @@ from .lines import (
     UNDONE,
     Brought,
     Head,
+    Line,
+    Lines,
     Several,
+    State,
     append,
     counted_in,
+    digest_at,
     pieces_in,
     pieces_of,
 )
+
+
+# what a line that is not that of a message is, by its first sign
+SIGNS = {
+    **{b"m": HEAD, b"@": BATCH, b"+": ALL_PLACED, b"=": END},
+    **{b">": MOVED, b"<": UNDOING, b"-": UNDONE, b"!": FAILED},
+}
+
+
+class Batch:
+    """What a run brings of one mailbox: an intention, until it is ended."""
+
+    def __init__(self, head: Head) -> None:
+        self.head, self.path = head, head.path
+        # the words of its lines, and the digests that they have, one after the other
+        self.letters, self.cores, self.bares = bytearray(), bytearray(), bytearray()
+        # whether each of its messages has had a file
+        self.is_placed = False
+
+    @property
+    def is_whole(self) -> bool:
+        """Whether it has all of its lines. Before that nothing of it is placed."""
+        return len(self.letters) == self.head.wanted
+
+    def take(self, words: bytes, cores: bytes, bares: bytes) -> None:
+        """Takes lines by their words and digests, one after the other."""
+        self.letters += words
+        self.cores += cores
+        self.bares += bares
+
+    def clear(self) -> None:
+        """Forgets its digests, which its mailbox has now."""
+        self.cores, self.bares = bytearray(), bytearray()
+
+
+class Source:
+    """What a mailbox has brought, and how it was when it was read last: the words of its reading, size and SHA-256."""
+
+    # how many bytes of digests are compared at once
+    STEP = 1 << 14
+
+    def __init__(self) -> None:
+        self.words, self.key, self.inode = "", (0, ""), 0
+        self.cores, self.bares = bytearray(), bytearray()
+        # how often each core is no longer in the mailbox; and how many messages may have come back
+        self.lost: collections.Counter[bytes] = collections.Counter()
+        self.back = 0
+
+    def take(self, batch: Batch) -> None:
+        """Takes a batch that has ended."""
+        self.words, self.key, self.inode = batch.head.words, batch.head.key, batch.head.inode
+        self.back += batch.head.back
+        if not self.lost and LOST not in batch.letters:
+            self.cores += batch.cores
+            self.bares += batch.bares
+            batch.clear()
+            return
+        for at, letter in enumerate(batch.letters):
+            core, bare = digest_at(batch.cores, at), digest_at(batch.bares, at)
+            if letter == LOST[0]:
+                self.lost[core] += 1
+            elif core in self.lost:
+                # what it has again it had before
+                self.lost[core] -= 1
+                if not self.lost[core]:
+                    del self.lost[core]
+            else:
+                self.cores += core
+                self.bares += bare
+
+    def has(self, first: int = 0) -> collections.Counter[bytes]:
+        """How often it had each core when it was read last, from a message on."""
+        return counted_in(self.cores[first * SHORT :]) - self.lost
+
+    def same_start(self, cores: bytearray, bares: bytearray) -> int:
+        """How many of its first messages are those of a text with these digests, in large steps. Most mailboxes only
+        grow, and it takes much memory to count each digest."""
+        at, end = 0, 0 if self.lost else min(len(self.cores), len(cores))
+        for at in range(0, end, self.STEP):
+            several = slice(at, at + self.STEP)
+            if self.cores[several] != cores[several] or self.bares[several] != bares[several]:
+                break
+        return at // SHORT
+
+    def count(self) -> int:
+        """How many messages it had when it was read last."""
+        return len(self.cores) // SHORT - sum(count for count in self.lost.values())
 
 
 class Ledger:
@@ -77,11 +167,12 @@ class Ledger:
         self.looked_at: Optional[tuple[int, int, tuple[int, ...]]] = None
         # the paths of mailboxes whose undo is not finished: what they have belongs to nobody
         self.leaving: set[str] = set()
-        # which files are only prepared
-        self.hides: Hides = hides_none
         number, first = 1, 0
         for text, several in pieces_in(folder):
-            if not (self.take_several(several) if several else self.take(text[:-1])):
+            if several and self.batch:
+                self.batch.take(several.words, several.cores, several.bares)
+                self.note_last(self.batch)
+            elif several or not self.take(text[:-1]):
                 # what was cut is no damage, unless a line that follows needs it
                 first = first or number
                 if not text.endswith(CUT + b"\n") and b"\0" not in text:
@@ -90,55 +181,43 @@ class Ledger:
         for batch in verified:
             self.end(batch)
 
-    def take_several(self, several: Several) -> bool:
-        """Takes lines of messages, and returns whether they belong to a batch."""
-        if self.batch:
-            self.batch.take(several.words, several.cores, several.bares)
-            self.note_last(self.batch)
-        return self.batch is not None
-
     def take(self, line: bytes) -> bool:
-        """Takes another line, and returns whether it is one."""
-        if b"\0" in line or not is_text(line):
+        """Takes a line that is not that of a message, and returns whether it is one."""
+        sign = line[:1]
+        found = SIGNS[sign].match(line) if sign in SIGNS and b"\0" not in line and is_text(line) else None
+        words = [one.decode() for one in found.groups(default=b"")] if found else [""]
+        if not found:
             return False
-        head, batch, end = HEAD.match(line), BATCH.match(line), END.match(line)
-        placed, moved, undone = ALL_PLACED.match(line), MOVED.match(line), UNDONE.match(line)
-        leaving, failed = UNDOING.match(line), FAILED.match(line)
-        if head:
-            self.number = head[1].decode()
-        elif batch:
-            self.last, self.batch = int(batch[1]), Batch(Head.of(batch))
+        if sign == b"m":
+            self.number = words[0]
+        elif sign == b"@":
+            self.last, self.batch = int(words[0]), Batch(Head.of(found))
             self.open[self.last] = self.batch
             if self.batch.head.begun:
                 self.begun.setdefault(self.batch.path, self.batch.head.begun)
             self.note_last(self.batch)
-        elif placed:
-            return self.take_all_placed(int(placed[1]))
-        elif end:
-            return self.end(int(end[1]))
-        elif moved:
-            self.rename(moved[1].decode(), moved[2].decode())
-        elif undone:
-            self.last = self.lasts[undone[2].decode()] = int(undone[1])
-            self.forget(undone[2].decode())
-        elif leaving:
-            self.leaving.add(leaving[1].decode())
-        elif failed:
-            self.failed.add(int(failed[1]))
-        return bool(head or batch or moved or undone or leaving or failed)
+        elif sign == b"+":
+            placed = self.open.get(int(words[0]))
+            if placed is None or not placed.is_whole:
+                return False
+            placed.is_placed = True
+        elif sign == b"=":
+            return self.end(int(words[0]))
+        elif sign == b">":
+            self.rename(*words)
+        elif sign == b"-":
+            self.last = self.lasts[words[1]] = int(words[0])
+            self.forget(words[1])
+        elif sign == b"<":
+            self.leaving.add(words[0])
+        else:
+            self.failed.add(int(words[0]))
+        return True
 
     def note_last(self, batch: Batch) -> None:
         """Notes the number of the last batch, once it is whole."""
         if batch.is_whole:
             self.lasts[batch.path] = self.last
-
-    def take_all_placed(self, number: int) -> bool:
-        """Takes it that all of a batch has its files, and returns whether it had all of its lines."""
-        batch = self.open.get(number)
-        if batch is None or not batch.is_whole:
-            return False
-        batch.is_placed = True
-        return True
 
     def end(self, number: int) -> bool:
         """Ends a batch, and returns whether it had all of its lines."""
@@ -274,12 +353,6 @@ class Ledger:
         after = self.last_end(path) if is_new else 0
         numbers = {number for number, batch in self.open.items() if batch.path == path and number > after}
         return (one for _, one in self.messages(numbers, is_new))
-
-    def placed_last(self, path: str) -> list[Brought]:
-        """The message that each batch of a mailbox was to place last."""
-        numbers = {number for number, its in self.ended.items() if its == path}
-        numbers.update(number for number, batch in self.open.items() if batch.path == path)
-        return list({number: one for number, one in self.messages(numbers) if one.word == PLACED}.values())
 
     def names(self, *more: Iterable[int]) -> Iterator[bytes]:
         """The names of the files that mailboxes have placed, or share, in batches that have ended, and in more with

@@ -7,6 +7,7 @@ import os
 import re
 import stat
 from collections.abc import Container, Iterable, Iterator, Sequence
+from enum import Enum
 from typing import NamedTuple, Optional, Union
 
 from ..faults import PlaceFault, Reason
@@ -101,6 +102,45 @@ class Several(NamedTuple):
             core = digest_at(self.cores, at)
             if wanted is None or core in wanted:
                 yield at, Brought(self.words[at : at + 1], name, core, digest_at(self.bares, at))
+
+
+class State(Enum):
+    """What a line counts for: the mailbox has the message, had it once, or its batch has not ended, and perhaps a later
+    one of the mailbox has; or all of the mailbox was undone."""
+
+    HELD = "held"
+    FORMER = "former"
+    OPEN = "open"
+    DROPPED = "dropped"
+    UNDONE = "undone"
+
+
+class Line(NamedTuple):
+    """A message of the mailbox at a path, as the ledger has it in the batch with a number, and whether that batch was
+    to place its file."""
+
+    path: str
+    state: State
+    message: Brought
+    number: int = 0
+    is_new: bool = False
+
+
+class Lines:
+    """The messages that lines of a mailbox have, while its batches are read in their order."""
+
+    def __init__(self) -> None:
+        self.held: collections.defaultdict[tuple[bytes, ...], list[Line]] = collections.defaultdict(list)
+        self.former: list[Line] = []
+
+    def take(self, line: Line) -> None:
+        """Takes a line of a batch that has ended."""
+        same = self.held[line.message[1:]]
+        if line.message.word != LOST:
+            same.append(line)
+        elif same:
+            # of several with a name, the last one has the file
+            self.former.append(same.pop(0)._replace(state=State.FORMER))
 
 
 # lines of messages that follow each other, with these; any other line by itself, with none

@@ -15,15 +15,124 @@ import itertools
 from collections.abc import Callable, Container, Iterable, Iterator, Sequence
 from typing import Optional
 
-from ..mbox.bases import FIRST, Table, base_in, is_own
+from ..looks import is_link
+from ..maildir.files import digest_of, forms_in, names_of
+from ..mbox.bases import BASE, DIGEST, FIRST, base_in, before_info, is_own
 from ..mbox.core import SHORT
 from ..mbox.inventory import Inventory
 from ..units import Place, Say, silent
 from .assign import BROUGHT, File, Offer, Unnamed, Why, by_form, files_of, nobodys, offers_of
-from .batches import Line, State
-from .files import Files
+from .lines import FOREIGN, NAMELESS, Brought, Line, State, counted_in, word_for_others
 from .ledger import Ledger
-from .lines import FOREIGN, LOST, NAMELESS, PLACED, Brought, counted_in, word_for_others
+
+# tells whether a file of this name, without its info, counts for nothing
+Hides = Callable[[bytes], bool]
+
+
+class Files:
+    """What a folder has: files with bases of a text's messages, and with names of its ledger. Names have no infos."""
+
+    def __init__(self, folder: bytes, inventory: Inventory, say: Say = silent, hides: Optional[Hides] = None) -> None:
+        """Lists a folder. Some files may be passed over."""
+        self.folder, self.inventory, self.say, self.hides = folder, inventory, say, hides
+        # by place: 1 if a file has the base of the message; and the counts of other bases with a digest of the text
+        self.there = bytearray(len(inventory))
+        self.counts: collections.defaultdict[bytes, list[int]] = collections.defaultdict(list)
+        # the names of files that are marked as deleted; how many files of other programs there are, and whether
+        # programs have named any file, and any file has a base that the text has not
+        self.trashed: set[bytes] = set()
+        self.others, self.has_named, self.has_strange = 0, False, False
+        # the names that mailboxes gave which were undone
+        self.kept: set[bytes] = set()
+        for name, path in self.listed():
+            say("looking into the folder")
+            before = before_info(name)
+            base = base_in(name) if is_own(before) else None
+            if base:
+                self.take(base)
+            self.has_named = self.has_named or base is None
+            self.has_strange = self.has_strange or inventory.table.place_of(base) is None
+            # a symbolic link is no mail
+            self.others += BASE.match(name) is None and not is_link(path)
+            if b"T" in name[len(before) :]:
+                self.trashed.add(before)
+
+    def take(self, base: bytes) -> None:
+        """Takes a file that has a base."""
+        place = self.inventory.table.place_of(base)
+        if place is not None:
+            self.there[place] = 1
+        elif self.inventory.table.has(base[:DIGEST]):
+            self.counts[base[:DIGEST]].append(int(base[DIGEST + 1 :]))
+
+    def present(self, names: Container[bytes]) -> set[bytes]:
+        """Those of some names that are there."""
+        return {before for before in (before_info(name) for name, _ in self.listed()) if before in names}
+
+    def listed(self) -> Iterator[tuple[bytes, bytes]]:
+        """The names and paths of the files that are not passed over."""
+        return (one for one in names_of(self.folder) if not (self.hides and self.hides(before_info(one[0]))))
+
+    def has_digest(self, digest: bytes) -> bool:
+        """Whether a file has a base with a digest of the text."""
+        return digest in self.counts or any(self.there[place] for place in self.inventory.table.places_of(digest))
+
+    def counts_of(self, digest: bytes) -> list[int]:
+        """The counts of the bases with a digest of the text that files have."""
+        table = self.inventory.table
+        there = [table.counts[place] for place in table.places_of(digest) if self.there[place]]
+        return sorted([*there, *self.counts.get(digest, ())])
+
+    def own_names(self, digest: bytes) -> Iterator[bytes]:
+        """The names of the files that have such a base."""
+        return (b"%s.%d" % (digest.hex().encode(), count) for count in self.counts_of(digest))
+
+    def foreign(self, places: Sequence[int], known: Container[bytes], is_first: bool) -> dict[bytes, list[bytes]]:
+        """The files that hold messages at these places, by their bare forms, but for those that are known. All are read
+        if the mailbox has brought nothing so far; later, since people may have much mail there, only those of other
+        programs that may have the bytes of a message as it is, and those that an undo may have kept."""
+        found: collections.defaultdict[bytes, list[bytes]] = collections.defaultdict(list)
+        sizes = (
+            {self.inventory.sizes[place] for place in places}
+            if self.has_named or self.kept or is_first and self.has_strange
+            else set()
+        )
+        for before, path in self.numbered() if sizes else ():
+            is_read = before in self.kept or is_first and self.inventory.table.own_place(before) is None
+            if (is_read or not is_own(before)) and before not in known:
+                bare = self.bare_in(path, None if is_read else sizes)
+                if bare:
+                    found[bare].append(before)
+        return found
+
+    def bare_in(self, path: bytes, sizes: Optional[Container[int]]) -> Optional[bytes]:
+        """The bare form of the message in a file; of a file of one of these sizes, if it holds a message of the
+        text."""
+        if sizes is None:
+            forms = forms_in(path)
+            return forms[1] if forms else None
+        try:
+            digest = digest_of(path, sizes)[0]
+        except OSError:
+            return None
+        place = self.inventory.table.place_of(digest + FIRST) if digest else None
+        return None if place is None else self.inventory.bare(place)
+
+    def by_core(self, known: Container[bytes]) -> dict[bytes, list[tuple[bytes, bytes]]]:
+        """All files but those that are known, by the cores of what they hold, with its bare form. They are read."""
+        found: collections.defaultdict[bytes, list[tuple[bytes, bytes]]] = collections.defaultdict(list)
+        for before, path in self.numbered():
+            forms = forms_in(path) if before not in known else None
+            if forms:
+                found[forms[0]].append((forms[1], before))
+        return found
+
+    def numbered(self) -> Iterator[tuple[bytes, bytes]]:
+        """The names of all files, and their paths. Says how far it is."""
+        for number, (name, path) in enumerate(self.listed(), 1):
+            self.say("looking at file %d of the folder" % number)
+            yield before_info(name), path
+
 
 # tells whether a message is marked as deleted in its mailbox
 IsDeleted = Callable[[Place], bool]
@@ -47,12 +156,10 @@ class Seen:
 class Match:
     """What a mailbox brings to a folder."""
 
-    def __init__(
-        self, ledger: Ledger, path: str, inventory: Inventory, is_deleted: IsDeleted, say: Say = silent
-    ) -> None:
-        """Takes the path of the mailbox as the ledger spells it, and its messages. Lists the folder."""
-        self.ledger, self.path, self.inventory, self.is_deleted = ledger, path, inventory, is_deleted
-        self.files = Files(ledger.folder, inventory, say, ledger.hides)
+    def __init__(self, ledger: Ledger, path: str, files: Files, is_deleted: IsDeleted) -> None:
+        """Takes the path of the mailbox as the ledger spells it, and what the folder has of its messages."""
+        self.ledger, self.path, self.files, self.is_deleted = ledger, path, files, is_deleted
+        self.inventory = inventory = files.inventory
         # the places that the mailbox did not have before, and how often it no longer has a core
         self.new: Sequence[int] = range(len(inventory))
         self.lost: collections.Counter[bytes] = collections.Counter()
@@ -74,9 +181,9 @@ class Match:
         self.seen = Seen()
 
     @classmethod
-    def of(cls, ledger: Ledger, path: str, inventory: Inventory, is_deleted: IsDeleted, say: Say = silent) -> "Match":
+    def of(cls, ledger: Ledger, path: str, files: Files, is_deleted: IsDeleted) -> "Match":
         """Looks for the messages of a mailbox."""
-        self = cls(ledger, path, inventory, is_deleted, say)
+        self = cls(ledger, path, files, is_deleted)
         self.compare()
         self.take_mine()
         self.look()
@@ -179,24 +286,22 @@ class Match:
         self.strangers = self.files.foreign(self.new, known, is_first)
 
     @classmethod
-    def again(
-        cls, ledger: Ledger, path: str, inventory: Inventory, is_deleted: IsDeleted, say: Say = silent
-    ) -> "Match":
+    def again(cls, ledger: Ledger, path: str, files: Files, is_deleted: IsDeleted) -> "Match":
         """Looks for what is nowhere, whoever had it before. A message is there if any file has its core. All lines of
         the mailbox are written anew."""
-        self = cls(ledger, path, inventory, is_deleted, say)
+        self = cls(ledger, path, files, is_deleted)
         if path in ledger.sources:
             self.lost = ledger.sources[path].has()
         self.look()
         unnamed = self.files.by_core(self.names_of_lines())
         groups: collections.defaultdict[bytes, list[int]] = collections.defaultdict(list)
-        for place in range(len(inventory)):
-            groups[inventory.core(place)].append(place)
+        for place in range(len(self.inventory)):
+            groups[self.inventory.core(place)].append(place)
         needed: list[int] = []
         for core, places in groups.items():
-            files = sorted(files_of(self.lines.get(core, ()), self.present), key=lambda one: not one.line_of(path))
-            files += [nobodys(name, core, bare) for bare, name in unnamed.get(core, ())]
-            offers = [Offer(Why.ANY, one, one.line_of(path) or one.lines[-1], True) for one in files if one.name]
+            its = sorted(files_of(self.lines.get(core, ()), self.present), key=lambda one: not one.line_of(path))
+            its += [nobodys(name, core, bare) for bare, name in unnamed.get(core, ())]
+            offers = [Offer(Why.ANY, one, one.line_of(path) or one.lines[-1], True) for one in its if one.name]
             needed += self.take(places, offers, set(), collections.Counter())
         self.need = array.array("Q", sorted(needed))
         self.dropped = [one.message for one in self.own_lines() if one.state is State.HELD]
@@ -321,123 +426,6 @@ def cores_of(inventory: Inventory) -> collections.Counter[bytes]:
 def bares_of(inventory: Inventory) -> collections.Counter[bytes]:
     """How often each bare form is among some messages."""
     return collections.Counter(map(inventory.bare, range(len(inventory))))
-
-
-class Placing:
-    """The messages of a text that are nowhere, the names of their files, and what the program gets for that: copies of
-    messages first, then the text itself from a place on."""
-
-    def __init__(self, match: Match) -> None:
-        self.match, self.inventory = match, match.inventory
-        # the names that differ from those that the messages have in the text, and how many more copies of a message the
-        # program gets
-        self.names: dict[int, bytes] = {}
-        self.more: collections.Counter[int] = collections.Counter()
-        self.rest = self.tail()
-        for digest, places in self.special().items():
-            taken = set(match.files.counts_of(digest))
-            self.give_names(digest, places, taken)
-            if places[-1] >= self.rest and (taken or places[0] < self.rest):
-                self.rest = Place(len(self.inventory))
-
-    def tail(self) -> Place:
-        """The place from which on all messages are nowhere."""
-        need, place = self.match.need, len(self.inventory)
-        for one in reversed(need):
-            if one != place - 1:
-                break
-            place = one
-        return Place(place)
-
-    def special(self) -> dict[bytes, list[int]]:
-        """The places of the messages that equal others, or files, by their digests."""
-        found: collections.defaultdict[bytes, list[int]] = collections.defaultdict(list)
-        table, files = self.inventory.table, self.match.files
-        has_files = bool(files.counts) or any(files.there)
-        for place in self.match.need if has_files or table.repeats else ():
-            digest = table.digest(place)
-            if table.place_of(digest + FIRST) in table.repeats or has_files and files.has_digest(digest):
-                found[digest].append(place)
-        return found
-
-    def give_names(self, digest: bytes, places: Sequence[int], taken: set[int]) -> None:
-        """Gives equal messages the first names that are free. Before each, the program gets as many copies as there are
-        names to pass over, so that messages are placed in their order."""
-        free = (count for count in itertools.count(1) if count not in taken)
-        last = 0
-        for place, count in zip(places, free):
-            name = b"%s.%d" % (digest.hex().encode(), count)
-            if name != self.inventory.table.name(place):
-                self.names[place] = name
-            self.more[place], last = count - last - 1, count
-
-    def name(self, place: int) -> bytes:
-        """The name that the file of a message gets."""
-        return self.names.get(place) or self.inventory.table.name(place)
-
-    def base(self, place: int) -> bytes:
-        """The base that the file of a message gets."""
-        return base_in(self.names[place]) or b"" if place in self.names else self.inventory.table.base(place)
-
-    def copied(self) -> list[Place]:
-        """The places of the messages of which the program gets copies first, as often as it gets them."""
-        return [Place(one) for one in self.match.need if one < self.rest for _ in range(1 + self.more[one])]
-
-    def lines(self) -> Iterator[Brought]:
-        """The lines of the batch, in the order in which messages are placed."""
-        match, inventory = self.match, self.inventory
-        yield from (one._replace(word=LOST) for one in match.dropped)
-        for place in sorted(match.found):
-            yield match.found[place]
-        for place, is_mine in enumerate(match.mine):
-            if is_mine:
-                yield Brought(PLACED, inventory.table.name(place), inventory.core(place), inventory.bare(place))
-        for place in match.need:
-            yield Brought(PLACED, self.name(place), inventory.core(place), inventory.bare(place))
-
-    def count_of_lines(self) -> int:
-        """How many lines these are."""
-        return len(self.match.dropped) + sum(self.match.mine) + len(self.match.found) + len(self.match.need)
-
-    def places(self) -> Sequence[int]:
-        """The places of what is nowhere, and of what a run has placed that was killed."""
-        match = self.match
-        if len(match.need) == len(self.inventory):
-            return match.need
-        mine = (place for place, is_mine in enumerate(match.mine) if is_mine)
-        return array.array("Q", sorted(itertools.chain(match.need, mine, match.fresh)))
-
-    def part(self, places: Sequence[int]) -> Inventory:
-        """The messages at these places, with the bases of their files."""
-        if len(places) == len(self.inventory) and not self.names and not self.match.fresh:
-            return self.inventory
-        names = (self.match.found[place].name if place in self.match.found else self.name(place) for place in places)
-        return part_of(self.inventory, places, map(base_in, names))
-
-    def whole(self) -> Inventory:
-        """All messages, with the bases of the files that stand for them as far as these have bases."""
-        if not self.names and not self.match.found:
-            return self.inventory
-        names = {**self.names, **{place: one.name for place, one in self.match.found.items()}}
-        several = range(len(self.inventory))
-        bases = [base_in(names[place]) if place in names else self.inventory.table.base(place) for place in several]
-        used = {base for place, base in enumerate(bases) if place in names}
-        for place in several:
-            own = self.inventory.table.base(place)
-            if bases[place] is None or place not in names and own in used:
-                bases[place] = own if own not in used else b"%s.%d" % (bytes(32), place + 1)
-        return part_of(self.inventory, several, bases)
-
-
-def part_of(inventory: Inventory, places: Sequence[int], bases: Iterable[Optional[bytes]]) -> Inventory:
-    """Some messages of a text, with other bases."""
-    part = Inventory()
-    part.table = Table.of(base for base in bases if base)
-    part.count_lines = lambda: (inventory.lines[place] for place in places)
-    for name in ("sizes", "offsets", "unquoted", "dates"):
-        row = getattr(inventory, name)
-        setattr(part, name, array.array(row.typecode, (row[place] for place in places)))
-    return part
 
 
 class Hashes:

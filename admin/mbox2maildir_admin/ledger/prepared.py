@@ -5,6 +5,8 @@ a mailbox as it was when it was read, and nobody reads them yet. A line of a fil
 Nobody has to read again what it notes of a text and of its messages, as long as the mailbox has the same bytes.
 """
 import array
+import contextlib
+import functools
 import itertools
 import os
 import re
@@ -13,36 +15,137 @@ from collections.abc import Iterable, Iterator, Sequence
 from typing import NamedTuple, Optional
 
 from ..faults import PlaceFault, Reason
-from ..looks import is_folder, is_there
-from ..maildir.files import CLOCK_TICK, digest_of, names_of
+from ..looks import is_there
+from ..maildir.files import CLOCK_TICK, digest_of, names_in, names_of
 from ..maildir.making import PREPARED, sync_folder
-from ..mbox.bases import DIGEST, FIRST, Table, base_in, own_base_in
+from ..mbox.bases import DIGEST, FIRST, Table, base_in, before_info, own_base_in
 from ..mbox.core import SHORT
 from ..mbox.inventory import NO_DATE, Inventory
 from ..nexts import Remark
+from ..patterns import pattern
 from ..terminal import named
 from ..units import Say, silent
 from .lines import CUT, FIRST_LINE, append, lines_in
-from .prepared_lines import (
-    BEGUN,
-    FAILED,
-    FILE,
-    FINISHES,
-    MADE,
-    NEXT_LIST,
-    READ_AGAIN,
-    TOOK,
-    WHOLE,
-    Facts,
-    Origin,
-    facts_of,
-    finish_list,
-    has_list,
-    home_of,
-    make_listed,
-    milliseconds_since,
-    shared,
+
+BEGUN = pattern(
+    rb"@\t(\d{1,18})-([0-9a-f]{64})\t(\d{1,20}(?:,\d{1,20})*)\t(\d{1,18})\t([!-~][ -~]*)\t([^\t]*)\t([^\t]+)\Z"
 )
+FILE = pattern(
+    rb"p\t([0-9a-f]{64}\.[1-9][0-9]{0,8})"
+    rb"(?:\t(\d{1,20})\t(\d{1,19})\t(\d{1,19})\t((?:new|cur)(?::[!-~]*)?)"
+    rb"(?:\t(=|[0-9a-f]{32})\t(=|[0-9a-f]{32})\t(\d{1,18})\t(\d{1,18})\t(\d{1,18}))?)?\Z"
+)
+FINISHES = pattern(rb">\t(\d{1,18})\Z")
+TOOK = pattern(rb"t\t(\d{1,18})\Z")
+WHOLE, FAILED, MADE = b"=", b"!", b"/"
+# the facts of a file that is read again, whatever its facts are
+READ_AGAIN = 0, 0, 0
+# the list that takes the place of the other one once the disk is synced
+NEXT_LIST = PREPARED + b".new"
+# what comes before the name of a folder while it is made or removed
+ASIDE = b"mbox2maildir-aside"
+
+# an inode, a size and a ctime in nanoseconds
+Facts = tuple[int, int, int]
+
+
+class Origin(NamedTuple):
+    """What a pass reads: the mailbox by its size and SHA-256, the state of its file, how many messages it has, the
+    words by which it is read, the tree that it is in, and its path."""
+
+    key: tuple[int, str]
+    state: tuple[int, ...]
+    messages: int
+    words: str
+    tree: str
+    path: str
+
+    @classmethod
+    def of(cls, found: re.Match[bytes]) -> "Origin":
+        """What a line says."""
+        size, digest, state, messages, words, tree, path = (one.decode() for one in found.groups())
+        return cls((int(size), digest), tuple(map(int, state.split(","))), int(messages), words, tree, path)
+
+    def line(self) -> bytes:
+        """The same as a line."""
+        state, key = ",".join(map(str, self.state)), "%d-%s" % self.key
+        return "\t".join(["@", key, state, str(self.messages), self.words, self.tree, self.path]).encode() + b"\n"
+
+
+def facts_of(state: os.stat_result) -> Facts:
+    """The facts of a file that has this state."""
+    return state.st_ino, state.st_size, max(0, state.st_ctime_ns)
+
+
+def in_milliseconds(seconds: float) -> int:
+    """A time in milliseconds."""
+    return round(1000 * seconds)
+
+
+def milliseconds_since(began: float) -> int:
+    """How many milliseconds have passed since a time of the monotonic clock."""
+    return in_milliseconds(time.monotonic() - began)
+
+
+def home_of(name: bytes, path: bytes) -> bytes:
+    """Where a file is, `new` or `cur`, with its info."""
+    return os.path.basename(os.path.dirname(path)) + name[len(before_info(name)) :]
+
+
+@functools.lru_cache(maxsize=1024)
+def shared(home: bytes) -> bytes:
+    """The same bytes, once for all files that have them: a list of others would take much memory."""
+    return home
+
+
+def finish_list(folder: bytes) -> None:
+    """Puts the list that was written last into its place, once the disk of its files was synced."""
+    os.rename(os.path.join(folder, NEXT_LIST), os.path.join(folder, PREPARED))
+    sync_folder(folder)
+
+
+def drop_list(folder: bytes) -> None:
+    """Removes the list of a folder that is done. A power cut may bring it back: then the ledger shows that it is
+    over."""
+    for name in (NEXT_LIST, PREPARED):
+        with contextlib.suppress(FileNotFoundError):
+            os.unlink(os.path.join(folder, name))
+
+
+def remove_list(folder: bytes) -> None:
+    """Removes the list of a folder, in which nothing is only prepared any more."""
+    drop_list(folder)
+    sync_folder(folder)
+
+
+def aside_of(folder: bytes) -> bytes:
+    """The path of a folder while it is made or removed: no server shows it there."""
+    above, name = os.path.split(folder)
+    return os.path.join(above, ASIDE + name)
+
+
+def remove_aside(path: bytes) -> None:
+    """Removes a folder that was made or removed, and has nothing but a list."""
+    drop_list(path)
+    with contextlib.suppress(FileNotFoundError):
+        os.rmdir(path)
+
+
+def note_failed(folder: bytes) -> None:
+    """Notes in the list of a folder that a sync failed."""
+    append(folder, [FAILED + b"\n"], name=PREPARED)
+
+
+def origin_in(folder: bytes) -> Optional[Origin]:
+    """What the first pass has read that the list of a folder has."""
+    found = next(filter(None, map(BEGUN.match, lines_in(folder, PREPARED))), None)
+    return Origin.of(found) if found else None
+
+
+def has_list(folder: bytes) -> bool:
+    """Whether a folder has a list."""
+    return is_there(os.path.join(folder, PREPARED))
+
 
 AS_READ = re.compile(rb"&\t(\d{1,18})\t(\d{1,18})\t([^\t\n]+)((?:\t[a-z-]+\t\d{1,18}\t[^\t\n]+)*)\Z")
 # stands for a core that begins the name, and for a bare form that is the core
@@ -255,14 +358,16 @@ class Prepared:
             if place is None:
                 continue
             state = os.lstat(path)
-            if facts_of(state) != self.facts_at(place) and digest_of(path)[0] != self.table.digest(place):
-                self.edited.add(path)
-            elif state.st_uid != owner or self.files[place]:
+            if not self.is_right(place, path, state) or state.st_uid != owner or self.files[place]:
                 self.edited.add(path)
             else:
                 self.files[place] = OURS
                 self.set_facts(place, facts_of(state))
         self.verified, self.noted.looking = self.files[:], milliseconds_since(began)
+
+    def is_right(self, place: int, path: bytes, state: os.stat_result) -> bool:
+        """Whether a file of this state has the facts of the list or, if it has others, the bytes of its base."""
+        return facts_of(state) == self.facts_at(place) or digest_of(path)[0] == self.table.digest(place)
 
     def inventory(self, end: int) -> Optional[Inventory]:
         """The messages of the text, which has this end, if all are noted, and the folder has their files, as the last
@@ -285,35 +390,44 @@ class Prepared:
         """How many files are there that no message wants."""
         return sum(self.files) - self.count()
 
-    def remove(self) -> None:
+    def sizes_unwanted(self) -> list[int]:
+        """How many bytes each of these has."""
+        rows = zip(self.files, self.wanted, self.facts[1::3])
+        return [size for is_there, is_wanted, size in rows if is_there and not is_wanted]
+
+    def remove(self) -> int:
         """Removes the files that no message wants, if they are still what was looked at, and what a killed run has left
-        in `tmp`."""
-        self.sweep()
+        in `tmp`. Returns how many are not, and stay."""
+        before, tmp = len(self.edited), os.path.join(self.folder, b"tmp")
+        for name in names_in(tmp):
+            # the record is locked, so none is at work
+            if self.table.place_of(own_base_in(name)) is not None:
+                os.unlink(os.path.join(tmp, name))
         if not self.unwanted():
-            return
+            return 0
         for name, path in names_of(self.folder):
             place = self.table.place_of(own_base_in(name))
             if place is None or self.files[place] != OURS or self.wanted[place]:
                 continue
-            if facts_of(os.lstat(path)) == self.facts_at(place):
+            if self.is_right(place, path, os.lstat(path)):
                 os.unlink(path)
             else:
                 self.edited.add(path)
         for sub in (b"new", b"cur"):
             sync_folder(os.path.join(self.folder, sub))
-
-    def sweep(self) -> None:
-        """Removes what a killed run of the program has left in `tmp`. The record is locked, so none is at work."""
-        folder = os.path.join(self.folder, b"tmp")
-        for name in os.listdir(folder) if is_folder(folder) else ():
-            if self.table.place_of(own_base_in(name)) is not None:
-                os.unlink(os.path.join(folder, name))
+        return len(self.edited) - before
 
     def make_folder(self) -> None:
         """Makes the folder, which then has the list, if one of them is missing. It has its name once it has the
         list."""
         if not self.is_there and not is_there(self.folder):
-            make_listed(self.folder)
+            aside = aside_of(self.folder)
+            remove_aside(aside)
+            os.mkdir(aside, 0o700)
+            append(aside, [FIRST_LINE + b"\n", MADE + b"\n"], name=PREPARED)
+            sync_folder(aside)
+            os.rename(aside, self.folder)
+            sync_folder(os.path.dirname(self.folder))
             self.is_made = self.is_there = self.has_head = True
         elif not self.is_there:
             self.append()
@@ -332,11 +446,13 @@ class Prepared:
             if is_wanted and not self.files[place]:
                 yield b"p\t%s\n" % self.table.name(place)
 
-    def write_whole(self, origin: Origin, text: Optional[Text] = None) -> None:
-        """Writes the list anew beside the other one: what is wanted, with the facts of its files, and what is known of
-        the text. It is on the disk when this returns, and counts once that of the files was synced."""
+    def write_whole(self, origin: Origin, text: Optional[Text], took: int) -> None:
+        """Writes the list anew beside the other one: what is wanted, with the facts of its files, what is known of the
+        text, and how many milliseconds it took to read. It is on the disk when this returns, and counts once that of
+        the files was synced."""
+        self.noted.reading = took
         places = text.places_in(self.table, self.wanted) if text else None
-        head, lines = [origin.line(), b"t\t%d\n" % self.noted.reading], map(self.line, range(len(self.table)))
+        head, lines = [origin.line(), b"t\t%d\n" % took], map(self.line, range(len(self.table)))
         if text and places:
             head, lines = [*head, text.as_read.line()], map(self.line, places, map(text.words, range(len(places))))
         # all of them at once would take much memory

@@ -18,8 +18,7 @@ from typing import Optional, Union
 from ..faults import Fault, PlaceFault, Reason, fault_of
 from ..looks import is_there, may_be
 from ..maildir.folders import folder_path, folders_in, name_of
-from ..maildir.making import LEDGER, RECORD, SyncNames, has_begun, sync_folder, synced_once
-from ..maildir.roots import make_alone
+from ..maildir.making import LEDGER, RECORD, SyncNames, has_begun, make_alone, sync_folder, synced_once
 from ..terminal import named, spelled
 from ..units import Size
 from .history import TIME, Entry, History, Key, Note, Step, What

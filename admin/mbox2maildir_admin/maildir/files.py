@@ -7,7 +7,9 @@ import time
 from collections.abc import Callable, Container, Iterator
 from typing import Optional
 
-from ..mbox.files import BLOCK, REGULAR
+from ..faults import Fault
+from ..mbox.core import forms_of
+from ..mbox.files import BLOCK, REGULAR, open_file
 
 # how often a Maildir is listed at most, and for how many seconds the clock of a file system may stand still
 PASSES = 5
@@ -34,6 +36,14 @@ def names_of(folder: bytes) -> Iterator[Named]:
         yield from paths_of(folder)
     except FileNotFoundError:
         pass
+
+
+def names_in(folder: bytes) -> list[bytes]:
+    """The names in a folder, which need not exist."""
+    try:
+        return os.listdir(folder)
+    except FileNotFoundError:
+        return []
 
 
 def listings_of(maildir: bytes) -> Iterator[Iterator[Named]]:
@@ -93,3 +103,12 @@ def digest_of_open(number: int, sizes: Optional[Container[int]], look: Look) -> 
         block = os.read(number, count)
         digest.update(block)
     return digest.digest(), state.st_uid
+
+
+def forms_in(path: bytes) -> Optional[tuple[bytes, bytes]]:
+    """The core and the bare form of the message in a file; None if there is no file. No symbolic link is followed."""
+    try:
+        with open_file(path, os.O_NOFOLLOW) as file:
+            return forms_of(file.read)
+    except (Fault, OSError):
+        return None

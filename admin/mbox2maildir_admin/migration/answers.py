@@ -7,13 +7,12 @@ from collections.abc import Iterable
 from typing import NamedTuple, Optional, Union
 
 from ..faults import Fault, Left, Reason
-from ..ledger.batches import Batch, Source
+from ..ledger.ledger import Batch, Ledger, Source
 from ..ledger.history import Entry, History, Key, Note
-from ..ledger.ledger import Ledger
 from ..ledger.lines import counted_in
-from ..ledger.match import Match, bares_of, cores_of
+from ..ledger.match import Files, Match, bares_of, cores_of
 from ..ledger.record import Record, unspelled
-from ..maildir.files import names_of
+from ..maildir.files import names_in, names_of
 from ..maildir.folders import INBOX
 from ..mbox.bases import before_info
 from ..mbox.inventory import Inventory
@@ -24,10 +23,10 @@ from ..readings.reading import MBOXO, UNDECIDED, UNQUOTED, Reading, renumbered, 
 from ..readings.texts import Choice, StartOf, choice_of, content_of, disk_of, text_then
 from ..readings.verdict import look_at
 from ..units import Line, counted
-from .dovecot import names_in
 from .known import Known
-from .remarks import remarks_on_lost, remarks_on_none
-from .steps import Contents, Opened, Options
+from .known import Opened
+from .options import Options
+from .steps import Contents, remarks_on_lost, remarks_on_none
 
 AS_ANSWERED = Remark("as-answered", "as it was answered before")
 
@@ -115,7 +114,7 @@ def as_before(opened: Opened, ledger: Ledger, path: str, by: By) -> Optional[tup
         if not then:
             return None
         contents = Contents(then.mailbox, then.start, then.messages(), reading, then)
-        match = Match(ledger, path, contents.inventory, lambda place: False)
+        match = Match(ledger, path, Files(ledger.folder, contents.inventory), contents.is_deleted)
         match.compare()
         return None if match.count_new() else (contents.words, list(remarks_on_lost(match)))
 
@@ -179,7 +178,7 @@ class Before(NamedTuple):
 
 def want_same_reading(how: Options, known: Known, choice: Choice, contents: Contents) -> None:
     """Raises Left if more of what the ledger has of a mailbox is in it as it was read then, with what to run."""
-    before, root, opened = Before.of(known, contents.reading), known.root, known.opened
+    before, root, opened = Before.of(known, contents.reading), known.record.maildir, known.opened
     command = how.command(root, opened, again=how.again, dovecot=before.reading.bare)
     if before.reading.bare != contents.reading.bare and not how.again and has_begun(known):
         says = "its conversion was begun %s --dovecot" % ("with" if before.reading.bare else "without")
@@ -262,7 +261,7 @@ def answer_shown(how: Options, known: Known, question: Question) -> Optional[Rea
     had = Before.of(known, how.decision).had()
     if not had or not question.is_on_lines:
         return None
-    with content_of(known.opened.mailbox, disk_of(known.root, how.dry)) as text:
+    with content_of(known.opened.mailbox, disk_of(known.record.maildir, how.dry)) as text:
         by = [how._replace(decision=answer.decision) for answer in question.answers]
         given = [given_by(one, known, text, question.doubtful) for one in by]
     most = max((one.brought for one in given), default=0)
@@ -273,7 +272,7 @@ def answer_shown(how: Options, known: Known, question: Question) -> Optional[Rea
 def given_by(how: Options, known: Known, text: Mailbox, lines: Iterable[Line]) -> Given:
     """What the answer gives by which this mailbox would be migrated."""
     choice, had = Choice(text, plan_of(text, decision=how.decision)), Before.of(known, how.decision).had()
-    with choice.text(disk_of(known.root, how.dry)) as whole:
+    with choice.text(disk_of(known.record.maildir, how.dry)) as whole:
         part = whole.begun_at(how.extra.start_of(*whole.whole()))
         contents = Contents(part.mailbox, whole.start, part.messages(), choice.plan.bared(how.extra.IS_BARE).reading)
         is_shown = are_brought(had, contents.inventory, lines) and goes_on(how, known, choice, contents)

@@ -18,6 +18,7 @@ from ..flags.renaming import add_flags
 from ..ledger.history import Entry, Key, Note, names_of
 from ..ledger.record import Record
 from ..looks import is_there
+from ..maildir.files import names_in
 from ..maildir.folders import INBOX, folder_named, folder_of_place
 from ..maildir.making import sync_folder
 from ..mbox.fields import Header
@@ -26,7 +27,8 @@ from ..mbox.mailbox import Mailbox
 from ..nexts import Remark, run_next
 from ..terminal import is_text, named, operand
 from ..units import Offset, Place, Size, counted
-from .steps import Bringing, Extra, Opened
+from .known import Opened
+from .steps import Steps, Extra
 
 KEYWORDS, LIST, SUBSCRIPTIONS = b"dovecot-keywords", b"dovecot-uidlist", b"subscriptions"
 OLD_SUBSCRIPTIONS, FORM = b".subscriptions", b"V\t2\n\n"
@@ -63,16 +65,16 @@ class Dovecot(Extra):
         """What is to be said of a mailbox that was done before."""
         return [] if self.record.numbered(name) else [DONE_WITHOUT]
 
-    def check(self, one: Bringing) -> None:
+    def check(self, one: Steps) -> None:
         """Raises Left, before anything is placed, if the folder cannot get the numbers of the mailbox."""
         if not one.is_begun:
             self.kept_from(one)
 
-    def foresee(self, one: Bringing) -> list[Remark]:
+    def foresee(self, one: Steps) -> list[Remark]:
         """What `run` would say. Nothing is written."""
         return self.look(one)[0]
 
-    def run(self, one: Bringing) -> list[Remark]:
+    def run(self, one: Steps) -> list[Remark]:
         """Writes the files, each once, and returns what is to be said of it."""
         says, reading = self.look(one)
         for name in (KEYWORDS, LIST):
@@ -87,7 +89,7 @@ class Dovecot(Extra):
             self.raise_next(one)
         return says
 
-    def raise_next(self, one: Bringing) -> None:
+    def raise_next(self, one: Steps) -> None:
         """Has the list of a folder give what is new no UID that the mailbox has given since."""
         head, folder = first_head(one.contents.full.mailbox, one.contents.full.start), one.opened.folder
         text = content_of(os.path.join(folder, LIST), LONGEST_LIST)
@@ -97,7 +99,7 @@ class Dovecot(Extra):
                 self.writer(one.opened.name)(LIST, len(new), hashlib.sha256(new).hexdigest())
             replace(os.path.join(folder, LIST), text, new)
 
-    def look(self, one: Bringing) -> tuple[list[Remark], Optional[Reading]]:
+    def look(self, one: Steps) -> tuple[list[Remark], Optional[Reading]]:
         """What is to be said, and what was read of the mailbox, if the folder gets numbers."""
         full = one.contents.full
         head, _ = internal_head(full.mailbox, full.start)
@@ -119,9 +121,9 @@ class Dovecot(Extra):
             reading.add(Header.at(full.mailbox, Offset(offset)).text)
         return says + list(reading.remarks()), reading
 
-    def write(self, one: Bringing, reading: Reading) -> None:
+    def write(self, one: Steps, reading: Reading) -> None:
         """Writes the files. The list comes last, since with it Dovecot accepts the others."""
-        opened, whole = one.opened, one.whole
+        opened, whole = one.opened, one.placing.whole()
         self.record.add(Note.NUMBERED, Key(opened.name, *opened.mailbox.key()), len(whole), opened.mailbox.path)
         if reading.keywords:
             text = b"".join(b"%d %s\n" % pair for pair in enumerate(reading.keywords[:LETTERS]))
@@ -134,7 +136,7 @@ class Dovecot(Extra):
         """Returns the function that records a file of a folder before it is written."""
         return lambda file, size, digest: self.record.add(Note.WROTE, Key(name, Size(size), digest), 0, file)
 
-    def kept_from(self, one: Bringing) -> Optional[list[Remark]]:
+    def kept_from(self, one: Steps) -> Optional[list[Remark]]:
         """What is to be said if the folder keeps the numbers that it has; None if it gets some now."""
         opened = one.opened
         numbered = self.record.numbered(opened.name)
@@ -181,7 +183,7 @@ def remove_lists(record: Record, opened: Opened) -> None:
     sync_folder(opened.folder)
 
 
-def give_flags(one: Bringing) -> None:
+def give_flags(one: Steps) -> None:
     """Gives the new messages those flags of their headers that their files lack, if the folder keeps its numbers."""
     marks = [marks_of(fields_of(one.contents.header(Place(place))), {}) for place in one.places]
     letters = [info_of(its, "") for its in marks]
@@ -230,14 +232,6 @@ def written(path: bytes, text: bytes) -> Iterator[None]:
             yield
         finally:
             os.unlink(path)
-
-
-def names_in(folder: bytes) -> list[bytes]:
-    """The names in a folder, which need not exist."""
-    try:
-        return os.listdir(folder)
-    except FileNotFoundError:
-        return []
 
 
 def content_of(path: bytes, most: int) -> Optional[bytes]:

@@ -1,20 +1,39 @@
-"""What the record of a Maildir, and the ledger of a folder, know of a mailbox before it is read."""
+"""A mailbox that is open, and what the record of a Maildir and the ledger of a folder know of it before it is read."""
 import itertools
 import os
 from collections.abc import Container
-from typing import Optional
+from typing import NamedTuple, Optional
 
 from ..ledger.history import Entry, Key, Note, Step, names_of
 from ..ledger.ledger import Ledger
 from ..ledger.match import cores_of
 from ..ledger.record import Record, is_gone, unspelled
 from ..looks import is_there, state_at
-from ..maildir.folders import INBOX, folder_named, folder_path
+from ..maildir.folders import INBOX, folder_path
+from ..maildir.making import SyncNames, make_maildir, sync_folder
 from ..mbox.inventory import Inventory
-from ..nexts import Remark
-from ..terminal import named
-from ..units import counted
-from .steps import Opened
+from ..mbox.mailbox import Mailbox
+
+
+class Opened(NamedTuple):
+    """A mailbox that is open and locked, and the folder that it goes into: its name on the disk, and its path."""
+
+    mailbox: Mailbox
+    name: bytes
+    folder: bytes
+
+    @classmethod
+    def into(cls, root: bytes, name: bytes, mailbox: Mailbox) -> "Opened":
+        """A mailbox that goes into the folder of this name in a Maildir."""
+        return cls(mailbox, name, folder_path(root, name))
+
+    def make_folder(self, sync: SyncNames = sync_folder) -> None:
+        """Makes the folder if it is missing. `sync` syncs its names."""
+        make_maildir(self.folder, self.name == INBOX, sync)
+
+    def has_changed(self, text: Mailbox) -> bool:
+        """Whether the mailbox, or the text that stands for it, has changed since it was looked at."""
+        return self.mailbox.has_changed() or text.has_changed()
 
 
 # a line of the index by which a mailbox went into another folder, and whether the mailbox is there twice: it was moved,
@@ -56,22 +75,10 @@ class Known:
         """Whether the ledger is older than what the index has of the mailbox."""
         return self.lost is not None and self.lost.ledger == self.ledger.number
 
-    def count_lost_of_others(self) -> int:
-        """How many messages the index counts of other mailboxes that the ledger lacks. It may lack what was deleted of
-        them."""
-        return sum(one.messages for one in self.unknown if one.path not in self.names)
-
     @property
     def is_begun(self) -> bool:
         """Whether a run was killed that may have placed something of the mailbox."""
         return self.ledger.pending(self.path) is not None
-
-    @property
-    def is_made_anew(self) -> bool:
-        """Whether the mailbox has no byte and brought nothing, and another one is done in its folder: a program that
-        delivers makes such a file once the old one was moved away."""
-        is_other = bool(self.ledger.sources) and self.path not in self.ledger.paths()
-        return is_other and not self.opened.mailbox.size
 
     @property
     def begun_at(self) -> Optional[int]:
@@ -119,7 +126,7 @@ class Known:
             # the same bytes may have fewer messages as they are read now
             if line.key.folder == self.opened.name or not is_same and line.messages > len(inventory):
                 continue
-            ledger = Ledger(folder_path(self.root, line.key.folder))
+            ledger = Ledger(folder_path(self.record.maildir, line.key.folder))
             cores = cores or cores_of(inventory)
             if is_same or ledger.is_in(line.path, cores):
                 found.append((line, is_gone(line.path) and (is_same or self.is_moved(ledger, line.path))))
@@ -129,7 +136,11 @@ class Known:
         """The other folders into which the mailbox of its path went, as far as the ledgers there still have it."""
         lines = (self.record.last_of(folder, self.names) for folder in self.record.folders_with(self.names))
         others = (one for one in lines if one and one.key.folder != self.opened.name)
-        return [(one, True) for one in others if one.path in Ledger(folder_path(self.root, one.key.folder)).paths()]
+        return [
+            (one, True)
+            for one in others
+            if one.path in Ledger(folder_path(self.record.maildir, one.key.folder)).paths()
+        ]
 
     def joined(self, given: Container[bytes]) -> list[bytes]:
         """The paths of the mailboxes whose mail the folder has, and that are not gone, if a mailbox of a tree gets its
@@ -140,17 +151,6 @@ class Known:
             return []
         others = (unspelled(path) for path in self.ledger.paths() if path != self.path)
         return list(filter(is_there, others))
-
-    def remark_on(self, line: Entry) -> Remark:
-        """What is said of the mailbox if its messages went into another folder too."""
-        says = "%s of it went into %s too" % (counted(line.messages, "message"), folder_named(line.key.folder))
-        says += "" if line.path in self.names else ", from %s" % named(unspelled(line.path))
-        return Remark("elsewhere", says)
-
-    @property
-    def root(self) -> bytes:
-        """The Maildir."""
-        return self.record.maildir
 
     def take_place(self, inventory: Inventory) -> None:
         """Takes the place of a mailbox of the folder that is gone from its path, if this one is the same file, or has

@@ -9,19 +9,18 @@ from typing import NamedTuple
 from .. import ADMIN
 from ..faults import Fault, Left, Reason
 from ..ledger.ledger import Ledger
-from ..ledger.prepared import Prepared
-from ..ledger.prepared_lines import ASIDE, has_list, origin_in, remove_aside
+from ..ledger.prepared import ASIDE, Prepared, has_list, origin_in, remove_aside
 from ..ledger.record import Record, unspelled
 from ..looks import is_folder, is_there, may_be, real_path
+from ..maildir.files import names_in
 from ..maildir.folders import INBOX, folder_path, folders_in, name_of, words_of
 from ..nexts import Does, Remark, Todo, run_next, task
 from ..terminal import operand, spelled, text_of
-from .dovecot import names_in
 from .outcomes import Row, row_left
 from .places import Planned
 from .preparing import empty, is_prepared, undone
-from .steps import Options
-from .transfer import TENTH
+from .options import Options
+from .mailbox import TENTH
 
 MAILBOX_GONE = "its mailbox is gone"
 MANY_GONE = "its mailbox is gone, as are %d of the %d of its tree that were prepared"

@@ -1,41 +1,96 @@
-"""The migration of mailboxes into the folders of a Maildir."""
+"""The way of a mailbox into a folder of a Maildir: it is opened and read, its messages are matched with what is there,
+and what is to be done is planned. That is carried out, unless this is a rehearsal.
+
+The way is the same where mail is only prepared. Each pass removes what was prepared and no message wants any more.
+Files have the digests of messages as names, so one is right or not wanted, whatever the mailbox was when it was read.
+"""
 import collections
 import contextlib
-from collections.abc import Callable, Container
-from typing import IO, TYPE_CHECKING, Optional
+import time
+from collections.abc import Callable, Iterator
+from typing import IO, TYPE_CHECKING, Any, Optional
 
 from ..faults import Fault, Left, Reason
 from ..kinds.named import is_no_mail
-from ..ledger.ledger import Ledger, has_failed
-from ..ledger.prepared import Prepared
-from ..ledger.prepared_lines import remove_list
-from ..ledger.record import Record
 from ..labels.noted import line_of
-from ..maildir.folders import folder_path
-from ..maildir.space import Need, want_room
+from ..ledger.gone import back_in, gone_before, gone_from, unexplained
+from ..ledger.ledger import Ledger, count_in, has_failed
+from ..ledger.match import Files, Match
+from ..ledger.prepared import Prepared, in_milliseconds, milliseconds_since
+from ..ledger.record import Record, unspelled
+from ..looks import is_folder
+from ..maildir.disk import Need, want_room, want_syncs
+from ..maildir.folders import folder_named, folder_path
 from ..mbox.locks import open_mailbox
 from ..mbox.mailbox import Mailbox
 from ..mbox.snapshot import snapshot
-from ..nexts import Answer
+from ..nexts import NOTHING, Answer, Does, Next, Remark
 from ..program import Program
-from ..readings.plans import NoMail, NotKnown, OtherKind, Question, read_begun
-from ..readings.texts import choice_of, disk_of
+from ..progress import Spent
+from ..readings.plans import NoMail, NotKnown, OtherKind, Plan, Question, read_begun
+from ..readings.reading import UNDECIDED
+from ..readings.texts import Choice, choice_at_once, choice_of, disk_of, read_messages
 from ..readings.unnamed import unnamed
-from ..units import Say, silent
-from .answers import is_passed_over, note_no_mail
-from .converting import Conversion
+from ..terminal import named
+from ..units import Say, counted, silent
+from .answers import (
+    AS_ANSWERED,
+    AS_BROUGHT,
+    answer_shown,
+    answer_to,
+    as_before,
+    contradicted,
+    is_passed_over,
+    note_answer,
+    note_empty,
+    note_no_mail,
+    noted_last,
+    want_same_reading,
+)
+from .carrying import CHANGED_MEANWHILE, SYNC_FAILED, begin, carry_out, names_that_may_be_cut
+from .known import Known, Opened
+from .options import Options
 from .outcomes import BY_NO_MAIL, BY_RECORD, Fate, Outcome, Row, row_left
-from .preparing import is_free, is_prepared, note_begun, reader_in, row_unchanged, take_back
-from .steps import Opened, Options
-from .transfer import Transfer
+from .preparing import (
+    Same,
+    clear,
+    is_prepared_already,
+    origin_of,
+    prepared_in,
+    remarks_on_prepared,
+    row_unchanged,
+    same_as_prepared,
+    text_of,
+    want_free,
+    want_usable,
+)
+from .steps import (
+    Contents,
+    FirstPass,
+    Steps,
+    remarks_on,
+    remarks_on_dropped,
+    remarks_on_joined,
+    remarks_on_lost,
+)
 
 if TYPE_CHECKING:
     from .workers import Work
 
 WITH_LABELS = "it was migrated with --labels, so its mail is in the folders of its labels"
+# how many bytes a line of the ledger may have that names a file of this program
+LONGEST_LINE = 140
+# of what the ledger has of a mailbox, the least part, and the least number, that was edited as a whole
+TENTH, FEW = 10, 3
+EDITED = "%s that it brought are gone from it, and as many are new: it was edited as a whole, or it is another mailbox"
+PARTLY_THERE = "%d of its messages are there, and no ledger says why: the ledger is older than its folder, or was lost"
+LOST = "the ledger of its folder is %s, so nothing shows which of its messages were placed"
+FOLDER_GONE = Remark("folder-gone", "its folder is gone")
+LEDGER_GONE = Remark("ledger-gone", "the ledger of its folder is gone")
+OLDER = "the ledger of its folder is older than its record, and lacks %s of it: mail may be missing there"
 
 # makes the transfer of an open mailbox into a folder with a ledger
-Making = Callable[[Conversion, Options, Opened, Ledger], Transfer]
+Making = Callable[["Migration", Opened, Ledger], "Transfer"]
 
 
 class Migration:
@@ -43,7 +98,6 @@ class Migration:
 
     def __init__(self, program: Program, root: bytes, record: Record, how: Options = Options()) -> None:
         self.program, self.root, self.record, self.how = program, root, record, how
-        self.conversion = Conversion(program, root, record)
         # raises Left if the disk has no space for a mailbox; others at work may count on the same space
         self.want_room: Callable[[Need], None] = want_room
         # the batches of each folder's ledger that were verified, and whose disk is not synced yet; and the last ledger,
@@ -96,11 +150,10 @@ class Migration:
         """A mailbox that is open and locked or, while people use it, a copy of it."""
         if not self.how.prepare:
             return open_mailbox(path, say=say, follow=follow, quiet=quiet)
-        disk = self.disk
 
         def make(size: int) -> IO[bytes]:
-            self.want_room(Need.of(disk, [], size))
-            return unnamed(disk)
+            self.want_room(Need.of(self.disk, [], size))
+            return unnamed(self.disk)
 
         return snapshot(path, make, say, follow)
 
@@ -122,12 +175,10 @@ class Migration:
         if not ledger or ledger.folder != opened.folder:
             ledger = Ledger(opened.folder, verified, self.how.dry)
         if making:
-            transfer = making(self.conversion, self.how, opened, ledger)
+            ended = making(self, opened, ledger).run()
         else:
-            prepared = prepared_for(self.record, self.how, opened, ledger, verified)
-            transfer = Transfer(self.conversion, self.how, opened, ledger, prepared)
-        transfer.want_room = self.want_room
-        ended = transfer.run()
+            prepared = prepared_in(self.record, self.how, opened, ledger, verified)
+            ended = Transfer(self, opened, ledger, prepared).run()
         if ended.batch:
             verified.add(ended.batch)
             ledger.end(ended.batch)
@@ -135,26 +186,334 @@ class Migration:
         return ended
 
 
-def prepared_for(
-    record: Record, how: Options, opened: Opened, ledger: Ledger, verified: Container[int]
-) -> Optional[Prepared]:
-    """What is only prepared in the folder of a mailbox, or is going to be; None if mail is placed there at once. These
-    batches of the ledger were verified by this run, and their disk is not synced yet."""
-    prepared = Prepared.read(opened.folder)
-    note_begun(ledger, prepared)
-    is_over = prepared.is_there and not is_prepared(record, opened.name, ledger, prepared)
-    if is_over:
-        if prepared.batch not in verified and ledger.sources and not how.dry:
-            remove_list(opened.folder)
-        prepared = Prepared(opened.folder)
-    elif (
-        prepared.batch
-        and not how.again
-        and not ledger.damage
-        and not has_failed(ledger)
-        and not reader_in(record, opened.name, opened.folder, prepared)
-    ):
-        take_back(record, opened.name, ledger, prepared)
-    is_noted = record.prepared(opened.name) is not None and not ledger.sources
-    is_last = not is_over and (prepared.is_there or is_noted or is_free(record, opened, ledger))
-    return prepared if how.prepare or is_last else None
+class Transfer:
+    """One mailbox, which is open, on its way into a folder."""
+
+    def __init__(
+        self, migration: Migration, opened: Opened, ledger: Ledger, prepared: Optional[Prepared] = None
+    ) -> None:
+        """Takes what is only prepared in the folder, if mail is not placed there for good at once."""
+        self.program, self.root, self.record = migration.program, migration.root, migration.record
+        self.how, self.want_room, self.disk = migration.how, migration.want_room, migration.disk
+        self.opened, self.ledger, self.prepared = opened, ledger, prepared
+        # a first pass writes nothing into the ledger
+        ledger.is_dry = ledger.is_dry or self.how.prepare
+        # what stands for the text, if the mailbox is as it was prepared
+        self.same: Optional[Same] = None
+        # when this began; and whether a last pass would have it to do again, since the mailbox may change again
+        self.began, self.is_changed = time.monotonic(), prepared is not None and prepared.is_whole
+        self.known = Known(self.record, ledger, opened)
+        # what is to be said of it
+        self.remarks: list[Remark] = [*opened.mailbox.remarks]
+
+    @property
+    def path(self) -> str:
+        """Its path as the ledger spells it."""
+        return self.known.path
+
+    def run(self) -> Outcome:
+        """Does what is left to do, and returns what became of the mailbox."""
+        line = None if self.how.again else self.known.done()
+        if line:
+            more, then = ([], NOTHING) if self.how.prepare else contradicted(self.how, self.root, self.opened, line)
+            return Outcome(self.row_before(line.plan, line.messages, more)._replace(next=then))
+        try:
+            if self.prepared and self.how.prepare:
+                is_another = self.ledger.sources and self.path not in self.ledger.paths()
+                if is_another and not self.opened.mailbox.size and not self.prepared.is_there:
+                    # a program that delivers makes such a file once the old one was moved away
+                    with self.choice() as choice:
+                        return Outcome(self.row(choice.plan))
+                want_free(self.known, self.prepared)
+            with self.choice() as choice:
+                return self.bring(choice)
+        except Question as question:
+            ended = self.answered(question)
+            if not ended:
+                raise self.how.asked(self.root, self.opened, question) from question
+            return ended
+
+    def row_before(self, words: Optional[str], messages: Optional[int], more: list[Remark]) -> Row:
+        """The row of a mailbox of so many messages that was done before by the words of a plan; what else is said."""
+        mailbox, name = self.opened.mailbox, self.opened.name
+        of_uids = self.how.extra.remarks_on_done(name) if mailbox.size else []
+        of_folder = back_in(self.ledger) + gone_from(self.ledger)
+        lost = self.known.lost
+        if lost and self.known.is_cut:
+            missing = max(0, lost.messages - count_in(self.ledger, self.path))
+            of_folder = [Remark("ledger-older", OLDER % counted(missing, "message"))]
+        elif lost:
+            of_folder = [LEDGER_GONE if is_folder(self.opened.folder) else FOLDER_GONE]
+        says = (*of_uids, *remarks_on_dropped(words), *of_folder, *more)
+        return Row(mailbox.path, name, "", messages, Fate.BEFORE, size=mailbox.size, remarks=says)
+
+    def answered(self, question: Question) -> Optional[Outcome]:
+        """What became of a mailbox about which there is a question, if it was done before as it was read then, or was
+        answered before, or if what it has brought answers; None if a human must."""
+        if not self.how.again:
+            before = as_before(self.opened, self.ledger, self.path, (self.disk, self.how.extra.start_of))
+            if before:
+                words, more = before
+                return Outcome(self.row_before(words, count_in(self.ledger, self.path), more))
+        if self.how.decision != UNDECIDED:
+            return None
+        given = question.by_tie(self.how.answer)
+        answer = given or answer_to(self.record, self.opened, question)
+        decision = answer or answer_shown(self.how, self.known, question)
+        if not decision:
+            return None
+        self.remarks += [] if given else [AS_ANSWERED if answer else AS_BROUGHT]
+        self.how = self.how._replace(decision=decision)
+        ended = self.run()
+        return ended._replace(row=ended.row._replace(tie=given.of if given else ""))
+
+    @contextlib.contextmanager
+    def choice(self) -> Iterator[Choice]:
+        """Chooses which text stands for the mailbox, which is not read again if it is as it was prepared."""
+        self.same = same_as_prepared(self.prepared, self.how, self.opened) if self.prepared else None
+        if self.same:
+            yield self.same.choice
+            return
+        mailbox, is_bare, decision = self.opened.mailbox, self.how.extra.IS_BARE, self.how.decision
+        if decision == UNDECIDED:
+            decision = noted_last(self.record, self.opened)
+        with choice_at_once(self.program, mailbox, self.disk, decision, is_bare) as choice:
+            self.remarks += [AS_ANSWERED] * (decision.noted and choice.plan.answer is not None)
+            yield choice
+
+    def bring(self, choice: Choice) -> Outcome:
+        """Brings what is new, once it is chosen which text stands for the mailbox. Everything that is nowhere is
+        brought of one that was rewritten, or whose sync failed, if that is wanted of such mailboxes alone."""
+        mailbox, before, again = self.opened.mailbox, self.remarks[:], self.how._replace(again=True)
+        try:
+            if self.how.again_rewritten and self.has_failed():
+                self.how = again
+            try:
+                return self.bring_any(choice)
+            except Left as left:
+                is_rewritten = left.reason in (Reason.REWRITTEN, Reason.LEDGER)
+                if not (is_rewritten and self.how.again_rewritten) or self.how.again:
+                    raise
+            self.remarks, self.how = before, again
+            return self.bring_any(choice)
+        except (Fault, OSError) as fault:
+            return Outcome(row_left(mailbox.path, self.opened.name, fault, choice.plan, mailbox.size))
+
+    def bring_any(self, choice: Choice) -> Outcome:
+        """The same, but raises what keeps the mailbox from being done. One without mail only gets its folder, from
+        which everything is removed that is prepared."""
+        if self.prepared and not self.how.again:
+            want_usable(self.how, self.known, self.prepared)
+        if choice.plan.is_empty:
+            if self.prepared and not self.how.dry:
+                clear(self.how, self.known, self.prepared)
+            if not self.how.prepare:
+                self.record.make(self.opened.make_folder)
+                self.remarks += note_empty(self.record, self.opened, self.ledger, self.path)
+            return Outcome(self.row(choice.plan))
+        self.remarks += want_syncs(self.opened.folder, self.how.any_disk)
+        self.want_ended()
+        with self.read(choice) as contents:
+            if not self.how.prepare:
+                # a first pass goes by nothing in the ledger
+                self.want_ledger(contents)
+                want_same_reading(self.how, self.known, choice, contents)
+                if not self.how.again:
+                    self.known.take_place(contents.inventory)
+            match = self.matched(contents)
+            self.want_sure(contents, match)
+            if AS_BROUGHT not in self.remarks:
+                note_answer(self.record, self.opened, choice.plan)
+            if match.is_known and self.path in self.ledger.sources and not self.how.prepare:
+                row = self.row_before(contents.words, len(contents.inventory), list(remarks_on_lost(match)))
+                # the ledger notes that it was read
+                return (
+                    Outcome(row) if self.how.dry else self.verified(row, begin(self.steps(contents, match)), contents)
+                )
+            return self.done(choice, self.planned(choice, contents, match))
+
+    def done(self, choice: Choice, steps: Steps) -> Outcome:
+        """Does what was planned, unless this is a rehearsal, and returns what became of the mailbox."""
+        self.remarks += steps.remarks
+        if self.how.dry:
+            self.remarks += steps.extra.foresee(steps) if steps.extra else []
+            return Outcome(self.row(choice.plan, steps.next))
+        if is_prepared_already(steps):
+            self.is_changed = False
+            return Outcome(self.row(choice.plan))
+        batch, said = carry_out(steps, self.program)
+        self.remarks += said
+        return self.verified(self.row(choice.plan, steps.next), batch, steps.contents)
+
+    def matched(self, contents: Contents) -> Match:
+        """The messages of the text, with what is there of them besides what was prepared."""
+        say, hides = self.opened.mailbox.say, None
+        if self.how.again:
+            return self.matched_again(self.ledger, contents)
+        if self.prepared:
+            hides = self.prepared.hides
+            if not self.same:
+                self.prepared.look(say)
+        files = Files(self.ledger.folder, contents.inventory, say, hides)
+        return Match.of(self.ledger, self.path, files, contents.is_deleted)
+
+    def matched_again(self, ledger: Ledger, contents: Contents) -> Match:
+        """The same if all that is nowhere is placed."""
+        files = Files(ledger.folder, contents.inventory, self.opened.mailbox.say)
+        return Match.again(ledger, self.path, files, contents.is_deleted)
+
+    def steps(self, contents: Contents, match: Match) -> Steps:
+        """What is to be done by what was found of the messages, as far as that alone decides it."""
+        return Steps.of(self.known, contents, match, self.how.again, self.prepared)
+
+    def planned(self, choice: Choice, contents: Contents, match: Match) -> Steps:
+        """What is to be done. Raises Left if it cannot be, with the command that does what can."""
+        took, how, prepared = self.passed(), self.how, self.prepared
+        if prepared:
+            self.remarks += remarks_on_prepared(match, prepared, how, self.opened.mailbox.say)
+            if self.same and len(match.need):
+                raise Left(CHANGED_MEANWHILE, Reason.CHANGED)
+        steps = self.steps(contents, match)
+        if prepared and (how.prepare or not prepared.origin):
+            steps = steps._replace(origin=origin_of(how, self.known, contents))
+        if how.prepare:
+            text = text_of(choice, contents)
+            took = in_milliseconds(self.opened.mailbox.took) if text else took
+            steps = steps._replace(first_pass=FirstPass(text, took))
+        else:
+            steps = steps._replace(extra=how.extra, back=self.may_come_back(match))
+            hindrance = how.extra.hindrance(steps)
+            if hindrance:
+                raise Left(str(hindrance), hindrance.reason, self.command(Does.RUN, again=how.again, dovecot=False))
+        self.want_room_for(steps)
+        return steps if how.prepare else self.said_of(steps)
+
+    def said_of(self, steps: Steps) -> Steps:
+        """The same, with what is said of mail that does not stay only prepared, and what is to be done next."""
+        known, how = self.known, self.how
+        elsewhere = known.elsewhere(steps.contents.inventory)
+        remarks = list(remarks_on(steps, how.dry))
+        for line, _ in elsewhere:
+            says = "%s of it went into %s too" % (counted(line.messages, "message"), folder_named(line.key.folder))
+            says += "" if line.path in known.names else ", from %s" % named(unspelled(line.path))
+            remarks.append(Remark("elsewhere", says))
+        remarks += [*back_in(self.ledger), *remarks_on_joined(known.joined(how.names))]
+        then = self.command(Does.BRINGS_BACK, again=True) if sum(steps.match.seen.gone.values()) else NOTHING
+        for there in (self.opened._replace(name=line.key.folder) for line, is_moved in elsewhere if is_moved):
+            then += (Answer(how.undo_command(self.root, there), Does.UNDO_THERE),)
+        may_be_cut = names_that_may_be_cut(known, steps.match)
+        return steps._replace(may_be_cut=may_be_cut, remarks=tuple(remarks), next=then)
+
+    def want_room_for(self, steps: Steps) -> None:
+        """Raises Left if there is no space for what is to be placed, and for the lines of the ledger, once what no
+        message wants is removed."""
+        sizes, need = steps.contents.inventory.sizes, steps.match.need
+        wanted = [*(sizes[place] for place in need), LONGEST_LINE * steps.placing.count_of_lines()]
+        freed = self.prepared.sizes_unwanted() if self.prepared and not self.how.again else ()
+        if len(need):
+            self.want_room(Need.of(self.opened.folder, wanted, freed=freed))
+
+    def row(self, plan: Plan, then: Next = NOTHING) -> Row:
+        """The row of a mailbox that is done or prepared, or would be."""
+        mailbox, how, spent = self.opened.mailbox, self.how, None
+        done, would = (Fate.PREPARED, Fate.WOULD_PREPARE) if how.prepare else (Fate.DONE, Fate.WOULD)
+        if self.prepared and how.prepare and not how.dry:
+            spent = Spent(self.passed(), self.passed() if self.is_changed else self.prepared.noted.foreseen())
+        its = self.opened.name, plan.kind, plan.messages, would if how.dry else done
+        row = Row(mailbox.path, *its, size=mailbox.size, spent=spent)
+        return row._replace(remarks=(*plan.remarks, *self.remarks), next=then)
+
+    def passed(self) -> int:
+        """How many milliseconds were spent on it so far."""
+        return in_milliseconds(self.opened.mailbox.took) + milliseconds_since(self.began)
+
+    def has_failed(self) -> bool:
+        """Whether a sync of an earlier run failed, or of a pass."""
+        is_failed = self.prepared is not None and (self.prepared.has_failed or has_failed(self.ledger))
+        return is_failed or has_failed(self.ledger, self.path)
+
+    def want_ended(self) -> None:
+        """Raises Left if an undo was interrupted, or if a sync failed."""
+        if self.path in self.ledger.leaving:
+            raise Left(
+                "its undo was interrupted", Reason.UNDO, (Answer(self.how.undo_command(self.root, self.opened)),)
+            )
+        if self.has_failed() and not self.how.again:
+            raise Left(SYNC_FAILED, Reason.SYNC_FAILED)
+
+    def want_ledger(self, contents: Contents) -> None:
+        """Raises Left if the ledger is damaged, or lacks something that the index has of the mailbox, unless all that
+        is nowhere is placed; what it lacks does not matter if nothing is nowhere."""
+        known, ledger = self.known, self.ledger
+        if self.how.again:
+            if ledger.damage:
+                ledger.put_aside()
+        elif ledger.damage:
+            rest = self.matched_again(ledger.without_lines(), contents)
+            raise self.left_to_store(LOST % ("damaged in line %d" % ledger.damage), Reason.LEDGER, contents, rest)
+        elif known.lost:
+            how, rest = "older than its record" if known.is_cut else "missing", self.matched_again(ledger, contents)
+            # what is prepared is no mail yet
+            if len(rest.need) > 0 or self.prepared and self.prepared.is_there:
+                raise self.left_to_store(LOST % how, Reason.LEDGER, contents, rest)
+            self.how = self.how._replace(again=True)
+
+    def left_to_store(self, why: str, reason: Reason, contents: Contents, match: Match) -> Left:
+        """Why it is left, with the command that stores what is nowhere: without what could not be done besides then."""
+        hindrance = self.how.extra.hindrance(self.steps(contents, match))
+        stays = self.how.dovecot and not hindrance
+        then = self.command(Does.DOUBLES, len(match.need), again=True, dovecot=stays)
+        return Left("%s; %s" % (why, hindrance) if hindrance else why, reason, then)
+
+    def command(self, does: Does, messages: Optional[int] = None, **changes: Any) -> Next:
+        """The command that migrates this mailbox with these changes of the options, and how many messages it gives."""
+        return (Answer(self.how.command(self.root, self.opened, **changes), does, messages),)
+
+    @contextlib.contextmanager
+    def read(self, choice: Choice) -> Iterator[Contents]:
+        """Reads the text that stands for the mailbox, unless all of it is known. The program must list the same
+        messages."""
+        if self.same:
+            yield self.same.contents
+            return
+        copies = choice.plan.is_copied + choice.plan.reading.bare
+        if copies:
+            self.want_room(Need.of(self.disk, [], copies * choice.mailbox.size))
+        with choice.text(self.disk) as whole:
+            text = whole.begun_at(self.how.extra.start_of(*whole.whole()))
+            inventory = read_messages(self.program, text, choice)
+            yield Contents(text.mailbox, whole.start, inventory, choice.plan.reading, text)
+
+    def want_sure(self, contents: Contents, match: Match) -> None:
+        """Raises Left if nobody knows what the files of the folder are, or whether it is the same mailbox."""
+        if self.how.again:
+            return
+        strangers = unexplained(self.root, match) if len(match.need) else []
+        if strangers and self.how.prepare:
+            raise Left(PARTLY_THERE % len(strangers), Reason.PARTLY_THERE)
+        if strangers:
+            rest = self.matched_again(self.ledger, contents)
+            raise self.left_to_store(PARTLY_THERE % len(strangers), Reason.PARTLY_THERE, contents, rest)
+        source, lost = self.ledger.sources.get(self.path), match.count_gone()
+        is_much = source is not None and lost > max(FEW, source.count() // TENTH)
+        if is_much and match.count_new() >= lost:
+            raise Left(EDITED % counted(lost, "message"), Reason.REWRITTEN, self.command(Does.STORES, again=True))
+
+    def verified(self, row: Row, batch: int, contents: Contents) -> Outcome:
+        """The outcome of a mailbox all of whose messages are verified, in a batch or, if it is only prepared, none."""
+        path, state, is_prepared = unspelled(self.path), self.opened.mailbox.state, self.prepared is not None
+        return Outcome(row, self.opened.folder, batch, is_prepared, contents.words, path, state)
+
+    def may_come_back(self, match: Match) -> int:
+        """How many messages that are nowhere may have been there before, and were deleted."""
+        if self.how.again:
+            return 0
+        # the ledger may lack what was deleted of other mailboxes that the index counts
+        others = sum(one.messages for one in self.known.unknown if one.path not in self.known.names)
+        back, ledger = min(others, len(match.need)), self.ledger
+        gone = gone_before(ledger)
+        if gone:
+            back += sum((gone & collections.Counter(map(match.inventory.core, match.need))).values())
+        number = ledger.pending(self.path)
+        # what came back in runs that were killed too was not said yet
+        return back if number is None else back + ledger.open[number].head.back

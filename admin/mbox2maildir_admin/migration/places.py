@@ -14,14 +14,14 @@ from ..ledger.record import Record, unspelled
 from ..looks import is_file
 from ..maildir.files import names_of
 from ..maildir.folders import COPY, INBOX, folder_named, folder_path, words_of
-from ..maildir.syncing import SyncOne
+from ..maildir.disk import SyncOne
 from ..nexts import Answer, Command, Does, Next, Todo, in_shell, line_of, run_next, task
 from ..readings.copies import COMPRESSED
 from ..readings.reading import UNDECIDED, Reading
 from ..readings.texts import is_mbox
 from ..terminal import named, operand, option
 from .outcomes import Outcome
-from .steps import Options
+from .options import Options
 
 ENDINGS = (COPY, *COMPRESSED)
 ELSEWHERE = "its mail is in %s: the ledger there says so, and the record does not"

@@ -29,7 +29,7 @@ import contextlib
 import functools
 import os
 import time
-from collections.abc import Sequence
+from collections.abc import Container, Sequence
 from typing import NamedTuple, Optional
 
 from ..faults import Left, Reason
@@ -38,12 +38,14 @@ from ..ledger.history import Note, Step
 from ..ledger.history import names_of as names_by
 from ..ledger.ledger import Ledger, has_failed
 from ..ledger.lines import PLACED, Brought
-from ..ledger.match import Match, Placing
-from ..ledger.prepared import AsRead, Prepared, Text
-from ..ledger.prepared_lines import (
+from ..ledger.match import Match
+from ..ledger.prepared import (
     NEXT_LIST,
     WHOLE,
+    AsRead,
     Origin,
+    Prepared,
+    Text,
     aside_of,
     has_list,
     home_of,
@@ -53,7 +55,7 @@ from ..ledger.prepared_lines import (
 )
 from ..ledger.record import Record, unspelled
 from ..looks import is_folder, is_there, real_path
-from ..maildir.files import digest_of, names_of
+from ..maildir.files import digest_of, names_in, names_of
 from ..maildir.folders import INBOX, folder_path
 from ..maildir.making import LEDGER, MARK, PREPARED, SUBFOLDERS, sync_folder
 from ..mbox.bases import base_in, before_info, own_base_in
@@ -68,19 +70,18 @@ from ..readings.reading import UNDECIDED, Reading
 from ..readings.texts import Choice, Full
 from ..terminal import named, spelled
 from ..units import Offset, Say, counted, silent
-from .converting import PREPARED_SYNC_FAILED, SYNC_FAILED
-from .dovecot import KEYWORDS, LIST, Dovecot, names_in, remove_part
-from .known import Known
+from .carrying import KEPT, PREPARED_SYNC_FAILED, SYNC_FAILED
+from .dovecot import KEYWORDS, LIST, Dovecot, remove_part
+from .known import Known, Opened
+from .options import Options
 from .outcomes import Fate, Row
-from .remarks import remarks_on_dropped
-from .steps import Contents, Opened, Options
+from .steps import Contents, Placing, Steps, remarks_on_dropped
 
 NOT_FREE = "mail of a mailbox is in its folder already, and migrate brings the rest"
 READ = "somebody reads in its folder already: %s"
 ANOTHER = "%s is prepared in its folder, and only one mailbox can be"
 OTHERWISE = "it was prepared %s --dovecot"
 LIST_LOST = "the list of what was prepared in its folder is gone, so nothing shows which files are only copies"
-KEPT = "%s kept that somebody edited"
 STAYS = "%d prepared before stay, whatever the mailbox has now"
 
 
@@ -137,9 +138,27 @@ def tree_above(path: bytes, names: Sequence[bytes]) -> str:
     return ""
 
 
-def take_prepared(match: Match, placing: Placing, prepared: Prepared) -> None:
-    """Takes the files that were prepared for those messages that are to be placed under their names."""
-    inventory, need = match.inventory, array.array("Q")
+def remarks_on_prepared(match: Match, prepared: Prepared, how: Options, say: Say) -> list[Remark]:
+    """Takes the files that were prepared for messages that are nowhere, and returns what is to be said of what was
+    prepared. With --again, it stays as it is."""
+    if how.again:
+        prepared.look(say)
+        stays = sum(prepared.files) + len(prepared.edited)
+        return [Remark("prepared-before", STAYS % stays)] * bool(stays)
+    take_prepared(match, prepared)
+    gone, remarks = prepared.unwanted(), []
+    if any(prepared.files):
+        removed = ", %s %s" % (counted(gone, "message"), "to be removed" if how.dry else "removed") if gone else ""
+        remarks.append(Remark("prepared-before", "%d prepared before" % prepared.count() + removed))
+    if prepared.edited:
+        remarks.append(Remark("kept-edited", KEPT % counted(len(prepared.edited), "file")))
+    return remarks
+
+
+def take_prepared(match: Match, prepared: Prepared) -> None:
+    """Takes the files that were prepared for those messages that are to be placed under their names. Then no message
+    wants the others."""
+    inventory, need, placing = match.inventory, array.array("Q"), Placing(match)
     for place in match.need:
         at = prepared.note(placing.base(place))
         prepared.wanted[at] = 1
@@ -157,26 +176,6 @@ def take_prepared(match: Match, placing: Placing, prepared: Prepared) -> None:
                 match.files.take(prepared.table.base(at))
         match.new = array.array("Q", (place for place in match.new if not match.mine[place]))
         match.need = need
-
-
-def remove_unwanted(prepared: Prepared, dry: bool) -> list[Remark]:
-    """Removes what was prepared and no message wants. Returns what is to be said of what was prepared."""
-    gone, remarks = prepared.unwanted(), []
-    if not dry:
-        prepared.remove()
-    if any(prepared.files):
-        removed = ", %s %s" % (counted(gone, "message"), "to be removed" if dry else "removed") if gone else ""
-        remarks.append(Remark("prepared-before", "%d prepared before" % prepared.count() + removed))
-    if prepared.edited:
-        remarks.append(Remark("kept-edited", KEPT % counted(len(prepared.edited), "file")))
-    return remarks
-
-
-def kept(prepared: Prepared, say: Say) -> list[Remark]:
-    """What is to be said of what was prepared, and stays."""
-    prepared.look(say)
-    stays = sum(prepared.files) + len(prepared.edited)
-    return [Remark("prepared-before", STAYS % stays)] * bool(stays)
 
 
 def clear(how: Options, known: Known, prepared: Prepared) -> None:
@@ -333,6 +332,31 @@ def forget(record: Record, name: bytes, prepared: Prepared) -> None:
         remove_list(prepared.folder)
 
 
+def prepared_in(
+    record: Record, how: Options, opened: Opened, ledger: Ledger, verified: Container[int]
+) -> Optional[Prepared]:
+    """What is only prepared in the folder of a mailbox, or is going to be; None if mail is placed there at once. These
+    batches of the ledger were verified by this run, and their disk is not synced yet."""
+    prepared = Prepared.read(opened.folder)
+    note_begun(ledger, prepared)
+    is_over = prepared.is_there and not is_prepared(record, opened.name, ledger, prepared)
+    if is_over:
+        if prepared.batch not in verified and ledger.sources and not how.dry:
+            remove_list(opened.folder)
+        prepared = Prepared(opened.folder)
+    elif (
+        prepared.batch
+        and not how.again
+        and not ledger.damage
+        and not has_failed(ledger)
+        and not reader_in(record, opened.name, opened.folder, prepared)
+    ):
+        take_back(record, opened.name, ledger, prepared)
+    is_noted = record.prepared(opened.name) is not None and not ledger.sources
+    is_last = not is_over and (prepared.is_there or is_noted or is_free(record, opened, ledger))
+    return prepared if how.prepare or is_last else None
+
+
 class Same(NamedTuple):
     """The text of a mailbox that is as it was prepared, and what is known of its messages."""
 
@@ -381,11 +405,16 @@ def text_of(choice: Choice, contents: Contents) -> Optional[Text]:
     return Text(as_read, contents.inventory, contents.full.offsets)
 
 
-def note_state(prepared: Prepared, origin: Origin) -> None:
-    """Notes that the file of a mailbox has another state, and the same bytes, so that the next first pass does not read
-    it."""
-    if prepared.origin and prepared.origin.state != origin.state and prepared.noted.as_read:
-        prepared.append(origin.line(), prepared.noted.as_read.line(), WHOLE + b"\n")
+def is_prepared_already(steps: Steps) -> bool:
+    """Whether a first pass finds everything as the last one has left it. Notes that the file of the mailbox has another
+    state, and the same bytes, so that the next first pass does not read it."""
+    prepared, now = steps.prepared, steps.origin
+    if not steps.first_pass or not prepared or not now or not prepared.origin or prepared.origin.key != now.key:
+        return False
+    is_same = prepared.is_whole and len(steps.match.need) == 0 and prepared.count() == len(prepared.table)
+    if is_same and prepared.origin.state != now.state and prepared.noted.as_read:
+        prepared.append(now.line(), prepared.noted.as_read.line(), WHOLE + b"\n")
+    return is_same
 
 
 def row_unchanged(record: Record, how: Options, path: bytes, name: bytes, folder: bytes, say: Say) -> Optional[Row]:

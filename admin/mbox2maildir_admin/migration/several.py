@@ -14,9 +14,8 @@ from ..kinds.named import is_spared
 from ..ledger.record import Record
 from ..looks import is_file, is_folder, is_link, is_surely, is_there, real_path, type_at
 from ..maildir.folders import INBOX, folder_of, on_disk
-from ..maildir.making import want_maildir, want_own
-from ..maildir.roots import real_place, want_roots, want_roots_alone
-from ..maildir.syncing import Syncs
+from ..maildir.making import real_place, want_maildir, want_own, want_roots, want_roots_alone
+from ..maildir.disk import Syncs
 from ..mbox.files import is_empty
 from ..nexts import NOTHING, Todo, in_shell, line_of, run_next, task
 from ..program import Program, find_program
@@ -24,12 +23,13 @@ from ..progress import Beat
 from ..terminal import named, operand, text_of, word
 from .dovecot import OLD_SUBSCRIPTIONS, SUBSCRIPTIONS, Dovecot, subscribe
 from .leftovers import Leftovers
-from .converting import settled
+from .carrying import settled
 from .mailbox import Migration
 from .outcomes import Fate, Observer, Outcome, Row, row_left, seen, with_name
 from .places import Pairs, Planned, UserHome, as_named, has_record, into_inbox, recorded
 from .servers import Place, locations, want_unread
-from .steps import Extra, Options
+from .options import Options
+from .steps import Extra
 from .trees import NamesMet, Tree, also_named, identity, link_left, other_names
 
 if TYPE_CHECKING:

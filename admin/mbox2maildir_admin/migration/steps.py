@@ -1,48 +1,42 @@
-"""What the steps of a migration pass on to each other: what was opened, what the record says, what was read."""
+"""What a run does with a mailbox and its folder: a value, which is made before anything is done. A rehearsal prints
+what it says, and `carrying.py` carries it out."""
+import array
+import collections
+import itertools
 import os
-from collections.abc import Callable, Container, Sequence
-from typing import Any, NamedTuple, Optional
+import time
+from collections.abc import Container, Iterable, Iterator, Sequence
+from typing import NamedTuple, Optional
 
-from .. import ADMIN
 from ..faults import Left
 from ..flags.clients import GMAIL, Kept, kept_in, letters_of_evolution
 from ..flags.dovecot_headers import fields_of, flags_of, marks_of
+from ..flags.lacking import lacking_flags
 from ..flags.renaming import add_flags
-from ..kinds.making import Where, is_below
-from ..labels.choosing import Choosing
-from ..maildir.folders import INBOX, folder_path, words_of
-from ..maildir.making import SyncNames, make_maildir, sync_folder
-from ..ledger.prepared import Prepared
+from ..ledger.gone import left_by_killed
+from ..ledger.ledger import Ledger
+from ..ledger.lines import LOST, PLACED, Brought
+from ..ledger.match import Files, Match
+from ..ledger.prepared import Origin, Prepared
+from ..ledger.prepared import Text as Noted
+from ..ledger.record import unspelled
+from ..maildir.folders import INBOX
+from ..mbox.bases import BASE, FIRST, Table, base_in
 from ..mbox.fields import Header
 from ..mbox.inventory import Inventory
 from ..mbox.mailbox import Mailbox
-from ..nexts import Command, Remark
-from ..readings.plans import Question, answers_to
-from ..readings.reading import PLAIN, UNDECIDED, Reading
+from ..nexts import NOTHING, Next, Remark
+from ..readings.plans import left_out
+from ..readings.reading import PLAIN, Reading
 from ..readings.texts import Full, Text
-from ..terminal import operand, option
-from ..units import Offset, Place
+from ..terminal import named
+from ..units import Offset, Place, counted
+from .known import Known, Opened
 
-
-class Opened(NamedTuple):
-    """A mailbox that is open and locked, and the folder that it goes into: its name on the disk, and its path."""
-
-    mailbox: Mailbox
-    name: bytes
-    folder: bytes
-
-    @classmethod
-    def into(cls, root: bytes, name: bytes, mailbox: Mailbox) -> "Opened":
-        """A mailbox that goes into the folder of this name in a Maildir."""
-        return cls(mailbox, name, folder_path(root, name))
-
-    def make_folder(self, sync: SyncNames = sync_folder) -> None:
-        """Makes the folder if it is missing. `sync` syncs its names."""
-        make_maildir(self.folder, self.name == INBOX, sync)
-
-    def has_changed(self, text: Mailbox) -> bool:
-        """Whether the mailbox, or the text that stands for it, has changed since it was looked at."""
-        return self.mailbox.has_changed() or text.has_changed()
+# the words for messages that no mailbox brought, and for those that a mailbox no longer has, with what is said of them
+THERE, NO_LONGER = "there-already", "lost"
+GONE = "%s gone from it that it had brought"
+UNLABELLED = "the label was taken from %s; the mail stays here"
 
 
 class Contents(NamedTuple):
@@ -90,31 +84,70 @@ class Contents(NamedTuple):
         return sum(self.inventory.unquoted[place] for place in places) - by_copy
 
 
-class Bringing(NamedTuple):
-    """What a run brings of a mailbox: the mailbox, its text, and the messages that it places, or that a run has placed
-    that was killed."""
+class FirstPass(NamedTuple):
+    """What the list of a folder says in the end, if mail stays only prepared there: what is noted of the text, and how
+    many milliseconds it took to read."""
 
-    opened: Opened
+    text: Optional[Noted]
+    took: int
+
+
+class Steps(NamedTuple):
+    """What a run does with a mailbox and its folder. What was only prepared there, and no message wants, is removed.
+    Then it is noted what is going to be there; what is nowhere is placed; and what this program has placed gets dates
+    and flags, and is verified."""
+
+    known: Known
     contents: Contents
-    # these messages with the bases of their files, and their places in the text
-    part: Inventory
+    placing: "Placing"
+    # the places in the text of the messages that are placed, or that a run has placed that was killed; and these with
+    # the bases of their files
     places: Sequence[int]
-    # all messages, with the bases of the files that stand for them
-    whole: Inventory
+    part: Inventory
     # the places of those that were nowhere
     need: Container[int]
     # whether a run was killed that had begun with this; whether the mailbox has brought other messages before; and when
     # it was begun first, in seconds since 1970
-    is_begun: bool = False
-    is_grown: bool = False
-    begun_at: int = 0
+    is_begun: bool
+    is_grown: bool
+    begun_at: int
     # whether all that is nowhere is placed
     again: bool = False
-    # what was only prepared in the folder
+    # what was only prepared in the folder; what is read, if its list does not have that; and what the list says in the
+    # end, if mail stays only prepared
     prepared: Optional[Prepared] = None
+    origin: Optional[Origin] = None
+    first_pass: Optional[FirstPass] = None
+    # what is done besides mail and dates
+    extra: Optional["Extra"] = None
+    # how many messages may come back that were deleted, and the names of files that may hold the beginning of one
+    back: int = 0
+    may_be_cut: Container[bytes] = ()
+    # what is said of it, and what is to be done next
+    remarks: tuple[Remark, ...] = ()
+    next: Next = NOTHING
+
+    @classmethod
+    def of(cls, known: Known, contents: Contents, match: Match, again: bool, prepared: Optional[Prepared]) -> "Steps":
+        """What is to be done by what was found of the messages."""
+        placing, begun_at = Placing(match), known.begun_at
+        places, need = placing.places(), match.need if isinstance(match.need, range) else set(match.need)
+        is_grown, now = known.path in known.ledger.sources, int(time.time())
+        its = placing.part(places), need, known.is_begun, is_grown, now if begun_at is None else begun_at
+        return cls(known, contents, placing, places, *its, again, prepared)
+
+    @property
+    def opened(self) -> Opened:
+        """The mailbox, and its folder."""
+        return self.known.opened
+
+    @property
+    def match(self) -> Match:
+        """What was found of its messages."""
+        return self.placing.match
 
     def is_placed(self, place: Place) -> bool:
-        """Whether this run has placed one of its messages."""
+        """Whether this run places one of its messages."""
         return self.places[place] in self.need
 
     def is_unread(self, place: Place) -> bool:
@@ -135,6 +168,123 @@ class Bringing(NamedTuple):
         return self.contents.inventory.digest_by(self.contents.text, self.places[place], number, state)
 
 
+class Placing:
+    """The messages of a text that are nowhere, the names of their files, and what the program gets for that: copies of
+    messages first, then the text itself from a place on."""
+
+    def __init__(self, match: Match) -> None:
+        self.match, self.inventory = match, match.inventory
+        # the names that differ from those that the messages have in the text, and how many more copies of a message the
+        # program gets
+        self.names: dict[int, bytes] = {}
+        self.more: collections.Counter[int] = collections.Counter()
+        self.rest = self.tail()
+        for digest, places in self.special().items():
+            taken = set(match.files.counts_of(digest))
+            self.give_names(digest, places, taken)
+            if places[-1] >= self.rest and (taken or places[0] < self.rest):
+                self.rest = Place(len(self.inventory))
+
+    def tail(self) -> Place:
+        """The place from which on all messages are nowhere."""
+        need, place = self.match.need, len(self.inventory)
+        for one in reversed(need):
+            if one != place - 1:
+                break
+            place = one
+        return Place(place)
+
+    def special(self) -> dict[bytes, list[int]]:
+        """The places of the messages that equal others, or files, by their digests."""
+        found: collections.defaultdict[bytes, list[int]] = collections.defaultdict(list)
+        table, files = self.inventory.table, self.match.files
+        has_files = bool(files.counts) or any(files.there)
+        for place in self.match.need if has_files or table.repeats else ():
+            digest = table.digest(place)
+            if table.place_of(digest + FIRST) in table.repeats or has_files and files.has_digest(digest):
+                found[digest].append(place)
+        return found
+
+    def give_names(self, digest: bytes, places: Sequence[int], taken: set[int]) -> None:
+        """Gives equal messages the first names that are free. Before each, the program gets as many copies as there are
+        names to pass over, so that messages are placed in their order."""
+        free = (count for count in itertools.count(1) if count not in taken)
+        last = 0
+        for place, count in zip(places, free):
+            name = b"%s.%d" % (digest.hex().encode(), count)
+            if name != self.inventory.table.name(place):
+                self.names[place] = name
+            self.more[place], last = count - last - 1, count
+
+    def name(self, place: int) -> bytes:
+        """The name that the file of a message gets."""
+        return self.names.get(place) or self.inventory.table.name(place)
+
+    def base(self, place: int) -> bytes:
+        """The base that the file of a message gets."""
+        return base_in(self.names[place]) or b"" if place in self.names else self.inventory.table.base(place)
+
+    def copied(self) -> list[Place]:
+        """The places of the messages of which the program gets copies first, as often as it gets them."""
+        return [Place(one) for one in self.match.need if one < self.rest for _ in range(1 + self.more[one])]
+
+    def lines(self) -> Iterator[Brought]:
+        """The lines of the batch, in the order in which messages are placed."""
+        match, inventory = self.match, self.inventory
+        yield from (one._replace(word=LOST) for one in match.dropped)
+        for place in sorted(match.found):
+            yield match.found[place]
+        for place, is_mine in enumerate(match.mine):
+            if is_mine:
+                yield Brought(PLACED, inventory.table.name(place), inventory.core(place), inventory.bare(place))
+        for place in match.need:
+            yield Brought(PLACED, self.name(place), inventory.core(place), inventory.bare(place))
+
+    def count_of_lines(self) -> int:
+        """How many lines these are."""
+        return len(self.match.dropped) + sum(self.match.mine) + len(self.match.found) + len(self.match.need)
+
+    def places(self) -> Sequence[int]:
+        """The places of what is nowhere, and of what a run has placed that was killed."""
+        match = self.match
+        if len(match.need) == len(self.inventory):
+            return match.need
+        mine = (place for place, is_mine in enumerate(match.mine) if is_mine)
+        return array.array("Q", sorted(itertools.chain(match.need, mine, match.fresh)))
+
+    def part(self, places: Sequence[int]) -> Inventory:
+        """The messages at these places, with the bases of their files."""
+        if len(places) == len(self.inventory) and not self.names and not self.match.fresh:
+            return self.inventory
+        names = (self.match.found[place].name if place in self.match.found else self.name(place) for place in places)
+        return part_of(self.inventory, places, map(base_in, names))
+
+    def whole(self) -> Inventory:
+        """All messages, with the bases of the files that stand for them as far as these have bases."""
+        if not self.names and not self.match.found:
+            return self.inventory
+        names = {**self.names, **{place: one.name for place, one in self.match.found.items()}}
+        several = range(len(self.inventory))
+        bases = [base_in(names[place]) if place in names else self.inventory.table.base(place) for place in several]
+        used = {base for place, base in enumerate(bases) if place in names}
+        for place in several:
+            own = self.inventory.table.base(place)
+            if bases[place] is None or place not in names and own in used:
+                bases[place] = own if own not in used else b"%s.%d" % (bytes(32), place + 1)
+        return part_of(self.inventory, several, bases)
+
+
+def part_of(inventory: Inventory, places: Sequence[int], bases: Iterable[Optional[bytes]]) -> Inventory:
+    """Some messages of a text, with other bases."""
+    part = Inventory()
+    part.table = Table.of(base for base in bases if base)
+    part.count_lines = lambda: (inventory.lines[place] for place in places)
+    for name in ("sizes", "offsets", "unquoted", "dates"):
+        row = getattr(inventory, name)
+        setattr(part, name, array.array(row.typecode, (row[place] for place in places)))
+    return part
+
+
 class Extra:
     """What is done for a mailbox besides mail and dates: here, the flags that a mail program kept in its headers."""
 
@@ -151,10 +301,10 @@ class Extra:
         del name
         return []
 
-    def check(self, one: Bringing) -> None:
+    def check(self, one: Steps) -> None:
         """Raises Left, before anything is placed, if `run` could not do it."""
 
-    def hindrance(self, one: Bringing) -> Optional[Left]:
+    def hindrance(self, one: Steps) -> Optional[Left]:
         """Why `run` could not do it, if it can't."""
         try:
             self.check(one)
@@ -162,16 +312,16 @@ class Extra:
             return left
         return None
 
-    def kept(self, one: Bringing) -> Optional[Kept]:
+    def kept(self, one: Steps) -> Optional[Kept]:
         """The flags that a mail program kept, if one did."""
         return kept_in(one.contents.text, one.contents.inventory)
 
-    def foresee(self, one: Bringing) -> list[Remark]:
+    def foresee(self, one: Steps) -> list[Remark]:
         """What `run` would say, if nothing may be made."""
         kept = self.kept(one)
         return self.remarks_on(kept, one) if kept else []
 
-    def run(self, one: Bringing) -> list[Remark]:
+    def run(self, one: Steps) -> list[Remark]:
         """Does it after the dates, before everything is verified. Returns what is to be said of it."""
         kept = self.kept(one)
         if not kept:
@@ -180,7 +330,7 @@ class Extra:
         add_flags(one.opened.folder, one.part, letters, one.is_unread)
         return self.remarks_on(kept, one)
 
-    def remarks_on(self, kept: Kept, one: Bringing) -> list[Remark]:
+    def remarks_on(self, kept: Kept, one: Steps) -> list[Remark]:
         """What is to be said of flags that a program kept, and of labels that were not asked for."""
         remarks = list(kept.remarks(one.places))
         if kept.program == GMAIL:
@@ -190,101 +340,95 @@ class Extra:
         return remarks
 
 
-class Options(NamedTuple):
-    """How mailboxes are migrated, in the words of the command: whether nothing is made; whether all that is nowhere is
-    placed; whether with Dovecot's files; the folder for mailboxes that are files; paths and patterns of files without
-    mail; whether no quiet minute is waited for; and what is decided about how they are read. And what follows from
-    these words."""
-
-    dry: bool = False
-    again: bool = False
-    dovecot: bool = False
-    folder: Optional[str] = None
-    no_mail: tuple[bytes, ...] = ()
-    now: bool = False
-    decision: Reading = UNDECIDED
-    # how many folders are at work at the same time; None if nobody says it
-    jobs: Optional[int] = 1
-    # whether everything that is nowhere is converted of mailboxes that were rewritten since
-    again_rewritten: bool = False
-    undo: bool = False
-    # whether a disk will do on which a power cut could take mail away
-    any_disk: bool = False
-    # how folders are made of labels, if they are
-    labels: Optional[Choosing] = None
-    # what is decided about questions that have one of its ties, if several mailboxes are migrated
-    answer: Reading = UNDECIDED
-    # whether mail is only prepared, and whether nobody reads it
-    prepare: bool = False
-    unread: bool = False
-    # what is done besides mail and dates; and whether a file that is not mbox text is passed over, by its path and
-    # whether its kind is known
-    extra: Extra = Extra()
-    is_spared: Callable[[bytes, bool], bool] = lambda path, is_known: False
-    # the names that are migrated, the home of the user whose mail it is, if it is not the one who runs this, and
-    # whether a mailbox goes into the folders of its labels
-    names: Sequence[bytes] = ()
-    home: bytes = b""
-    is_labelled: bool = False
-
-    def words(self) -> list[str]:
-        """The options, as words of a command."""
-        again = self.again or self.again_rewritten
-        given = {
-            "--undo": self.undo,
-            "--prepare": self.prepare,
-            "--unread": self.unread,
-            "--dovecot": self.dovecot,
-            "--dry-run": self.dry,
-        }
-        words = [word for word, is_given in given.items() if is_given]
-        words += ["--now"] * self.now + ["--any-disk"] * self.any_disk
-        for pattern in self.no_mail:
-            words += option("--no-mail", pattern)
-        words += ["--again"] * again + self.decision.options() + (self.labels.words() if self.labels else [])
-        return words + ([] if self.folder is None else option("--folder", os.fsencode(self.folder)))
-
-    def of_next(self) -> "Options":
-        """Those of a command for one of the mailboxes, which decides itself, and names its folder. A dry run's is
-        dry."""
-        stay = Options(any_disk=self.any_disk, labels=self.labels)
-        stay = stay._replace(prepare=self.prepare, unread=self.unread)
-        return stay._replace(dry=self.dry, dovecot=self.dovecot, no_mail=self.no_mail, now=self.now)
-
-    def where(self, root: bytes, opened: Opened) -> Where:
-        """Where the next command puts a file of which it makes a mailbox for a folder of this Maildir."""
-        path = opened.mailbox.path
-        top = next((name for name in self.names if path != name and is_below(path, name)), b"")
-        home = self.home or os.fsencode(os.path.expanduser("~"))
-        where = Where.of(path, top, home, may_write)._replace(wants_file=self.is_labelled)
-        # what a symbolic link leads to is outside of what was named
-        if (top or path in self.names) and may_write(os.path.dirname(path) or b"."):
-            return where
-        words = self.command(root, opened, decision=UNDECIDED).words[:-1]
-        return where._replace(migrate=words, is_dry=self.dry)
-
-    def command(self, root: bytes, opened: Opened, path: bytes = b"", **changes: Any) -> Command:
-        """The command for a mailbox of a folder of this Maildir, or for the one at a path, with the options that were
-        given, and their changes."""
-        given: dict[str, Any] = {"decision": self.decision, **changes}
-        options = self.of_next()._replace(**given)
-        # with labels, a mailbox has all of its folders
-        folder = [] if self.is_labelled or opened.name == INBOX else words_of(opened.name)
-        paths = operand(root), operand(path or opened.mailbox.path)
-        return Command.of(ADMIN, "migrate", *options.words(), *folder, *paths)
-
-    def asked(self, root: bytes, opened: Opened, question: Question) -> Left:
-        """What is left for a human to decide, with the commands that do so."""
-        then = answers_to(question.answers, lambda decision: self.command(root, opened, decision=decision))
-        left = Left(str(question), question.reason, then, question.quotes)
-        return left.known(question.kind, question.messages, question.most)
-
-    def undo_command(self, root: bytes, opened: Opened, path: bytes = b"") -> Command:
-        """The command that undoes a mailbox, or the one at a path."""
-        given = {"decision": UNDECIDED, "dovecot": False, "no_mail": (), "any_disk": False, "labels": None}
-        return self.command(root, opened, path, undo=True, **given)
+def remarks_on(one: Steps, dry: bool) -> Iterator[Remark]:
+    """What is to be said of what is new, what is there, and what is gone."""
+    match, ledger = one.match, one.known.ledger
+    if one.again:
+        placed = counted(len(match.need), "message")
+        yield Remark("placed", "would place %s" % placed if dry else "placed %s" % placed)
+    elif match.path in ledger.sources:
+        yield from remarks_on_new(match)
+    else:
+        yield from remarks_on_lost(match)
+        yield from remarks_on_inbox(ledger) if one.opened.name == INBOX and not match.seen.shared else ()
+    yield from remarks_on_shared(match)
+    for word, count, says in (
+        ("other-form", match.seen.other_form, "%s there in another form, by another mailbox"),
+        ("marked", match.seen.marked, "%s placed beside files that are marked as deleted"),
+        (THERE, len(match.seen.foreign), "%s there already, by no mailbox"),
+        ("other-programs", match.files.others, "%s of other programs in the folder"),
+    ):
+        if count:
+            yield Remark(word, says % counted(count, "message"), count if word == THERE else 0)
+    yield from remarks_on_flags_that_differ(one)
 
 
-def may_write(folder: bytes) -> bool:
-    """Whether this user may make and move files in a folder."""
-    return os.access(folder, os.W_OK | os.X_OK)
+def remarks_on_flags_that_differ(one: Steps) -> Iterator[Remark]:
+    """What is to be said of messages whose files, which others brought, lack flags."""
+    full = one.contents.full
+    found = ((place, BASE.match(its.name)) for place, its in one.match.found.items() if its.word != PLACED)
+    offsets = {base[0]: full.offsets[place] for place, base in found if base}
+    if not offsets:
+        return
+    count = lacking_flags(one.opened.folder, full.mailbox, offsets.get, one.contents.is_bare)
+    if count:
+        yield Remark("flags-differ", "%s of these with flags in it that the file lacks" % counted(count, "message"))
+
+
+def remarks_on_new(match: Match) -> Iterator[Remark]:
+    """What is to be said of a mailbox that has brought messages before."""
+    new = match.count_new()
+    if new:
+        yield Remark("grew", "it grew by %s" % counted(new, "message"))
+    yield from remarks_on_lost(match)
+    if match.seen.regained:
+        yield Remark("regained", "%s in it again that had been gone from it" % counted(match.seen.regained, "message"))
+
+
+def remarks_on_lost(match: Match) -> Iterator[Remark]:
+    """What is to be said of messages that the mailbox no longer has, and that it brought, also in runs that were
+    killed."""
+    unlabelled, lost = sum(match.unlabelled.values()), match.count_gone() + left_by_killed(match)
+    if unlabelled:
+        yield Remark("unlabelled", UNLABELLED % counted(unlabelled, "message"))
+    if lost:
+        yield Remark(NO_LONGER, GONE % counted(lost, "message"))
+
+
+def remarks_on_none(ledger: Ledger, path: str) -> Iterator[Remark]:
+    """What is to be said of a mailbox without mail, if a run was killed that had begun with it."""
+    if ledger.pending(path) is not None:
+        yield from remarks_on_lost(Match.of(ledger, path, Files(ledger.folder, Inventory()), lambda place: False))
+
+
+def remarks_on_shared(match: Match) -> Iterator[Remark]:
+    """What is to be said of messages that other mailboxes brought."""
+    if match.seen.shared:
+        paths = [path for path, _ in match.seen.shared.most_common()]
+        several = " and %d more" % (len(paths) - 1) if len(paths) > 1 else ""
+        says = "%s there already, from %s%s"
+        total = sum(match.seen.shared.values())
+        yield Remark("shared", says % (counted(total, "message"), named(unspelled(paths[0])), several), total)
+    for path, count in match.seen.gone.items():
+        if count:
+            yield Remark("gone-elsewhere", "%d that %s brought are gone" % (count, named(unspelled(path))))
+
+
+def remarks_on_joined(others: Sequence[bytes]) -> list[Remark]:
+    """What is to be said of a mailbox whose folder has the mail of others."""
+    several = " and %d more" % (len(others) - 1) if len(others) > 1 else ""
+    return [Remark("joined", "its folder has mail of %s%s too" % (named(others[0]), several))] if others else []
+
+
+def remarks_on_inbox(ledger: Ledger) -> Iterator[Remark]:
+    """What is to be said of a mailbox that comes to INBOX beside others, with which it shares no message."""
+    others = [path for path, source in ledger.sources.items() if source.count()]
+    if others:
+        several = " and %d more" % (len(others) - 1) if len(others) > 1 else ""
+        yield Remark("joins", "INBOX has the mail of %s%s too" % (named(unspelled(others[0])), several))
+
+
+def remarks_on_dropped(words: Optional[str]) -> list[Remark]:
+    """What is to be said of a mailbox that is done by a reading, about messages that were left out."""
+    dropped = Reading.of_words(words).dropped
+    return [left_out(dropped)] if dropped else []

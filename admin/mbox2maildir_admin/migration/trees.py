@@ -28,7 +28,7 @@ from ..readings.copies import UNFINISHED
 from ..terminal import is_text, named, operand, text_of
 from .outcomes import Fate, Row, row_left
 from .places import Pairs, Planned, recorded, settled
-from .steps import Options
+from .options import Options
 
 # what is said of a file without mail
 PUT_ASIDE = Remark("put-aside", "originals that were put aside")

@@ -10,7 +10,7 @@ from ..jobs.count import Places
 from ..jobs.crew import Child, Crew, Parent
 from ..ledger.history import BY_WORD, Entry, Key
 from ..ledger.record import Record
-from ..maildir.space import Need, want_room
+from ..maildir.disk import Need, want_room
 from ..progress import amount
 from ..signals import INTERRUPTS
 from ..terminal import complain
@@ -152,7 +152,7 @@ class Workers(Crew):
         size, inodes = (
             sum(counts) for counts in zip((need.size, need.inodes), *((one.size, one.inodes) for one in others))
         )
-        return not others or not need._replace(size=size, inodes=inodes).what_lacks()
+        return not others or not need._replace(size=size, inodes=inodes).shortage()
 
     def rest(self, worker: Worker) -> None:
         """Notes that a worker has done a mailbox, or has ended."""

@@ -18,7 +18,7 @@ from ..kinds.others import Form, other_of
 from ..kinds.starts import text_start
 from ..looks import is_folder
 from ..maildir.files import paths_of
-from ..maildir.space import trial_folder
+from ..maildir.disk import trial_folder
 from ..mbox.fields import bared
 from ..mbox.files import BLOCK, Reader
 from ..mbox.inventory import Inventory, messages_of

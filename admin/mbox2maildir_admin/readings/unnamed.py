@@ -4,7 +4,7 @@ from collections.abc import Iterable, Iterator, Sequence
 from typing import IO
 
 from ..faults import Fault, Left, Reason
-from ..maildir.space import PREFIX
+from ..maildir.disk import PREFIX
 from ..mbox.files import BLOCK
 from ..mbox.inventory import Inventory
 from ..mbox.mailbox import Mailbox

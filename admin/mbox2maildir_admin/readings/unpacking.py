@@ -10,7 +10,7 @@ from collections.abc import Iterator
 from ..faults import Left, Reason
 from ..kinds.making import Makes
 from ..kinds.others import Form
-from ..maildir.space import amount, disk_of, not_enough, room_on
+from ..maildir.disk import amount, disk_of, not_enough, room_on
 from ..mbox.files import BLOCK, Reader
 from ..mbox.lines import Said
 from ..mbox.mailbox import Mailbox

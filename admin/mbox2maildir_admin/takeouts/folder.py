@@ -14,13 +14,12 @@ from ..ledger.history import Entry
 from ..ledger.ledger import Ledger
 from ..ledger.match import Match, cores_of
 from ..ledger.record import Record
-from ..maildir.space import Need
+from ..maildir.disk import Need
 from ..mbox.inventory import Inventory
-from ..migration.converting import Conversion
-from ..migration.known import Elsewhere, Known
+from ..migration.known import Elsewhere, Known, Opened
 from ..migration.outcomes import Row
-from ..migration.steps import Bringing, Contents, Extra, Opened, Options
-from ..migration.transfer import Transfer
+from ..migration.steps import Contents, Extra, Steps
+from ..migration.mailbox import Migration, Transfer
 from ..nexts import NOTHING, Next, Remark
 from ..readings.plans import Plan
 from ..readings.reading import Reading
@@ -35,12 +34,12 @@ class OfLabels(Extra):
         """Takes the flags of the messages of one folder."""
         self.of_part = kept
 
-    def kept(self, one: Bringing) -> Kept:
+    def kept(self, one: Steps) -> Kept:
         """These flags."""
         del one
         return self.of_part
 
-    def remarks_on(self, kept: Kept, one: Bringing) -> list[Remark]:
+    def remarks_on(self, kept: Kept, one: Steps) -> list[Remark]:
         """What is to be said of flags."""
         return list(kept.remarks(one.places))
 
@@ -86,9 +85,10 @@ class KnownPart(Known):
 class FolderTransfer(Transfer):
     """One folder of a Takeout."""
 
-    def __init__(self, source: Source, conversion: Conversion, how: Options, opened: Opened, ledger: Ledger) -> None:
+    def __init__(self, source: Source, migration: Migration, opened: Opened, ledger: Ledger) -> None:
         self.source, self.places = source, source.sorted.places[opened.name]
-        super().__init__(conversion, how._replace(extra=OfLabels(source.sorted.kept.at(self.places))), opened, ledger)
+        super().__init__(migration, opened, ledger)
+        self.how = self.how._replace(extra=OfLabels(source.sorted.kept.at(self.places)))
         reading = source.choice.plan.reading._replace(part=word_of(self.places))
         self.plan = source.choice.plan._replace(messages=len(self.places), reading=reading)
         self.known = KnownPart(self.record, ledger, opened, reading.part)

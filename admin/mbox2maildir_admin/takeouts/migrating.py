@@ -11,19 +11,18 @@ from ..labels.fields import headers_in
 from ..labels.noted import Noted, line_of, note
 from ..labels.sorting import LabelsLeft, Sorting
 from ..ledger.ledger import Ledger
-from ..ledger.prepared import Prepared
-from ..ledger.prepared_lines import has_list
+from ..ledger.prepared import Prepared, has_list
 from ..ledger.record import Record, is_gone, unspelled
 from ..maildir.folders import folder_path, folders_in, name_of
-from ..maildir.roots import real_place
-from ..maildir.space import Need
-from ..maildir.syncing import Syncs
+from ..maildir.making import real_place
+from ..maildir.disk import Need, Syncs
 from ..migration.answers import answer_to
 from ..migration.mailbox import Making, Migration
 from ..migration.outcomes import Observer, Outcome, row_left, seen
 from ..migration.preparing import is_prepared
 from ..migration.several import Several, refuse
-from ..migration.steps import Opened, Options
+from ..migration.options import Options
+from ..migration.known import Opened
 from ..nexts import Answer
 from ..program import Program, find_program
 from ..readings.plans import Question

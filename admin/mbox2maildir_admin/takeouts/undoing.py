@@ -9,11 +9,12 @@ from ..ledger.history import Entry, names_of
 from ..ledger.ledger import Ledger
 from ..ledger.record import Record
 from ..maildir.folders import folder_path
-from ..maildir.roots import real_place
+from ..maildir.making import real_place
 from ..mbox.locks import open_mailbox
 from ..migration.outcomes import Fate, Observer, Row, row_left
 from ..migration.several import refuse
-from ..migration.steps import Opened, Options
+from ..migration.known import Opened
+from ..migration.options import Options
 from ..nexts import Remark
 from ..readings.reading import Reading
 from ..undoing.undo import Undo

@@ -17,22 +17,18 @@ from typing import NamedTuple, Optional
 from ..faults import Fault, Left, PlaceFault, Reason
 from ..flags.renaming import sync_names
 from ..ledger.assign import File, by_form, files_of
-from ..ledger.batches import Line, State
-from ..ledger.files import forms_in
+from ..ledger.lines import END_LINE, LOST, NOBODYS, Brought, Head, Line, State
+from ..ledger.match import cores_of
 from ..ledger.gone import without_line
 from ..ledger.history import Step, names_of
 from ..ledger.ledger import Ledger, count_in
-from ..ledger.lines import END_LINE, LOST, NOBODYS, Brought, Head
-from ..ledger.match import cores_of
-from ..ledger.prepared import Prepared
-from ..ledger.prepared_lines import has_list
+from ..ledger.prepared import Prepared, has_list
 from ..ledger.record import Record, is_gone, unspelled
 from ..looks import is_there
-from ..maildir.files import digest_of
+from ..maildir.files import digest_of, forms_in
 from ..maildir.files import names_of as mail_in
 from ..maildir.folders import INBOX, folder_named, folder_of, folders_in, name_of, on_disk
-from ..maildir.making import RECORD
-from ..maildir.roots import real_place
+from ..maildir.making import RECORD, real_place
 from ..mbox.bases import DIGEST, base_in, before_info, is_own
 from ..mbox.locks import WITHOUT_LOCKS, open_mailbox
 from ..mbox.mailbox import Mailbox
@@ -41,7 +37,9 @@ from ..migration.known import Known
 from ..migration.outcomes import Fate, Observer, Row, row_left
 from ..migration.preparing import undone
 from ..migration.several import refuse
-from ..migration.steps import Extra, Opened, Options
+from ..migration.known import Opened
+from ..migration.options import Options
+from ..migration.steps import Extra
 from ..nexts import Remark, Todo, task
 from ..readings.reading import Reading, with_deleted
 from ..readings.texts import content_of, disk_of, text_then

@@ -10,7 +10,7 @@ from typing import Any, Optional
 from ..faults import Left, Reason
 from ..jobs.crew import BROKEN, Child, Crew, Parent
 from ..maildir.folders import folder_of
-from ..maildir.syncing import call_of_system
+from ..maildir.disk import call_of_system
 from ..migration.outcomes import Observer, row_left
 from ..migration.telling import LONGEST, next_of, number_of, row_of
 from ..nexts import Todo, task

@@ -5,7 +5,7 @@ from collections.abc import Callable
 
 from ..faults import Left, Reason
 from ..jobs.crew import Child, Parent
-from ..maildir.syncing import call_of_system
+from ..maildir.disk import call_of_system
 
 # the word by which a child asks for a sync of the disk of a folder that it has open
 SYNC = "sync"

@@ -16,7 +16,7 @@ from ..mbox.bases import BASE
 from ..mbox.lock_file import hold, look_for_lock_file, spot_of
 from ..mbox.mailbox import Mailbox
 from ..migration.outcomes import Fate, Observer
-from ..migration.steps import Options
+from ..migration.options import Options
 from ..migration.trees import Tree
 from ..program import Program
 from .asked import Sources, Tally

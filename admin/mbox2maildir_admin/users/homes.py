@@ -7,7 +7,7 @@ from typing import Any, NamedTuple, Optional, Union
 from .. import ADMIN
 from ..faults import Fault, Left, Reason
 from ..jobs.crew import Parent
-from ..ledger.prepared_lines import has_list
+from ..ledger.prepared import has_list
 from ..ledger.record import Record
 from ..looks import is_link, is_there, may_be
 from ..maildir.folders import folders_in
@@ -16,7 +16,7 @@ from ..migration.outcomes import Observer, Row
 from ..migration.places import UserHome
 from ..migration.servers import Place, want_unread
 from ..migration.several import refuse, run_all
-from ..migration.steps import Options
+from ..migration.options import Options
 from ..migration.telling import Whose, told
 from ..program import Program
 from ..terminal import named, shown, text_of

@@ -12,7 +12,7 @@ from ..looks import is_surely, is_there, may_be
 from ..maildir.folders import folder_path, on_disk
 from ..migration.outcomes import Fate, Observer, Row, row_left
 from ..migration.servers import locations
-from ..migration.steps import Options
+from ..migration.options import Options
 from ..nexts import Answer, Command, run_next
 from ..program import find_program
 from ..readings.copies import stem_of

@@ -4,8 +4,7 @@ from collections import deque
 from collections.abc import Sequence
 
 from mbox2maildir_admin.ledger.assign import Why, by_form, files_of, nobodys, offers_of
-from mbox2maildir_admin.ledger.batches import Line, State
-from mbox2maildir_admin.ledger.lines import NAMELESS, PLACED, SHARED, Brought
+from mbox2maildir_admin.ledger.lines import NAMELESS, PLACED, SHARED, Brought, Line, State
 
 BOX, OTHER, THIRD = "/box", "/other", "/third"
 C, D = b"c" * 16, b"d" * 16

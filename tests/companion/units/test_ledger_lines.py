@@ -25,9 +25,7 @@ from mbox2maildir_admin.ledger.lines import (
     Several,
     pieces_of,
 )
-from mbox2maildir_admin.ledger.prepared import Prepared
-from mbox2maildir_admin.ledger.prepared_lines import BEGUN, Origin
-from mbox2maildir_admin.ledger.prepared import AS_READ, AsRead
+from mbox2maildir_admin.ledger.prepared import AS_READ, BEGUN, AsRead, Origin, Prepared
 from mbox2maildir_admin.ledger.record import unspelled
 from mbox2maildir_admin.nexts import Remark
 from mbox2maildir_admin.terminal import spelled

@@ -2,7 +2,7 @@
 tests/world/unsynced.py mounts some of them."""
 import unittest
 
-from mbox2maildir_admin.maildir.mounts import Doubt, Mount
+from mbox2maildir_admin.maildir.disk import Doubt, Mount
 from mbox2maildir_admin.nexts import Todo
 
 FUSE = "rw,user_id=0,group_id=0,default_permissions,allow_other"

@@ -1,0 +1,116 @@
+"""How mailboxes are migrated: the words of the command, and what follows from them."""
+import os
+from collections.abc import Callable, Sequence
+from typing import Any, NamedTuple, Optional
+
+from .. import ADMIN
+from ..faults import Left
+from ..kinds.making import Where, is_below
+from ..labels.choosing import Choosing
+from ..maildir.folders import INBOX, words_of
+from ..nexts import Command
+from ..readings.plans import Question, answers_to
+from ..readings.reading import UNDECIDED, Reading
+from ..terminal import operand, option
+from .known import Opened
+from .steps import Extra
+
+
+class Options(NamedTuple):
+    """How mailboxes are migrated, in the words of the command: whether nothing is made; whether all that is nowhere is
+    placed; whether with Dovecot's files; the folder for mailboxes that are files; paths and patterns of files without
+    mail; whether no quiet minute is waited for; and what is decided about how they are read. And what follows from
+    these words."""
+
+    dry: bool = False
+    again: bool = False
+    dovecot: bool = False
+    folder: Optional[str] = None
+    no_mail: tuple[bytes, ...] = ()
+    now: bool = False
+    decision: Reading = UNDECIDED
+    # how many folders are at work at the same time; None if nobody says it
+    jobs: Optional[int] = 1
+    # whether everything that is nowhere is converted of mailboxes that were rewritten since
+    again_rewritten: bool = False
+    undo: bool = False
+    # whether a disk will do on which a power cut could take mail away
+    any_disk: bool = False
+    # how folders are made of labels, if they are
+    labels: Optional[Choosing] = None
+    # what is decided about questions that have one of its ties, if several mailboxes are migrated
+    answer: Reading = UNDECIDED
+    # whether mail is only prepared, and whether nobody reads it
+    prepare: bool = False
+    unread: bool = False
+    # what is done besides mail and dates; and whether a file that is not mbox text is passed over, by its path and
+    # whether its kind is known
+    extra: Extra = Extra()
+    is_spared: Callable[[bytes, bool], bool] = lambda path, is_known: False
+    # the names that are migrated, the home of the user whose mail it is, if it is not the one who runs this, and
+    # whether a mailbox goes into the folders of its labels
+    names: Sequence[bytes] = ()
+    home: bytes = b""
+    is_labelled: bool = False
+
+    def words(self) -> list[str]:
+        """The options, as words of a command."""
+        again = self.again or self.again_rewritten
+        given = {
+            "--undo": self.undo,
+            "--prepare": self.prepare,
+            "--unread": self.unread,
+            "--dovecot": self.dovecot,
+            "--dry-run": self.dry,
+        }
+        words = [word for word, is_given in given.items() if is_given]
+        words += ["--now"] * self.now + ["--any-disk"] * self.any_disk
+        for pattern in self.no_mail:
+            words += option("--no-mail", pattern)
+        words += ["--again"] * again + self.decision.options() + (self.labels.words() if self.labels else [])
+        return words + ([] if self.folder is None else option("--folder", os.fsencode(self.folder)))
+
+    def of_next(self) -> "Options":
+        """Those of a command for one of the mailboxes, which decides itself, and names its folder. A dry run's is
+        dry."""
+        stay = Options(any_disk=self.any_disk, labels=self.labels)
+        stay = stay._replace(prepare=self.prepare, unread=self.unread)
+        return stay._replace(dry=self.dry, dovecot=self.dovecot, no_mail=self.no_mail, now=self.now)
+
+    def where(self, root: bytes, opened: Opened) -> Where:
+        """Where the next command puts a file of which it makes a mailbox for a folder of this Maildir."""
+        path = opened.mailbox.path
+        top = next((name for name in self.names if path != name and is_below(path, name)), b"")
+        home = self.home or os.fsencode(os.path.expanduser("~"))
+        where = Where.of(path, top, home, may_write)._replace(wants_file=self.is_labelled)
+        # what a symbolic link leads to is outside of what was named
+        if (top or path in self.names) and may_write(os.path.dirname(path) or b"."):
+            return where
+        words = self.command(root, opened, decision=UNDECIDED).words[:-1]
+        return where._replace(migrate=words, is_dry=self.dry)
+
+    def command(self, root: bytes, opened: Opened, path: bytes = b"", **changes: Any) -> Command:
+        """The command for a mailbox of a folder of this Maildir, or for the one at a path, with the options that were
+        given, and their changes."""
+        given: dict[str, Any] = {"decision": self.decision, **changes}
+        options = self.of_next()._replace(**given)
+        # with labels, a mailbox has all of its folders
+        folder = [] if self.is_labelled or opened.name == INBOX else words_of(opened.name)
+        paths = operand(root), operand(path or opened.mailbox.path)
+        return Command.of(ADMIN, "migrate", *options.words(), *folder, *paths)
+
+    def asked(self, root: bytes, opened: Opened, question: Question) -> Left:
+        """What is left for a human to decide, with the commands that do so."""
+        then = answers_to(question.answers, lambda decision: self.command(root, opened, decision=decision))
+        left = Left(str(question), question.reason, then, question.quotes)
+        return left.known(question.kind, question.messages, question.most)
+
+    def undo_command(self, root: bytes, opened: Opened, path: bytes = b"") -> Command:
+        """The command that undoes a mailbox, or the one at a path."""
+        given = {"decision": UNDECIDED, "dovecot": False, "no_mail": (), "any_disk": False, "labels": None}
+        return self.command(root, opened, path, undo=True, **given)
+
+
+def may_write(folder: bytes) -> bool:
+    """Whether this user may make and move files in a folder."""
+    return os.access(folder, os.W_OK | os.X_OK)
