@@ -172,8 +172,7 @@ class Client(NamedTuple):
         kept = kept_in(mailbox, inventory) if len(inventory) else None
         if not kept:
             return cls()
-        headers = (Header.at(mailbox, inventory.offset(Place(place))).text for place in range(len(inventory)))
-        found = filter(None, map(EVOLUTION_NUMBER.search, headers))
+        found = filter(None, map(EVOLUTION_NUMBER.search, headers_at(mailbox, inventory.offsets[:-1])))
         return cls(kept.program, max((int(one[1], 16) for one in found), default=0))
 
     def bare(self, letter: Letter) -> Letter:

@@ -35,7 +35,7 @@ from ..ledger.history import names_of
 from ..ledger.ledger import Ledger
 from ..ledger.record import Record, is_gone
 from ..mbox.bases import before_info
-from ..mbox.fields import Header
+from ..mbox.fields import Header, headers_at
 from ..mbox.files import BLOCK, open_file
 from ..mbox.inventory import Inventory
 from ..mbox.mailbox import Mailbox
@@ -278,8 +278,8 @@ class Numbering:
         if self.is_same or self.is_incomplete:
             reading = Reading()
             reading.last = self.given
-            for place in map(Place, range(len(inventory))):
-                reading.add(Header.at(mailbox, inventory.offset(place)).text)
+            for header in headers_at(mailbox, inventory.offsets[:-1]):
+                reading.add(header)
             self.inventory, self.uids = inventory, reading.uids
 
     def uid(self, mail: Mail) -> int:

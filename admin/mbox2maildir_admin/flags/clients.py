@@ -8,12 +8,12 @@ import sys
 from collections.abc import Callable, Iterable, Iterator, Sequence
 from typing import NamedTuple, Optional
 
-from ..mbox.fields import VALUE, Header
+from ..mbox.fields import VALUE, headers_at
 from ..mbox.inventory import Inventory
 from ..mbox.mailbox import Mailbox
 from ..nexts import Remark
 from ..patterns import pattern
-from ..units import Place, counted
+from ..units import counted
 
 # the letters of flags in a Maildir: draft, flagged, passed on, replied, seen, trashed.
 # Thunderbird, nsMsgMessageFlags.idl: Read, Replied, Marked, Forwarded
@@ -144,8 +144,7 @@ def kept_in(mailbox: Mailbox, inventory: Inventory) -> Optional[Kept]:
     """The flags that a program has kept in a mailbox, if one has them in the header of each message."""
     for program, read in CLIENTS.items():
         several: list[str] = []
-        for place in map(Place, range(len(inventory))):
-            found = read(Header.at(mailbox, inventory.offset(place)).text)
+        for found in map(read, headers_at(mailbox, inventory.offsets[:-1])):
             if found is None:
                 break
             # many messages have the same

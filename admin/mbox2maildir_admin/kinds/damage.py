@@ -1,19 +1,20 @@
-"""What a file is that does not begin with mbox text and is of no kind in the table: damaged, one mail, or not known."""
-from collections.abc import Callable
+"""What a file is that does not begin with mbox text: of a kind in the table, damaged, one mail, or not known."""
+from collections.abc import Sequence
 from typing import NamedTuple
 
 from ..mbox.dates import is_dated
 from ..mbox.files import LONG
 from ..mbox.lines import Said, cut
 from ..mbox.mailbox import Mailbox
-from ..mbox.pieces import Piece, pieces_of
+from ..mbox.pieces import pieces_of
 from ..nexts import Does, Task, Todo
 from ..patterns import pattern
 from ..terminal import shown
 from ..units import Line, Offset
+from .look import Look, signs_of
 from .making import Looks, Makes, Recipe
 from .named import index_of
-from .others import FROM_LINE, ONE_MAIL, Holds
+from .others import FROM_LINE, ONE_MAIL, Holds, other_of
 from .starts import HEAD, end_of_row, is_from_line
 
 # a header, and a line of text without a colon before it
@@ -45,15 +46,17 @@ class Finding(NamedTuple):
     kind: str
     recipe: Recipe
     holds: Holds
-    remarks: list[Said]
+    remarks: Sequence[Said] = ()
 
 
-def finding_of(mailbox: Mailbox, begins_message: Callable[[Piece], bool]) -> Finding:
-    """Finds out what a file is that does not begin with mbox text. A line `From ` begins a message if `begins_message`
-    says so."""
-    pieces = pieces_of(mailbox.again().read)
-    begins = next((piece for piece in pieces if piece.begins and begins_message(piece)), None)
-    line_of = mailbox.line_at
+def finding_of(look: Look) -> Finding:
+    """Finds out what a file is that does not begin with mbox text."""
+    mailbox, line_of = look.mailbox, look.mailbox.line_at
+    other = other_of(mailbox)
+    if other:
+        return Finding(other.kind, other.recipe, other.holds)
+    marks = (piece for piece in pieces_of(mailbox.again().read) if piece.begins)
+    begins = next((piece for piece in marks if look.sort_of(piece, *signs_of(mailbox, piece)) != "text"), None)
     found = [Said(line_of(begins.offset), BEGINS % (begins.offset + 1), shown(begins.from_line[:72]))] if begins else []
     head = mailbox.at(0, HEAD)
     if head.startswith(b"From "):
@@ -70,7 +73,7 @@ def finding_of(mailbox: Mailbox, begins_message: Callable[[Piece], bool]) -> Fin
         found = [first, *(found if begins and begins.offset != blanks else [])]
         return Finding("damaged", (Makes("tail -c +%d {} >{copy}" % (blanks + 1)),), Holds.MAIL, found)
     if not begins and begins_with_mail(head):
-        return Finding("one mail without a From_ line", (Makes(ONE_MAIL),), Holds.MAIL, [])
+        return Finding("one mail without a From_ line", (Makes(ONE_MAIL),), Holds.MAIL)
     if is_rest_of_from_line(text):
         found.insert(0, Said(Line(1), "this may be the rest of a From_ line", line))
     if not found:
@@ -84,7 +87,7 @@ def unknown(mailbox: Mailbox, line: str) -> Finding:
     is_like_mail = any(LINE_OF_MAIL.search(piece.data) for piece in pieces_of(mailbox.again().read))
     index = index_of(mailbox.path)
     if index and not is_like_mail:
-        return Finding("no mail: " + index, LEAVE, Holds.NO_MAIL, [])
+        return Finding("no mail: " + index, LEAVE, Holds.NO_MAIL)
     said = [Said(Line(1), "", line)]
     return Finding("not known", LIKE_MAIL if is_like_mail else NOT_KNOWN, Holds.UNKNOWN, said)
 

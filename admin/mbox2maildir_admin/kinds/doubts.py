@@ -43,10 +43,11 @@ class Ties(NamedTuple):
 class Doubts:
     """The doubtful lines of a text, while it is looked at."""
 
-    def __init__(self) -> None:
+    def __init__(self, mailbox: Mailbox) -> None:
+        self.mailbox = mailbox
         # of each line: why it is doubtful, and its offset; and its number once all are known
         self.whys, self.offsets, self.lines = array.array("B"), array.array("Q"), array.array("Q")
-        self.known: Optional[tuple[str, Ties]] = None
+        self.known: Optional[Ties] = None
 
     def take(self, sort: str, piece: Piece, holds_mail: bool) -> None:
         """Takes a line `From ` of this sort, which may hold mail."""
@@ -67,10 +68,10 @@ class Doubts:
         rows = [row for row in zip(self.whys, self.offsets) if row[0] not in dropped]
         self.whys, self.offsets = (array.array(kind, [row[place] for row in rows]) for place, kind in enumerate("BQ"))
 
-    def number(self, mailbox: Mailbox, known: Mapping[Optional[int], Line]) -> None:
+    def number(self, known: Mapping[Optional[int], Line]) -> None:
         """Numbers the lines, once the text has ended. Reads it again unless all are known by their offsets."""
         are_known = all(map(known.__contains__, self.offsets))
-        lines = map(known.__getitem__, self.offsets) if are_known else mailbox.lines_at(self.offsets)
+        lines = map(known.__getitem__, self.offsets) if are_known else self.mailbox.lines_at(self.offsets)
         self.lines = array.array("Q", lines)
 
     def numbers(self) -> list[Line]:
@@ -82,22 +83,22 @@ class Doubts:
         rows = zip(self.lines[count:], self.whys[count:], self.offsets[count:])
         return [(Line(line), Offset(offset)) for line, why, offset in rows if why in (MAY_BEGIN, LIKE_FIRST)]
 
-    def ties(self, mailbox: Mailbox, what: str) -> Ties:
-        """The ties of a text that is this."""
-        if self.known is None or self.known[0] != what:
+    def ties(self, what: str) -> Ties:
+        """The ties of the text, which is this."""
+        if self.known is None:
             messages, numbers = hashlib.sha256(what.encode()), hashlib.sha256(b"lines of " + what.encode())
             first = {}
-            for count, (line, entry) in enumerate(self.entries(mailbox), 1):
+            for count, (line, entry) in enumerate(self.entries(), 1):
                 messages.update(entry)
                 numbers.update(entry + b"%d" % line)
                 first[messages.hexdigest()[:DIGITS]] = count
-            self.known = what, Ties(messages.hexdigest()[:DIGITS], numbers.hexdigest()[:DIGITS], first)
-        return self.known[1]
+            self.known = Ties(messages.hexdigest()[:DIGITS], numbers.hexdigest()[:DIGITS], first)
+        return self.known
 
-    def entries(self, mailbox: Mailbox) -> Iterator[tuple[int, bytes]]:
+    def entries(self) -> Iterator[tuple[int, bytes]]:
         """Each line with its number among them, why it is doubtful, and what is around it."""
         for number, (line, why, offset) in enumerate(zip(self.lines, self.whys, self.offsets)):
-            shown = b"\n".join([*before(mailbox, offset), b"", *from_on(mailbox, offset)])
+            shown = b"\n".join([*before(self.mailbox, offset), b"", *from_on(self.mailbox, offset)])
             yield line, b"\n%d %d %s " % (number, why, hashlib.sha256(shown).hexdigest().encode())
 
 

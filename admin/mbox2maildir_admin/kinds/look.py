@@ -55,7 +55,7 @@ class Look:
         self.claimed_by, self.claimed, self.body, self.without = 0, 0, 0, False
         # whether the first message is the one by which Dovecot keeps an empty mailbox
         self.internal = bool(internal_head(mailbox, start)[0])
-        self.doubts = Doubts()
+        self.doubts = Doubts(mailbox)
         # the messages with right lengths, by their offsets, that have a line `>From `, and those that have a line
         # `From ` after a blank one, so that no program has escaped it
         self.with_quotes, self.unescaped = set[int](), set[int]()
@@ -91,7 +91,7 @@ class Look:
         have_dates = self.count("dated") > 0
         self.seen["doubtful" if have_dates else "undated"].take(self.seen.pop("like the first", Lines()))
         self.doubts.end(have_dates, self.are_deleted())
-        self.doubts.number(self.mailbox, self.lines if self.doubts.offsets else {})
+        self.doubts.number(self.lines if self.doubts.offsets else {})
         self.ending = None if have_dates else self.ending
         self.mailbox.check()
         self.is_whole = True
@@ -204,7 +204,7 @@ class Look:
         if deleted is not None:
             self.seen["Thunderbird"].add(piece.offset)
         if deleted:
-            self.seen["deleted"].add(header.offset_of(b"x-mozilla-status"))
+            self.seen["deleted"].add(header.offset + header.place(b"x-mozilla-status"))
             self.doubts.add(piece.offset, DELETED)
         if NOTE in header.text and header[b"subject"] == NOTE:
             self.seen["internal"].add(piece.offset)
@@ -215,7 +215,7 @@ class Look:
         elif end == 0:
             length = header[b"content-length"]
             self.is_cut = LENGTH.match(length) is not None and header.end + int(length) > self.mailbox.size
-            self.seen["wrong"].add(header.offset_of(b"content-length"), b"Content-Length: " + length)
+            self.seen["wrong"].add(header.offset + header.place(b"content-length"), b"Content-Length: " + length)
         elif not (self.internal and piece.offset == self.start):
             self.without = True
 

@@ -1,20 +1,16 @@
 """The labels in the headers of messages of a Takeout, and what is said of one that is migrated without its labels."""
 import collections
 import re
-from collections.abc import Iterable, Iterator
+from collections.abc import Iterable
 from typing import Optional
 
 from ..flags.clients import labels_in
 from ..flags.gmail import Own, own_names
-from ..mbox.fields import VALUE, Header
-from ..mbox.inventory import Inventory
-from ..mbox.mailbox import Mailbox
+from ..mbox.fields import VALUE
 from ..nexts import Remark
-from ..units import Place
 
 # Google writes both fields before those that were sent; what a sender writes comes after them
-THREAD, LABELS = rb"X-GM-THRID" + VALUE, rb"X-Gmail-Labels" + VALUE
-FIRST = re.compile(rb"(?:%s\n%s|%s\n%s)(?:\n|\Z)" % (THREAD, LABELS, LABELS, THREAD), re.I)
+FIELD = re.compile(rb"(X-GM-THRID|X-Gmail-Labels)" + VALUE + rb"(?:\n|\Z)", re.I)
 # Gmail's folders that nobody looks for in INBOX
 SAID = {Own.JUNK: "Spam", Own.TRASH: "Trash", Own.SENT: "Sent", Own.DRAFTS: "Drafts"}
 SAYS = "labelled %s: with --labels, labels become folders"
@@ -22,20 +18,16 @@ SAYS = "labelled %s: with --labels, labels become folders"
 
 def field_of(header: bytes) -> Optional[bytes]:
     """The value of the first field with labels; None unless it and the number of the thread come before all others."""
-    found = FIRST.match(header)
-    return (found[3] if found[2] is None else found[2]) if found else None
+    first = FIELD.match(header)
+    second = FIELD.match(header, first.end()) if first else None
+    values = {one[1].lower(): one[2] for one in (first, second) if one}
+    return values[b"x-gmail-labels"] if len(values) == 2 else None
 
 
 def labels_of(field: bytes) -> Optional[tuple[str, ...]]:
     """The labels that are the value of a field, each once; None if they cannot be read."""
     labels = labels_in(field.decode("latin-1"))
     return None if labels is None else tuple(dict.fromkeys(filter(None, labels)))
-
-
-def headers_in(mailbox: Mailbox, inventory: Inventory) -> Iterator[bytes]:
-    """The headers of the messages of a text."""
-    for place in map(Place, range(len(inventory))):
-        yield Header.at(mailbox, inventory.offset(place)).text
 
 
 def remarks_on_labels(headers: Iterable[bytes]) -> list[Remark]:

@@ -7,11 +7,11 @@ from collections.abc import Callable, Iterator, Sequence
 from ..faults import Fault, Reason
 from ..maildir.checking import Check
 from ..maildir.folders import folder_path
+from ..mbox.fields import headers_at
 from ..mbox.inventory import Inventory
 from ..readings.texts import ReadingOf, Text, disk_of, open_text
 from ..readings.unnamed import copy_of_some
 from ..units import Offset, Place, Say
-from .fields import headers_in
 from .noted import Noted
 from .sorting import Sorting
 
@@ -45,7 +45,7 @@ def checks_of(
     """Looks into each folder of a Takeout, which is read as it was when it was recorded, and gives what was found."""
     with open_text(file, maildir, say, recorded) as text:
         inventory = text.messages(with_cores=False)
-        found = Sorting(headers_in(text.mailbox, inventory), noted.choosing).sorted()
+        found = Sorting(headers_at(text.mailbox, inventory.offsets[:-1]), noted.choosing).sorted()
         for folder, places in found.places.items():
             with part_of(text, inventory, places, disk_of(maildir)) as part:
                 check, bare = look(folder_path(maildir, folder), part, say)

@@ -24,8 +24,8 @@ NOTED = (
     *(b"lines", b"x-evolution", b"x-gm-thrid", b"x-gmail-labels"),
     *(b"x-mozilla-keys", b"x-mozilla-status", b"x-mozilla-status2"),
 )
-# the value of a field after its colon, with the lines that continue it
-VALUE = rb":([^\n]*(?:\n[ \t][^\n]*)*)"
+# the value of a field after its colon, with the lines that continue it: a repeated group would keep a mark for each
+VALUE = rb":([^\n]*(?:(?=\n[ \t])(?s:.*?)(?=\n(?![ \t])|\Z))?)"
 ITS_VALUE = pattern(VALUE)
 AFTER_MESSAGE = pattern(rb"(?:\r?\n)?(?P<mark>From )?")
 LENGTH = pattern(rb"\d{1,18}\Z")
@@ -46,13 +46,15 @@ HIDDEN_FIELD, NOTED_FIELD = pattern_of(HIDDEN), pattern_of(NOTED)
 def without(fields: re.Pattern[bytes], data: bytes, begin: int, end: int, begun: bytes = b"") -> bytes:
     """A text without the fields of a header, which is between two places in it. It may go on with what has begun."""
     header, place = b"\n" + begun + data[begin:end], 0
+    kept: list[bytes] = []
     for found in fields.finditer(header):
+        kept.append(header[place : found.start()])
         place = found.end()
-    if not place:
+    if not kept:
         return data
     # a last line may have no end, and the line before keeps its own
-    rest = fields.sub(b"", header) + b"\n" * (place == len(header))
-    return data[:begin] + rest[1 if fields.match(header) else 1 + len(begun) :] + data[end:]
+    rest = b"".join([*kept, header[place:], b"\n" * (place == len(header))])
+    return data[:begin] + rest[1 + len(begun) * bool(kept[0]) :] + data[end:]
 
 
 def bared(piece: Piece, fields: re.Pattern[bytes] = HIDDEN_FIELD) -> bytes:
@@ -106,9 +108,6 @@ class Header:
         The name is in lower case."""
         return self.lines.rfind(b"\n%s:" % name)
 
-    def __contains__(self, name: bytes) -> bool:
-        return self.place(name) >= 0
-
     def __getitem__(self, name: bytes) -> bytes:
         start, end = self.span(name)
         return self.text[start + len(name) + 1 : end].strip()
@@ -120,14 +119,10 @@ class Header:
         found = ITS_VALUE.match(self.text, place + len(name)) if place >= 0 else None
         return (place, min(found.end() + 1, len(self.text))) if found else (0, 0)
 
-    def offset_of(self, name: bytes) -> Offset:
-        """The offset in the mailbox at which a field begins."""
-        return Offset(self.offset + self.place(name))
-
     def message_end(self, mailbox: Mailbox) -> Optional[Offset]:
         """The offset at which the message ends by its length. None if it has no length, 0 if its length leads to no
         From_ line."""
-        if b"content-length" not in self:
+        if self.place(b"content-length") < 0:
             return None
         length = self[b"content-length"]
         end = self.end + int(length) if LENGTH.match(length) else mailbox.size + 1
@@ -141,3 +136,8 @@ class Header:
         at_end = end + after.end() == mailbox.size
         ended = mailbox.at(end - 1, 1) == b"\n" or after.end() > len(after["mark"] or b"")
         return Offset(end if at_end or after["mark"] and ended else 0)
+
+
+def headers_at(mailbox: Mailbox, offsets: Iterable[int]) -> Iterator[bytes]:
+    """The headers of the messages whose From_ lines are at these offsets."""
+    return (Header.at(mailbox, Offset(offset)).text for offset in offsets)

@@ -21,7 +21,7 @@ from ..looks import is_there
 from ..maildir.files import names_in
 from ..maildir.folders import INBOX, folder_named, folder_of_place
 from ..maildir.making import sync_folder
-from ..mbox.fields import Header
+from ..mbox.fields import headers_at
 from ..mbox.files import WHOLE, open_file, read_up_to
 from ..mbox.mailbox import Mailbox
 from ..nexts import Remark, run_next
@@ -117,8 +117,8 @@ class Dovecot(Extra):
         if kept is not None:
             return says + kept, None
         reading = Reading(head)
-        for offset in full.offsets[:-1]:
-            reading.add(Header.at(full.mailbox, Offset(offset)).text)
+        for header in headers_at(full.mailbox, full.offsets[:-1]):
+            reading.add(header)
         return says + list(reading.remarks()), reading
 
     def write(self, one: Steps, reading: Reading) -> None:

@@ -21,6 +21,8 @@ REASONS = {Holds.MAIL: Reason.UNCLEAR, Holds.OTHER: Reason.OTHER_KIND, Holds.UNK
 ANOTHER_QUESTION = "what is asked about it has changed since this was answered"
 DELETED_KEPT = "no deleted mail was left out, because %d of %d messages have no X-Mozilla-Status"
 NEW_LINE = "it came since the others were decided, and may begin a message"
+# the words by which lines begin messages in different ways, each with those that do it alike
+WAYS = (MBOXRD, (MBOXRD, MBOXO)), (MBOXCL2, BY_LENGTHS), (UNQUOTED, (UNQUOTED,))
 NO_LENGTHS = Reasons([Said(Line(0), "its lines end in CR alone, so that no length in it is right")], 1)
 
 
@@ -161,7 +163,7 @@ def with_noted(verdict: Verdict, noted: Reading) -> Verdict:
     verdict, count = verdict.after(noted), verdict.answered(noted)
     if not verdict.answers:
         return verdict
-    new = verdict.look.doubts.after(count) if verdict.look else []
+    new = verdict.look.doubts.after(count)
     agrees = noted.word in BY_LENGTHS if noted.of else noted.word != UNQUOTED
     if verdict.reading and agrees and new:
         word = noted.word if noted.word in BY_LENGTHS else verdict.reading.word
@@ -198,59 +200,42 @@ def planned(verdict: Verdict, decision: Reading) -> Plan:
     if reading:
         return plan_by(verdict, reading, decision, "%s by --as" % decision.word)
     reading = verdict.reading
-    if decision.drop and DROP_DELETED in verdict.answers and verdict.look:
+    if decision.drop and DROP_DELETED in verdict.answers:
         reading = reading_of(verdict.look)
     if not reading:
         raise question_of(verdict)
     if decision.drop and verdict.messages:
         return plan_by(verdict, reading, DROP_DELETED, verdict.kind)
-    return plan_as_it_is(verdict, reading)
-
-
-def plan_as_it_is(verdict: Verdict, reading: Reading) -> Plan:
-    """The plan of a mailbox about which nothing is a guess."""
     remarks = (*verdict.remarks_on_text(), *verdict.remarks_on_quotes())
-    if reading == PLAIN:
-        by = Reading(MBOXCL2) if verdict.kind == MBOXCL2 else PLAIN
-        return Plan(verdict.kind, verdict.messages or 0, verdict.start, by, remarks=remarks)
-    return Plan(verdict.kind + ", quoted", verdict.messages or 0, verdict.start, reading, True, remarks)
+    kind, is_copied = verdict.kind, reading != PLAIN
+    if is_copied:
+        kind += ", quoted"
+    elif kind == MBOXCL2:
+        reading = Reading(MBOXCL2)
+    return Plan(kind, verdict.messages or 0, verdict.start, reading, is_copied, remarks)
 
 
 def decided(verdict: Verdict, decision: Reading) -> Optional[Reading]:
     """How a text is read by a decision; None if it is certain anyhow. Raises Left if the mailbox is one of several and
     contradicts the decision on them, or if something else is doubtful; or if the decision is on lengths alone, and
     lines outside of them look like mail."""
-    look = verdict.look
+    look, word = verdict.look, decision.word
     if not decision.alone:
-        if verdict.reading and (look is None or look.have_lengths()):
+        if verdict.reading and look.have_lengths():
             return None
-        if look is None or look.count("joined", "holds mail", "cut"):
+        is_unclear = verdict.ends == CR or look.count("joined", "holds mail", "cut") > 0
+        if is_unclear or look.are_deleted() and not decision.drop or not is_answer(look, word):
             raise question_of(verdict)
-        if look.are_deleted() and not decision.drop or not is_answer(look, decision.word):
-            raise question_of(verdict)
-        want_no_contradiction(verdict, look, decision)
-    elif look and verdict.answers and is_against_lengths(look, decision):
+        against = look.against(word)
+        if against.total:
+            by_words = [Reading(one) for one in (word, *(other for other, same in WAYS if word not in same))]
+            by_lines = [one for one in verdict.answers if one.text or one.begin]
+            raise question(verdict, against, (*by_words, *by_lines))
+    elif verdict.answers and is_against_lengths(look, decision):
         raise question_of(verdict)
-    if look is None and decision.word in BY_LENGTHS:
+    if verdict.ends == CR and word in BY_LENGTHS:
         raise question(verdict, NO_LENGTHS, verdict.answers)
-    return Reading(decision.word, decision.text, decision.begin, ends=CR if look is None else CRLF)
-
-
-def want_no_contradiction(verdict: Verdict, look: Look, decision: Reading) -> None:
-    """Raises Left if lines of a text contradict what was decided of several mailboxes, with what each word would
-    give."""
-    against = look.against(decision.word)
-    if not against.total:
-        return
-    by_words = [Reading(one) for one in (decision.word, *others_than(decision.word))]
-    by_lines = [one for one in verdict.answers if one.text or one.begin]
-    raise question(verdict, against, tuple(by_words + by_lines))
-
-
-def others_than(one: str) -> list[str]:
-    """The words by which other lines begin messages."""
-    pairs = (MBOXRD, (MBOXRD, MBOXO)), (MBOXCL2, BY_LENGTHS), (UNQUOTED, (UNQUOTED,))
-    return [other for other, same in pairs if one not in same]
+    return Reading(word, decision.text, decision.begin, ends=verdict.ends)
 
 
 def plan_by(verdict: Verdict, reading: Reading, decision: Reading, kind: str) -> Plan:
@@ -293,9 +278,9 @@ def question(verdict: Verdict, reasons: Reasons, decisions: Sequence[Reading], b
     answers: list[Choosable] = []
     for decision in decisions:
         decision = verdict.tied(decision)
-        counted_already = counted_by(verdict.look, decision) if verdict.look else None
         try:
-            messages = planned(verdict, decision).messages if counted_already is None else counted_already
+            known = counted_by(verdict.look, decision)
+            messages = planned(verdict, decision).messages if known is None else known
             answers.append(Choosable(decision, messages))
         except Fault:
             # no message begins with the first line

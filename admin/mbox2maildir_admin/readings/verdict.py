@@ -3,10 +3,9 @@ from collections.abc import Sequence
 from typing import NamedTuple, Optional
 
 from ..kinds.damage import finding_of
-from ..kinds.doubts import Doubts
-from ..kinds.look import Look, Read, signs_of
+from ..kinds.look import Look, Read
 from ..kinds.making import Recipe
-from ..kinds.others import Holds, other_of
+from ..kinds.others import Holds
 from ..kinds.sorts import MAY_BE_MAIL, WITHIN
 from ..kinds.starts import HEAD, text_start
 from ..mbox.dates import is_dated
@@ -17,7 +16,7 @@ from ..mbox.pieces import from_lines_of
 from ..meanings import remark_of
 from ..nexts import Remark
 from ..units import Line, Offset, counted
-from .reading import BY_LENGTHS, CRLF, MBOXCL2, MBOXO, MBOXRD, PLAIN, UNQUOTED, Reading
+from .reading import BY_LENGTHS, CR, CRLF, MBOXCL2, MBOXO, MBOXRD, PLAIN, UNQUOTED, Reading
 
 # lines of these sorts may be text, or may begin messages; the lines around the first ones show which
 DOUBTS = ("odd", "doubtful")
@@ -29,15 +28,15 @@ NO_END = remark_of("no-line-end")
 class Verdict(NamedTuple):
     """What a file is: how its text is read if that is no guess, or what may be decided about it."""
 
-    mailbox: Mailbox
+    # what was seen in its text; nothing if that is not mbox text, or has lines that end in CR alone
+    look: Look
     kind: str
     # how many messages it has, and how many it may have; None if that is not known
     messages: Optional[int] = None
     most: Optional[int] = None
     # what is said of lines
     remarks: Sequence[Said] = ()
-    # where the text begins, and how it is read
-    start: Offset = Offset(0)
+    # how the text is read, and which line ends besides LF it may have
     reading: Optional[Reading] = None
     # what is said of the lines because of which it is not read without a decision; and what a human may decide
     reasons: Reasons = Reasons()
@@ -45,12 +44,21 @@ class Verdict(NamedTuple):
     holds: Holds = Holds.MAIL
     # what is to be done with a file that is not mbox text
     recipe: Recipe = ()
-    # what was seen in its text
-    look: Optional[Look] = None
+    ends: str = CRLF
+
+    @property
+    def mailbox(self) -> Mailbox:
+        """The file."""
+        return self.look.mailbox
+
+    @property
+    def start(self) -> Offset:
+        """Where the text begins."""
+        return self.look.start
 
     def tied(self, decision: Reading) -> Reading:
         """A decision that holds only as long as the lines that are doubtful now stay so, and no other one is."""
-        ties = (self.look.doubts if self.look else Doubts()).ties(self.mailbox, self.kind)
+        ties = self.look.doubts.ties(self.kind)
         return decision._replace(of=ties.numbers if decision.text or decision.begin else ties.messages)
 
     def after(self, noted: Reading) -> "Verdict":
@@ -66,18 +74,17 @@ class Verdict(NamedTuple):
 
     def answered(self, noted: Reading) -> int:
         """How many of the first lines that are doubtful have the tie of what was decided."""
-        return self.look.doubts.ties(self.mailbox, self.kind).first.get(noted.of, 0) if self.look else 0
+        return self.look.doubts.ties(self.kind).first.get(noted.of, 0)
 
     def doubtful(self) -> list[Line]:
         """The lines that may begin messages."""
-        return self.look.doubts.numbers() if self.look else []
+        return self.look.doubts.numbers()
 
     @property
     def is_on_lines(self) -> bool:
         """Whether nothing is doubtful besides which lines begin messages: no mail is cut or marked as deleted, and no
         From_ line may contain mail."""
-        look = self.look
-        is_whole = look is not None and not (look.count("cut", "holds mail") or look.are_deleted())
+        is_whole = not (self.look.count("cut", "holds mail") or self.look.are_deleted())
         return is_whole and bool(self.doubtful())
 
     @property
@@ -88,15 +95,14 @@ class Verdict(NamedTuple):
     def remarks_on_text(self) -> list[Remark]:
         """What is to be said of the text, however it is read."""
         says = "its text begins at byte %d, after NUL bytes" % (self.start + 1)
-        after_nulls, has_no_end = (self.look.after_nulls, self.look.count("no end")) if self.look else (False, 0)
-        return [Remark("after-nulls", says)] * after_nulls + [NO_END] * bool(has_no_end)
+        return [Remark("after-nulls", says)] * self.look.after_nulls + [NO_END] * self.look.count("no end")
 
     def remarks_on_quotes(self) -> list[Remark]:
         """What is to be said of a mailbox that is read without a decision: how many lines lose a `>` of the mail's own
         if this is mboxo, if messages end by their lengths, and if git wrote patches without quoting, as it does by
         default."""
-        count = self.look.count if self.look else lambda *_: 0
-        if self.look and ends_by_lengths(self.look):
+        count = self.look.count
+        if ends_by_lengths(self.look):
             return self.remarks_on_lengths(self.look)
         return [
             Remark("loses-quote", "`%s ` loses a `>` in %s (--as %s keeps it)" % (line, counted(number, "line"), its))
@@ -123,27 +129,18 @@ class Verdict(NamedTuple):
 def look_at(mailbox: Mailbox, read: Read = Look.read) -> Verdict:
     """What an open file is, and what is to be done with it. `read` looks at as much of its text as is wanted."""
     start = text_start(mailbox)
+    look = Look(mailbox, start or Offset(0))
     if start is None:
-        verdict = verdict_on_other(mailbox)
+        found = finding_of(look)
         mailbox.check()
-        return verdict
+        return Verdict(look, found.kind, remarks=found.remarks, holds=found.holds, recipe=found.recipe)
     if b"\r" in mailbox.at(start, HEAD).split(b"\n")[0][:-1]:
         mailbox.file.seek(start)
         count = from_lines_of(LineEnds(mailbox.file).read)
         mailbox.check()
         why = Reasons([Said(Line(0), "its lines end in CR alone")], 1)
-        return Verdict(mailbox, "line ends of CR alone", count, count, start=start, reasons=why, answers=(PLAIN,))
-    return verdict_on(read(Look(mailbox, start)))
-
-
-def verdict_on_other(mailbox: Mailbox) -> Verdict:
-    """What a file is that does not begin with mbox text."""
-    other = other_of(mailbox)
-    if other:
-        return Verdict(mailbox, other.kind, recipe=other.recipe, holds=other.holds)
-    look = Look(mailbox)
-    finding = finding_of(mailbox, lambda piece: look.sort_of(piece, *signs_of(mailbox, piece)) != "text")
-    return Verdict(mailbox, finding.kind, recipe=finding.recipe, remarks=finding.remarks, holds=finding.holds)
+        return Verdict(look, "line ends of CR alone", count, count, reasons=why, answers=(PLAIN,), ends=CR)
+    return verdict_on(read(look))
 
 
 def verdict_on(look: Look) -> Verdict:
@@ -152,8 +149,7 @@ def verdict_on(look: Look) -> Verdict:
     # without the lines `From ` that may be text, and with those that may be mail within messages, and within lines
     fewest, most = look.messages - look.count(*DOUBTS), look.messages + look.count(*MAY_BE_MAIL, "joined")
     reading = None if answers and not look.shows_lengths() else reading_of(look)
-    known = kind_of(look), fewest, most, list(look.remarks()), look.start, reading, look.keeping(), answers
-    return Verdict(look.mailbox, *known, look=look)
+    return Verdict(look, kind_of(look), fewest, most, list(look.remarks()), reading, look.keeping(), answers)
 
 
 def reading_of(look: Look) -> Reading:

@@ -7,7 +7,6 @@ from typing import Any, Optional
 
 from ..faults import Fault, Left, Reason
 from ..labels.choosing import ONE, Choosing
-from ..labels.fields import headers_in
 from ..labels.noted import Noted, line_of, note
 from ..labels.sorting import LabelsLeft, Sorting
 from ..ledger.ledger import Ledger
@@ -16,6 +15,7 @@ from ..ledger.record import Record, is_gone, unspelled
 from ..maildir.folders import folder_path, folders_in, name_of
 from ..maildir.making import real_place
 from ..maildir.disk import Need, Syncs
+from ..mbox.fields import headers_at
 from ..migration.answers import answer_to
 from ..migration.mailbox import Making, Migration
 from ..migration.outcomes import Observer, Outcome, row_left, seen
@@ -166,7 +166,8 @@ class Takeouts(Migration):
             inventory = read_messages(self.program, text, choice)
             if len(inventory) == 0:
                 raise LabelsLeft(NO_MESSAGE)
-            yield Source(choice, text, inventory, Sorting(headers_in(text.mailbox, inventory), choosing).sorted())
+            headers = headers_at(text.mailbox, inventory.offsets[:-1])
+            yield Source(choice, text, inventory, Sorting(headers, choosing).sorted())
 
     def want_room_for(self, source: Source) -> None:
         """Raises Left if the disk has too little room for what no folder has, with the largest of the texts of
