@@ -155,17 +155,22 @@ class Reading:
 
     def add(self, header: bytes) -> None:
         """Takes the header of the next message."""
-        fields, uid = fields_of(header), 0
-        first = not self.uids and not self.head
+        fields, first = fields_of(header), not self.uids and not self.head
+        numbers: list[int] = []
         for field in fields:
             head = head_of(field) if first and not self.head else None
             if head:
                 self.begin(head)
                 # a UID before the head counts for nothing
-                self.hides_first, uid = head.is_hidden, 0
+                self.hides_first, numbers = head.is_hidden, []
             elif field.name == b"x-uid":
-                uid = uid or self.kept(field.value)
-        self.is_renumbered = self.is_renumbered or not uid and self.loses_uid(fields)
+                found = UID.match(field.value)
+                numbers += [number_of(found[1])] if found else []
+        # UIDs rise, and none is higher than the next one
+        uid = next((one for one in numbers if self.previous < one <= self.last + 1), 0)
+        if self.head and not uid and self.previous > self.head.last:
+            # it has a UID of the mailbox, and gets another one since a message before it has none
+            self.is_renumbered |= any(0 < one <= self.head.last for one in numbers)
         if self.hides_first and not self.uids:
             self.uids.append(0)
         else:
@@ -173,19 +178,6 @@ class Reading:
             self.last = max(self.previous, self.last)
             self.uids.append(self.previous)
         self.marks.append(marks_of(fields, self.names))
-
-    def kept(self, value: bytes) -> int:
-        """The UID in a value, if the message keeps it: UIDs rise, and none is higher than the next one. Otherwise 0."""
-        found = UID.match(value)
-        number = number_of(found.group(1)) if found else 0
-        return number if self.previous < number <= self.last + 1 else 0
-
-    def loses_uid(self, fields: Iterable[Field]) -> bool:
-        """Whether a message has a UID of the mailbox, and gets another one since a message before it has none."""
-        if not self.head or self.previous <= self.head.last:
-            return False
-        found = [UID.match(field.value) for field in fields if field.name == b"x-uid"]
-        return any(uid and 0 < number_of(uid.group(1)) <= self.head.last for uid in found)
 
     def numbers(self, moment: int) -> Numbers:
         """UIDVALIDITY, the next UID, and the places of the messages by their UIDs. If no numbers were kept, UIDVALIDITY
@@ -241,6 +233,12 @@ def flags_of(marks: int, is_bare: bool) -> str:
     """The letters of the flags of a message with these marks: those that Dovecot reads if it is converted bare,
     otherwise those that mbox2maildir gives."""
     return "".join(flag for place, flag in enumerate(FLAGS) if marks >> place + (32 if is_bare else 40) & 1)
+
+
+def flags_in(header: bytes, is_bare: bool) -> str:
+    """The letters of the flags in a header."""
+    # much mail has none, and it takes long to look for fields
+    return flags_of(marks_of(fields_of(header), {}), is_bare) if b"status" in header.lower() else ""
 
 
 def info_of(marks: int, current: str) -> str:

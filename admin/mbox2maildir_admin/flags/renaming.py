@@ -1,18 +1,24 @@
-"""Gives the files of messages flags, by renaming them."""
+"""The flags of the files of messages: which of them they lack, and how they get some, by renaming."""
 import array
 import contextlib
 import os
 from collections.abc import Callable, Container, Iterator, Sequence
-from typing import NamedTuple
+from typing import NamedTuple, Optional
 
 from ..looks import is_there
+from ..maildir.files import names_of
 from ..maildir.making import sync_folder
-from ..mbox.bases import before_info
+from ..mbox.bases import OWN, before_info
+from ..mbox.fields import Header
 from ..mbox.inventory import Inventory
-from ..units import Place
+from ..mbox.mailbox import Mailbox
+from ..units import Offset, Place
+from .dovecot_headers import flags_in
 
 # what follows the base in a name, before the letters of its flags
 INFO = b":2,"
+# the offset of a message by the base of its file; None if there is none
+OffsetOf = Callable[[bytes], Optional[int]]
 
 
 class Flagged(NamedTuple):
@@ -72,6 +78,19 @@ def add_flags(
             with contextlib.suppress(FileNotFoundError):
                 file.give(folder, "".join(sorted({*file.letters, *letters[file.place]})), file.place in listed)
     sync_names(folder)
+
+
+def lacking_flags(folder: bytes, mailbox: Mailbox, offset_of: OffsetOf, is_bare: bool) -> int:
+    """How many messages, whose offsets are given by the bases of their files, have a flag in their headers that their
+    files lack. `is_bare` says whether bare text was converted, which decides the flags that they got."""
+    count = 0
+    for name, _ in names_of(folder):
+        base, info = OWN.match(name), name[len(before_info(name)) :]
+        offset = offset_of(base[0]) if base else None
+        if offset is not None and (not info or info.startswith(INFO)):
+            letters = info[len(INFO) :].decode("latin-1")
+            count += bool({*flags_in(Header.at(mailbox, Offset(offset)).text, is_bare)} - {*letters})
+    return count
 
 
 def sync_names(folder: bytes) -> None:

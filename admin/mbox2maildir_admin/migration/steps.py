@@ -11,7 +11,7 @@ from typing import NamedTuple, Optional
 from ..faults import Left
 from ..flags.clients import GMAIL, Kept, kept_in, letters_of_evolution
 from ..flags.dovecot_headers import fields_of, flags_of, marks_of
-from ..flags.lacking import lacking_flags
+from ..flags.renaming import lacking_flags
 from ..flags.renaming import add_flags
 from ..ledger.gone import left_by_killed
 from ..ledger.ledger import Ledger
