@@ -20,7 +20,7 @@ from ..maildir.files import names_of
 from ..mbox.bases import before_info
 from ..mbox.core import forms_of
 from ..mbox.dates import TOO_LATE, is_dated
-from ..mbox.fields import HIDDEN, Header, pattern_of
+from ..mbox.fields import HIDDEN, headers_at, pattern_of
 from ..mbox.files import open_file
 from ..mbox.inventory import Inventory
 from ..mbox.mailbox import Mailbox
@@ -31,7 +31,6 @@ from ..readings.plans import plan_of
 from ..readings.reading import BY_LENGTHS, CR, CRLF, MBOXCL2, MBOXO, MBOXRD, UNQUOTED, Reading
 from ..readings.texts import form_of, text_then
 from ..readings.unnamed import text_of
-from ..units import Place
 from .mails import Mail
 
 FROM, FROM_OR_QUOTED = re.compile(rb"^(?=From )", re.M), re.compile(rb"^(?=>*From )", re.M)

@@ -27,15 +27,21 @@ class Holds(enum.Enum):
 
 
 class Form(enum.Enum):
-    """The form of a text that must be unpacked before it is read, in the words of its kind."""
+    """The form of a text that must be unpacked before it is read: the words of its kind, and either the program that
+    unpacks it or the name of its encoding."""
 
-    GZIP = "compressed by gzip"
-    BZIP2 = "compressed by bzip2"
-    XZ = "compressed by xz"
-    ZSTD = "compressed by zstd"
-    LZ4 = "compressed by lz4"
-    UTF_16 = "a text in UTF-16"
-    UTF_32 = "a text in UTF-32"
+    GZIP = "compressed by gzip", "gzip"
+    BZIP2 = "compressed by bzip2", "bzip2"
+    XZ = "compressed by xz", "xz"
+    ZSTD = "compressed by zstd", "zstd"
+    LZ4 = "compressed by lz4", "lz4"
+    UTF_16 = "a text in UTF-16", "", "UTF-16"
+    UTF_32 = "a text in UTF-32", "", "UTF-32"
+
+    def __init__(self, kind: str, program: str, encoding: str = "") -> None:
+        self.kind, self.program, self.encoding = kind, program, encoding
+        # the command by which a human unpacks it
+        self.by_hand = "iconv -f %s -t UTF-8" % encoding if encoding else "%s -dc" % program
 
 
 class Other(NamedTuple):
@@ -63,9 +69,9 @@ def folder(start: bytes, kind: str, then: str, package: str = "", if_packed: str
     return other(start, kind, "")._replace(recipe=(Makes(then, package=package, is_folder=True, if_packed=if_packed),))
 
 
-def packed(start: bytes, form: Form, then: str, package: str = "") -> Other:
+def packed(start: bytes, form: Form, package: str = "") -> Other:
     """A kind whose text is unpacked. The command unpacks it by hand."""
-    return other(start, form.value, then, package)._replace(form=form)
+    return other(start, form.kind, "%s <{} >{copy}" % form.by_hand, package)._replace(form=form)
 
 
 def no_mail(start: bytes, kind: str, check: Optional[Callable[[Mailbox], bool]] = None) -> Other:
@@ -102,21 +108,21 @@ MESSAGES = [
         "msgconvert --mbox {copy} {}",
         "libemail-outlook-message-perl",
     ),
-    packed(rb"\xff\xfe\x00\x00|\x00\x00\xfe\xff", Form.UTF_32, "iconv -f UTF-32 -t UTF-8 <{} >{copy}"),
-    packed(rb"\xff\xfe|\xfe\xff", Form.UTF_16, "iconv -f UTF-16 -t UTF-8 <{} >{copy}"),
+    packed(rb"\xff\xfe\x00\x00|\x00\x00\xfe\xff", Form.UTF_32),
+    packed(rb"\xff\xfe|\xfe\xff", Form.UTF_16),
 ]
 TAR = "mkdir {copy} && tar %s-xC {copy} <{}"
 PACKED = [
-    packed(rb"\x1f\x8b", Form.GZIP, "gzip -dc <{} >{copy}"),
+    packed(rb"\x1f\x8b", Form.GZIP),
     other(rb"\x1f[\x1e\x9d]", "compressed by compress or pack", "gzip -dc <{} >{copy}"),
-    packed(rb"BZh[1-9](?:1AY&SY|\x17rE8P\x90)", Form.BZIP2, "bzip2 -dc <{} >{copy}"),
-    packed(rb"\xfd7zXZ\x00", Form.XZ, "xz -dc <{} >{copy}", "xz-utils"),
+    packed(rb"BZh[1-9](?:1AY&SY|\x17rE8P\x90)", Form.BZIP2),
+    packed(rb"\xfd7zXZ\x00", Form.XZ, "xz-utils"),
     # the properties, a dictionary of at least 64 KiB, and a size, or a mark that it is unknown: as xz's lzma_alone.c
     # checks. It has no checksum, so a file that was changed looks right
     other(rb"\]\0\0..(?:\xff{8}|....[\0-\x3f]\0{3})", "compressed by lzma", "xz -dc <{} >{copy}", "xz-utils"),
     # RFC 8878, 3.1.1 and 3.1.2
-    packed(rb"\x28\xb5\x2f\xfd|[\x50-\x5f]\x2a\x4d\x18", Form.ZSTD, "zstd -dc <{} >{copy}"),
-    packed(rb"\x04\x22\x4d\x18", Form.LZ4, "lz4 -dc <{} >{copy}"),
+    packed(rb"\x28\xb5\x2f\xfd|[\x50-\x5f]\x2a\x4d\x18", Form.ZSTD),
+    packed(rb"\x04\x22\x4d\x18", Form.LZ4),
     # it has no mark at its end, so a file that was cut looks complete
     other(rb"\x02\x21\x4c\x18", "compressed by lz4, in its old format", "lz4 -dc <{} >{copy}"),
     other(rb"LZIP\x01", "compressed by lzip", "lzip -dc <{} >{copy}"),

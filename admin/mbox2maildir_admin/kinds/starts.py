@@ -5,6 +5,7 @@ from typing import Optional
 from ..mbox.dates import is_dated
 from ..mbox.files import BLOCK, LONG
 from ..mbox.mailbox import Mailbox
+from ..mbox.pieces import FROM
 from ..units import Offset
 from .shapes import is_tar
 
@@ -25,28 +26,20 @@ def text_start(mailbox: Mailbox) -> Optional[Offset]:
     assert before is not None, "it matches nothing too"
     if not head or is_from_line(mailbox.at(before.end(), HEAD)):
         return Offset(before.end())
-    nulls = nulls_of(mailbox) if head.startswith(b"\0") else Offset(0)
-    return nulls if nulls and has_date_and_header(mailbox.at(nulls, HEAD)) else None
+    nulls = end_of_row(mailbox, Offset(0), b"\0")
+    return nulls if nulls and all(signs_in(mailbox.at(nulls, HEAD))) else None
 
 
 def is_from_line(text: bytes) -> bool:
     """Whether a text begins with a From_ line that ends in a date, or that a header follows."""
-    several = text, text.replace(b"\r\n", b"\n").replace(b"\r", b"\n")
-    return any(
-        line.startswith(b"From ") and (is_dated(line) or FIELD.match(header))
-        for line, _, header in (one.partition(b"\n") for one in several)
-    )
+    return any(signs_in(text)) or any(signs_in(text.replace(b"\r\n", b"\n").replace(b"\r", b"\n")))
 
 
-def has_date_and_header(text: bytes) -> bool:
-    """Whether a text begins with a From_ line that ends in a date and that a header follows."""
+def signs_in(text: bytes) -> tuple[bool, bool]:
+    """Whether a text begins with a line `From ` that ends in a date, and whether with one that a header follows."""
     line, _, header = text.partition(b"\n")
-    return line.startswith(b"From ") and is_dated(line) and FIELD.match(header) is not None
-
-
-def nulls_of(mailbox: Mailbox, offset: Offset = Offset(0)) -> Offset:
-    """The offset at which the NUL bytes end that a file has at its beginning, or at an offset."""
-    return end_of_row(mailbox, offset, b"\0")
+    is_from = line.startswith(FROM)
+    return is_from and is_dated(line), is_from and FIELD.match(header) is not None
 
 
 def end_of_row(mailbox: Mailbox, offset: Offset, row: bytes) -> Offset:

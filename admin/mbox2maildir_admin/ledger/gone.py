@@ -132,7 +132,7 @@ def gone_of(ledger: Ledger, number: int) -> collections.Counter[bytes]:
         base = base_in(one.name)
         table = after if at >= first else before
         if base and one.word != LOST and table.place_of(base) is None:
-            table.put(table.slot_of(base), base[:32], int(base[33:]))
+            table.keep(base)
             places[at >= first].append(at)
     there = {before.own_place(name) for name, _ in names_of(ledger.folder)} if len(before) else set()
     gone = [places[0][place] for place in range(len(before)) if place not in there]

@@ -18,7 +18,7 @@ from ..faults import PlaceFault, Reason
 from ..looks import is_there
 from ..maildir.files import CLOCK_TICK, digest_of, names_in, names_of
 from ..maildir.making import PREPARED, sync_folder
-from ..mbox.bases import DIGEST, FIRST, Table, base_in, before_info, own_base_in
+from ..mbox.bases import FIRST, Table, base_in, before_info, own_base_in
 from ..mbox.core import SHORT
 from ..mbox.inventory import NO_DATE, Inventory
 from ..nexts import Remark
@@ -330,7 +330,7 @@ class Prepared:
         place = self.table.place_of(base)
         if place is not None:
             return place
-        self.table.put(self.table.slot_of(base), base[:DIGEST], int(base[DIGEST + 1 :]))
+        self.table.keep(base)
         self.facts.extend(READ_AGAIN)
         self.homes.append(None)
         self.files.append(MISSING)

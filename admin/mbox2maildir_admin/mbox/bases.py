@@ -57,7 +57,7 @@ class Table:
         """Takes messages that have these bases, each another one."""
         self = cls()
         for base in bases:
-            self.put(self.slot_of(base), base[:DIGEST], int(base[DIGEST + 1 :]))
+            self.keep(base)
         return self
 
     def __len__(self) -> int:
@@ -73,6 +73,11 @@ class Table:
         self.put(slot, digest, count)
         return digest + b".%d" % count
 
+    def keep(self, base: bytes) -> None:
+        """Adds the next message, which has this base."""
+        digest, count = base[:DIGEST], int(base[DIGEST + 1 :])
+        self.put(self.slot_at(digest, count), digest, count)
+
     def put(self, slot: int, digest: bytes, count: int) -> None:
         """Adds the next message, and puts its place into a slot."""
         self.slots[slot] = len(self.counts)
@@ -84,12 +89,9 @@ class Table:
             for place, its in enumerate(self.counts):
                 self.slots[self.slot_at(self.digest(place), its)] = place
 
-    def slot_of(self, base: bytes) -> int:
-        """The slot that has the place of the message of this base; if there is no such message, a free slot."""
-        return self.slot_at(base[:DIGEST], int(base[DIGEST + 1 :]))
-
     def slot_at(self, digest: bytes, count: int) -> int:
-        """The same for a base by its digest and its count."""
+        """The slot that has the place of the message of the base with this digest and this count; if there is no such
+        message, a free slot."""
         slots, digests, counts = self.slots, self.digests, self.counts
         slot = hash((digest, count)) % len(slots)
         while (place := slots[slot]) != FREE:

@@ -14,7 +14,7 @@ from typing import NamedTuple, Optional
 
 from .. import ADMIN
 from ..faults import Left, Reason
-from ..looks import is_there
+from ..looks import state_at
 from ..nexts import Remark
 from ..terminal import named
 from .files import REGULAR
@@ -77,23 +77,21 @@ def stands_for(owner: bytes) -> bytes:
     return hashlib.sha256(owner).hexdigest()[:32].encode()
 
 
-def opened_if_left(spot: Spot, owner: Optional[bytes] = None) -> Optional[int]:
-    """The descriptor of a lock, which it holds, if a run of the companion made it that is no longer at work; otherwise
-    None. On a disk without `flock` only one of this owner is known: only one run at a time is at work for it."""
+@contextlib.contextmanager
+def left_alone(spot: Spot, owner: Optional[bytes] = None) -> Iterator[bool]:
+    """Whether a run of the companion made a lock that is no longer at work. Then it is held meanwhile. On a disk
+    without `flock` only one of this owner is known: only one run at a time is at work for it."""
     try:
         number = spot.open(REGULAR)
     except OSError:
-        return None
-    is_its = False
+        yield False
+        return
     try:
         found = CONTENT.match(os.pread(number, MOST, 0)) if stat.S_ISREG(os.fstat(number).st_mode) else None
-        if found:
-            of_owner = owner is not None and found[1] == stands_for(owner)
-            is_its = is_free(number, of_owner) and spot.is_open_as(number)
+        of_owner = found is not None and owner is not None and found[1] == stands_for(owner)
+        yield found is not None and is_free(number, of_owner) and spot.is_open_as(number)
     finally:
-        if not is_its:
-            os.close(number)
-    return number if is_its else None
+        os.close(number)
 
 
 def is_free(number: int, otherwise: bool) -> bool:
@@ -103,14 +101,6 @@ def is_free(number: int, otherwise: bool) -> bool:
     except OSError as fault:
         return otherwise and fault.errno in UNLOCKABLE
     return True
-
-
-def is_left(spot: Spot) -> bool:
-    """Whether a run of the companion left a lock that was killed."""
-    number = opened_if_left(spot)
-    if number is not None:
-        os.close(number)
-    return number is not None
 
 
 def hold(spot: Spot) -> Optional[int]:
@@ -127,15 +117,11 @@ def hold(spot: Spot) -> Optional[int]:
 
 def drop_lock(spot: Spot, owner: Optional[bytes] = None) -> None:
     """Removes a lock that a killed run left, if this user may."""
-    number = opened_if_left(spot, owner)
-    if number is None:
-        return
-    try:
-        # whoever looks at it meanwhile finds it held, and does not remove the next one
-        with contextlib.suppress(OSError):
-            spot.unlink()
-    finally:
-        os.close(number)
+    with left_alone(spot, owner) as is_left:
+        if is_left:
+            # whoever looks at it meanwhile finds it held, and does not remove the next one
+            with contextlib.suppress(OSError):
+                spot.unlink()
 
 
 def make_lock(spot: Spot, owner: bytes) -> int:
@@ -176,19 +162,13 @@ def look_for_lock_file(mailbox: Mailbox) -> None:
     """Looks for the lock file of another program. Raises Left if there is one; an old one, and one that a killed run
     left, is only mentioned."""
     path = mailbox.path + LOCK
-    if not is_there(path):
+    state = state_at(path, False)
+    if not state:
         return
-    try:
-        age = time.time() - os.lstat(path).st_mtime
-    except FileNotFoundError:
-        # it is gone meanwhile
-        return
-    if is_left(Spot(path)):
-        mailbox.remarks.append(Remark("old-lock", LEFT_BEHIND % named(path)))
-        return
-    if age < STALE:
-        raise Left(LOCKED_WITH % named(path), Reason.LOCKED)
-    mailbox.remarks.append(Remark("old-lock", OLD % named(path)))
+    with left_alone(Spot(path)) as is_left:
+        if not is_left and time.time() - state.st_mtime < STALE:
+            raise Left(LOCKED_WITH % named(path), Reason.LOCKED)
+    mailbox.remarks.append(Remark("old-lock", (LEFT_BEHIND if is_left else OLD) % named(path)))
 
 
 @contextlib.contextmanager

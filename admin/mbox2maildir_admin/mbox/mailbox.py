@@ -81,7 +81,7 @@ class Mailbox:
     def take_state(self) -> None:
         """Takes the state of the file as it is now."""
         self.state = os.fstat(self.number)
-        self.size = Size(self.state.st_size)
+        self.size, self.end = Size(self.state.st_size), Offset(self.state.st_size)
         self.file = Watched(self.number, self.size, self.digest, self.say)
 
     def __enter__(self) -> "Mailbox":
@@ -136,11 +136,6 @@ class Mailbox:
                     return
                 first, last = last, last + block.count(b"\n")
             yield Line(line), Offset(reader.offset - len(block.split(b"\n", line - first)[-1]))
-
-    @property
-    def end(self) -> Offset:
-        """The offset at which the text ends."""
-        return Offset(self.size)
 
     def again(self, start: Offset = Offset(0)) -> Reader:
         """Reads the text again from an offset on. Neither digest nor progress takes note of that."""

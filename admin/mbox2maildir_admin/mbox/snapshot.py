@@ -6,7 +6,6 @@ from typing import IO, Callable
 from ..faults import Left, Reason
 from ..units import Say, silent
 from .digest import Digest
-from .files import BLOCK
 from .locks import open_mailbox, unlock
 from .mailbox import Mailbox
 from .pieces import FROM
@@ -37,7 +36,7 @@ def snapshot(path: bytes, make: Callable[[int], IO[bytes]], say: Say = silent, f
 def copy_into(file: IO[bytes], mailbox: Mailbox, digest: Digest) -> None:
     """Copies a mailbox up to where it ends now. A digest takes it too. It is unlocked once that has taken too long."""
     end, reader, is_locked = time.monotonic() + LONGEST_LOCK, mailbox.again(), True
-    for block in iter(lambda: reader.read(BLOCK), b""):
+    for block in reader.blocks():
         file.write(block)
         digest.update(block)
         if is_locked and time.monotonic() > end:

@@ -67,7 +67,7 @@ from ..progress import Spent
 from ..readings import texts
 from ..readings.plans import Plan
 from ..readings.reading import UNDECIDED, Reading
-from ..readings.texts import Choice, Full
+from ..readings.texts import Choice
 from ..terminal import named, spelled
 from ..units import Offset, Say, counted, silent
 from .carrying import KEPT, PREPARED_SYNC_FAILED, SYNC_FAILED
@@ -380,7 +380,7 @@ def same_as_prepared(prepared: Prepared, how: Options, opened: Opened) -> Option
         return None
     plan = Plan(as_read.kind, as_read.messages, Offset(as_read.start), reading, remarks=as_read.remarks)
     inventory.dates = array.array("q", (date_at(mailbox, offset) for offset in inventory.offsets[:-1]))
-    full = Full(mailbox, plan.start, inventory.offsets)
+    full = texts.Text(mailbox, plan.start, offsets=inventory.offsets)
     copy = texts.Text(mailbox, plan.start, full=full) if reading.bare else None
     return Same(Choice(mailbox, plan), Contents(mailbox, Offset(inventory.offsets[0]), inventory, reading, copy))
 

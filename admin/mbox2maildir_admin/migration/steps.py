@@ -10,9 +10,8 @@ from typing import NamedTuple, Optional
 
 from ..faults import Left
 from ..flags.clients import GMAIL, Kept, kept_in, letters_of_evolution
-from ..flags.dovecot_headers import fields_of, flags_of, marks_of
-from ..flags.renaming import lacking_flags
-from ..flags.renaming import add_flags
+from ..flags.dovecot_headers import flags_in
+from ..flags.renaming import add_flags, lacking_flags
 from ..ledger.gone import left_by_killed
 from ..ledger.ledger import Ledger
 from ..ledger.lines import LOST, PLACED, Brought
@@ -28,7 +27,7 @@ from ..mbox.mailbox import Mailbox
 from ..nexts import NOTHING, Next, Remark
 from ..readings.plans import left_out
 from ..readings.reading import PLAIN, Reading
-from ..readings.texts import Full, Text
+from ..readings.texts import Text
 from ..terminal import named
 from ..units import Offset, Place, counted
 from .known import Known, Opened
@@ -55,11 +54,11 @@ class Contents(NamedTuple):
         return self.reading.words()
 
     @property
-    def full(self) -> Full:
+    def full(self) -> Text:
         """The text with all its header fields."""
         if self.copy and self.copy.full:
             return self.copy.full
-        return Full(self.text, self.start, self.inventory.offsets)
+        return Text(self.text, self.start, offsets=self.inventory.offsets)
 
     @property
     def is_bare(self) -> bool:
@@ -74,7 +73,7 @@ class Contents(NamedTuple):
     def is_deleted(self, place: Place) -> bool:
         """Whether a message is marked as deleted."""
         header = self.header(place)
-        return "T" in flags_of(marks_of(fields_of(header), {}), True) + (letters_of_evolution(header) or "")
+        return "T" in flags_in(header, True) + (letters_of_evolution(header) or "")
 
     def unquoted(self, places: Sequence[int]) -> int:
         """How many lines of messages at some places lose a `>`."""

@@ -12,7 +12,7 @@ from typing import NamedTuple
 
 from ..faults import Fault, Reason
 from ..flags.clients import is_deleted
-from ..kinds.starts import nulls_of
+from ..kinds.starts import end_of_row
 from ..mbox.dates import is_dated
 from ..mbox.fields import Header, bare_pieces
 from ..mbox.files import BLOCK, LineEnds
@@ -46,7 +46,7 @@ def breaks_of(mailbox: Mailbox, lines: frozenset[Line]) -> Iterator[Break]:
     offsets = dict(mailbox.lines_with({*lines, *(line + 1 for line in lines)}))
     for line in sorted(lines & offsets.keys()):
         offset, end = offsets[line], offsets.get(Line(line + 1), mailbox.size + 1) - 1
-        nulls = nulls_of(mailbox, offset)
+        nulls = end_of_row(mailbox, offset, b"\0")
         if nulls == offset and IS_MARK.match(mailbox.at(nulls, MOST)):
             continue
         begin = max(nulls, end - MOST)

@@ -20,12 +20,11 @@ from ..looks import is_folder
 from ..maildir.files import paths_of
 from ..maildir.disk import trial_folder
 from ..mbox.fields import bared
-from ..mbox.files import BLOCK, Reader
+from ..mbox.files import Reader
 from ..mbox.inventory import Inventory, messages_of
 from ..mbox.lines import Said
 from ..mbox.mailbox import Mailbox
 from ..mbox.pieces import pieces_of
-from ..mbox.plain import Marked
 from ..program import Listing, Program
 from ..units import Line, Offset, Say, silent
 from .plans import NoMail, NotKnown, OtherKind, Plan, Question, is_as_it_is, plan_of, wants_copy
@@ -38,24 +37,16 @@ ReadingOf = Callable[[Mailbox], Reading]
 StartOf = Callable[[Mailbox, Offset], Offset]
 
 
-class Full(NamedTuple):
-    """A text with all its header fields, where it begins, and where its messages begin and the last one ends."""
-
-    mailbox: Mailbox
-    start: Offset
-    offsets: Sequence[int]
-
-
 class Text(NamedTuple):
     """The text that stands for a mailbox, and where its messages begin. For a quoted copy it also has the lines of the
-    mailbox in which each message begins, and how many lines were quoted before each, and in all; for a bare copy the
-    text that it was made of, and where the messages of that begin and the last one ends."""
+    mailbox in which each message begins, and how many lines were quoted before each, and in all; a bare copy has the
+    text that it was made of, and where the messages of both begin and the last one ends."""
 
     mailbox: Mailbox
     start: Offset
     lines: Optional[Sequence[int]] = None
     quoted_before: Sequence[int] = ()
-    full: Optional[Full] = None
+    full: Optional["Text"] = None
     offsets: Sequence[int] = ()
     # whether it is read as it was when it was recorded
     is_recorded: bool = False
@@ -79,7 +70,7 @@ class Text(NamedTuple):
         copy = text_of(self.mailbox, given(), folder)
         offsets.append(self.mailbox.size)
         bare_offsets.append(copy.size)
-        full = Full(self.mailbox, self.start, offsets)
+        full = self._replace(offsets=offsets)
         return Text(copy, Offset(0), self.lines, self.quoted_before, full, bare_offsets)
 
     def whole(self) -> tuple[Mailbox, Offset]:
@@ -151,7 +142,7 @@ def copy_by(quoter: Quoter, folder: bytes) -> Optional[Mailbox]:
     for data in given:
         if wants_copy(quoter.how, quoter):
             same = Reader(quoter.mailbox.number, quoter.start, quoter.start + quoter.given - len(data))
-            return text_of(quoter.mailbox, itertools.chain(iter(lambda: same.read(BLOCK), b""), [data], given), folder)
+            return text_of(quoter.mailbox, itertools.chain(same.blocks(), [data], given), folder)
     return None
 
 
@@ -186,7 +177,9 @@ class AtOnce:
             return first
         pieces = look.passed()
         try:
-            self.known = self.read_pieces(look, pieces)
+            # the program must list the same messages
+            with self.program.listing(look.mailbox.number, look.start) as listing:
+                self.known = Inventory.read(look.mailbox, look.start, listing, pieces=pieces)
         except (Fault, OSError):
             for _ in pieces:
                 pass
@@ -194,11 +187,6 @@ class AtOnce:
             if not look.is_whole:
                 raise
         return look
-
-    def read_pieces(self, look: Look, pieces: Iterator[Marked]) -> Inventory:
-        """Reads the messages of a text that has these pieces. The program must list the same messages."""
-        with self.program.listing(look.mailbox.number, look.start) as listing:
-            return Inventory.read(look.mailbox, look.start, listing, pieces=pieces)
 
 
 def read_messages(program: Program, text: Text, choice: Choice) -> Inventory:
@@ -276,20 +264,18 @@ def plan_of_packed(text: Mailbox, form: Form, read: Read, decision: Reading) -> 
 def recipe_for(left: Left, form: Form) -> Recipe:
     """What is to be done with a packed file: what is to be done with its content, if that takes one command; else it is
     unpacked, or a human finds out first what it holds."""
-    from .unpacking import BY_HAND, UNPACKERS
-
-    by_hand, recipe = "%s <{}" % BY_HAND[form], left.recipe if isinstance(left, OtherKind) else ()
+    by_hand, recipe = "%s <{}" % form.by_hand, left.recipe if isinstance(left, OtherKind) else ()
     if recipe in (NOT_KNOWN, LIKE_MAIL):
         return Looks(by_hand + " | file -"), *recipe[1:]
     makes = recipe[0] if recipe else None
-    if isinstance(makes, Makes) and makes.if_packed and form in UNPACKERS:
-        return (makes._replace(shell=makes.if_packed % UNPACKERS[form]),)
+    if isinstance(makes, Makes) and makes.if_packed and form.program:
+        return (makes._replace(shell=makes.if_packed % form.program),)
     return (Makes(by_hand + " >{copy}"),)
 
 
 def joined(kind: str, form: Form) -> str:
     """The name of what a mailbox holds, with its form."""
-    return "%s, %s" % (kind, form.value)
+    return "%s, %s" % (kind, form.kind)
 
 
 @contextlib.contextmanager

@@ -5,7 +5,7 @@ from typing import IO
 
 from ..faults import Fault, Left, Reason
 from ..maildir.disk import PREFIX
-from ..mbox.files import BLOCK
+from ..mbox.files import BLOCK, Reader
 from ..mbox.inventory import Inventory
 from ..mbox.mailbox import Mailbox
 from ..units import Place
@@ -39,13 +39,12 @@ def copy_of_some(mailbox: Mailbox, inventory: Inventory, places: Sequence[Place]
 
     def given() -> Iterator[bytes]:
         for place in places:
-            here, end = inventory.offsets[place], inventory.offsets[place + 1]
-            while here < end:
-                piece = mailbox.at(here, min(BLOCK, end - here))
-                if not piece:
-                    raise Left(CUT, Reason.CHANGED)
-                yield piece
-                here += len(piece)
-                mailbox.say("copying", here, mailbox.size)
+            end = inventory.offsets[place + 1]
+            reader = Reader(mailbox.number, inventory.offset(place), end)
+            for block in reader.blocks():
+                yield block
+                mailbox.say("copying", reader.offset, mailbox.size)
+            if reader.offset < end:
+                raise Left(CUT, Reason.CHANGED)
 
     return text_of(mailbox, given(), folder)

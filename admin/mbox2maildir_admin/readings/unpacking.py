@@ -20,17 +20,6 @@ from .plans import OtherKind
 from .streams import FORMATS, streams_in
 from .unnamed import text_of
 
-# the programs that unpack the forms that the library does not know; their status is not 0 if a part of a file is wrong
-PROGRAMS: dict[Form, str] = {Form.ZSTD: "zstd", Form.LZ4: "lz4"}
-# the programs by which a human unpacks, and how each form is unpacked
-UNPACKERS: dict[Form, str] = {Form.GZIP: "gzip", Form.BZIP2: "bzip2", Form.XZ: "xz", **PROGRAMS}
-BY_HAND: dict[Form, str] = {
-    **{form: "%s -dc" % program for form, program in UNPACKERS.items()},
-    Form.UTF_16: "iconv -f UTF-16 -t UTF-8",
-    Form.UTF_32: "iconv -f UTF-32 -t UTF-8",
-}
-# the library's names of the encodings of a text that begins with a mark
-ENCODINGS: dict[Form, str] = {Form.UTF_16: "utf-16", Form.UTF_32: "utf-32"}
 # a text of more bytes than this, and of more than this many times the bytes of its file, is unpacked by hand. Mail
 # shrinks to a tenth or so
 LARGE, TIMES = 1 << 28, 100
@@ -41,10 +30,10 @@ def unpack(mailbox: Mailbox, file: Reader, form: Form) -> Iterator[bytes]:
     not complete, or not right."""
     if form in FORMATS:
         yield from streams_in(file, FORMATS[form])
-    elif form in ENCODINGS:
-        yield from decoded(file, ENCODINGS[form])
+    elif form.encoding:
+        yield from decoded(file, form.encoding)
     else:
-        yield from given_by(PROGRAMS[form], mailbox)
+        yield from given_by(form.program, mailbox)
     mailbox.check()
 
 
@@ -63,7 +52,8 @@ def decoded(file: Reader, encoding: str) -> Iterator[bytes]:
 
 
 def given_by(name: str, mailbox: Mailbox) -> Iterator[bytes]:
-    """What a program unpacks. Raises Left if the program is not here, or finds anything wrong."""
+    """What a program unpacks, since the library does not know the form. Raises Left if the program is not here, or
+    finds anything wrong: its status is not 0 if a part of a file is wrong."""
     path = shutil.which(name)
     if not path:
         raise Left("could not find %s: install it, and run this again" % name, Reason.PACKED)
@@ -88,8 +78,8 @@ def size_of(mailbox: Mailbox, form: Form, folder: bytes) -> Size:
         size += len(piece)
         if size > most:
             says = "unpacked it has more than %s, and more than %d times its size" % (amount(LARGE), TIMES)
-            recipe = (Makes("%s <{} >{copy}" % BY_HAND[form]),)
-            raise OtherKind(mailbox.path, Said(Line(0), says), recipe, Reason.PACKED, form.value)
+            recipe = (Makes("%s <{} >{copy}" % form.by_hand),)
+            raise OtherKind(mailbox.path, Said(Line(0), says), recipe, Reason.PACKED, form.kind)
         if size > room:
             says = "unpacked it has more than the %s that are free" % amount(room)
             raise Left(not_enough(folder, says), Reason.NO_ROOM)
