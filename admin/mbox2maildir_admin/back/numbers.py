@@ -45,7 +45,6 @@ from ..migration.options import Options
 from ..migration.known import Opened
 from ..nexts import NOTHING, Answer, Command, Does, Next, Remark, run_next
 from ..terminal import first_of, text_of
-from ..units import Place
 from .mails import Mail, Target
 
 # so many bytes each disk writes at once, or not at all
