@@ -14,7 +14,7 @@ from typing import Any, Optional
 
 import mbox2maildir_admin
 from mbox2maildir_admin import cli
-from mbox2maildir_admin.flags.clients import labels_of
+from mbox2maildir_admin.flags.clients import labels_in
 from mbox2maildir_admin.maildir.folders import folder_of
 from mbox2maildir_admin.users.children import load_for_children
 from mbox2maildir_admin.version import version
@@ -97,7 +97,7 @@ def load_companion() -> None:
     load_for_children()
     cli.command_line()
     version()
-    folder_of(labels_of("=?UTF-8?Q?=C3=BC?=")[0])
+    folder_of((labels_in("=?UTF-8?Q?=C3=BC?=") or [""])[0])
 
 
 def die_at(event: int) -> None:

@@ -72,13 +72,9 @@ def field_of_takeout(header: bytes) -> Optional[str]:
     return None if gmail_thread(header) is None else gmail_labels(header) or ""
 
 
-def labels_of(text: str) -> list[str]:
-    """The labels of a header, whose words may be encoded; none if the header can't be read."""
-    return labels_in(text) or []
-
-
 def labels_in(text: str) -> Optional[list[str]]:
-    """The same for the bytes of a field, each of which is a letter; None if the field can't be read."""
+    """The labels of a field, each byte of which is a letter, and whose words may be encoded; None if it can't be
+    read."""
     import csv
 
     try:
@@ -120,7 +116,7 @@ class Kept(NamedTuple):
         """Those of a Takeout with these fields."""
         from .gmail import letters_by, own_names
 
-        known = {one: tuple(labels_of(one)) for one in set(fields)}
+        known = {one: tuple(labels_in(one) or ()) for one in set(fields)}
         roles = own_names(label for labels in known.values() for label in labels)
         return cls(GMAIL, *letters_by([known[one] for one in fields], roles))
 

@@ -77,7 +77,11 @@ def is_no_mail(path: bytes) -> bool:
         return False
     if state.st_size == 0:
         return is_auxiliary(name)
-    return name.endswith(b".lock") and is_lock(path)
+    if not name.endswith(b".lock"):
+        return False
+    with open_file(path, os.O_NOFOLLOW) as file:
+        text = read_up_to(file, LONGEST_LOCK + 1)
+    return len(text) <= LONGEST_LOCK and LINE_OF_LOCK.match(text) is not None
 
 
 def is_auxiliary(name: bytes) -> bool:
@@ -89,10 +93,3 @@ def index_of(path: bytes) -> str:
     """What a file is by its name if a mail program writes such files; empty otherwise. One that holds mail is none."""
     name = os.path.basename(path)
     return next((kind for kind, names in INDEXES.items() if re.fullmatch(names, name, re.DOTALL)), "")
-
-
-def is_lock(path: bytes) -> bool:
-    """Whether a file has one line, which is neither a From_ line nor of a header."""
-    with open_file(path, os.O_NOFOLLOW) as file:
-        text = read_up_to(file, LONGEST_LOCK + 1)
-    return len(text) <= LONGEST_LOCK and LINE_OF_LOCK.match(text) is not None

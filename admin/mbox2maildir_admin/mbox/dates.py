@@ -45,7 +45,6 @@ PARTS = ("year", "month", "day", "hour", "minute", "second")
 FORMS = [[form + part for part in (*PARTS, "zone")] for form in ("", "header_")]
 # what programs write if they know no date: midnight of this day
 UNKNOWN = (1970, 1, 1, 0, 0, 0)
-FIRST_DAY = datetime.date(*UNKNOWN[:3]).toordinal()
 # year, month, day, hour, minute and second
 Moment = tuple[int, int, int, int, int, int]
 # from this time on a date in another form counts as none: January 1, 2100
@@ -109,11 +108,11 @@ def midnight_by(_: tuple[str, str], day: bytes, year: bytes) -> Optional[int]:
 def seconds_at(moment: Moment, zone: str) -> Optional[int]:
     """A moment in a zone, or else in that of TZ or of this machine, in seconds since 1970; None if the zone is not
     known. Raises ValueError if there is no such day."""
-    days = datetime.date(*moment[:3]).toordinal() - FIRST_DAY
+    datetime.date(*moment[:3])
     if not zone:
         return int(time.mktime((*moment, 0, 0, -1)))
     east = east_of(zone)
-    return None if east is None else 86400 * days + 3600 * moment[3] + 60 * moment[4] + moment[5] - east
+    return None if east is None else calendar.timegm((*moment, 0, 0, 0)) - east
 
 
 def seconds_of_header(text: bytes) -> Optional[int]:

@@ -24,7 +24,8 @@ def snapshot(path: bytes, make: Callable[[int], IO[bytes]], say: Say = silent, f
         with open_soon(path, say, follow) as mailbox, make(mailbox.size) as file:
             began, digest = time.monotonic(), Digest()
             copy_into(file, mailbox, digest)
-            if mailbox.has_changed() and not has_only_grown(mailbox):
+            # if a message begins where it ended before, it has only grown
+            if mailbox.has_changed() and os.pread(mailbox.number, len(FROM), mailbox.size) != FROM:
                 continue
             copy = Mailbox(path, os.dup(file.fileno()), digest, say)
             copy.remarks += mailbox.remarks
@@ -46,11 +47,6 @@ def copy_into(file: IO[bytes], mailbox: Mailbox, digest: Digest) -> None:
             # who is told may sync a disk first, which takes its time
             mailbox.say("copying", reader.offset, mailbox.size)
     file.flush()
-
-
-def has_only_grown(mailbox: Mailbox) -> bool:
-    """Whether a message begins where an open mailbox ended before."""
-    return os.pread(mailbox.number, len(FROM), mailbox.size) == FROM
 
 
 def open_soon(path: bytes, say: Say, follow: bool) -> Mailbox:

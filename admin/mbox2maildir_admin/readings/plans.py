@@ -6,7 +6,6 @@ from ..faults import Fault, Left, Reason
 from ..kinds.look import Look, Read
 from ..kinds.making import Recipe, Where, beside
 from ..kinds.others import Holds
-from ..mbox.files import BLOCK
 from ..mbox.lines import Lines, Reasons, Said, cut, lines_around
 from ..mbox.mailbox import Mailbox
 from ..nexts import Answer, Command, Does, Next, Quote, Remark
@@ -134,10 +133,6 @@ def read_begun(look: Look) -> Look:
 def plan_of(mailbox: Mailbox, read: Read = Look.read, decision: Reading = UNDECIDED) -> Plan:
     """Looks at as much of a mailbox as is wanted. Raises Left if something would be a guess that was not decided."""
     verdict = look_at(mailbox, read)
-    if mailbox.digest:
-        # what comes before the text belongs to it
-        for offset in range(0, verdict.start, BLOCK):
-            mailbox.digest.add(offset, mailbox.at(offset, min(BLOCK, verdict.start - offset)))
     if verdict.holds == Holds.NO_MAIL:
         raise NoMail(verdict.kind)
     if verdict.recipe:

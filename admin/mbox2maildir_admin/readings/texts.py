@@ -108,13 +108,11 @@ class Choice(NamedTuple):
     # the messages of the text itself, if they were read when it was looked at
     known: Optional[Inventory] = None
 
-    @contextlib.contextmanager
-    def text(self, folder: bytes) -> Iterator[Text]:
+    def text(self, folder: bytes) -> "contextlib.AbstractContextManager[Text]":
         """The text itself. A copy is made on the disk of a folder."""
         plan = self.plan
         reading = plan.reading if plan.is_copied else PLAIN._replace(bare=plan.reading.bare)
-        with text_by(reading, self.mailbox, plan.start, folder, plan.messages) as text:
-            yield text
+        return text_by(reading, self.mailbox, plan.start, folder, plan.messages)
 
 
 @contextlib.contextmanager

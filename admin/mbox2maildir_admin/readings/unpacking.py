@@ -29,11 +29,12 @@ def unpack(mailbox: Mailbox, file: Reader, form: Form) -> Iterator[bytes]:
     """What a mailbox holds, piece by piece. It is read from this file, unless a program reads it. Raises Left if it is
     not complete, or not right."""
     if form in FORMATS:
-        yield from streams_in(file, FORMATS[form])
-    elif form.encoding:
-        yield from decoded(file, form.encoding)
+        pieces = streams_in(file, FORMATS[form])
     else:
-        yield from given_by(form.program, mailbox)
+        pieces = decoded(file, form.encoding) if form.encoding else given_by(form.program, mailbox)
+    for piece in pieces:
+        mailbox.say("unpacking")
+        yield piece
     mailbox.check()
 
 
@@ -74,7 +75,6 @@ def size_of(mailbox: Mailbox, form: Form, folder: bytes) -> Size:
     room, most, size = room_on(disk_of(folder)), max(LARGE, TIMES * mailbox.size), 0
     mailbox.file.seek(Offset(0))
     for piece in unpack(mailbox, mailbox.file, form):
-        mailbox.say("unpacking")
         size += len(piece)
         if size > most:
             says = "unpacked it has more than %s, and more than %d times its size" % (amount(LARGE), TIMES)
@@ -89,13 +89,7 @@ def size_of(mailbox: Mailbox, form: Form, folder: bytes) -> Size:
 def unpacked(mailbox: Mailbox, form: Form, folder: bytes) -> Mailbox:
     """What a mailbox holds, as a text on the disk of a folder."""
     size = size_of(mailbox, form, folder)
-
-    def given() -> Iterator[bytes]:
-        for piece in unpack(mailbox, mailbox.again(), form):
-            mailbox.say("unpacking")
-            yield piece
-
-    text = text_of(mailbox, given(), folder)
+    text = text_of(mailbox, unpack(mailbox, mailbox.again(), form), folder)
     if text.size != size:
         raise Left("%s of its %s bytes were unpacked" % (text.size, size), Reason.PACKED)
     return text

@@ -140,11 +140,7 @@ def look_at(mailbox: Mailbox, read: Read = Look.read) -> Verdict:
         mailbox.check()
         why = Reasons([Said(Line(0), "its lines end in CR alone")], 1)
         return Verdict(look, "line ends of CR alone", count, count, reasons=why, answers=(PLAIN,), ends=CR)
-    return verdict_on(read(look))
-
-
-def verdict_on(look: Look) -> Verdict:
-    """What an mbox text is, and how it is read, or what may be decided about it."""
+    look = read(look)
     answers = answers_of(look)
     # without the lines `From ` that may be text, and with those that may be mail within messages, and within lines
     fewest, most = look.messages - look.count(*DOUBTS), look.messages + look.count(*MAY_BE_MAIL, "joined")
