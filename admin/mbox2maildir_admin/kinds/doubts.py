@@ -6,6 +6,7 @@ among these. So a tie stays the same while nothing else is doubtful, whatever is
 of numbers, by which lines are named, has these too.
 """
 import array
+import functools
 import hashlib
 from collections.abc import Iterator, Mapping
 from types import MappingProxyType
@@ -45,8 +46,8 @@ class Doubts:
 
     def __init__(self, mailbox: Mailbox) -> None:
         self.mailbox = mailbox
-        # of each line: why it is doubtful, and its offset; and its number once all are known
-        self.whys, self.offsets, self.lines = array.array("B"), array.array("Q"), array.array("Q")
+        # of each line: why it is doubtful, and its offset
+        self.whys, self.offsets = array.array("B"), array.array("Q")
         self.known: Optional[Ties] = None
 
     def take(self, sort: str, piece: Piece, holds_mail: bool) -> None:
@@ -68,11 +69,12 @@ class Doubts:
         rows = [row for row in zip(self.whys, self.offsets) if row[0] not in dropped]
         self.whys, self.offsets = (array.array(kind, [row[place] for row in rows]) for place, kind in enumerate("BQ"))
 
-    def number(self, known: Mapping[Optional[int], Line]) -> None:
-        """Numbers the lines, once the text has ended. Reads it again unless all are known by their offsets."""
-        are_known = all(map(known.__contains__, self.offsets))
-        lines = map(known.__getitem__, self.offsets) if are_known else self.mailbox.lines_at(self.offsets)
-        self.lines = array.array("Q", lines)
+    @functools.cached_property
+    def lines(self) -> "array.array[int]":
+        """Their numbers. The text is read again for them, which only a question needs."""
+        lines = array.array("Q", self.mailbox.lines_at(self.offsets))
+        self.mailbox.check()
+        return lines
 
     def numbers(self) -> list[Line]:
         """The numbers of the lines that may begin messages, in their order."""

@@ -11,7 +11,7 @@ from ..mbox.dates import is_dated
 from ..mbox.fields import LENGTH, Header
 from ..mbox.files import LONG
 from ..mbox.inventory import may_hold_mail
-from ..mbox.lines import Lines, Reasons, Said, numbers_of
+from ..mbox.lines import Lines, Reasons, Said
 from ..mbox.mailbox import Mailbox
 from ..mbox.pieces import FROM, Piece, header_of
 from ..mbox.plain import NOTE, Marked, Plain, marked
@@ -91,7 +91,6 @@ class Look:
         have_dates = self.count("dated") > 0
         self.seen["doubtful" if have_dates else "undated"].take(self.seen.pop("like the first", Lines()))
         self.doubts.end(have_dates, self.are_deleted())
-        self.doubts.number(self.lines if self.doubts.offsets else {})
         self.ending = None if have_dates else self.ending
         self.mailbox.check()
         self.is_whole = True
@@ -230,6 +229,10 @@ class Look:
         is_plain = self.is_whole and not self.count(*DOUBTFUL, "wrong", "undated", "joined", "holds mail", "cut")
         return is_plain and self.count("inside") > 0 and self.with_quotes <= self.unescaped and not self.are_deleted()
 
+    def ends_by_lengths(self) -> bool:
+        """Whether messages end by their lengths: all of them are right, or a rule takes them for that."""
+        return self.have_lengths() or self.shows_lengths()
+
     def count(self, *sorts: str) -> int:
         """How many lines are of these sorts."""
         return sum(self.seen[sort].count for sort in sorts if sort in self.seen)
@@ -247,7 +250,12 @@ class Look:
     @functools.cached_property
     def lines(self) -> Mapping[Optional[int], Line]:
         """The numbers of the lines that were seen, by their offsets. Most mail has none of which anything is said."""
-        return numbers_of(self.mailbox, self.seen.values())
+        several = self.seen.values()
+        others = {other for lines in several for *_, other in lines.begun if other is not None}
+        offsets = sorted(others.union(*(lines.offsets for lines in several)))
+        at: dict[Optional[int], Line] = {None: Line(0), **dict(zip(offsets, self.mailbox.lines_at(offsets)))}
+        self.mailbox.check()
+        return at
 
     def said(self, sort: str) -> list[Said]:
         """What is said of the first lines of a sort."""
@@ -260,8 +268,7 @@ class Look:
             yield Said(Line(1), "the mbox text begins here, at byte %d, after NUL bytes" % (self.start + 1), first)
         elif self.start:
             yield Said(Line(1), "a byte order mark or blank lines stand before the text")
-        is_by_lengths = self.have_lengths() or self.shows_lengths()
-        unsaid = [*["undated"] * bool(self.ending), *["quoted twice", "quoted, by length"] * is_by_lengths]
+        unsaid = [*["undated"] * bool(self.ending), *["quoted twice", "quoted, by length"] * self.ends_by_lengths()]
         for sort in (one for one in SAID if one not in unsaid):
             yield from self.said(sort)
             if self.count(sort) > NAMED:

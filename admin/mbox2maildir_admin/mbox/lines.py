@@ -1,5 +1,4 @@
 """Lines of a text about which something is said, and how they are shown."""
-import itertools
 from collections.abc import Collection, Sequence
 from typing import NamedTuple, Optional
 
@@ -95,13 +94,3 @@ class Lines:
         self.count += others.count
         self.offsets = sorted(self.offsets + others.offsets)[: self.MANY]
         self.begun = sorted(self.begun + others.begun)[:NAMED]
-
-
-def numbers_of(mailbox: Mailbox, several: Collection[Lines]) -> dict[Optional[int], Line]:
-    """The numbers of the lines of several sorts, and of those that they are about, by their offsets. Reads the text up
-    to the last one."""
-    others = [other for lines in several for *_, other in lines.begun if other is not None]
-    offsets = sorted({*others, *itertools.chain(*(lines.offsets for lines in several))})
-    at: dict[Optional[int], Line] = {None: Line(0), **dict(zip(offsets, mailbox.lines_at(offsets)))}
-    mailbox.check()
-    return at

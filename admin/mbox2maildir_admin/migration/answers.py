@@ -273,7 +273,7 @@ def given_by(how: Options, known: Known, text: Mailbox, lines: Iterable[Line]) -
     """What the answer gives by which this mailbox would be migrated."""
     choice, had = Choice(text, plan_of(text, decision=how.decision)), Before.of(known, how.decision).had()
     with choice.text(disk_of(known.record.maildir, how.dry)) as whole:
-        part = whole.begun_at(how.extra.start_of(*whole.whole()))
+        part = whole.begun_by(how.extra.start_of)
         contents = Contents(part.mailbox, whole.start, part.messages(), choice.plan.bared(how.extra.IS_BARE).reading)
         is_shown = are_brought(had, contents.inventory, lines) and goes_on(how, known, choice, contents)
     return Given(how.decision, sum((had & cores_of(contents.inventory)).values()), is_shown)

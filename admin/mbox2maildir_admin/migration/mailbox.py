@@ -480,7 +480,7 @@ class Transfer:
         if copies:
             self.want_room(Need.of(self.disk, [], copies * choice.mailbox.size))
         with choice.text(self.disk) as whole:
-            text = whole.begun_at(self.how.extra.start_of(*whole.whole()))
+            text = whole.begun_by(self.how.extra.start_of)
             inventory = read_messages(self.program, text, choice)
             yield Contents(text.mailbox, whole.start, inventory, choice.plan.reading, text)
 

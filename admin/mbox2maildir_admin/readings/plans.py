@@ -155,7 +155,9 @@ def with_noted(verdict: Verdict, noted: Reading) -> Verdict:
     """The verdict on a mailbox about which a human has decided before. The answer holds for the lines that it was
     about, and a rule decides only about others, as far as it agrees. Raises Question if lines came since that nobody
     has decided about: these are asked about alone."""
-    verdict, count = verdict.after(noted), verdict.answered(noted)
+    # how many of the first lines that are doubtful have the tie of what was decided
+    count = verdict.look.doubts.ties(verdict.kind).first.get(noted.of, 0)
+    verdict = verdict.after(noted)
     if not verdict.answers:
         return verdict
     new = verdict.look.doubts.after(count)

@@ -73,12 +73,10 @@ class Text(NamedTuple):
         full = self._replace(offsets=offsets)
         return Text(copy, Offset(0), self.lines, self.quoted_before, full, bare_offsets)
 
-    def whole(self) -> tuple[Mailbox, Offset]:
-        """The text with all its header fields, and where its messages begin."""
-        return (self.full.mailbox, self.full.start) if self.full else (self.mailbox, self.start)
-
-    def begun_at(self, offset: Offset) -> "Text":
-        """The same text from the message on that begins at this offset of the text with all header fields."""
+    def begun_by(self, start_of: StartOf) -> "Text":
+        """The same text from the message on whose offset in the text with all header fields `start_of` gives."""
+        whole = self.full or self
+        offset = start_of(whole.mailbox, whole.start)
         if not self.full:
             return self._replace(start=offset)
         skipped = bisect.bisect_left(self.full.offsets, offset)
@@ -157,7 +155,7 @@ def text_then(
                 text = stack.enter_context(text_by(reading, mailbox, text_start(mailbox) or Offset(0), folder))
             except Fault:
                 mailbox.check()
-        yield text.begun_at(start_of(*text.whole())) if text else None
+        yield text.begun_by(start_of) if text else None
 
 
 class AtOnce:

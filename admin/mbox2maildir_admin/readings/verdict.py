@@ -72,10 +72,6 @@ class Verdict(NamedTuple):
         is_kept = bool(noted.of) and not noted.drop
         return self._replace(answers=tuple(sorted(answers, key=lambda one: bool(one.drop == is_kept))))
 
-    def answered(self, noted: Reading) -> int:
-        """How many of the first lines that are doubtful have the tie of what was decided."""
-        return self.look.doubts.ties(self.kind).first.get(noted.of, 0)
-
     def doubtful(self) -> list[Line]:
         """The lines that may begin messages."""
         return self.look.doubts.numbers()
@@ -102,7 +98,7 @@ class Verdict(NamedTuple):
         if this is mboxo, if messages end by their lengths, and if git wrote patches without quoting, as it does by
         default."""
         count = self.look.count
-        if ends_by_lengths(self.look):
+        if self.look.ends_by_lengths():
             return self.remarks_on_lengths(self.look)
         return [
             Remark("loses-quote", "`%s ` loses a `>` in %s (--as %s keeps it)" % (line, counted(number, "line"), its))
@@ -151,13 +147,8 @@ def look_at(mailbox: Mailbox, read: Read = Look.read) -> Verdict:
 def reading_of(look: Look) -> Reading:
     """How a text is read about which nothing is doubtful: nothing is quoted in it if all lengths are right."""
     quoted = look.count("inside", "quoted, by length", "quoted twice")
-    word = MBOXCL2 if ends_by_lengths(look) and quoted else MBOXRD
+    word = MBOXCL2 if look.ends_by_lengths() and quoted else MBOXRD
     return Reading(word, ends=CRLF * bool(look.count("CR LF")))
-
-
-def ends_by_lengths(look: Look) -> bool:
-    """Whether messages end by their lengths: all of them are right, or a rule takes them for that."""
-    return look.have_lengths() or look.shows_lengths()
 
 
 def kind_of(look: Look) -> str:
