@@ -18,11 +18,10 @@ from ..mbox.plain import NOTE, Marked, Plain, marked
 from ..terminal import NAMED
 from ..units import Line, Offset
 from .doubts import CUT, DELETED, Doubts
-from .joins import joins_in
+from .marks import ADDRESS, is_after_blank, joins_in, may_be_mail
 from .sorts import AGAINST, DOUBTFUL, KEEPING, MAY_BE_MAIL, SAID, WITHIN
 from .starts import FIELD, end_of_row
 from .undated import ending_of, shape_of
-from .within import ADDRESS, is_after_blank, may_be_mail
 
 GIT = re.compile(rb"From [0-9a-f]{40,64} Mon Sep 17 00:00:00 2001\r?\Z")
 # what the header of a message has of which something is to be said, in lower case

@@ -1,4 +1,6 @@
-"""Lines within which a message may begin."""
+"""Lines `From ` that may begin messages although something speaks against it: those within messages with right lengths,
+and those that begin within lines."""
+import re
 from collections.abc import Iterator
 
 from ..mbox.dates import is_dated
@@ -9,6 +11,10 @@ from ..patterns import pattern
 from ..units import Offset
 from .starts import FIELD, HEAD
 
+# what rmail puts between a From_ line and the header
+BY_RMAIL = re.compile(rb"(?:>+From [^\n]*\n)*")
+ADDRESS = re.compile(rb"From \S+@\S+\s*\Z")
+ONE_WORD = re.compile(rb"From \S+\s*\Z")
 # the end of a line that has a word `From `, which a piece may have without its end
 WORD_IN_LINE = pattern(rb"From [^\n]*\n?")
 # the beginning of a line that is quoted or escaped, by replies, by format=flowed or by OpenPGP
@@ -18,6 +24,24 @@ MAIL_FIELD = pattern(
     rb"(?im)^(?:Return-Path|Received|Delivered-To|X-Original-To|Envelope-To|From|Sender|To|Date|Subject|Message-ID)"
     rb"[ \t]*:"
 )
+
+
+def is_after_blank(mailbox: Mailbox, piece: Piece) -> bool:
+    """Whether a blank line stands before a piece."""
+    return mailbox.at(piece.offset - 3, 3).endswith((b"\n\n", b"\n\r\n"))
+
+
+def may_be_mail(mailbox: Mailbox, piece: Piece, end: int) -> bool:
+    """Whether a line `From ` without a date, in a message that ends at an offset, may begin another one: a header
+    follows, perhaps after what rmail puts before that, or it has an address alone, or a word alone between blank
+    lines."""
+    from_line, offset = piece.from_line, piece.offset + piece.body
+    begins = mailbox.at(offset, LONG)
+    by_rmail = BY_RMAIL.match(begins)
+    if ADDRESS.match(from_line) or FIELD.match(begins, by_rmail.end() if by_rmail else 0):
+        return True
+    is_between = offset < end and begins.startswith((b"\n", b"\r\n")) and is_after_blank(mailbox, piece)
+    return is_between and ONE_WORD.match(from_line) is not None
 
 
 def joins_in(mailbox: Mailbox, piece: Piece, body: int) -> Iterator[tuple[Offset, bytes]]:
