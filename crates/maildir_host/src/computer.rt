@@ -1,4 +1,5 @@
 // The machine of the program.
+ghost use Rattle.std.specs.Prelude.{◌≡◌};
 ghost use Rattle.maildir_commands.proofs.Resting.{same_at};
 ghost use Rattle.maildir_commands.specs.Seen.{nothing_seen};
 
@@ -20,7 +21,9 @@ pub struct Computer<'a, R> {
 
 impl<'a, R> Computer<'a, R> {
     /// The machine of this runtime.
-    pub fn new(rt: &'a R, alloc: Global) -> Self {
+    pub fn new(rt: &'a R, alloc: Global) -> Self
+        ensures { (result.rt.now ≡ rt.now) × (result.alloc ≡ alloc) }
+    {
         Computer { rt, alloc }
     }
 }

@@ -1,4 +1,5 @@
 // The machine's own calls of files and clocks, one each.
+ghost use Rattle.std.specs.Prelude.{◌≡◌};
 ghost use Rattle.maildir_calls.specs.Made.{no_trace};
 
 use maildir_calls::{Calls, Facts};
@@ -19,7 +20,9 @@ pub struct Host<'a, R> {
 
 impl<'a, R> Host<'a, R> {
     /// The calls of this runtime.
-    pub fn new(rt: &'a R, alloc: Global) -> Self {
+    pub fn new(rt: &'a R, alloc: Global) -> Self
+        ensures { (result.rt.now ≡ rt.now) × (result.alloc ≡ alloc) }
+    {
         Host { rt, alloc }
     }
 }

@@ -1,4 +1,6 @@
 // What a power cut may leave of a Maildir in memory, besides the files as they are.
+ghost use Rattle.std.specs.Prelude.{◌≡◌, []};
+
 use crate::turn_act::TurnAct;
 use maildir_name::Place;
 use maildir_run::{Folder, FolderFault, MemFolder, Sub};
@@ -31,7 +33,9 @@ pub(crate) struct Cases {
 
 impl Cases {
     /// Nothing is lost.
-    pub(crate) fn none(alloc: Global) -> Self {
+    pub(crate) fn none(alloc: Global) -> Self
+        ensures { (result.folders.items ≡ []) × (result.room ≡ 0) }
+    {
         Cases {
             folders: Vec::new(alloc),
             room: 0,

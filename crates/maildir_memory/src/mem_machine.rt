@@ -1,4 +1,7 @@
 // A machine in memory.
+ghost use Rattle.std.specs.Prelude.{◌≡◌, None, OnErr, OnOk, Some, string_cmp};
+ghost use Rattle.std.specs.BTreeMap.{IsEmpty, IsUnchanged, get_by_text, insert_entry};
+ghost use Rattle.std.specs.Option.{option_copied, option_flatten};
 ghost use Rattle.maildir_commands.proofs.Resting.{same_at};
 ghost use Rattle.maildir_commands.specs.Seen.{nothing_seen};
 
@@ -34,7 +37,10 @@ pub struct MemMachine<'a> {
 
 impl<'a> MemMachine<'a> {
     /// A machine with these texts and no Maildir.
-    pub fn new(alloc: Global, texts: &'a [NamedText<'a>]) -> Self {
+    pub fn new(alloc: Global, texts: &'a [NamedText<'a>]) -> Self
+        ensures texts { result.texts.now ≡ texts.now }
+        ensures none { IsEmpty result.maildirs × (result.fresh ≡ None) }
+    {
         MemMachine {
             alloc,
             texts,
@@ -45,7 +51,9 @@ impl<'a> MemMachine<'a> {
 
     /// The next Maildir that is missing is made of this one, which holds nothing. Until then a
     /// missing one is refused.
-    pub fn make_of(&mut self, fresh: MemSystem) {
+    pub fn make_of(&mut self, fresh: MemSystem)
+        ensures { self.new ≡ record self.old { fresh = Some fresh } }
+    {
         self.fresh = Some(fresh);
     }
 
@@ -54,7 +62,12 @@ impl<'a> MemMachine<'a> {
         &mut self,
         word: String,
         maildir: MemSystem,
-    ) -> Result<(), AllocFailed<(String, Option<MemSystem>)>> {
+    ) -> Result<(), AllocFailed<(String, Option<MemSystem>)>>
+        ensures put { OnOk result (self.new.maildirs.entries ≡
+            insert_entry string_cmp self.old.maildirs.entries word (Some maildir)) }
+        ensures refused { OnErr result (IsUnchanged self.old.maildirs self.new.maildirs) }
+        ensures rest { self.new ≡ record self.old { maildirs = self.new.maildirs } }
+    {
         self.maildirs.insert(word, Some(maildir))?;
         Ok(())
     }
@@ -74,7 +87,9 @@ impl<'a> MemMachine<'a> {
     }
 
     /// The Maildir under a word.
-    pub fn maildir(&self, word: &str) -> Option<&MemSystem> {
+    pub fn maildir(&self, word: &str) -> Option<&MemSystem>
+        ensures { option_copied result ≡ option_flatten (get_by_text self.now.maildirs word.now) }
+    {
         match self.maildirs.get(word) {
             Some(Some(maildir)) => Some(maildir),
             _ => None,

@@ -1,6 +1,7 @@
 // The system calls of a Maildir in memory.
-ghost use Rattle.std.specs.Prelude.{◌≡◌, ◌++◌, [], IfOk};
+ghost use Rattle.std.specs.Prelude.{◌≡◌, ◌++◌, [], IfOk, false, true};
 ghost use Rattle.maildir_disk.specs.SeenSystem.{no_system};
+ghost use Rattle.maildir_run.specs.MemFolder.{IsQuiet, files_of};
 
 use crate::cases::{Cases, Change};
 use crate::faults::error_of;
@@ -61,7 +62,26 @@ impl MemSystem {
         clock: SystemTime,
         instant: Instant,
         turns: Vec<Vec<TurnAct>>,
-    ) -> Self {
+    ) -> Self
+        ensures folder { (files_of result.folder ≡ files_of folder) × IsQuiet result.folder }
+        ensures keeps { (result.cases.folders.items ≡ []) × (result.cases.room ≡ 0) }
+        ensures untouched { result.log.items ≡ [] }
+        ensures rest { result ≡ record {
+          alloc = alloc;
+          folder = result.folder;
+          stamps = stamps;
+          clock = clock;
+          instant = instant;
+          stamp = clock;
+          turns = turns;
+          cases = result.cases;
+          is_rooted = true;
+          calls_left = 18446744073709551615;
+          syncs_left = 18446744073709551615;
+          sync_failed = false;
+          log = result.log;
+        } }
+    {
         folder.script(Vec::new(alloc), None);
         MemSystem {
             alloc,
@@ -81,13 +101,17 @@ impl MemSystem {
     }
 
     /// This many calls work, and from then on each one fails without effect. Sleeping is no call.
-    pub fn fail_after(&mut self, calls: u64) {
+    pub fn fail_after(&mut self, calls: u64)
+        ensures { self.new ≡ record self.old { calls_left = calls } }
+    {
         self.calls_left = calls;
     }
 
     /// This many syncs of folders work. The next one fails, and each after it returns Ok but keeps
     /// nothing, as Linux reports a writeback error once.
-    pub fn fail_sync_after(&mut self, syncs: u64) {
+    pub fn fail_sync_after(&mut self, syncs: u64)
+        ensures { self.new ≡ record self.old { syncs_left = syncs } }
+    {
         self.syncs_left = syncs;
     }
 
@@ -102,12 +126,16 @@ impl MemSystem {
     }
 
     /// The files as they are.
-    pub fn folder(&self) -> &MemFolder {
+    pub fn folder(&self) -> &MemFolder
+        ensures { result.now ≡ self.now.folder }
+    {
         &self.folder
     }
 
     /// The files that its calls touched until now, in order.
-    pub fn touched(&self) -> &[Touched] {
+    pub fn touched(&self) -> &[Touched]
+        ensures { result.now ≡ self.now.log.items }
+    {
         self.log.as_slice()
     }
 }

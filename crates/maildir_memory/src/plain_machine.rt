@@ -1,5 +1,6 @@
 // A machine of plain data.
 ghost use Rattle.std.specs.Prelude.{◌≡◌, ◌∷◌, [], Bool, IfSome, List, None, Some, codes};
+ghost use Rattle.std.specs.Option.{option_copied};
 ghost use Rattle.maildir_memory.specs.Histories.{CanHappen, CanHappenToOne};
 ghost use Rattle.maildir_memory.specs.Plain.{machine_with};
 ghost use Rattle.maildir_run.specs.Delivery.{Message};
@@ -53,7 +54,9 @@ impl<'a> PlainMachine<'a> {
     }
 
     /// Its Maildir, unless it is open.
-    pub fn maildir(&self) -> Option<&PlainSystem> {
+    pub fn maildir(&self) -> Option<&PlainSystem>
+        ensures { option_copied result ≡ self.now.maildir }
+    {
         self.maildir.as_ref()
     }
 }

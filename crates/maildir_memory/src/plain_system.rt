@@ -1,5 +1,6 @@
 // A Maildir of plain data.
-ghost use Rattle.std.specs.Prelude.{◌≡◌, OnOk};
+ghost use Rattle.std.specs.Prelude.{◌≡◌, IfErr, OnErr, OnOk};
+ghost use Rattle.std.specs.IoError.{error_kind};
 ghost use Rattle.maildir_run.specs.Files.{Files};
 ghost use Rattle.maildir_run.specs.MemFolder.{files_of};
 ghost use Rattle.maildir_memory.specs.Plain.{IsNew, found_in, opened_as, seen_plain};
@@ -12,6 +13,7 @@ use maildir_name::Place;
 use maildir_run::{Folder, MemFolder, Sub};
 use std::alloc::Global;
 use std::io;
+use std::io::ErrorKind;
 use std::time::{Duration, Instant, SystemTime};
 
 /// A Maildir of plain data: its files, and its files as they were when something of it was last
@@ -62,6 +64,8 @@ impl PlainSystem {
         ensures stays { (left : Files) → found_in self.new left → found_in self.old left }
         ensures only { OnOk result ((left : Files) → found_in self.new left →
             left ≡ files_of self.old.folder) }
+        ensures refused { OnErr result (self.new ≡ self.old) }
+        ensures causes { IfErr result (λ error. error_kind error ≡ ErrorKind.OutOfMemory) }
     {
         match self.folder.copy() {
             Ok(copy) => {
