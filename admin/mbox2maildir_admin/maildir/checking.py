@@ -10,7 +10,7 @@ from collections.abc import Callable, Iterable, Iterator
 from typing import NamedTuple, NoReturn, Optional
 
 from ..looks import is_there
-from ..mbox.bases import BASE, before_info, is_own
+from ..mbox.bases import BASE, base_in, before_info, is_own
 from ..mbox.inventory import Inventory
 from ..terminal import first_of
 from ..units import Place, Say, counted, silent
@@ -156,7 +156,7 @@ class Check:
                 self.take_copy(place, digest)
         for copies in self.copies.values():
             for name, path in copies.items():
-                if not is_own(name) or self.others.has_doubled(name):
+                if not is_own(name) or self.others.doubles and base_in(name) in self.others.doubles:
                     self.doubles.append(path)
         self.find_doubles(maildir)
 

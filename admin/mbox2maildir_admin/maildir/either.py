@@ -12,7 +12,7 @@ import copy
 from collections.abc import Iterable, Iterator, Sequence
 from typing import NamedTuple, Optional
 
-from ..mbox.bases import Table, base_in
+from ..mbox.bases import Table
 from ..mbox.inventory import Inventory, messages_of
 from ..mbox.mailbox import Mailbox
 from ..units import Offset, Place
@@ -53,10 +53,6 @@ class Present:
                     else:
                         self.there[place] = 1
 
-    def is_exact(self) -> bool:
-        """Whether there are exactly the files of these messages."""
-        return not self.has_others and all(self.there)
-
 
 class Others(NamedTuple):
     """Other forms that the messages may have: their places by other digests, the sizes of such files, and the bases of
@@ -65,10 +61,6 @@ class Others(NamedTuple):
     digests: dict[bytes, list[Place]] = {}
     sizes: Sequence[int] = ()
     doubles: Sequence[bytes] = ()
-
-    def has_doubled(self, name: bytes) -> bool:
-        """Whether a file of this name is one more file of a message."""
-        return bool(self.doubles) and base_in(name) in self.doubles
 
 
 class Either:
@@ -97,7 +89,7 @@ class Either:
         """Takes the messages of a text that begins at an offset, and the bases in a Maildir, which need not exist."""
         full = Present(maildir, inventory.table)
         # if exactly the files of all bytes are there, no file is that of a message without its fields
-        if full.is_exact():
+        if all(full.there) and not full.has_others:
             return cls(inventory, Bare(inventory.table, inventory.sizes), full.there, full.there)
         bare = Bare.read(mailbox, start)
         return cls(inventory, bare, full.there, Present(maildir, bare.table).there)

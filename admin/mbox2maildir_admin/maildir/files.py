@@ -62,13 +62,8 @@ def changed_at(maildir: bytes) -> list[float]:
     return [os.stat(os.path.join(maildir, sub)).st_mtime for sub in (b"new", b"cur")]
 
 
-def knows_none(_: int, __: os.stat_result) -> Optional[bytes]:
-    """Knows no digest."""
-    return None
-
-
 def digest_of(
-    path: bytes, sizes: Optional[Container[int]] = None, look: Look = knows_none
+    path: bytes, sizes: Optional[Container[int]] = None, look: Optional[Look] = None
 ) -> tuple[Optional[bytes], Optional[int]]:
     """The digest of a file of one of these sizes, or of any size, and its owner. There is no digest if the size is
     another one, or if it is no file. A symbolic link may lead anywhere, and is no mail. What `look` knows is not
@@ -86,12 +81,14 @@ def digest_of(
         raise OSError(error.errno, error.strerror, path) from error
 
 
-def digest_of_open(number: int, sizes: Optional[Container[int]], look: Look) -> tuple[Optional[bytes], Optional[int]]:
+def digest_of_open(
+    number: int, sizes: Optional[Container[int]], look: Optional[Look]
+) -> tuple[Optional[bytes], Optional[int]]:
     """The same of an open file."""
     state = os.fstat(number)
     if not stat.S_ISREG(state.st_mode):
         return None, None
-    found = look(number, state)
+    found = look(number, state) if look else None
     if found or sizes is not None and state.st_size not in sizes:
         return found, state.st_uid
     # allocating a whole block would take longer than reading most mail

@@ -70,19 +70,14 @@ def on_disk(name: str) -> bytes:
 
 
 def folder_of_place(path: str) -> str:
-    """The name in IMAP of the folder for a mailbox, by its path below the tree."""
-    return folder_of(place_of(without_copy(path)))
+    """The name in IMAP of the folder for a mailbox, by its path below the tree, or by that of its copy made by hand."""
+    return folder_of(place_of(HAND_MADE.sub(r"\1", path)))
 
 
 def folder_on_disk(path: bytes) -> bytes:
     """The name on the disk of the folder of a mailbox, by its path below the tree without the endings of compressed
     files and copies."""
     return on_disk(folder_of_place((path if path.endswith(COPY) else path + COPY).decode()))
-
-
-def without_copy(path: str) -> str:
-    """The path of the mailbox, which may be compressed, if this path is that of its copy made by hand."""
-    return HAND_MADE.sub(r"\1", path)
 
 
 def place_of(path: str) -> str:

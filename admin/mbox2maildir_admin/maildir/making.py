@@ -6,7 +6,6 @@ import os
 import pwd
 import stat
 from collections.abc import Callable, Iterator, Sequence
-from typing import Optional
 
 from .. import ADMIN
 from ..faults import PlaceFault, Reason
@@ -60,18 +59,15 @@ def want_own(folder: bytes) -> None:
             state = os.lstat(path)
         except FileNotFoundError:
             continue
-        why = why_not_own(state)
+        why = ""
+        if stat.S_ISLNK(state.st_mode):
+            why = "it is a symbolic link, which is not followed"
+        elif not stat.S_ISDIR(state.st_mode):
+            why = "it is not a folder"
+        elif state.st_uid != os.geteuid():
+            why = "it belongs to another user"
         if why:
             raise PlaceFault("%s: %s" % (named(path), why), Reason.NOT_OWN)
-
-
-def why_not_own(state: os.stat_result) -> Optional[str]:
-    """Why a path with this state is no folder of this user's; None if it is one."""
-    if stat.S_ISLNK(state.st_mode):
-        return "it is a symbolic link, which is not followed"
-    if not stat.S_ISDIR(state.st_mode):
-        return "it is not a folder"
-    return None if state.st_uid == os.geteuid() else "it belongs to another user"
 
 
 def sync_folder(path: bytes) -> None:

@@ -179,18 +179,14 @@ class Pairs(NamedTuple):
     def judged(self, one: Planned) -> Planned:
         """A mailbox as it was planned; or left, since another is beside it and it is not done."""
         try:
-            return self.paired(one)
+            others = self.beside(one.path)
+            if one.why or not others or self.done_in(one.path, one.folder) is not None:
+                return one
+            # once a compressed file is done, its mail counts as other mail
+            compressed = [other for other in others if other[: len(one.path)] == one.path and not other.endswith(COPY)]
+            others = [other for other in others if other not in compressed or self.done_in(other) is None]
         except (Fault, OSError) as fault:
             return one.left(fault_of(fault, one.path))
-
-    def paired(self, one: Planned) -> Planned:
-        """The same, but raises the errors of files that can't be read."""
-        others = self.beside(one.path)
-        if one.why or not others or self.done_in(one.path, one.folder) is not None:
-            return one
-        # once a compressed file is done, its mail counts as other mail
-        compressed = [other for other in others if other[: len(one.path)] == one.path and not other.endswith(COPY)]
-        others = [other for other in others if other not in compressed or self.done_in(other) is None]
         return self.left(one, others) if others else one
 
     def left(self, one: Planned, others: list[bytes]) -> Planned:
