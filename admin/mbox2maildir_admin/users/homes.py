@@ -1,6 +1,7 @@
 """The mailboxes of one user, migrated with that user's rights into the user's home."""
 import marshal
 import os
+import stat
 from collections.abc import Iterator, Sequence
 from typing import Any, NamedTuple, Optional, Union
 
@@ -9,7 +10,7 @@ from ..faults import Fault, Left, Reason
 from ..jobs.crew import Parent
 from ..ledger.prepared import has_list
 from ..ledger.record import Record
-from ..looks import is_link, is_there, may_be
+from ..looks import may_be
 from ..maildir.folders import folders_in
 from ..maildir.making import want_own
 from ..migration.outcomes import Observer, Row
@@ -118,9 +119,13 @@ class Migrant:
         path = self.account.home
         for part in os.path.relpath(tree, path).split(b"/"):
             path = os.path.join(path, part)
-            if path != tree and is_link(path):
+            try:
+                is_link = stat.S_ISLNK(os.lstat(path).st_mode)
+            except FileNotFoundError:
+                return False
+            if is_link and path != tree:
                 raise Left("%s is a symbolic link, which is not followed" % named(path), Reason.LINK)
-        return is_there(tree)
+        return True
 
     def work_on(self, names: list[bytes], relay: "Relay", program: Program) -> None:
         """Does the work for the mailboxes at these paths. If that cannot go on, those that have no row yet are left."""
