@@ -28,7 +28,7 @@ from ..readings.unnamed import unnamed
 from ..terminal import first_of, named
 from ..units import Say, Size, counted, silent
 from .beside import Beside, Draft
-from .dialect import ANY, Client, Entry, Letter, Style, are_at, forms_in, reading_now, styles_of
+from .dialect import Client, Entry, Letter, Style, are_at, forms_in, reading_now, styles_of
 from .mails import Mail, Target
 from .numbers import Numbering, numbering_of
 from .places import Keeper, Places
@@ -140,7 +140,7 @@ class Appending:
     def __init__(self, way: Way, target: Target, known: Known, style: Style, numbering: Numbering) -> None:
         """Reads the mailbox. Raises NotAsItIs if nothing that is appended would be read in this way."""
         self.way, self.target, self.known, self.style, self.numbering = way, target, known, style, numbering
-        self.opened, self.mailbox, self.client = known.opened, known.opened.mailbox, Client(ANY)
+        self.opened, self.mailbox, self.client = known.opened, known.opened.mailbox, Client()
         self.inventory = style.messages(self.mailbox, way.program, self.look)
         known.take_place(self.inventory)
         if style.has_no_dates(self.mailbox, self.inventory):

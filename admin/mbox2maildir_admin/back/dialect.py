@@ -40,13 +40,9 @@ NOBODY = b"MAILER-DAEMON"
 FIRST_TIME, LAST_TIME = 1, TOO_LATE - 86400
 # the flags of a Maildir, and their letters in a field of an mbox
 X_STATUS = {"R": b"A", "F": b"F", "D": b"T", "T": b"D"}
-# the programs that keep flags in fields of a header
+# the names of the fields of mail programs, in lower case
 BY_THUNDERBIRD, BY_EVOLUTION, BY_GMAIL = CLIENTS
-# stands for any program: if each message of an empty mailbox had the field of one, flags of before would count there
-ANY = "any"
-# the names of their fields, in lower case
 KEPT: dict[str, tuple[bytes, ...]] = {
-    ANY: (b"x-mozilla-status", b"x-evolution", b"x-gm-thrid"),
     BY_THUNDERBIRD: (b"x-mozilla-keys", b"x-mozilla-status", b"x-mozilla-status2"),
     BY_EVOLUTION: (b"x-evolution",),
     BY_GMAIL: (b"x-gm-thrid", b"x-gmail-labels"),
@@ -159,8 +155,7 @@ def date_of(seconds: int) -> bytes:
 
 
 class Client(NamedTuple):
-    """The program that keeps flags in a mailbox, if one does, and the highest number that it has given. In an empty one
-    any program may."""
+    """The program that keeps flags in a mailbox, if one does, and the highest number that it has given."""
 
     program: str = ""
     last: int = 0
