@@ -1,136 +1,115 @@
 """What keeps a file from being done."""
 import contextlib
-import enum
 import errno
 import os
-from collections.abc import Iterator, Sequence
+from collections.abc import Iterable, Iterator, Sequence
 from typing import Optional, Union
 
 from .looks import ABSENT, is_folder, may_be
-from .nexts import NOTHING, Next, Phrase, Quote, lines_below, run_next
+from .nexts import NOTHING, Next, Phrase, Quote, by_word, lines_below, run_next
 from .terminal import complain, named, operand
 
 
-class Status(enum.IntEnum):
-    """How a command ends, as its exit status: all is well; something is left that a human settles; nothing is left but
-    what the same command settles when it is run again (EX_TEMPFAIL of sysexits(3))."""
+class Reason:
+    """Why something is left. docs/LEFT.md has the words and the sentences too."""
 
-    WELL = 0
-    LEFT = 1
-    LATER = 75
-
-    @classmethod
-    def of(cls, is_well: bool) -> "Status":
-        """The status of a command that is run again only by a human."""
-        return cls.WELL if is_well else cls.LEFT
-
-
-class Reason(Phrase):
-    """Why something is left, and the status of a command that leaves nothing for a worse one. The pages have the words,
-    the sentences and the statuses too."""
-
-    OTHER = "other", "There is no word for it yet; the line says what it is."
-    ERROR = "error", "A system call failed."
+    OTHER = Phrase("other", "There is no word for it yet; the line says what it is.")
+    ERROR = Phrase("error", "A system call failed.")
     # what the file is: mail that only a human can split, mail of another kind, not known; or it is a copy, or has one
-    UNCLEAR = (
-        "unclear",
-        "The file does not show how to read it: you decide.",
-    )
-    LABELS = "labels", "Some messages lack Gmail's labels, or you have to decide about a label."
-    OTHER_KIND = "other-kind", "It holds mail of another kind."
-    NOT_KNOWN = (
-        "not-known",
-        "It is not known what it is.",
-    )
-    PACKED = (
+    UNCLEAR = Phrase("unclear", "The file does not show how to read it: you decide.")
+    LABELS = Phrase("labels", "Some messages lack Gmail's labels, or you have to decide about a label.")
+    OTHER_KIND = Phrase("other-kind", "It holds mail of another kind.")
+    NOT_KNOWN = Phrase("not-known", "It is not known what it is.")
+    PACKED = Phrase(
         "packed",
         "It is compressed or in UTF-16, and cannot be unpacked. It is incomplete or damaged, it holds more than 100 "
         "times its size, or the program that unpacks it is missing.",
     )
-    COPY = "copy", "Another file stands beside it, and one of them may be a copy of the other."
-    LEFT_BEHIND = "left-behind", "An interrupted command left it behind."
-    LINK = "link", "It is a symbolic link, or its path within the home contains one."
-    MISSING = "missing", "Nothing is at its path."
-    WORDS = "words", "Its path was given as several words."
-    NO_FILE = "no-file", "It is neither a regular file nor a folder."
-    HOLES = "holes", "It is a sparse file with more than 16 MB of holes."
-    MAILDIR = "maildir", "It is a Maildir."
-    MH = "mh", "It is an MH folder."
+    COPY = Phrase("copy", "Another file stands beside it, and one of them may be a copy of the other.")
+    LEFT_BEHIND = Phrase("left-behind", "An interrupted command left it behind.")
+    LINK = Phrase("link", "It is a symbolic link, or its path within the home contains one.")
+    MISSING = Phrase("missing", "Nothing is at its path.")
+    WORDS = Phrase("words", "Its path was given as several words.")
+    NO_FILE = Phrase("no-file", "It is neither a regular file nor a folder.")
+    HOLES = Phrase("holes", "It is a sparse file with more than 16 MB of holes.")
+    MAILDIR = Phrase("maildir", "It is a Maildir.")
+    MH = Phrase("mh", "It is an MH folder.")
     # who is at work on it
-    LOCKED = (
-        "locked",
-        "Another program has locked it, or works in its folder.",
-        Status.LATER,
-    )
-    CHANGED = (
-        "changed",
-        "A program writes to it.",
-        Status.LATER,
-    )
+    LOCKED = Phrase("locked", "Another program has locked it, or works in its folder.")
+    CHANGED = Phrase("changed", "A program writes to it.")
     # the folder that it would go to
-    NO_FOLDER = (
+    NO_FOLDER = Phrase(
         "no-folder",
         "Another mailbox goes into this folder, another folder has this mail, or no folder can have this name.",
     )
-    NOT_OWN = (
+    NOT_OWN = Phrase(
         "not-own",
         "A folder on the path belongs to another user, can be changed by others, cannot be entered, or is a link or a "
         "file.",
     )
-    NO_ROOM = (
-        "no-room",
-        "The disk has too little room, or too few inodes.",
-    )
-    NO_SYNC = "no-sync", "The file system of its folder does not sync folders, or leaves out all syncs."
+    NO_ROOM = Phrase("no-room", "The disk has too little room, or too few inodes.")
+    NO_SYNC = Phrase("no-sync", "The file system of its folder does not sync folders, or leaves out all syncs.")
     # what is there already
-    PARTLY_THERE = (
-        "partly-there",
-        "Some of its messages are there, but not in the ledger, the folder's list of messages.",
+    PARTLY_THERE = Phrase(
+        "partly-there", "Some of its messages are there, but not in the ledger, the folder's list of messages."
     )
-    REWRITTEN = "rewritten", "More than a tenth of it was replaced since it was done, or it is another mailbox."
-    LEDGER = "ledger", "The ledger, the folder's list of messages, is lost, damaged, or cannot be trusted."
-    ANOTHER_READING = (
+    REWRITTEN = Phrase("rewritten", "More than a tenth of it was replaced since it was done, or it is another mailbox.")
+    LEDGER = Phrase("ledger", "The ledger, the folder's list of messages, is lost, damaged, or cannot be trusted.")
+    ANOTHER_READING = Phrase(
         "another-reading",
         "It was begun or done with another reading, which delivers other bytes; to go on would double mail.",
     )
-    CUT = "cut", "A message was converted before it was complete."
-    NUMBERED = "numbered", "Its UIDs cannot be kept: the folder has others, from Dovecot or another mailbox."
-    PREPARED = "prepared", "A first pass (`--prepare`) cannot store it in its folder, or cannot be finished."
-    SUBSCRIPTIONS = "subscriptions", "There is a list of subscriptions already, or it cannot be written."
+    CUT = Phrase("cut", "A message was converted before it was complete.")
+    NUMBERED = Phrase("numbered", "Its UIDs cannot be kept: the folder has others, from Dovecot or another mailbox.")
+    PREPARED = Phrase("prepared", "A first pass (`--prepare`) cannot store it in its folder, or cannot be finished.")
+    SUBSCRIPTIONS = Phrase("subscriptions", "There is a list of subscriptions already, or it cannot be written.")
     # what failed
-    WRONG_LINES = "wrong-lines", "A line that `--text` or `--begin` names has no `From ` where it should."
-    MISREAD = "misread", "It was read twice with different results, or not to its end."
-    CONVERT_FAILED = "convert-failed", "The program mbox2maildir failed, or is missing."
-    SYNC_FAILED = "sync-failed", "A sync of the disk failed."
-    NOT_VERIFIED = "not-verified", "Not every message is there exactly once."
-    NOT_HELD = "not-held", "The mailbox's format cannot hold some of the mail that `back` would append."
-    TORN = (
-        "torn",
-        "A run was killed while it appended a message, and another program has written behind this cut message.",
+    WRONG_LINES = Phrase("wrong-lines", "A line that `--text` or `--begin` names has no `From ` where it should.")
+    MISREAD = Phrase("misread", "It was read twice with different results, or not to its end.")
+    CONVERT_FAILED = Phrase("convert-failed", "The program mbox2maildir failed, or is missing.")
+    SYNC_FAILED = Phrase("sync-failed", "A sync of the disk failed.")
+    NOT_VERIFIED = Phrase("not-verified", "Not every message is there exactly once.")
+    NOT_HELD = Phrase("not-held", "The mailbox's format cannot hold some of the mail that `back` would append.")
+    TORN = Phrase(
+        "torn", "A run was killed while it appended a message, and another program has written behind this cut message."
     )
-    UNDO = "undo", "Its undo would harm other mail, or was interrupted."
+    UNDO = Phrase("undo", "Its undo would harm other mail, or was interrupted.")
     # what is wrong with the Maildir or its record
-    NO_MAILDIR = (
+    NO_MAILDIR = Phrase(
         "no-maildir",
         "The Maildir, or the folder above it, is missing or is not what it should be, or the Maildir has no record.",
     )
-    RECORD = "record", "The record cannot be read, written or locked, or others may write to it."
+    RECORD = Phrase("record", "The record cannot be read, written or locked, or others may write to it.")
     # what is wrong with a user: the name, what the spool has under it, the home, the process
-    NO_USER = "no-user", "The name belongs to no user."
-    SYSTEM_ACCOUNT = "system-account", "The user is a system account."
-    NO_MAILBOX = "no-mailbox", "The folder has no mailbox, or the spool has none of a user who was named."
-    OTHER_OWNER = "other-owner", "It belongs to another user."
-    SAME_USER = "same-user", "The user has another mailbox, which goes into INBOX."
-    HOME = "home", "The home is missing, cannot be entered, or belongs to another user."
-    PROCESS = (
-        "process",
-        "The process that migrated it was ended, or its answer cannot be read.",
-    )
-    DEFECT = "defect", "An internal error of this command; the line says it."
+    NO_USER = Phrase("no-user", "The name belongs to no user.")
+    SYSTEM_ACCOUNT = Phrase("system-account", "The user is a system account.")
+    NO_MAILBOX = Phrase("no-mailbox", "The folder has no mailbox, or the spool has none of a user who was named.")
+    OTHER_OWNER = Phrase("other-owner", "It belongs to another user.")
+    SAME_USER = Phrase("same-user", "The user has another mailbox, which goes into INBOX.")
+    HOME = Phrase("home", "The home is missing, cannot be entered, or belongs to another user.")
+    PROCESS = Phrase("process", "The process that migrated it was ended, or its answer cannot be read.")
+    DEFECT = Phrase("defect", "An internal error of this command; the line says it.")
 
-    def __init__(self, word: str, says: str, status: Status = Status.LEFT) -> None:
-        super().__init__(word, says)
-        self.status = status
+
+REASONS = by_word(Reason)
+
+
+class Status:
+    """How a command ends, as its exit status: all is well; something is left that a human settles; nothing is left but
+    what the same command settles when it is run again (EX_TEMPFAIL of sysexits(3))."""
+
+    WELL, LEFT, LATER = 0, 1, 75
+
+    @classmethod
+    def of(cls, is_well: bool) -> int:
+        """The status of a command that is run again only by a human."""
+        return cls.WELL if is_well else cls.LEFT
+
+    @classmethod
+    def after(cls, reasons: Iterable[Phrase]) -> int:
+        """The status of a command that leaves something for each of these reasons."""
+        is_settled = {one in (Reason.LOCKED, Reason.CHANGED) for one in reasons}
+        return cls.LEFT if False in is_settled else cls.LATER if is_settled else cls.WELL
 
 
 class Fault(Exception):
@@ -138,7 +117,7 @@ class Fault(Exception):
     and the lines of mail that are shown for it."""
 
     def __init__(
-        self, why: str, reason: Reason = Reason.OTHER, then: Next = NOTHING, quotes: Sequence[Quote] = ()
+        self, why: str, reason: Phrase = Reason.OTHER, then: Next = NOTHING, quotes: Sequence[Quote] = ()
     ) -> None:
         super().__init__(why)
         self.reason, self.next, self.quotes = reason, then, tuple(quotes)

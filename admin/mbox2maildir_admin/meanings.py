@@ -1,23 +1,14 @@
 """What the words of rows mean for a reader, and what to do: `explain` and docs/LEFT.md have it from here, and so has
 what is printed of a remark."""
-import enum
 import re
 
 from .faults import Reason
-from .nexts import Remark
-
+from .nexts import Phrase, Remark
 
 # a link of a page, of which only the text is printed
 LINK = re.compile(r"\[([^]]*)\]\([^)]*\)")
 # what stands in place of what is to be done if that is printed by itself
 ITS_COMMAND = "Its command"
-
-
-class Weight(enum.Enum):
-    """How a remark is printed: below its mailbox, since it asks for a look; as a count; or only by --all."""
-
-    LOOK, COUNT, SILENT = "look", "count", "silent"
-
 
 # what is to be done about each reason why something is left, as docs/LEFT.md has it
 TO_DO = {
@@ -104,7 +95,7 @@ TO_DO = {
     Reason.PROCESS: "Run the same command again",
     Reason.DEFECT: "Report it, with the line",
 }
-# of each sort, the remarks by their words
+# how remarks are printed, by their words: below the mailbox, since they ask for a look; as counts; or only by --all
 LOOK = {
     "already-gone": "Messages that were to be removed were gone before.",
     "beside": "Mail that went back stands in a mailbox beside this one, which could not take it.",
@@ -193,24 +184,15 @@ SILENT = {
     "subscriptions": "Subscriptions were carried over.",
     "without-internal": "The message in which Dovecot kept its own notes was left out.",
 }
-REMARKS = {
-    word: (weight, says)
-    for weight, words in ((Weight.LOOK, LOOK), (Weight.COUNT, COUNTED), (Weight.SILENT, SILENT))
-    for word, says in words.items()
-}
+REMARKS = {**LOOK, **COUNTED, **SILENT}
 
 
-def to_do(reason: Reason) -> str:
+def to_do(reason: Phrase) -> str:
     """What is to be done about a reason."""
     return LINK.sub(r"\1", TO_DO[reason])
 
 
 def remark_of(word: str) -> Remark:
     """The remark of a word of which no more is to be said."""
-    says = REMARKS[word][1]
+    says = REMARKS[word]
     return Remark(word, says[0].lower() + says[1:].rstrip("."))
-
-
-def weight_of(word: str) -> Weight:
-    """What a remark of this word asks of a reader."""
-    return REMARKS[word][0]

@@ -1,11 +1,10 @@
 """What is to be done next, as a value: commands with what each is an answer to, and tasks for a human. It is printed in
 lines of its own, and as JSON. Nobody reads a sentence back."""
-import enum
 import functools
 import os
 import pwd
 from collections.abc import Iterable, Iterator, Sequence
-from typing import Any, NamedTuple, Optional, TypeVar, Union
+from typing import Any, NamedTuple, Optional, Union
 
 from .terminal import is_text, named, quoted
 from .units import counted
@@ -18,105 +17,106 @@ BELOW, COMMAND = "    ", "        "
 
 # an account by its name, or the number of one that has no name; None for whoever runs this
 User = Union[None, str, int]
-One = TypeVar("One", bound="Phrase")
 
 
-class Phrase(enum.Enum):
+class Phrase:
     """A word for programs, which stays the same, and the sentence that a reader gets for it."""
 
     def __init__(self, word: str, says: str) -> None:
         self.word, self.says = word, says
 
-    @classmethod
-    def by(cls: type[One], word: object) -> One:
-        """The phrase of a word. Raises ValueError if there is none."""
-        for one in cls:
-            if one.word == word:
-                return one
-        raise ValueError("no word of %s" % cls.__name__)
+
+def by_word(phrases: type) -> dict[str, Phrase]:
+    """The phrases of a class by their words."""
+    return {one.word: one for one in vars(phrases).values() if isinstance(one, Phrase)}
 
 
-class Does(Phrase):
+class Does:
     """What a command does, or what it says of the mail."""
 
-    RUN = "run", "run this next"
-    FIND_OUT = "find-out", "find out what it is"
+    RUN = Phrase("run", "run this next")
+    FIND_OUT = Phrase("find-out", "find out what it is")
     # answers to a question about lines
-    BEGINS = "begins-here", "a mail begins here"
-    BELONGS = "belongs-above", "this belongs to the mail above"
-    BEGINS_DROP = "begins-here-drop-deleted", "a mail begins here, and deleted mail is left out"
-    BELONGS_DROP = "belongs-above-drop-deleted", "this belongs to the mail above, and deleted mail is left out"
-    FIRST_BEGINS = "first-line-begins", "line 1 begins a mail"
-    FIRST_IS_TEXT = "first-line-is-text", "line 1 is text of a mail"
+    BEGINS = Phrase("begins-here", "a mail begins here")
+    BELONGS = Phrase("belongs-above", "this belongs to the mail above")
+    BEGINS_DROP = Phrase("begins-here-drop-deleted", "a mail begins here, and deleted mail is left out")
+    BELONGS_DROP = Phrase("belongs-above-drop-deleted", "this belongs to the mail above, and deleted mail is left out")
+    FIRST_BEGINS = Phrase("first-line-begins", "line 1 begins a mail")
+    FIRST_IS_TEXT = Phrase("first-line-is-text", "line 1 is text of a mail")
     # answers to other questions
-    DROP = "drop-deleted", "deleted mail is left out"
-    KEEP = "keep-deleted", "deleted mail is kept"
-    READ_AS = "read-as", "it was written in the format of this command"
-    KEEP_BOTH = "keep-both", "if none is a copy, run this next"
-    UNDO = "undo", "if these are right, run this next"
-    UNDO_THERE = "undo-there", "this removes what it placed there"
-    UNDO_PREPARED = "undo-prepared", "if it is not wanted any more, this removes what is prepared"
-    OWN_FOLDER = "own-folder", "it becomes this folder"
-    JOINS_INBOX = "joins-inbox", "its mail joins that of INBOX"
+    DROP = Phrase("drop-deleted", "deleted mail is left out")
+    KEEP = Phrase("keep-deleted", "deleted mail is kept")
+    READ_AS = Phrase("read-as", "it was written in the format of this command")
+    KEEP_BOTH = Phrase("keep-both", "if none is a copy, run this next")
+    UNDO = Phrase("undo", "if these are right, run this next")
+    UNDO_THERE = Phrase("undo-there", "this removes what it placed there")
+    UNDO_PREPARED = Phrase("undo-prepared", "if it is not wanted any more, this removes what is prepared")
+    OWN_FOLDER = Phrase("own-folder", "it becomes this folder")
+    JOINS_INBOX = Phrase("joins-inbox", "its mail joins that of INBOX")
     # what a label of Gmail's gives
-    LABEL_NONE = "label-none", "it gives no folder"
-    LABEL_FOLDER = "label-folder", "it gives a folder"
-    LABEL_READ = "label-read", "it says that mail was read, and gives no folder"
-    ALL = "labels-all", "each message goes into all of its folders"
-    ONE = "labels-one", "each message goes into one folder"
-    INTO_INBOX = "into-inbox", "if this is to be INBOX, run this next"
+    LABEL_NONE = Phrase("label-none", "it gives no folder")
+    LABEL_FOLDER = Phrase("label-folder", "it gives a folder")
+    LABEL_READ = Phrase("label-read", "it says that mail was read, and gives no folder")
+    ALL = Phrase("labels-all", "each message goes into all of its folders")
+    ONE = Phrase("labels-one", "each message goes into one folder")
+    INTO_INBOX = Phrase("into-inbox", "if this is to be INBOX, run this next")
     # commands that store what is nowhere, and what comes of that
-    STORES = "stores-rest", "this stores the messages that are nowhere"
-    BRINGS_BACK = "stores-rest-brings-back", "this stores the messages that are nowhere, and brings back deleted mail"
-    DOUBLES = (
+    STORES = Phrase("stores-rest", "this stores the messages that are nowhere")
+    BRINGS_BACK = Phrase(
+        "stores-rest-brings-back", "this stores the messages that are nowhere, and brings back deleted mail"
+    )
+    DOUBLES = Phrase(
         "stores-rest-may-double",
         "this stores the messages that are nowhere: it brings back mail that was deleted, and doubles mail that was "
         "changed",
     )
-    ADD_KEYWORDS = "add-keywords", "once Dovecot runs with its old settings, run this"
+    ADD_KEYWORDS = Phrase("add-keywords", "once Dovecot runs with its old settings, run this")
     # the owner makes it and migrates it; the file itself stays where only root may write
-    MAKE_ELSEWHERE = "make-elsewhere", "run this next"
+    MAKE_ELSEWHERE = Phrase("make-elsewhere", "run this next")
 
 
-class Todo(Phrase):
+class Todo:
     """What a human does. `{}` stands for a name."""
 
-    LEAVE = "leave", "leave it as it is"
-    PASS_OVER = "pass-over", "if it holds no mail, pass over it by --no-mail"
-    PASS_OVER_ALONE = (
-        "pass-over-alone",
-        "something in it looks like mail: only if it holds none, pass over it by --no-mail",
+    LEAVE = Phrase("leave", "leave it as it is")
+    PASS_OVER = Phrase("pass-over", "if it holds no mail, pass over it by --no-mail")
+    PASS_OVER_ALONE = Phrase(
+        "pass-over-alone", "something in it looks like mail: only if it holds none, pass over it by --no-mail"
     )
-    DOVEADM = "doveadm", "copy the account by `doveadm backup`, or over IMAP, because this is one file of several"
-    FOLLOW = "migrate-target", "migrate what it points to, unless that is migrated anyway"
-    FOLLOW_INTO = (
-        "migrate-target-into",
-        "migrate what it points to, with --folder NAME, unless that is migrated anyway",
+    DOVEADM = Phrase(
+        "doveadm", "copy the account by `doveadm backup`, or over IMAP, because this is one file of several"
     )
-    REMOVE = "remove", "remove it"
-    MOVE_TO = "move-to", "move it to {}"
-    MOVE_FILES = "move-files", "move the files in its new and cur into those of {}"
-    MOVE_OTHERS = "move-others", "move out of it what is not part of a Maildir, and run this again"
-    MOVE_AWAY = "move-away", "then move {} out of here"
-    BRING_BACK = "bring-back", "mount or bring back {}, and run this again"
-    COPY_AWAY = "move-copy", "if one is a copy, move it out of here"
-    NAME_FOLDER = "name-folder", "run this again with --folder NAME"
-    NAME_PRINTED = "name-printed", "then run this again, with the mailboxes that it printed last in place of {}"
-    MIGRATE_REST = "migrate-rest", "migrate the rest, then undo all of it"
-    AS_OWNER = "as-owner", "run this as that user"
-    OTHER_PLACE = "other-place", "name a Maildir below folders that belong to root and in which only root may write"
-    MOUNT_OTHERWISE = "mount-otherwise", "mount it without this option, or add --any-disk"
-    NAME_BELOW = "name-below", "name the Maildir by its path on the file system below, or add --any-disk"
-    OTHER_MAILDIR = "other-maildir", "name a Maildir, or a folder that is not there, such as {}"
-    OTHER_NAME = "other-name", "name a file that is not there"
-    NOT_MAIL = "not-mail", "leave it: only a regular file, or a folder of such files, is a mailbox"
-    NEW_FILE = "new-file", "name a file that is not there"
-    NO_FILES = "no-files", "there is nothing to be done"
-    INSTALL = "install", "install it in one of these places"
-    LOOK_AT_MAILDIR = "look-at-maildir", "run this again, and look at its Maildir"
-    ASK_USER = "as-user", "run `migrate` as that user, which says what to do next"
+    FOLLOW = Phrase("migrate-target", "migrate what it points to, unless that is migrated anyway")
+    FOLLOW_INTO = Phrase(
+        "migrate-target-into", "migrate what it points to, with --folder NAME, unless that is migrated anyway"
+    )
+    REMOVE = Phrase("remove", "remove it")
+    MOVE_TO = Phrase("move-to", "move it to {}")
+    MOVE_FILES = Phrase("move-files", "move the files in its new and cur into those of {}")
+    MOVE_OTHERS = Phrase("move-others", "move out of it what is not part of a Maildir, and run this again")
+    MOVE_AWAY = Phrase("move-away", "then move {} out of here")
+    BRING_BACK = Phrase("bring-back", "mount or bring back {}, and run this again")
+    COPY_AWAY = Phrase("move-copy", "if one is a copy, move it out of here")
+    NAME_FOLDER = Phrase("name-folder", "run this again with --folder NAME")
+    NAME_PRINTED = Phrase("name-printed", "then run this again, with the mailboxes that it printed last in place of {}")
+    MIGRATE_REST = Phrase("migrate-rest", "migrate the rest, then undo all of it")
+    AS_OWNER = Phrase("as-owner", "run this as that user")
+    OTHER_PLACE = Phrase(
+        "other-place", "name a Maildir below folders that belong to root and in which only root may write"
+    )
+    MOUNT_OTHERWISE = Phrase("mount-otherwise", "mount it without this option, or add --any-disk")
+    NAME_BELOW = Phrase("name-below", "name the Maildir by its path on the file system below, or add --any-disk")
+    OTHER_MAILDIR = Phrase("other-maildir", "name a Maildir, or a folder that is not there, such as {}")
+    OTHER_NAME = Phrase("other-name", "name a file that is not there")
+    NOT_MAIL = Phrase("not-mail", "leave it: only a regular file, or a folder of such files, is a mailbox")
+    NEW_FILE = Phrase("new-file", "name a file that is not there")
+    NO_FILES = Phrase("no-files", "there is nothing to be done")
+    INSTALL = Phrase("install", "install it in one of these places")
+    LOOK_AT_MAILDIR = Phrase("look-at-maildir", "run this again, and look at its Maildir")
+    ASK_USER = Phrase("as-user", "run `migrate` as that user, which says what to do next")
 
 
+DOES, TODOS = by_word(Does), by_word(Todo)
 # what is done with files, in whose folders their owner could lead root elsewhere
 WITH_FILES = frozenset(
     [
@@ -164,7 +164,7 @@ class Answer(NamedTuple):
     """A command, what it is an answer to, and how many messages it gives, if that is known."""
 
     command: Command
-    does: Does = Does.RUN
+    does: Phrase = Does.RUN
     messages: Optional[int] = None
 
     def sentence(self) -> str:
@@ -175,7 +175,7 @@ class Answer(NamedTuple):
 class Task(NamedTuple):
     """What a human does, the names in that, and with whose rights, if not with those of whoever runs this."""
 
-    todo: Todo
+    todo: Phrase
     names: tuple[str, ...] = ()
     user: Optional[str] = None
 
@@ -215,17 +215,17 @@ def line_of(words: Iterable[str]) -> str:
     return " ".join(map(quoted, words))
 
 
-def run_next(*words: str, does: Does = Does.RUN) -> Next:
+def run_next(*words: str, does: Phrase = Does.RUN) -> Next:
     """The command of these words, and nothing else."""
     return (Answer(Command(words), does),)
 
 
-def in_shell(text: str, does: Does = Does.RUN) -> Next:
+def in_shell(text: str, does: Phrase = Does.RUN) -> Next:
     """A text for a shell, and nothing else."""
     return (Answer(Command(shell=text), does),)
 
 
-def task(todo: Todo, *names: str) -> Next:
+def task(todo: Phrase, *names: str) -> Next:
     """A task, and nothing else."""
     return (Task(todo, names),)
 

@@ -113,14 +113,11 @@ class Task(NamedTuple):
     step: str = ""
 
 
-class Pace(NamedTuple):
-    """Where and when something that is being done began."""
+class Pace:
+    """Where and when something that is being done began, and the place that was told last."""
 
-    doing: str
-    place: int
-    time: float
-    # the place that was told last
-    last: int = 0
+    def __init__(self, doing: str, place: int, now: float) -> None:
+        self.doing, self.place, self.time, self.last = doing, place, now, 0
 
     def figures(self, place: int, size: int, now: float) -> list[str]:
         """Returns what is known of the progress, the most important first: percent, the time that is left, and the
@@ -162,8 +159,8 @@ class Progress:
         now = time.monotonic()
         pace = self.paces.get(task.who)
         if pace is None or pace.doing != doing or place is not None and place < pace.last:
-            pace = Pace(doing, place or 0, now)
-        self.paces[task.who] = pace._replace(last=place or 0)
+            pace = self.paces[task.who] = Pace(doing, place or 0, now)
+        pace.last = place or 0
         if now < (self.next_time if self.is_terminal else self.next_minute):
             return
         figures = [task.step] if task.step else []

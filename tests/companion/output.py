@@ -77,14 +77,14 @@ def loaded(words: Sequence[str], home: Path) -> set[str]:
 
 def modules(home: Path) -> None:
     """A help loads no room, and a run of a command only what it needs: most of a short run is spent on that."""
-    light = {"commands.command_line", "commands.words", "commands.options", "commands.of_users"}
+    light = {"commands.command_line", "commands.words", "commands.options"}
     light |= {"labels.choosing", "readings.reading"}
     rooms = {path.parent.name for path in (ADMIN.parent / "mbox2maildir_admin").glob("*/__init__.py")}
     for word in ("", *COMMANDS):
         found = loaded([*word.split(), "--help"], home)
         equal(f"{word} --help: rooms", {name for name in found if name.split(".")[0] in rooms and "." in name}, light)
     mailbox(home / "box", ONE)
-    slow = {"concurrent", "difflib", "email", "multiprocessing", "pathlib", "tempfile", "urllib", "zipfile"}
+    slow = {"argparse", "concurrent", "difflib", "email", "multiprocessing", "pathlib", "tempfile", "urllib", "zipfile"}
     slow |= {"migration.workers", "takeouts", "undoing", "users.spool"}
     for words, others in (
         (["kind", "box"], {"commands.migrate", "migration.mailbox"}),

@@ -199,9 +199,9 @@ def wrong_texts() -> Iterator[str]:
 
 def wrong_reasons() -> Iterator[str]:
     """The reasons have the words of the companion and, in docs/LEFT.md, what `explain` says of them."""
-    reasons = importlib.import_module("mbox2maildir_admin.faults").Reason
+    faults = importlib.import_module("mbox2maildir_admin.faults")
+    words, reasons = list(faults.REASONS), faults.REASONS.values()
     to_do = importlib.import_module("mbox2maildir_admin.meanings").TO_DO
-    words = [reason.word for reason in reasons]
     lines = LINE_OF_WORDS.findall(match_in(WORDS_OF_REASONS, text_of(MANUAL_OF_ADMIN))[1])
     rows = [f'| <a id="{one.word}"></a>`{one.word}` | {one.says} | {to_do[one]} |' for one in reasons]
     for name, found, wanted in (
@@ -211,7 +211,7 @@ def wrong_reasons() -> Iterator[str]:
     ):
         if found != wanted:
             yield f"{name} has other reasons than the companion:\n" + differ("\n".join(found), "\n".join(wanted))
-    later = [reason.word for reason in reasons if reason.status == 75]
+    later = [reason.word for reason in reasons if faults.Status.after([reason]) == 75]
     if SPAN.findall(match_in(LATER, text_of(LEFT))[1]) != later:
         yield f"docs/LEFT.md: another run settles {later}"
 

@@ -95,7 +95,6 @@ def load_companion() -> None:
     for module in package.glob("**/[!_]*.py"):
         importlib.import_module(".".join(module.relative_to(package.parent).with_suffix("").parts))
     load_for_children()
-    cli.command_line()
     version()
     folder_of((labels_in("=?UTF-8?Q?=C3=BC?=") or [""])[0])
 

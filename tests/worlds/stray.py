@@ -10,9 +10,9 @@ import subprocess
 from collections.abc import Iterator, Sequence
 from pathlib import Path
 
-from mbox2maildir_admin.faults import Reason
+from mbox2maildir_admin.faults import REASONS
 from mbox2maildir_admin.meanings import to_do
-from mbox2maildir_admin.nexts import Does, Todo
+from mbox2maildir_admin.nexts import DOES, TODOS
 
 from tests.support.accounts import are_own, users
 from tests.support.homes import hand_over
@@ -56,9 +56,11 @@ SIGNS = (
 )
 USERS = ("mia", "runuser -u", "x; evil", "left", "\u202emia", "$(evil)")
 # what stands before a command, and what is a task, with anything in place of a name; a task may be that of a user
-SAYS = re.compile("|".join(f"    {re.escape(one.says)}(: \\d+ messages?)?:" for one in Does))
-TASKS = re.compile("    (?:as .*, )?(?:%s)" % "|".join(re.escape(one.says).replace(r"\{\}", "(.*)") for one in Todo))
-BY_HAND = {f"    {to_do(one)}" for one in Reason}
+SAYS = re.compile("|".join(f"    {re.escape(one.says)}(: \\d+ messages?)?:" for one in DOES.values()))
+TASKS = re.compile(
+    "    (?:as .*, )?(?:%s)" % "|".join(re.escape(one.says).replace(r"\{\}", "(.*)") for one in TODOS.values())
+)
+BY_HAND = {f"    {to_do(one)}" for one in REASONS.values()}
 OTHERS = re.compile(
     r"    (?:> |  )?\d+ \|.*|    \.\.|    line \d+: .*|    and \d+ more lines like the last one|"
     r"    message \d+ .*|    a .*"

@@ -100,7 +100,7 @@ class Several:
     def tell(self, row: Row) -> None:
         """Tells a row."""
         self.is_right = self.is_right and not row.left_for
-        self.would |= {row.path} if row.fate is Fate.WOULD_BACK else set()
+        self.would |= {row.path} if row.fate == Fate.WOULD_BACK else set()
         self.way.observer.row(row)
 
     def drop_locks(self) -> None:

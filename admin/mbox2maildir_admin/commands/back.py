@@ -1,21 +1,19 @@
 """The command `back`: the mail that did not come from the old mailboxes goes into them."""
-import argparse
 
 from ..back.several import bring_back
-from ..faults import Status
 from ..migration.outcomes import Row
 from ..migration.rows import Reporter, Shows
 from ..migration.options import Options
 from ..users.asked import Tally
 from ..users.going_back import back_users
-from .of_users import jobs_in
+from .options import Given, jobs_in
 from .running import reporter_of, run_reported
 from .spools import spool_of
 
 
-def do_back(given: argparse.Namespace) -> Status:
+def do_back(given: Given) -> int:
     """Brings mail back, and says whether all of it is in the mailboxes."""
-    options = Options(dry=given.dry_run, now=given.now, dovecot=given.dovecot, jobs=jobs_in(given.jobs))
+    options = Options(dry=given.dry_run, now=given.now, dovecot=given.dovecot, jobs=jobs_in(given))
 
     def back(reporter: Reporter, tally: Tally) -> None:
         if given.users:

@@ -1,50 +1,55 @@
 """The words of the command line: a command, its options and its operands, and what is wrong with them."""
-import argparse
 import collections
 import functools
+import gc
+import importlib
 import os
 import sys
-from collections.abc import Callable, Iterable, Sequence
-from typing import Any, NamedTuple, NoReturn
+from collections.abc import Iterable, Mapping, Sequence
+from typing import Any, NoReturn
 
+from .. import ADMIN
 from ..faults import Status
-from ..terminal import complain, put, shown
+from ..terminal import complain, put, shown, write
 from ..version import version
-from .of_users import want_homes
-from .options import WrongOptions, add_options, want_together
+from .options import USERS, Given, Option, WrongOptions, options_of, want_homes, want_together
+from .words import COMMANDS, PROGRAM, Words
 
 # how many columns a help has
 WIDTH = 80
 # what follows the name of an operand that may be given several times
 SEVERAL = "..."
-
-# does what the command of a name does, and returns the status
-Task = Callable[[str, argparse.Namespace], Status]
-
-
-class PrintVersion(argparse.Action):
-    """Prints the version and ends. Only this option reads the file with the version."""
-
-    def __call__(self, parser: argparse.ArgumentParser, *_: Any) -> None:
-        put("%s %s" % (parser.prog, version()))
-        sys.exit(0)
+HELP = Option("-h --help", "", "show this help message and exit")
+VERSION = Option("--version", "", "print the version, and end")
 
 
-class Parser(argparse.ArgumentParser):
-    """A parser of options, whose names must be complete and which may stand anywhere among the operands. Its help has
-    80 columns. An error is a line that says what is wrong, and one with the command that says more."""
+class Parser:
+    """Reads the words of a command: its options, whose names must be complete and which may stand anywhere among the
+    operands. An error is a line that says what is wrong, and one with the command that says more."""
 
-    def __init__(self, prog: str, usage: str, description: str, epilog: str) -> None:
-        layout = functools.partial(argparse.RawDescriptionHelpFormatter, width=WIDTH)
-        super().__init__(prog, usage, description, epilog, formatter_class=layout, allow_abbrev=False)
+    def __init__(self, prog: str, words: Words, groups: Mapping[str, Sequence[Option]]) -> None:
+        self.prog, self.words, self.groups = prog, words, groups
+        options = [HELP, *(one for several in groups.values() for one in several)]
+        self.named = {name: one for one in options for name in one.names.split()}
 
-    def format_help(self) -> str:
-        """The help. Only it needs the module that fills the lines of a description, unless these are there already."""
+    def help(self) -> str:
+        """The help, which has 80 columns. Only it needs the modules that lay it out, unless these are there already."""
+        import argparse
         from textwrap import fill
 
-        text = str(self.description)
-        self.description = text if "\n" in text else fill(text, WIDTH)
-        return super().format_help()
+        ways = self.words.usage or ["[OPTION]... %s" % " ".join(self.words.operands)]
+        usage = "\n       ".join("%s %s" % (self.prog, one) for one in ways)
+        text = self.words.text if "\n" in self.words.text else fill(self.words.text, WIDTH)
+        layout = functools.partial(argparse.RawDescriptionHelpFormatter, width=WIDTH)
+        parser = argparse.ArgumentParser(self.prog, usage, text, self.words.examples, formatter_class=layout)
+        for group, options in self.groups.items():
+            # those of `migrate` are so many that a reader needs groups
+            place = parser.add_argument_group(group) if group == USERS or self.words.name == "migrate" else parser
+            for one in options:
+                value: dict[str, Any] = {"metavar": one.value, "nargs": "?" if one.choices else None}
+                how = value if one.value else {"action": "store_true"}
+                place.add_argument(*one.names.split(), help=one.help, **how)
+        return parser.format_help()
 
     def error(self, message: str) -> NoReturn:
         """Ends the program with status 2."""
@@ -52,72 +57,61 @@ class Parser(argparse.ArgumentParser):
         complain("run this next: %s --help" % self.prog)
         sys.exit(2)
 
-    def read(self, words: Iterable[str]) -> argparse.Namespace:
-        """The options that the words give; `typed`, the words of each; and `operands`: all other words, and whatever
-        comes after `--`, as bytes."""
-        typed: list[list[str]] = []
-        operands: list[str] = []
+    def read(self, words: Iterable[str]) -> Given:
+        """What the words give."""
+        given = Given(**{one.key: one.default() for one in self.named.values()})
         rest = collections.deque(words)
         while rest:
             word = rest.popleft()
             if word == "--":
-                operands += rest
+                given.operands += map(os.fsencode, rest)
                 rest.clear()
             elif word == "-" or not word.startswith("-"):
-                operands.append(word)
+                given.operands.append(os.fsencode(word))
             else:
-                typed.append(self.option(word, rest))
-        given = self.parse_args([word for words in typed for word in words])
-        given.typed = typed
-        given.operands = list(map(os.fsencode, operands))
+                given.typed.append(self.take(word, rest, given))
+        if given.help:
+            write(self.help().encode())
+            sys.exit(0)
         return given
 
-    def option(self, word: str, rest: "collections.deque[str]") -> list[str]:
-        """An option with its value, which may be the next word. It is an error if there is none of this name. After one
-        that needs no value, a word that is none of its values is an operand."""
-        named = self._option_string_actions
-        name, sign, _ = word.partition("=")
-        action = named.get(name) or named.get(word[:2])
-        if action is None:
-            self.error("%s: no such option%s" % (shown(word), like(name, named)))
-        if action.nargs == 0 and word not in named:
-            self.error("%s: %s takes no value" % (shown(word), action.option_strings[-1]))
-        if action.nargs == 0 or sign or name not in named:
-            return [word]
-        if action.nargs == "?":
-            is_value = bool(rest and rest[0]) and rest[0] in (action.choices or ())
-            return ["%s=%s" % (word, rest.popleft())] if is_value else [word]
-        value = rest.popleft() if rest else "--"
-        if value.startswith("-") and value != "-":
-            what = word, action.metavar, action.option_strings[-1], action.metavar
-            self.error("%s: its %s is missing; if that begins with a dash, write %s=%s" % what)
-        return [word, value]
-
-
-class Words(NamedTuple):
-    """A command: its name, what it does in a line and in a text, its operands, of which one may stand for several as
-    FILE... does, how it is used in other ways than with these, and examples. Without operands, whatever does it looks
-    at them itself."""
-
-    name: str
-    short: str
-    text: str
-    operands: tuple[str, ...]
-    usage: tuple[str, ...] = ()
-    examples: str = ""
+    def take(self, word: str, rest: "collections.deque[str]", given: Given) -> list[str]:
+        """Takes an option with its value, which may be the next word, and returns its words. It is an error if there is
+        none of this name. After one that needs no value, a word that is none of its values is an operand."""
+        name, sign, value = word.partition("=")
+        one = self.named.get(name) or self.named.get(word[:2])
+        if one is None:
+            self.error("%s: no such option%s" % (shown(word), like(name, self.named)))
+        if not one.value and word not in self.named:
+            self.error("%s: %s takes no value" % (shown(word), one.name))
+        typed = [word]
+        if name not in self.named:
+            value = word[2:]
+        elif one.choices and not sign:
+            value = rest.popleft() if rest and rest[0] in one.choices else one.choices[0]
+            typed = [word if value == one.choices[0] else "%s=%s" % (word, value)]
+        elif one.value and not sign:
+            value = rest.popleft() if rest else "--"
+            if value.startswith("-") and value != "-":
+                what = word, one.value, one.name, one.value
+                self.error("%s: its %s is missing; if that begins with a dash, write %s=%s" % what)
+            typed.append(value)
+        if one.choices and value not in one.choices:
+            self.error("%s: it takes %s" % (shown(word), one.value.replace("|", " or ")))
+        if one.is_several:
+            getattr(given, one.key).append(value)
+        else:
+            setattr(given, one.key, value if one.value else True)
+        return typed
 
 
 class Command(Parser):
-    """A command of a program, and its options."""
+    """A command, and its options."""
 
-    def __init__(self, program: str, words: Words) -> None:
-        prog = "%s %s" % (program, words.name)
-        usage = words.usage or ["[OPTION]... %s" % " ".join(words.operands)]
-        super().__init__(prog, "\n       ".join("%s %s" % (prog, one) for one in usage), words.text, words.examples)
-        self.words = words
-        add_options(self, words.name)
+    def __init__(self, words: Words) -> None:
+        super().__init__("%s %s" % (ADMIN, words.name), words, options_of(words.name))
 
-    def given(self, words: Iterable[str]) -> argparse.Namespace:
+    def given(self, words: Iterable[str]) -> Given:
         """The options and operands that the words give, which go together."""
         given = self.read(words)
         is_of_users = getattr(given, "users", False)
@@ -128,34 +122,38 @@ class Command(Parser):
         want_together(self.words.name, given)
         return given
 
-    def run(self, words: Iterable[str], task: Task) -> Status:
-        """Does what the words say, and returns the status."""
+    def run(self, words: Iterable[str]) -> int:
+        """Does what the words say, by the module of the command's name, and returns the status."""
         try:
             given = self.given(words)
             given.read = self.given
-            return task(self.words.name, given)
+            module = importlib.import_module("%s.%s" % (__package__, self.words.name))
+            # what is loaded stays: nobody looks through it for garbage, and processes that begin as copies share it for
+            # longer
+            gc.freeze()
+            gc.enable()
+            status: int = getattr(module, "do_" + self.words.name)(given)
+            return status
         except WrongOptions as wrong:
             self.error(str(wrong))
             return Status.LEFT
 
 
-class CommandLine:
-    """The command line: a command with its options and operands."""
-
-    def __init__(self, parser: Parser, commands: Sequence[Words], task: Task) -> None:
-        parser.add_argument("--version", action=PrintVersion, nargs=0, help="print the version, and end")
-        self.parser, self.commands, self.task = parser, {words.name: words for words in commands}, task
-
-    def run(self, words: Sequence[str]) -> Status:
-        """Does what the command line says, and returns the status."""
-        if words and words[0] in self.commands:
-            return Command(self.parser.prog, self.commands[words[0]]).run(words[1:], self.task)
-        shorts = ("  %-9s %s" % (one.name, one.short) for one in self.commands.values())
-        self.parser.description = "\n".join([str(self.parser.description), "", "commands:", *shorts])
-        for name in self.parser.read(words).operands:
-            self.parser.error("%s: no such command%s" % (shown(name), like(os.fsdecode(name), self.commands)))
-        self.parser.error("the command is missing: %s" % ", ".join(self.commands))
-        return Status.LEFT
+def run(words: Sequence[str]) -> int:
+    """Does what the command line says, and returns the status."""
+    commands = {one.name: one for one in COMMANDS}
+    if words and words[0] in commands:
+        return Command(commands[words[0]]).run(words[1:])
+    shorts = ["  %-9s %s" % (one.name, one.short) for one in COMMANDS]
+    parser = Parser(ADMIN, PROGRAM._replace(text="\n".join([PROGRAM.text, "", "commands:", *shorts])), {"": [VERSION]})
+    given = parser.read(words)
+    if given.version:
+        put("%s %s" % (ADMIN, version()))
+        return Status.WELL
+    for name in given.operands:
+        parser.error("%s: no such command%s" % (shown(name), like(os.fsdecode(name), commands)))
+    parser.error("the command is missing: %s" % ", ".join(commands))
+    return Status.LEFT
 
 
 def like(name: str, known: Iterable[str]) -> str:

@@ -1,5 +1,4 @@
 """The command `dates`: it gives converted files the dates of their From_ lines."""
-import argparse
 import functools
 import os
 from collections.abc import Sequence
@@ -14,6 +13,7 @@ from ..progress import say_of
 from ..readings.texts import open_text
 from ..terminal import complain, named, put
 from .files import Complaints, each, for_mailboxes
+from .options import Given
 from .recorded import reading_then
 
 # how many messages without a date are named
@@ -22,7 +22,7 @@ CHANGED = "it changed in the meantime: stop the program that writes to it, and r
 SYNC_FAILED = "its sync failed: read the system's log, mount the disk again, and run this again"
 
 
-def do_dates(given: argparse.Namespace) -> Status:
+def do_dates(given: Given) -> int:
     """Gives converted files their dates."""
     maildir, *files = given.operands
     dates, tell = Dates(bool(given.header)), Complaints()

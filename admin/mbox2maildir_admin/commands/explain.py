@@ -1,20 +1,13 @@
 """The command `explain`: what the words of rows mean, and what to do."""
-import argparse
 from collections.abc import Iterator
 
-from ..faults import Reason, Status
-from ..meanings import REMARKS, Weight, to_do
+from ..faults import REASONS, Status
+from ..meanings import COUNTED, LOOK, SILENT, to_do
 from ..terminal import complain, put, shown
-
-# what a remark asks of a reader
-ASKS = {
-    Weight.LOOK: "asks for a look",
-    Weight.COUNT: "is counted",
-    Weight.SILENT: "is printed only with --all",
-}
+from .options import Given
 
 
-def do_explain(given: argparse.Namespace) -> Status:
+def do_explain(given: Given) -> int:
     """Prints what some words mean, or all of them. Returns whether all of them are known."""
     wanted = dict.fromkeys(map(shown, given.operands))
     known = [(word, says) for word, says in meanings() if word in wanted or not wanted]
@@ -28,7 +21,8 @@ def do_explain(given: argparse.Namespace) -> Status:
 
 def meanings() -> Iterator[tuple[str, str]]:
     """Each word of a row, with what it means and what to do."""
-    for reason in Reason:
-        yield reason.word, "left: %s What to do: %s." % (reason.says, to_do(reason))
-    for word, (weight, says) in REMARKS.items():
-        yield word, "%s: %s" % (ASKS[weight], says)
+    for word, reason in REASONS.items():
+        yield word, "left: %s What to do: %s." % (reason.says, to_do(reason))
+    for asks, remarks in (("asks for a look", LOOK), ("is counted", COUNTED), ("is printed only with --all", SILENT)):
+        for word, says in remarks.items():
+            yield word, "%s: %s" % (asks, says)

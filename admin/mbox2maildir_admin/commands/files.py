@@ -36,7 +36,7 @@ class Complaints(Observer):
 
     def row(self, row: Row) -> None:
         """Takes a file that was left out."""
-        what = [row.fate.value] * (row.fate is not Fate.LEFT)
+        what = [row.fate] * (row.fate != Fate.LEFT)
         complain("%s: left out: %s" % (named(row.path), ", ".join([*what, *filter(None, [row.says])])), row.below())
 
     def leave(self, path: bytes, fault: Union[Fault, OSError]) -> None:

@@ -1,5 +1,4 @@
 """The command `kind`: what a file is, and what to do first."""
-import argparse
 import contextlib
 import grp
 import os
@@ -28,10 +27,11 @@ from ..readings.texts import choice_of, form_of
 from ..readings.verdict import Verdict, look_at
 from ..terminal import operand
 from .files import each, read_tree, say_left_out, without_mail
+from .options import Given
 from .running import reporter_of
 
 
-def do_kind(given: argparse.Namespace) -> Status:
+def do_kind(given: Given) -> int:
     """Says what files are."""
     tell = reporter_of(given, Shows(lambda row: True), {})
     return Status.of(each(given.operands, lambda path: kind_below(path, tell), tell))

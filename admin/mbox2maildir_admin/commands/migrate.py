@@ -1,5 +1,4 @@
 """The command `migrate`: the whole migration of mailboxes, and the way back."""
-import argparse
 import os
 from collections.abc import Iterator, Sequence
 
@@ -15,9 +14,7 @@ from ..nexts import run_next
 from ..readings.reading import UNDECIDED
 from ..terminal import complain, has_terminal, named, operand
 from ..users.asked import Tally
-from .deciding import decision_of, labels_of
-from .of_users import jobs_in
-from .options import WrongOptions
+from .options import Given, WrongOptions, decision_of, jobs_in, labels_of
 from .running import Telling, reporter_of, run_reported
 
 # the options that answer questions about mailboxes, or can be given only once
@@ -31,7 +28,7 @@ UNQUOTED = "its path was given as %d words, so nothing was migrated"
 MOST_WORDS = 8
 
 
-def do_migrate(given: argparse.Namespace) -> Status:
+def do_migrate(given: Given) -> int:
     """Migrates mailboxes, or lists the users whom a run would take. Returns the status."""
     task, reporter = task_of(given), printer_of(given)
     if given.list:
@@ -51,7 +48,7 @@ def do_migrate(given: argparse.Namespace) -> Status:
     return run_reported(migrate, reporter, given.report, "what was done is in the record: run the same command again")
 
 
-def task_of(given: argparse.Namespace) -> Telling:
+def task_of(given: Given) -> Telling:
     """What the words say. Raises WrongOptions if one of them says nothing."""
     target, *names = given.operands
     # what is at a name counts only where something is said of one mailbox
@@ -117,7 +114,7 @@ def migrate_named(maildir: bytes, names: Sequence[bytes], options: Options, repo
         migrate_own(maildir, names, options, reporter)
 
 
-def printer_of(given: argparse.Namespace) -> Reporter:
+def printer_of(given: Given) -> Reporter:
     """What prints the rows; on a terminal it may ask questions too."""
     shows = Shows(Row.is_said if given.all else None, given.users, not given.dry_run, typed_in(given))
     asks_nothing = given.json or given.no_questions or given.users or given.undo or given.dry_run
@@ -128,16 +125,16 @@ def printer_of(given: argparse.Namespace) -> Reporter:
     return Asker(given.operands[1:], shows=shows)
 
 
-def typed_in(given: argparse.Namespace) -> Typed:
+def typed_in(given: Given) -> Typed:
     """The command that was typed, without what answers questions."""
     words = [words for words in given.typed if words[0].split("=")[0] not in ANSWERS]
     takes_users = given.users and len(given.operands) == 1 and given.names is None
     return Typed([word for several in words for word in several], given.operands, takes_users)
 
 
-def options_of(given: argparse.Namespace, alone: bool) -> Options:
+def options_of(given: Given, alone: bool) -> Options:
     """The options for mailboxes: for one that is a file, or for several."""
-    jobs, why = jobs_in(given.jobs), why_no_folder(given.folder) if given.folder is not None else ""
+    jobs, why = jobs_in(given), why_no_folder(given.folder) if given.folder is not None else ""
     if why:
         raise WrongOptions("--folder %s: %s" % (named(given.folder), why))
     if given.users and given.drop_deleted and not given.of:
@@ -151,7 +148,7 @@ def options_of(given: argparse.Namespace, alone: bool) -> Options:
     return options if alone or not given.again else options._replace(again=False, again_rewritten=True)
 
 
-def is_one(given: argparse.Namespace) -> bool:
+def is_one(given: Given) -> bool:
     """Whether a single MAILBOX is migrated that is a file, or a single NAME without a folder of mailboxes."""
     _, *names = given.operands
     return len(names) == 1 and not given.tree and given.names is None and not is_folder(names[0])

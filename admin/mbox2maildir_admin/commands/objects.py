@@ -5,10 +5,10 @@ import os
 from collections.abc import Iterator
 from typing import Any
 
-from ..faults import PlaceFault, Reason
+from ..faults import REASONS, PlaceFault
 from ..maildir.folders import folder_name
 from ..maildir.making import sync_folder
-from ..migration.outcomes import Detail, Fate, Row
+from ..migration.outcomes import FATES, Detail, Fate, Row
 from ..migration.rows import SUMMED, Reporter
 from ..nexts import ROOT, Todo, objects_of, task
 from ..terminal import complain, flush, is_text, named, put, shown, text_of
@@ -25,7 +25,7 @@ def object_of(row: Row) -> dict[str, Any]:
         "kind": row.kind or None,
         "messages": row.messages,
         "bytes": row.size,
-        "verdict": row.fate.value,
+        "verdict": row.fate,
         "reason": row.word or None,
         "says": row.says,
         "remarks": [{"remark": remark.word, "says": remark.says} for remark in row.remarks],
@@ -74,8 +74,10 @@ class Objects:
         self.print_object(
             {
                 "type": "sum",
-                "verdicts": {fate.value: sums.counts[fate] for fate in Fate},
-                "left": [{"reason": one.word, "count": sums.reasons[one]} for one in Reason if sums.reasons[one]],
+                "verdicts": {fate: sums.counts[fate] for fate in FATES},
+                "left": [
+                    {"reason": one.word, "count": sums.reasons[one]} for one in REASONS.values() if sums.reasons[one]
+                ],
                 "messages": messages,
                 "before": dict(zip(("messages", "bytes"), sums.amounts(Fate.BEFORE))),
                 "there_already": sums.there,

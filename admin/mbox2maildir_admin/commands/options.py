@@ -1,21 +1,30 @@
-"""The options of all commands in one table: what each takes, what it says, what it needs and what it excludes."""
-import argparse
-from collections.abc import Container, Iterator, Mapping, Sequence
-from types import MappingProxyType
-from typing import Any, NamedTuple
+"""The options of all commands in one table: what each takes, what it says, what it needs and what it excludes; and what
+some of them give."""
+import os
+from collections.abc import Container, Iterator, Sequence
+from types import SimpleNamespace
+from typing import Any, NamedTuple, Optional
 
-from ..labels.choosing import SOME, WORDS as WORDS_OF_LABELS
+from ..labels.choosing import GIVES, SOME, WORDS as WORDS_OF_LABELS, Choosing
 from ..looks import is_folder
-from ..readings.reading import WORDS
+from ..readings.reading import UNDECIDED, WORDS, Reading, lines_named
+from ..terminal import named, shown
 
 # the name of the Maildir in a home
 MAILDIR = "Maildir"
 # the groups of a help
 HOW, TAKEOUT, ANSWERS = "how", "a Takeout of Gmail", "answers for what was left"
 USERS = "for many users, as root"
-FLAG: Mapping[str, Any] = MappingProxyType({"action": "store_true"})
-SEVERAL: Mapping[str, Any] = MappingProxyType({"action": "append", "default": []})
-ONE_OR_ALL: Mapping[str, Any] = MappingProxyType({"choices": (SOME, *WORDS_OF_LABELS), "nargs": "?", "const": SOME})
+
+
+class Given(SimpleNamespace):
+    """What the words of a command give: each option by its name; the words of each; and all other words, and whatever
+    comes after `--`, as bytes."""
+
+    def __init__(self, **options: Any) -> None:
+        super().__init__(**options)
+        self.typed: list[list[str]] = []
+        self.operands: list[bytes] = []
 
 
 class WrongOptions(Exception):
@@ -24,23 +33,31 @@ class WrongOptions(Exception):
 
 class Option(NamedTuple):
     """An option of some commands: its names, these commands, and what its help says; the value that it takes, if it
-    takes one, and how argparse reads that."""
+    takes one, the only ones that there are, of which the first stands for none, what stands for one that is not given,
+    and whether there may be several."""
 
     names: str
     commands: str
     help: str
     value: str = ""
-    reads: Mapping[str, Any] = MappingProxyType({})
+    choices: tuple[str, ...] = ()
+    without: Optional[str] = None
+    is_several: bool = False
 
     @property
     def name(self) -> str:
         """The name that sentences have."""
         return self.names.split()[-1]
 
-    def add(self, parser: argparse._ActionsContainer) -> None:
-        """Adds it to a command, or to a group of its options."""
-        reads = {"metavar": self.value, **self.reads} if self.value else FLAG
-        parser.add_argument(*self.names.split(), help=self.help, **reads)
+    @property
+    def key(self) -> str:
+        """The name of what is given by it."""
+        # `as` is a word of Python
+        return "word" if self.name == "--as" else self.name.strip("-").replace("-", "_")
+
+    def default(self) -> Any:
+        """What is given without it."""
+        return [] if self.is_several else self.without if self.value else False
 
 
 OPTIONS = {
@@ -71,14 +88,14 @@ OPTIONS = {
             "put each message into the folders of its labels; `one`: into one of them; `all`: even if these are more "
             "than 2000 folders",
             "one|all",
-            ONE_OR_ALL,
+            (SOME, *WORDS_OF_LABELS),
         ),
         Option(
             "--label",
             "migrate",
             "what a label gives: WHAT is `folder`, `none`, or instead of a folder a flag: `read`, `unread`, `starred`",
             "NAME=WHAT",
-            SEVERAL,
+            is_several=True,
         ),
     ],
     ANSWERS: [
@@ -87,11 +104,13 @@ OPTIONS = {
             "quote migrate",
             "how mailboxes were written: %s" % ", ".join(WORDS),
             "WORD",
-            {"dest": "word", "default": ""},
+            without="",
         ),
-        Option("--text", "quote migrate", "lines of the one mailbox that belong to the mail", "LINE,..", SEVERAL),
-        Option("--begin", "quote migrate", "lines of the one mailbox that begin messages", "LINE,..", SEVERAL),
-        Option("--of", "quote migrate", "what this is an answer to, as it is printed with it", "TIE", {"default": ""}),
+        Option(
+            "--text", "quote migrate", "lines of the one mailbox that belong to the mail", "LINE,..", is_several=True
+        ),
+        Option("--begin", "quote migrate", "lines of the one mailbox that begin messages", "LINE,..", is_several=True),
+        Option("--of", "quote migrate", "what this is an answer to, as it is printed with it", "TIE", without=""),
         Option("--drop-deleted", "quote migrate", "leave out mail that Thunderbird has marked as deleted"),
         Option(
             "--no-mail",
@@ -99,7 +118,7 @@ OPTIONS = {
             "pass over a file that is not mbox text, by its whole path, or files that are not known, by a shell "
             "pattern for their paths below MAILBOX or the home",
             "PATTERN",
-            SEVERAL,
+            is_several=True,
         ),
         Option(
             "--again",
@@ -126,7 +145,7 @@ OPTIONS = {
             "migrate verify back",
             "the name of the Maildir in each home (%s)" % MAILDIR,
             "NAME",
-            {"default": MAILDIR},
+            without=MAILDIR,
         ),
         Option(
             "--tree",
@@ -169,25 +188,16 @@ FILE, ONE = "a MAILBOX that is a file", "exactly one MAILBOX, which is a file"
 MAILBOXES = {"--folder": FILE, "--labels": FILE, "--text": ONE, "--begin": ONE, "--undo": ONE}
 
 
-def options_of(command: str) -> Iterator[tuple[str, list[Option]]]:
+def options_of(command: str) -> dict[str, list[Option]]:
     """The options of a command, by their groups."""
-    for group, options in OPTIONS.items():
-        yield group, [one for one in options if command in one.commands.split()]
+    found = {group: [one for one in options if command in one.commands.split()] for group, options in OPTIONS.items()}
+    return {group: options for group, options in found.items() if options}
 
 
-def add_options(parser: argparse.ArgumentParser, command: str) -> None:
-    """Adds its options to a command. Those of `migrate` are so many that a reader needs groups."""
-    for group, options in options_of(command):
-        has_group = bool(options) and (group == USERS or command == "migrate")
-        place = parser.add_argument_group(group) if has_group else parser
-        for one in options:
-            one.add(place)
-
-
-def want_together(command: str, given: argparse.Namespace) -> None:
+def want_together(command: str, given: Given) -> None:
     """Raises WrongOptions unless the options and the operands of a command go together."""
     names = {words[0].partition("=")[0] for words in given.typed}
-    for group, options in options_of(command):
+    for group, options in options_of(command).items():
         for name in (one.name for one in options if one.name in names):
             of_users = "--users" if group == USERS else ""
             for wrong in (*wrong_with(name, of_users, names), *wrong_for(name, given.operands[1:])):
@@ -209,3 +219,50 @@ def wrong_for(name: str, mailboxes: Sequence[bytes]) -> Iterator[str]:
     needs = MAILBOXES.get(name)
     if needs and (needs == ONE and len(mailboxes) > 1 or any(map(is_folder, mailboxes))):
         yield "%s needs %s" % (name, needs)
+
+
+def jobs_in(given: Given) -> Optional[int]:
+    """The number of jobs, if one is given. Raises WrongOptions if it is none."""
+    number = given.jobs
+    if number is not None and (not number.isdecimal() or int(number) < 1):
+        raise WrongOptions("--jobs %s: it takes a number from 1 on" % named(number))
+    return None if number is None else int(number)
+
+
+def want_homes(given: Given) -> None:
+    """Raises WrongOptions unless root gives the options for users, and these name what is below each home."""
+    if os.geteuid() != 0:
+        raise WrongOptions("only root may use --users")
+    for option, name in (("--maildir", given.maildir), ("--tree", given.tree), ("--names", given.names)):
+        if name == "":
+            # as a variable of the shell is that was never set
+            raise WrongOptions("%s: it takes a name, which is empty here" % option)
+    for name in (given.maildir, given.tree or "."):
+        if os.path.isabs(name) or ".." in name.split("/"):
+            raise WrongOptions("%s: --maildir and --tree take a name below each home" % named(name))
+
+
+def decision_of(given: Given, alone: bool) -> Reading:
+    """What was decided, for one mailbox or for several."""
+    if given.word and given.word not in WORDS:
+        raise WrongOptions("--as %s: no such word: it takes %s" % (shown(given.word), ", ".join(WORDS)))
+    try:
+        text, begin = lines_named(given.text), lines_named(given.begin)
+    except ValueError as error:
+        raise WrongOptions("--text and --begin take line numbers, separated by commas") from error
+    both = text & begin
+    if both:
+        raise WrongOptions("line %d is named by --text and by --begin" % min(both))
+    is_given = bool(given.word or given.drop_deleted)
+    return Reading(given.word, text, begin, given.of, given.drop_deleted, alone) if is_given else UNDECIDED
+
+
+def labels_of(given: Given) -> Optional[Choosing]:
+    """What is said about labels; None if they do not count."""
+    pairs: list[tuple[str, str]] = []
+    for one in given.label:
+        label, _, gives = one.rpartition("=")
+        if not label or gives not in GIVES:
+            raise WrongOptions("--label %s: it takes NAME=WHAT, and WHAT is one of %s" % (named(one), ", ".join(GIVES)))
+        pairs.append((label, gives))
+    return None if given.labels is None else Choosing(given.labels).with_given(*pairs)

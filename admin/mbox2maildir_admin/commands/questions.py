@@ -6,7 +6,7 @@ import termios
 from collections.abc import Sequence
 from typing import Any, Optional
 
-from ..faults import Fault, Status, complain_of
+from ..faults import Fault, complain_of
 from ..mbox.lines import AROUND, cut, texts_of
 from ..mbox.mailbox import Mailbox
 from ..migration.block import LETTERS, MIGRATE, Group, answers_of, groups_of
@@ -84,7 +84,7 @@ class Asker(Reporter):
             complain(str(wrong))
             super().row(row)
 
-    def end(self, *more: str) -> Status:
+    def end(self, *more: str) -> int:
         """Takes the rows about which nobody was asked, or nobody answered, and prints what is left and the sums."""
         for row in self.asked:
             super().row(row)

@@ -1,5 +1,4 @@
 """The command `quote`: a copy of a mailbox for `mbox2maildir convert`."""
-import argparse
 import os
 
 from .. import ADMIN
@@ -14,14 +13,13 @@ from ..readings.quoting import Quoter, write_copy, written
 from ..readings.reading import PLAIN, Reading
 from ..terminal import named, operand, put, write
 from ..units import Say, silent
-from .deciding import decision_of
 from .files import Complaints, each
-from .options import WrongOptions
+from .options import Given, WrongOptions, decision_of
 
 STANDARD_OUTPUT = b"-"
 
 
-def do_quote(given: argparse.Namespace) -> Status:
+def do_quote(given: Given) -> int:
     """Writes a copy."""
     if not given.output:
         raise WrongOptions("-o COPY is missing: the name of the copy, or - for standard output")

@@ -1,5 +1,4 @@
 """How a command runs that tells what becomes of mailboxes: its rows, its report and its last line."""
-import argparse
 import contextlib
 import os
 import sys
@@ -10,14 +9,13 @@ from ..faults import Status
 from ..migration.rows import INTERRUPTED, STEPS, Reporter, Shows
 from ..terminal import OutputFault, complain, drop
 from ..users.asked import Tally
+from .options import Given
 
 # does what a command says, and tells what became of each mailbox
 Telling = Callable[[Reporter, Tally], None]
 
 
-def reporter_of(
-    given: argparse.Namespace, shows: Shows, steps: Mapping[str, int] = STEPS, task: str = "migrating"
-) -> Reporter:
+def reporter_of(given: Given, shows: Shows, steps: Mapping[str, int] = STEPS, task: str = "migrating") -> Reporter:
     """What prints the rows of a command: lines, or objects for programs."""
     reporter = Reporter(steps=steps, task=task, shows=shows._replace(is_silent=given.json))
     if given.json:
@@ -27,7 +25,7 @@ def reporter_of(
     return reporter
 
 
-def run_reported(task: Telling, reporter: Reporter, report: Optional[str], after: str) -> Status:
+def run_reported(task: Telling, reporter: Reporter, report: Optional[str], after: str) -> int:
     """Does a task whose rows a reporter gets, and a new file if one is named. Returns the status. `after` says what to
     do if the output takes no more."""
     tally, written = Tally(), contextlib.ExitStack()

@@ -1,13 +1,13 @@
 """The spool that the command line names, and whose its mailboxes are."""
-import argparse
 import os
 from typing import Optional
 
 from ..users.asked import Sources, asked_for
 from ..users.homes import Spool
+from .options import Given
 
 
-def spool_of(given: argparse.Namespace) -> tuple[Spool, Optional[Sources]]:
+def spool_of(given: Given) -> tuple[Spool, Optional[Sources]]:
     """The spool that the command line names, and the users who are asked for, if any are."""
     path, *names = given.operands
     spool = Spool(path, os.fsencode(given.maildir), os.fsencode(given.tree) if given.tree else None)

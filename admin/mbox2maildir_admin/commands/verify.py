@@ -1,5 +1,4 @@
 """The command `verify`: whether each message is in the Maildir, or in the Maildirs of many users."""
-import argparse
 import collections
 import importlib
 import functools
@@ -7,7 +6,6 @@ import os
 from collections.abc import Iterator
 from itertools import islice
 
-from ..faults import Status
 from ..labels.noted import Noted, noted_of
 from ..labels.parts import checks_of
 from ..maildir.checking import Check, State
@@ -24,6 +22,7 @@ from ..terminal import NAMED
 from ..units import Place, Say
 from ..users.asked import Tally
 from .files import each, for_mailboxes
+from .options import Given
 from .recorded import reading_then, record_of, root_of
 from .running import Telling, reporter_of, run_reported
 
@@ -42,7 +41,7 @@ SORTS = {
 STATES = {"other-bytes": State.OTHER, "renamed": State.RENAMED, "nowhere": State.NOWHERE}
 
 
-def do_verify(given: argparse.Namespace) -> Status:
+def do_verify(given: Given) -> int:
     """Says whether each message is in the Maildir."""
     shows = Shows((lambda row: True) if given.all else None, given.users)
     reporter = reporter_of(given, shows, {}, VERIFYING)

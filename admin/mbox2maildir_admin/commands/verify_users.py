@@ -1,5 +1,4 @@
 """The command `verify --users`: the mailboxes of many users, each compared with its Maildir with its user's rights."""
-import argparse
 import os
 from collections.abc import Iterator
 
@@ -15,15 +14,15 @@ from ..users.asked import Tally
 from ..users.homes import Migrant, Relay
 from ..users.spool import migrate_users
 from .files import for_planned
-from .of_users import jobs_in
+from .options import Given, jobs_in
 from .running import Telling
 from .spools import spool_of
 from .verify import verify_file
 
 
-def verifying_users(given: argparse.Namespace) -> Telling:
+def verifying_users(given: Given) -> Telling:
     """What compares the mailboxes of users with their Maildirs."""
-    (spool, asked), options = spool_of(given), Options(jobs=jobs_in(given.jobs))
+    (spool, asked), options = spool_of(given), Options(jobs=jobs_in(given))
 
     def verify(reporter: Reporter, tally: Tally) -> None:
         migrate_users(spool, asked, options, reporter, tally, Verifier)

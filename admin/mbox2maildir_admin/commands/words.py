@@ -1,13 +1,20 @@
 """The words of each command: its operands and its help. What it does is in the module of its name, which is loaded only
 then: a help needs none of the rooms."""
-import argparse
-import gc
-import importlib
+from typing import NamedTuple
 
 from .. import ADMIN
-from ..faults import Status
-from .command_line import Words
 
+EXAMPLES = """\
+examples:
+  %s kind ~/mail                         # what is there
+  %s migrate --dry-run ~/Maildir ~/mail  # a rehearsal
+  %s migrate ~/Maildir ~/mail
+  %s verify ~/Maildir ~/mail
+
+`%s COMMAND --help` describes a command. Exit status: 0 if all
+is well, 1 if something was found, failed or left undone, 75 if nothing is left
+but what the same command settles when it is run again, 2 if the words are
+wrong, 130 after a signal."""
 EXAMPLES_OF_MIGRATE = """\
 examples:
   %s migrate --dry-run ~/Maildir archive.mbox
@@ -35,6 +42,19 @@ Exit status: 0 if all mail is in the mailboxes and verified; 1 if something is
 left, for which its line says why, and what to do; 75 if nothing is left but
 what the same command settles when it is run again; 2 if the words are wrong;
 130 after a signal."""
+
+
+class Words(NamedTuple):
+    """A command: its name, what it does in a line and in a text, its operands, of which one may stand for several as
+    FILE... does, how it is used in other ways than with these, and examples. Without operands, whatever does it looks
+    at them itself."""
+
+    name: str
+    short: str
+    text: str
+    operands: tuple[str, ...]
+    usage: tuple[str, ...] = ()
+    examples: str = ""
 
 
 OF_USERS = "--users [OPTION]... OLD [NAME...]"
@@ -109,11 +129,6 @@ COMMANDS = (
     ),
 )
 
-
-def do_command(name: str, given: argparse.Namespace) -> Status:
-    """Does what the command of this name does."""
-    module = importlib.import_module("%s.%s" % (__package__, name))
-    # what is loaded stays: nobody looks through it for garbage, and processes that begin as copies share it for longer
-    gc.freeze()
-    gc.enable()
-    return Status(getattr(module, "do_" + name)(given))
+PROGRAM = Words(
+    ADMIN, "", "Migrates mailboxes into a Maildir, and checks both.", (), ("COMMAND ...",), EXAMPLES % ((ADMIN,) * 5)
+)

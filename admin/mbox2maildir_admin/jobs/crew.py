@@ -8,7 +8,8 @@ import time
 from collections.abc import Callable
 from typing import Any, NoReturn, Optional, TypeVar, Union
 
-from ..faults import Fault, Reason
+from ..faults import REASONS, Fault
+from ..nexts import Phrase
 from ..signals import INTERRUPTS, blocked
 from ..terminal import shown, text_of
 
@@ -32,7 +33,7 @@ def spelled(words: Any) -> bytes:
 
 def plain(value: Any) -> Any:
     """What JSON has no form for: a name, and the word of a table."""
-    return text_of(value) if isinstance(value, bytes) else getattr(value, "word", value.value)
+    return text_of(value) if isinstance(value, bytes) else value.word if isinstance(value, Phrase) else value.value
 
 
 class Parent:
@@ -63,10 +64,10 @@ class Parent:
             answer += piece
         return json.loads(answer)
 
-    def refusal(self, *words: Any) -> Optional[tuple[str, Reason]]:
+    def refusal(self, *words: Any) -> Optional[tuple[str, Phrase]]:
         """Has the parent do something. Why it did not, as a sentence and as a reason; None if it did."""
         said = self.ask(*words)
-        return (said[0], Reason.by(said[1])) if said else None
+        return (said[0], REASONS[said[1]]) if said else None
 
     def progress(self, who: str, doing: str, place: Optional[int] = None, size: Optional[int] = None) -> None:
         """Tells how far a mailbox is, now and then: also that it is at work, even if the words are the same as

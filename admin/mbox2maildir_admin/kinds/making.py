@@ -5,7 +5,7 @@ import re
 from collections.abc import Callable
 from typing import NamedTuple, Union
 
-from ..nexts import Answer, Command, Does, Next, Task, Todo, User, line_of, task
+from ..nexts import Answer, Command, Does, Next, Phrase, Task, Todo, User, line_of, task
 from ..terminal import text_of, word
 
 # the file that a command makes, in its new folder
@@ -24,7 +24,7 @@ class Makes(NamedTuple):
     """A text for a shell that makes {copy} of the file {}, and what it is an answer to."""
 
     shell: str
-    does: Does = Does.RUN
+    does: Phrase = Does.RUN
     # Debian's package, if it has another name than the program
     package: str = ""
     # whether it makes a folder, with all that the file holds
@@ -37,7 +37,7 @@ class Looks(NamedTuple):
     """A text for a shell by which a human finds out what the file {} is."""
 
     shell: str
-    does: Does = Does.FIND_OUT
+    does: Phrase = Does.FIND_OUT
 
 
 # what is to be done with a file of a kind, whatever its name is

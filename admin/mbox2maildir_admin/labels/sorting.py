@@ -9,7 +9,7 @@ from ..faults import Left, Reason
 from ..flags.clients import GMAIL, Kept
 from ..flags.gmail import ARCHIVE, ORDER, Own, letters_by, own_names
 from ..maildir.folders import INBOX, folder_of, on_disk, why_no_folder
-from ..nexts import Does
+from ..nexts import Does, Phrase
 from ..terminal import named
 from .choosing import FOLDER, NONE, ONE, READ, SOME, Choosing
 from .fields import field_of, labels_of
@@ -28,7 +28,7 @@ Places = Sequence[int]
 class LabelsLeft(Left):
     """Why nobody can sort a Takeout, and what a human may say about that."""
 
-    def __init__(self, why: str, *says: tuple[Choosing, Does]) -> None:
+    def __init__(self, why: str, *says: tuple[Choosing, Phrase]) -> None:
         super().__init__(why, Reason.LABELS)
         self.says = says
 

@@ -16,7 +16,7 @@ from .. import ADMIN
 from ..faults import Left, Reason
 from ..looks import is_folder, is_there, may_be
 from ..mbox.files import BLOCK
-from ..nexts import Remark, Todo, task
+from ..nexts import Phrase, Remark, Todo, task
 from ..signals import INTERRUPTS
 from ..terminal import is_text, named
 from .files import changed_at, paths_of
@@ -180,7 +180,7 @@ class Doubt(NamedTuple):
     """Why a sync of a folder may not reach the disk and, if it is known that it does not, what to do."""
 
     why: str
-    instead: Optional[Todo] = None
+    instead: Optional[Phrase] = None
 
 
 class Mount(NamedTuple):

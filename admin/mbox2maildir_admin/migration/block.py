@@ -4,7 +4,7 @@ from collections.abc import Iterable, Iterator, Sequence
 from typing import NamedTuple, Optional
 
 from .. import ADMIN
-from ..faults import Reason
+from ..faults import REASONS, Reason
 from ..maildir.folders import folder_shown
 from ..mbox.lines import AROUND
 from ..meanings import ITS_COMMAND, REMARKS, remark_of, to_do
@@ -72,22 +72,14 @@ def detail_of(row: Row) -> str:
     return ": ".join(filter(None, [*several, *(line or [says])]))
 
 
-class Decided(NamedTuple):
+def decided(answer: Answer) -> tuple[str, bool, str]:
     """What an answer decides that serves other mailboxes too: the format, whether deleted mail is left out, and its
-    tie."""
-
-    word: str = ""
-    drop: bool = False
-    tie: str = ""
-
-
-def decided(answer: Answer) -> Decided:
-    """What an answer decides; nothing if it names lines."""
+    tie. It is nothing if the answer names lines."""
     words = answer.command.words
     if {"--text", "--begin"} & set(words):
-        return Decided()
+        return "", False, ""
     word, tie = (words[words.index(name) + 1] if name in words else "" for name in ("--as", "--of"))
-    return Decided(word, "--drop-deleted" in words, tie)
+    return word, "--drop-deleted" in words, tie
 
 
 class Group:
@@ -126,10 +118,10 @@ class Group:
         row, count = self.rows[0], sum(len(one.rows) for one in (self, *self.others))
         several = "%d mailbox%s" % (count, "" if count == 1 else "es")
         if not row.left_for:
-            says = " ".join(REMARKS[one.word][1] for one in row.remarks)
+            says = " ".join(REMARKS[one.word] for one in row.remarks)
             return (
                 "not whole: " + several
-                if row.fate is Fate.NOT_WHOLE
+                if row.fate == Fate.NOT_WHOLE
                 else ("look at: %s: %s" % (several, says)).rstrip(": ")
             )
         if any(one.does in ON_LINES for one in self.answers):
@@ -148,11 +140,11 @@ class Group:
             yield BELOW + "if none of them holds mail, pass over all of them:"
             yield COMMAND + typed.command(self.no_mail()).line()
         answers = list(zip(*map(answers_of, self.rows)))
-        if all(decided(one).tie for several in answers for one in several):
+        if all(decided(one)[2] for several in answers for one in several):
             users = [one.user for one in self.rows if one.user is not None]
             for several in answers:
                 word, drop, _ = decided(several[0])
-                ties = ",".join(dict.fromkeys(decided(one).tie for one in several))
+                ties = ",".join(dict.fromkeys(decided(one)[2] for one in several))
                 words = ["--as", word] * bool(word) + ["--drop-deleted"] * drop + ["--of", ties]
                 yield "%s%s:" % (BELOW, together(several).sentence())
                 yield COMMAND + typed.command(words, users).line()
@@ -204,7 +196,7 @@ def groups_of(rows: Iterable[Row]) -> list[Group]:
     groups: dict[str, list[Row]] = {}
     for one in sorted(rows, key=lambda one: (one.user or "", one.path)):
         groups.setdefault(repr(question_of(one)), []).append(one)
-    reasons, below = [*Reason, None], list[Group]()
+    reasons, below = [*REASONS.values(), None], list[Group]()
     for several in sorted(groups.values(), key=lambda several: reasons.index(several[0].left_for)):
         most = MOST_ALIKE if answers_of(several[0]) else len(several)
         for at in range(0, len(several), most):

@@ -24,7 +24,7 @@ from ..maildir.folders import folder_named, folder_path
 from ..mbox.locks import open_mailbox
 from ..mbox.mailbox import Mailbox
 from ..mbox.snapshot import snapshot
-from ..nexts import NOTHING, Answer, Does, Next, Remark
+from ..nexts import NOTHING, Answer, Does, Next, Phrase, Remark
 from ..program import Program
 from ..progress import Spent
 from ..readings.plans import NoMail, NotKnown, OtherKind, Plan, Question, read_begun
@@ -182,7 +182,7 @@ class Migration:
         if ended.batch:
             verified.add(ended.batch)
             ledger.end(ended.batch)
-        self.kept = None if ended.row.fate is Fate.LEFT else ledger
+        self.kept = None if ended.row.fate == Fate.LEFT else ledger
         return ended
 
 
@@ -458,14 +458,14 @@ class Transfer:
                 raise self.left_to_store(LOST % how, Reason.LEDGER, contents, rest)
             self.how = self.how._replace(again=True)
 
-    def left_to_store(self, why: str, reason: Reason, contents: Contents, match: Match) -> Left:
+    def left_to_store(self, why: str, reason: Phrase, contents: Contents, match: Match) -> Left:
         """Why it is left, with the command that stores what is nowhere: without what could not be done besides then."""
         hindrance = self.how.extra.hindrance(self.steps(contents, match))
         stays = self.how.dovecot and not hindrance
         then = self.command(Does.DOUBLES, len(match.need), again=True, dovecot=stays)
         return Left("%s; %s" % (why, hindrance) if hindrance else why, reason, then)
 
-    def command(self, does: Does, messages: Optional[int] = None, **changes: Any) -> Next:
+    def command(self, does: Phrase, messages: Optional[int] = None, **changes: Any) -> Next:
         """The command that migrates this mailbox with these changes of the options, and how many messages it gives."""
         return (Answer(self.how.command(self.root, self.opened, **changes), does, messages),)
 

@@ -1,5 +1,4 @@
 """What became of a mailbox, and who is told of it."""
-import enum
 import functools
 import os
 from collections.abc import Iterator, Sequence
@@ -7,7 +6,7 @@ from typing import NamedTuple, Optional, Union
 
 from ..faults import Fault, Left, Reason, fault_of
 from ..looks import type_at
-from ..nexts import BELOW, NOTHING, Next, Quote, Remark, lines_below
+from ..nexts import BELOW, NOTHING, Next, Phrase, Quote, Remark, lines_below
 from ..progress import Beat, Spent
 from ..readings.plans import Plan
 from ..terminal import named
@@ -18,7 +17,7 @@ BY_NO_MAIL = Remark("by-no-mail", "by --no-mail")
 BY_RECORD = Remark("no-mail-noted", "by migrate --no-mail")
 
 
-class Fate(enum.Enum):
+class Fate:
     """What became of a mailbox, in the words of its row."""
 
     DONE = "done"
@@ -39,6 +38,9 @@ class Fate(enum.Enum):
     NOT_WHOLE = "not whole"
     NO_MAIL = "no mail"
     LEFT = "left"
+
+
+FATES: list[str] = [fate for name, fate in vars(Fate).items() if name.isupper()]
 
 
 class Detail(NamedTuple):
@@ -69,10 +71,10 @@ class Row(NamedTuple):
     # what it is, and how many messages it has, if that is known
     kind: str
     messages: Optional[int]
-    fate: Fate
+    fate: str
     # why it is left, as a sentence and as a word, if it is
     why: str = ""
-    reason: Optional[Reason] = None
+    reason: Optional[Phrase] = None
     # how many bytes it has, if that is known
     size: Optional[int] = None
     # what else is to be said of it, the lines of mail that are shown, and what is to be done next
@@ -115,9 +117,9 @@ class Row(NamedTuple):
         yield from lines_below(self.quotes, self.next)
 
     @property
-    def left_for(self) -> Optional[Reason]:
+    def left_for(self) -> Optional[Phrase]:
         """Why it is left, if it is."""
-        return (self.reason or Reason.OTHER) if self.fate is Fate.LEFT else None
+        return (self.reason or Reason.OTHER) if self.fate == Fate.LEFT else None
 
     @property
     def word(self) -> str:

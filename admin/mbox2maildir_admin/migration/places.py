@@ -15,7 +15,7 @@ from ..looks import is_file
 from ..maildir.files import names_of
 from ..maildir.folders import COPY, INBOX, folder_named, folder_path, words_of
 from ..maildir.disk import SyncOne
-from ..nexts import Answer, Command, Does, Next, Todo, in_shell, line_of, run_next, task
+from ..nexts import Answer, Command, Does, Next, Phrase, Todo, in_shell, line_of, run_next, task
 from ..readings.copies import COMPRESSED
 from ..readings.reading import UNDECIDED, Reading
 from ..readings.texts import is_mbox
@@ -54,7 +54,7 @@ class Planned(NamedTuple):
         return folder_path(maildir, self.folder)
 
     @property
-    def reason(self) -> Optional[Reason]:
+    def reason(self) -> Optional[Phrase]:
         """Why it goes nowhere, as a word."""
         return self.why.reason if self.why else None
 

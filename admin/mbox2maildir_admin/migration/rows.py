@@ -7,15 +7,15 @@ from types import MappingProxyType
 from typing import NamedTuple, Optional, Protocol
 
 from .. import ADMIN
-from ..faults import Reason, Status
+from ..faults import Status
 from ..maildir.folders import folder_shown
-from ..meanings import Weight, weight_of
-from ..nexts import COMMAND, lines_below
+from ..meanings import COUNTED, LOOK
+from ..nexts import COMMAND, Phrase, lines_below
 from ..progress import AtWork, Estimate, Progress, Task, duration, length
 from ..terminal import LINE, complain, flush, named, put
 from ..units import WAITING, counted
 from .block import Typed, groups_of
-from .outcomes import Fate, Observer, Row
+from .outcomes import FATES, Fate, Observer, Row
 
 # the mailboxes whose messages and bytes are summed up
 SUMMED = (
@@ -64,7 +64,7 @@ class Kept:
     def __init__(self) -> None:
         self.rows: list[Row] = []
         self.noted: collections.Counter[str] = collections.Counter()
-        self.users: dict[str, collections.Counter[Fate]] = {}
+        self.users: dict[str, collections.Counter[str]] = {}
         self.ties: set[str] = set()
 
 
@@ -81,15 +81,15 @@ class Reporter(Observer):
         self.shows = shows
         self.kept = Kept()
         self.clock, self.start = clock, clock()
-        self.counts: collections.Counter[Fate] = collections.Counter()
+        self.counts: collections.Counter[str] = collections.Counter()
         # of the mailboxes that are left
-        self.reasons: collections.Counter[Reason] = collections.Counter()
+        self.reasons: collections.Counter[Phrase] = collections.Counter()
         # how many mailboxes are not whole, by the words for why
         self.faults: collections.Counter[str] = collections.Counter()
         # how many messages and bytes the mailboxes have, by what became of these; and how many messages were there
         # already
-        self.messages: collections.Counter[Fate] = collections.Counter()
-        self.sizes: collections.Counter[Fate] = collections.Counter()
+        self.messages: collections.Counter[str] = collections.Counter()
+        self.sizes: collections.Counter[str] = collections.Counter()
         self.there = 0
         # how many messages stand in mailboxes although they were deleted or changed in the Maildir, by these words
         self.stand: collections.Counter[str] = collections.Counter()
@@ -138,7 +138,7 @@ class Reporter(Observer):
         self.kept.ties.add(row.tie)
         if row.left_for:
             self.reasons[row.left_for] += 1
-        if row.fate is Fate.NOT_WHOLE:
+        if row.fate == Fate.NOT_WHOLE:
             self.faults.update(one.word for one in with_looks(row).remarks)
         for remark in row.remarks:
             self.stand[remark.word] += remark.stands
@@ -165,8 +165,8 @@ class Reporter(Observer):
             if self.shows.whole(row):
                 self.put_row(row)
             return
-        if row.fate is not Fate.LEFT:
-            self.kept.noted.update({one.word for one in row.remarks if weight_of(one.word) is Weight.COUNT})
+        if row.fate != Fate.LEFT:
+            self.kept.noted.update({one.word for one in row.remarks if one.word in COUNTED})
         row = with_looks(row)
         if self.shows.is_of_users:
             self.kept.users.setdefault(row.user or "", collections.Counter())[row.fate] += 1
@@ -175,7 +175,7 @@ class Reporter(Observer):
             return
         elif row.fate not in WRONG and row.is_changed():
             self.put_row(row._replace(kind="", remarks=(), quotes=(), next=()))
-        if (row.fate in WRONG or row.remarks or row.next) and row.fate is not Fate.NO_MAIL:
+        if (row.fate in WRONG or row.remarks or row.next) and row.fate != Fate.NO_MAIL:
             self.kept.rows.append(row)
 
     def ended(self, user: str) -> None:
@@ -193,7 +193,7 @@ class Reporter(Observer):
             put(line)
         flush()
 
-    def end(self, *more: str) -> Status:
+    def end(self, *more: str) -> int:
         """Prints the sums, and what else is to be said with them. Returns the status: all is well if there was a
         mailbox, and nothing is left."""
         LINE.clear()
@@ -210,8 +210,7 @@ class Reporter(Observer):
         has_mailbox = sum(self.counts.values()) > self.counts[Fate.NO_MAIL]
         if not (has_mailbox and all(written)) or self.counts[Fate.NOT_WHOLE]:
             return Status.LEFT
-        statuses = {reason.status for reason in self.reasons.elements()}
-        return Status.LEFT if Status.LEFT in statuses else max(statuses, default=Status.WELL)
+        return Status.after(self.reasons)
 
     def work(self) -> list[str]:
         """How much was done, would be done, or was checked, and in which time; nothing if there was no mailbox."""
@@ -223,7 +222,7 @@ class Reporter(Observer):
         last = self.last_pass()
         return [work, *(["a last pass would now take some %s" % duration(math.ceil(last))] if last is not None else [])]
 
-    def amounts(self, *fates: Fate) -> tuple[int, int]:
+    def amounts(self, *fates: str) -> tuple[int, int]:
         """How many messages and bytes the mailboxes have of which this became."""
         return sum(self.messages[fate] for fate in fates), sum(self.sizes[fate] for fate in fates)
 
@@ -261,28 +260,28 @@ def line_of(row: Row) -> str:
     became of it, and what is said of it."""
     names = [row.label, folder_shown(row.folder) if row.folder else ""]
     way = " -> ".join(filter(None, reversed(names) if row.is_back else names))
-    count = "" if row.messages is None or row.fate is Fate.BEFORE else "messages %d" % row.messages
+    count = "" if row.messages is None or row.fate == Fate.BEFORE else "messages %d" % row.messages
     count += " to %d" % row.most if count and row.most is not None and row.most != row.messages else ""
     what = ", ".join(filter(None, [row.kind, count]))
-    if row.fate is Fate.FOUND:
+    if row.fate == Fate.FOUND:
         return ": ".join(filter(None, [way, what, row.says]))
-    fate, sign = ("%s (%s)" % (row.fate.value, row.word), ": ") if row.word else (row.fate.value, ", ")
+    fate, sign = ("%s (%s)" % (row.fate, row.word), ": ") if row.word else (row.fate, ", ")
     return ": ".join(filter(None, [way, what, fate + (sign + row.says if row.says else "")]))
 
 
 def with_looks(row: Row) -> Row:
     """A row with only that which asks for a look."""
-    sorts = {one.word for one in row.remarks if weight_of(one.word) is not Weight.LOOK}
+    sorts = {one.word for one in row.remarks if one.word not in LOOK}
     remarks = tuple(one for one in row.remarks if one.word not in sorts)
     return row._replace(remarks=remarks, details=tuple(one for one in row.details if one.word not in sorts))
 
 
-def sums_of(counts: collections.Counter[Fate], faults: Mapping[str, int] = MappingProxyType({})) -> list[str]:
+def sums_of(counts: collections.Counter[str], faults: Mapping[str, int] = MappingProxyType({})) -> list[str]:
     """How many mailboxes there are, by their fates and by why they are not whole, and how many other files."""
     others = counts[Fate.NO_MAIL]
     whys = {Fate.NOT_WHOLE: " (%s)" % ", ".join("%d %s" % (count, word) for word, count in sorted(faults.items()))}
-    mail = [fate for fate in Fate if counts[fate] and fate != Fate.NO_MAIL]
-    parts = ["%d %s%s" % (counts[fate], fate.value, whys.get(fate, "")) for fate in mail]
+    mail = [fate for fate in FATES if counts[fate] and fate != Fate.NO_MAIL]
+    parts = ["%d %s%s" % (counts[fate], fate, whys.get(fate, "")) for fate in mail]
     total = sum(counts.values()) - others
     sums = ["%d mailbox%s: %s" % (total, "" if total == 1 else "es", ", ".join(parts)) if total else "no mailboxes"]
     return sums + ["%s: no mail" % counted(others, "other file")] * bool(others)

@@ -2,13 +2,13 @@
 from collections.abc import Callable, Mapping, Sequence
 from typing import Any, NamedTuple, Optional, Union
 
-from ..faults import Reason
+from ..faults import REASONS
 from ..jobs.crew import spelled
 from ..kinds.making import with_aside
 from ..meanings import REMARKS
-from ..nexts import WITH_FILES, Answer, Command, Does, Next, Task, Todo, task
+from ..nexts import DOES, TODOS, WITH_FILES, Answer, Command, Does, Next, Phrase, Task, Todo, task
 from ..terminal import shown
-from .outcomes import Fate, Row
+from .outcomes import FATES, Row
 
 # how long a line of a child may be, in bytes
 LONGEST = 1 << 16
@@ -45,7 +45,10 @@ def row_of(words: Mapping[str, Any], whose: Optional[Whose] = None) -> Row:
     """Reads a row that a process told, which may be that of a user. Root itself knows which way mail goes then, and
     whose it is. Raises an error of Python's if it is no row."""
     row = Row(**{name: list(one) if name == "next" else value_of(KINDS[name], one) for name, one in words.items()})
-    if not {*(one.word for one in row.remarks), *(one.word for one in row.details if one.word)} <= REMARKS.keys():
+    if (
+        not {*(one.word for one in row.remarks), *(one.word for one in row.details if one.word)} <= REMARKS.keys()
+        or row.fate not in FATES
+    ):
         raise ValueError("no word")
     row = row._replace(next=next_of(row.next, row.path, whose))
     return row._replace(is_back=whose.is_back, user=whose.name) if whose else row
@@ -78,9 +81,9 @@ def step_of(words: Sequence[Any], path: bytes, whose: Optional[Whose]) -> Union[
     what, *rest = words
     if isinstance(what, str):
         names, user = rest
-        return task_of(Todo.by(what), names, user, path, whose)
+        return task_of(TODOS[what], names, user, path, whose)
     (argv, shell, user), (word, messages) = what, rest
-    does, count = Does.by(word), value_of(Optional[int], messages)
+    does, count = DOES[word], value_of(Optional[int], messages)
     if bool(argv) == bool(shell):
         raise ValueError("no command")
     command = Command(tuple(map(name_in, argv)), name_in(shell), whose.user if whose else user)
@@ -88,7 +91,7 @@ def step_of(words: Sequence[Any], path: bytes, whose: Optional[Whose]) -> Union[
     return Answer(with_aside(command, mailbox) if mailbox else command, does, count)
 
 
-def task_of(todo: Todo, names: list[str], user: Optional[str], path: bytes, whose: Optional[Whose]) -> Task:
+def task_of(todo: Phrase, names: list[str], user: Optional[str], path: bytes, whose: Optional[Whose]) -> Task:
     """Reads a task for a path that a process told. What is done with files of a user is done as that user, but only
     root can move what is in the spool."""
     if whose:
@@ -124,5 +127,5 @@ def bytes_of(name: str) -> bytes:
 KINDS = Row.__annotations__
 READS: Mapping[Any, Callable[[Any], Any]] = {
     **{str: shown, bytes: bytes_of, int: number_of, bool: lambda value: value is True},
-    **{Fate: Fate, Reason: Reason.by},
+    **{Phrase: REASONS.__getitem__},
 }

@@ -8,7 +8,7 @@ from ..kinds.making import Recipe, Where, beside
 from ..kinds.others import Holds
 from ..mbox.lines import Lines, Reasons, Said, cut, lines_around
 from ..mbox.mailbox import Mailbox
-from ..nexts import Answer, Command, Does, Next, Quote, Remark
+from ..nexts import Answer, Command, Does, Next, Phrase, Quote, Remark
 from ..terminal import NAMED
 from ..units import Line, Offset, counted
 from .quoting import Quoter, measured
@@ -56,7 +56,7 @@ class Choosable(NamedTuple):
 
     decision: Reading
     messages: int
-    does: Does = Does.RUN
+    does: Phrase = Does.RUN
 
     def meant(self, answers: Sequence["Choosable"]) -> "Choosable":
         """The same, with what it says of the mail: of two answers about lines, the one with more messages says that
@@ -88,7 +88,7 @@ class NoMail(Left):
 class OtherKind(Left):
     """A file that is not mbox text: what is said of it, and what to do next."""
 
-    def __init__(self, path: bytes, says: Optional[Said], recipe: Recipe, reason: Reason, kind: str) -> None:
+    def __init__(self, path: bytes, says: Optional[Said], recipe: Recipe, reason: Phrase, kind: str) -> None:
         quote = says.quote() if says else None
         super().__init__(says.sentence() if says else "", reason, quotes=[quote] if quote else [])
         self.path, self.recipe, self.kind = path, recipe, kind

@@ -47,7 +47,7 @@ class TakeoutUndo(Undo):
                 line, is_left, count = line_of(self.record, mailbox), False, 0
                 for opened in self.folders_of(Opened(mailbox, b"", b""), line):
                     row = self.row_of(opened)
-                    is_left, count = is_left or row.fate is Fate.LEFT, count + 1
+                    is_left, count = is_left or row.fate == Fate.LEFT, count + 1
                     yield row
                 if line and not is_left and not self.options.dry:
                     note_nothing(self.record, line)

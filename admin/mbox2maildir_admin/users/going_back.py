@@ -77,7 +77,7 @@ def is_bare(path: bytes) -> bool:
         return False
     tree = Tree(path).read()
     is_left = tree.mailboxes() or tree.links or tree.maildirs
-    return not is_left and all(row.fate is Fate.NO_MAIL for row in tree.rows)
+    return not is_left and all(row.fate == Fate.NO_MAIL for row in tree.rows)
 
 
 def has_own_names(root: bytes) -> bool:

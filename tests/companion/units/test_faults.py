@@ -4,11 +4,12 @@ import os
 import unittest
 from typing import Union
 
-from mbox2maildir_admin.faults import Fault, Left, PlaceFault, Reason, fault_of
+from mbox2maildir_admin.faults import REASONS, Fault, Left, PlaceFault, Reason, fault_of
+from mbox2maildir_admin.nexts import Phrase
 
 OF_BOX = FileNotFoundError(2, "No such file or directory", b"box")
 # a fault; its word if it came up with the file `box`; and what is said of it
-FAULTS: list[tuple[Union[Fault, OSError], Reason, str]] = [
+FAULTS: list[tuple[Union[Fault, OSError], Phrase, str]] = [
     (Left("why"), Reason.OTHER, "why"),
     (Fault("why", Reason.NO_FILE), Reason.NO_FILE, "why"),
     (PlaceFault("other: full", Reason.NOT_OWN), Reason.NOT_OWN, "other: full"),
@@ -28,10 +29,9 @@ class FaultsTest(unittest.TestCase):
             self.assertEqual((fault.reason, str(fault)), (reason, says), error)
 
     def test_each_reason_has_a_word_and_a_sentence(self) -> None:
-        self.assertEqual(len({reason.word for reason in Reason}), len(Reason))
-        for reason in Reason:
+        self.assertEqual([one for name, one in vars(Reason).items() if name.isupper()], list(REASONS.values()))
+        for reason in REASONS.values():
             self.assertRegex("%s: %s" % (reason.word, reason.says), r"\A[a-z][a-z-]*: [A-Z][^|]*\.\Z")
-            self.assertIs(Reason.by(reason.word), reason)
 
 
 if __name__ == "__main__":

@@ -3,7 +3,7 @@ import shlex
 import unittest
 from typing import Any
 
-from mbox2maildir_admin.nexts import NOTHING, Answer, Command, Does, Next, Quote, Task, Todo
+from mbox2maildir_admin.nexts import DOES, NOTHING, TODOS, Answer, Command, Does, Next, Quote, Task, Todo
 from mbox2maildir_admin.nexts import in_shell, lines_below, objects_of, run_next, task
 
 MOVE, SHELL = "cd 'a b' && rm c", "sh -c " + shlex.quote("cd 'a b' && rm c")
@@ -75,9 +75,9 @@ class NextsTest(unittest.TestCase):
 
     def test_words(self) -> None:
         """Each word stands for one sentence, and is found again."""
-        for kind in (Does, Todo):
-            self.assertEqual([kind.by(one.word) for one in kind], list(kind))
-            self.assertRaises(ValueError, kind.by, "no word")
+        for names, phrases in ((Does, DOES), (Todo, TODOS)):
+            self.assertEqual([one for name, one in vars(names).items() if name.isupper()], list(phrases.values()))
+            self.assertEqual([one.word for one in phrases.values()], list(phrases))
 
 
 if __name__ == "__main__":
