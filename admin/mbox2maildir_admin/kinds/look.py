@@ -21,7 +21,7 @@ from .doubts import CUT, DELETED, Doubts
 from .marks import ADDRESS, is_after_blank, joins_in, may_be_mail
 from .sorts import AGAINST, DOUBTFUL, KEEPING, MAY_BE_MAIL, SAID, WITHIN
 from .starts import FIELD, end_of_row
-from .undated import ending_of, shape_of
+from .undated import Ending, ending_of, shape_of
 
 GIT = re.compile(rb"From [0-9a-f]{40,64} Mon Sep 17 00:00:00 2001\r?\Z")
 # what the header of a message has of which something is to be said, in lower case
@@ -58,9 +58,7 @@ class Look:
         # the messages with right lengths, by their offsets, that have a line `>From `, and those that have a line
         # `From ` after a blank one, so that no program has escaped it
         self.with_quotes, self.unescaped = set[int](), set[int]()
-        # what the first From_ line looks like without a date, and in what all of them end, if none has one
-        first = mailbox.at(start, LONG).split(b"\n")[0]
-        self.shape, self.ending = shape_of(first), ending_of(first)
+        self.first_line = mailbox.at(start, LONG).split(b"\n")[0]
         # whether the length of the last message says that something is missing, and whether all was looked at
         self.is_cut = self.is_whole = False
 
@@ -90,7 +88,6 @@ class Look:
         have_dates = self.count("dated") > 0
         self.seen["doubtful" if have_dates else "undated"].take(self.seen.pop("like the first", Lines()))
         self.doubts.end(have_dates, self.are_deleted())
-        self.ending = None if have_dates else self.ending
         self.mailbox.check()
         self.is_whole = True
 
@@ -216,6 +213,16 @@ class Look:
             self.seen["wrong"].add(header.offset + header.place(b"content-length"), b"Content-Length: " + length)
         elif not (self.internal and piece.offset == self.start):
             self.without = True
+
+    @functools.cached_property
+    def shape(self) -> tuple[bytes, ...]:
+        """What the first From_ line looks like without a date."""
+        return shape_of(self.first_line)
+
+    @property
+    def ending(self) -> Optional[Ending]:
+        """In what the From_ lines end, if none has a date as most have it."""
+        return None if self.count("dated") else ending_of(self.first_line)
 
     def have_lengths(self) -> bool:
         """Whether each message has a right length, except the one by which Dovecot keeps an empty mailbox."""

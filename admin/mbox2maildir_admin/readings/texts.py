@@ -221,8 +221,8 @@ def choice_of(
 ) -> Iterator[Choice]:
     """Chooses the text that stands for a mailbox. Raises Left if something would be a guess that is not decided. What a
     packed mailbox holds is unpacked on the disk of a folder."""
-    form = form_of(mailbox)
     with content_of(mailbox, folder) as text:
+        form = form_of(mailbox) if text is not mailbox else None
         plan = plan_of_packed(text, form, read, decision) if form else plan_of(text, read, decision)
         yield Choice(text, plan, form is not None)
 
