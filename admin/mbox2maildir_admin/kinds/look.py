@@ -182,9 +182,10 @@ class Look:
             self.seen["CR LF"].add(piece.offset, from_line[:-1])
         if GIT.match(from_line):
             self.seen["git"].add(piece.offset)
-        end, body = header_of(piece.data, piece.body)
+        begin = piece.body
+        end, body = header_of(piece.data, begin)
         self.claimed, self.claimed_by, self.body, self.is_cut = 0, piece.offset, piece.offset + body, False
-        lower = piece.data[piece.body : end].lower()
+        lower = piece.data[begin:end].lower()
         # most mail has nothing of it
         if any(map(lower.__contains__, LOOKED_AT)):
             self.header(Header.of(piece), piece)

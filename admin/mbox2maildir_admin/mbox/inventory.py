@@ -80,14 +80,15 @@ class Begun:
 
     def take(self, piece: Piece) -> None:
         """Takes a piece. Of a quoted line the first `>` is left out, and of the message the blank line at its end."""
-        mail, count = piece.data[piece.body :], 0
+        body, count = piece.body, 0
+        mail = piece.data[body:]
         is_blank = piece.ends and (mail == b"\n" or mail.endswith(b"\n\n"))
         mail = mail[:-1] if is_blank else mail
         if piece.has_quote:
             mail, count = FIRST_QUOTE.subn(b"\n", b"\n" + mail)
             mail = mail[1:]
         self.digests.take(mail, piece.field)
-        self.unquoted, self.read = self.unquoted + count, self.read + piece.body + len(mail) + count + is_blank
+        self.unquoted, self.read = self.unquoted + count, self.read + body + len(mail) + count + is_blank
 
     def message(self) -> Message:
         """The whole message."""
