@@ -69,7 +69,7 @@ def carry_out(steps: Steps, program: Program) -> tuple[int, list[Remark]]:
     """Does what was planned. Returns the number of its batch in the ledger, 0 if the mail stays only prepared, and what
     else is to be said. Raises Left if something fails, or is not as it was any more."""
     prepared, first, said = steps.prepared, steps.first_pass, list[Remark]()
-    if prepared and not steps.again:
+    if prepared:
         edited = prepared.remove()
         said += [Remark("kept-edited", KEPT % counted(edited, "file"))] * bool(edited)
     batch = begin(steps)
@@ -92,7 +92,7 @@ def carry_out(steps: Steps, program: Program) -> tuple[int, list[Remark]]:
 def begin(steps: Steps) -> int:
     """Notes what is going to be there: in the list of what is only prepared, of which it becomes a part and, unless it
     stays so, in the ledger. Returns the number of the batch there."""
-    known, contents, prepared = steps.known, steps.contents, None if steps.again else steps.prepared
+    known, contents, prepared = steps.known, steps.contents, steps.prepared
     record, ledger, opened, mailbox = known.record, known.ledger, known.opened, known.opened.mailbox
     if prepared:
         record.make()

@@ -364,7 +364,9 @@ class Transfer:
 
     def steps(self, contents: Contents, match: Match) -> Steps:
         """What is to be done by what was found of the messages, as far as that alone decides it."""
-        return Steps.of(self.known, contents, match, self.how.again, self.prepared)
+        # with --again, what was prepared stays as it is
+        prepared = None if self.how.again else self.prepared
+        return Steps.of(self.known, contents, match, self.how.again, prepared)
 
     def planned(self, choice: Choice, contents: Contents, match: Match) -> Steps:
         """What is to be done. Raises Left if it cannot be, with the command that does what can."""

@@ -112,8 +112,8 @@ class Steps(NamedTuple):
     begun_at: int
     # whether all that is nowhere is placed
     again: bool = False
-    # what was only prepared in the folder; what is read, if its list does not have that; and what the list says in the
-    # end, if mail stays only prepared
+    # what was only prepared in the folder, unless it stays as it is; what is read, if its list does not have that; and
+    # what the list says in the end, if mail stays only prepared
     prepared: Optional[Prepared] = None
     origin: Optional[Origin] = None
     first_pass: Optional[FirstPass] = None
@@ -151,7 +151,7 @@ class Steps(NamedTuple):
 
     def is_unread(self, place: Place) -> bool:
         """Whether nobody but this program has given the file of a message its name."""
-        at = None if self.again else self.place_prepared(place)
+        at = self.place_prepared(place)
         return self.is_placed(place) or self.prepared is not None and at is not None and bool(self.prepared.files[at])
 
     def place_prepared(self, place: Place) -> Optional[int]:
