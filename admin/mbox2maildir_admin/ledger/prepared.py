@@ -358,16 +358,13 @@ class Prepared:
             if place is None:
                 continue
             state = os.lstat(path)
-            if not self.is_right(place, path, state) or state.st_uid != owner or self.files[place]:
+            is_right = facts_of(state) == self.facts_at(place) or digest_of(path)[0] == self.table.digest(place)
+            if not is_right or state.st_uid != owner or self.files[place]:
                 self.edited.add(path)
             else:
                 self.files[place] = OURS
                 self.set_facts(place, facts_of(state))
         self.verified, self.noted.looking = self.files[:], milliseconds_since(began)
-
-    def is_right(self, place: int, path: bytes, state: os.stat_result) -> bool:
-        """Whether a file of this state has the facts of the list or, if it has others, the bytes of its base."""
-        return facts_of(state) == self.facts_at(place) or digest_of(path)[0] == self.table.digest(place)
 
     def inventory(self, end: int) -> Optional[Inventory]:
         """The messages of the text, which has this end, if all are noted, and the folder has their files, as the last
@@ -409,7 +406,8 @@ class Prepared:
             place = self.table.place_of(own_base_in(name))
             if place is None or self.files[place] != OURS or self.wanted[place]:
                 continue
-            if self.is_right(place, path, os.lstat(path)):
+            # a file with other facts may be a second copy
+            if facts_of(os.lstat(path)) == self.facts_at(place):
                 os.unlink(path)
             else:
                 self.edited.add(path)
