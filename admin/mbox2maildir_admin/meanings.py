@@ -147,7 +147,7 @@ COUNTED = {
     " of mail with a length, if Dovecot or procmail delivered it. --as unquoted keeps that of git's patches.",
     "lost": "Mail that it brought is no longer in it, or was edited there. It stays in the Maildir.",
     "marked": "Mail was placed beside a file of it that is marked as deleted.",
-    "name-before": "The folder had another name in Dovecot, which a Maildir cannot have.",
+    "name-before": "If Dovecot served the mailbox, its folder had another name, which a Maildir cannot have.",
     "new-uids": "Some messages have new UIDs: clients fetch them again.",
     "no-uids": "No IMAP client has seen it so far, so there are no UIDs to keep.",
     "old-lock": "A lock that nobody holds any more was passed over.",

@@ -24,6 +24,8 @@ SUMMED = (
 )
 # the fates of mailboxes of which something is to be done
 WRONG = Fate.LEFT, Fate.NOT_WHOLE
+# those of an undo, which is of one mailbox: of each of its folders
+UNDONE = Fate.UNDONE, Fate.WOULD_UNDO
 # what the last line says if not all mailboxes were looked at
 INTERRUPTED = "interrupted: run the same command again"
 REHEARSAL = "a rehearsal: nothing was written; the commands above write once --dry-run is left out"
@@ -158,7 +160,7 @@ class Reporter(Observer):
 
     def print_row(self, row: Row) -> None:
         """Prints what became of a mailbox, unless it is only counted. What is left, and what asks for a look, is kept
-        for the last block, but for that of a single mailbox."""
+        for the last block, but for that of a single mailbox, and for what an undo of its folders removed."""
         if self.shows.is_silent:
             return
         if self.shows.whole:
@@ -170,7 +172,7 @@ class Reporter(Observer):
         row = with_looks(row)
         if self.shows.is_of_users:
             self.kept.users.setdefault(row.user or "", collections.Counter())[row.fate] += 1
-        elif self.total == 1 and row.is_said():
+        elif (self.total == 1 or row.fate in UNDONE) and row.is_said():
             self.put_row(row)
             return
         elif row.fate not in WRONG and row.is_changed():
