@@ -208,6 +208,21 @@ def of_numbers(home: Path) -> None:
         shutil.rmtree(home / "M", ignore_errors=True)
 
 
+def of_lines_that_differ(home: Path) -> None:
+    """If one doubtful line is text, and another begins a message, `--text` is added to a printed command. It is printed
+    with the tie that it needs; one that names other lines is not."""
+    pasted = b"From boris@example.com\nSubject: pasted\n\nhello\n\n"
+    begun = A + b"\n"
+    mailbox(home / "box", begun + pasted + b"From carl@example.com\nSubject: two\n\nyes\n\n" + B + b"\n")
+    tie = tie_in(answers_in(["migrate", "--now", "M", "box"], home)[-1][0])
+    for line, counts in ((1, []), (begun.count(b"\n") + 1, [3])):
+        words = ["migrate", "--now", "--as", "mboxrd", "--text", str(line), "--of", tie, "M", "box"]
+        own = [one for one in answers_in(words, home) if f" --text {line} " in one[0]]
+        equal(f"--text {line}: messages", [count for _, count in own], counts)
+    status, said, _ = run_printed(own[0][0], home)
+    equal(said, (status, len(list(mail_in(home / "M")))), (0, 3))
+
+
 def notes_in(home: Path) -> list[str]:
     """What the record notes of answers: the words after the path, and which mailbox each is of."""
     lines = (home / "M/mbox2maildir-record").read_text().splitlines()
@@ -463,6 +478,7 @@ if __name__ == "__main__":
         after_a_rehearsal,
         of_what_was_shown,
         of_numbers,
+        of_lines_that_differ,
         without_asking_again,
         after_an_undo,
         that_leaves_no_message,

@@ -182,11 +182,13 @@ def question_of_new(verdict: Verdict, noted: Reading, new: Sequence[tuple[Line, 
 def want_tied(verdict: Verdict, decision: Reading) -> None:
     """Raises Left if a decision was made about other lines than those that are doubtful now, or names one that is not.
     What is asked now is asked then."""
-    is_same = decision == verdict.tied(decision)
-    if is_same and decision.text | decision.begin <= set(verdict.doubtful()):
+    lines, doubtful = decision.text | decision.begin, set(verdict.doubtful())
+    if lines <= doubtful and decision == verdict.tied(decision):
         return
     if verdict.answers:
-        raise question_of(verdict, ANOTHER_QUESTION)
+        # whoever adds lines to a printed command gets it with the tie that numbers of lines need
+        own = [decision] if lines and lines <= doubtful and decision.of == verdict.tied(UNDECIDED).of else []
+        raise question_of(verdict._replace(answers=(*verdict.answers, *own)), ANOTHER_QUESTION)
     raise Question(ANOTHER_QUESTION, verdict, [], [Choosable(UNDECIDED, verdict.messages or 0)])
 
 
