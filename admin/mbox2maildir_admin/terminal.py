@@ -30,6 +30,11 @@ def text_of(name: Union[bytes, str]) -> str:
     return name if isinstance(name, str) else name.decode("utf-8", "surrogateescape")
 
 
+def bytes_of(text: str) -> bytes:
+    """Returns the bytes of such a text. A letter that stands for no byte raises an error."""
+    return text.encode("utf-8", "surrogateescape")
+
+
 def shown(name: Union[bytes, str]) -> str:
     """Returns a name, or a line of mail, as it is printed: bytes that are no printable character are escaped."""
     text = text_of(name)
@@ -46,7 +51,7 @@ def escaped(letter: str) -> str:
     """Returns a letter as it is printed."""
     if letter.isprintable():
         return letter
-    return "".join("\\x%02x" % byte for byte in letter.encode("utf-8", "surrogateescape"))
+    return "".join("\\x%02x" % byte for byte in bytes_of(letter))
 
 
 def spelled(path: bytes) -> str:
@@ -94,7 +99,7 @@ class StatusLine:
 
     def rewrite(self, line: str) -> None:
         """Overwrites the line."""
-        put_error(("\r\x1b[K" + line).encode("utf-8", "surrogateescape"))
+        put_error(bytes_of("\r\x1b[K" + line))
         self.is_written = bool(line)
 
     def clear(self) -> None:
@@ -125,7 +130,7 @@ def flush() -> None:
 
 def put(line: str) -> None:
     """Prints a line."""
-    write(line.encode("utf-8", "surrogateescape") + b"\n")
+    write(bytes_of(line) + b"\n")
 
 
 def complain(line: str, below: Iterable[str] = ()) -> None:
@@ -133,7 +138,7 @@ def complain(line: str, below: Iterable[str] = ()) -> None:
     flush()
     LINE.clear()
     lines = "".join("%s\n" % one for one in ("%s: %s" % (ADMIN, line), *below))
-    put_error(lines.encode("utf-8", "surrogateescape"))
+    put_error(bytes_of(lines))
 
 
 def put_error(piece: bytes) -> None:

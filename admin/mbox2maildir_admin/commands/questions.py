@@ -15,7 +15,7 @@ from ..migration.rows import Reporter, Run
 from ..nexts import BELOW, Answer, Quote
 from ..progress import say_of
 from ..readings.texts import content_of, disk_of
-from ..terminal import INPUT, complain, flush, has_terminal, put, write
+from ..terminal import INPUT, bytes_of, complain, flush, has_terminal, put, write
 from .options import WrongOptions
 
 # the letters of what is no answer
@@ -164,8 +164,3 @@ def line_typed(prompt: str) -> Optional[str]:
         # the terminal is gone
         return None
     return line.decode("utf-8", "replace").strip()
-
-
-def bytes_of(word: str) -> bytes:
-    """The bytes of a word of a command, whatever the locale."""
-    return word.encode("utf-8", "surrogateescape")

@@ -2,7 +2,7 @@
 
 from typing import NamedTuple
 
-from ..terminal import option
+from ..terminal import bytes_of, option
 
 # a message goes into the folder of each of its labels; the same, however many folders that makes; into one of them
 SOME, ALL, ONE = "", "all", "one"
@@ -29,5 +29,5 @@ class Choosing(NamedTuple):
         """The options, as words of a command."""
         words = ["--labels", *([self.word] if self.word else [])]
         for label, gives in self.given:
-            words += option("--label", ("%s=%s" % (label, gives)).encode("utf-8", "surrogateescape"))
+            words += option("--label", bytes_of("%s=%s" % (label, gives)))
         return words

@@ -7,7 +7,7 @@ from ..jobs.crew import spelled
 from ..kinds.making import with_aside
 from ..meanings import REMARKS
 from ..nexts import DOES, TODOS, WITH_FILES, Answer, Command, Does, Next, Phrase, Task, Todo, task
-from ..terminal import shown
+from ..terminal import bytes_of, shown
 from .outcomes import FATES, Row
 
 # how long a line of a child may be, in bytes
@@ -105,7 +105,7 @@ def task_of(todo: Phrase, names: list[str], user: Optional[str], path: bytes, wh
 
 def name_in(value: str) -> str:
     """Reads a word of a command, or a name. Raises an error if no system takes it."""
-    if b"\0" in value.encode("utf-8", "surrogateescape"):
+    if b"\0" in bytes_of(value):
         raise ValueError("no name")
     return value
 
@@ -116,11 +116,6 @@ def number_of(value: object) -> int:
     if not isinstance(value, int) or not 0 <= value < HIGHEST:
         raise ValueError("no number")
     return value
-
-
-def bytes_of(name: str) -> bytes:
-    """Reads a name. A letter that stands for no byte raises an error."""
-    return name.encode("utf-8", "surrogateescape")
 
 
 # the types of the fields of a row, and how a value of each type is read that has no items

@@ -13,10 +13,10 @@ from ..ledger.record import Record
 from ..maildir.disk import Need, want_room
 from ..progress import amount
 from ..signals import INTERRUPTS
-from ..terminal import complain
+from ..terminal import bytes_of, complain
 from .outcomes import Observer, Outcome, row_left
 from .places import Planned
-from .telling import bytes_of, fields_of, row_of, value_of
+from .telling import fields_of, row_of, value_of
 
 
 class Work(Parent):
