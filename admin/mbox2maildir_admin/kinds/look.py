@@ -92,11 +92,14 @@ class Look:
         self.is_whole = True
 
     def plain(self, piece: Piece, plain: Plain) -> None:
-        """Looks at a plain message, but the first one. It has no length."""
+        """Looks at a plain message, but the first one."""
         self.messages += 1
         self.seen["dated"].count += 1
-        self.claimed, self.claimed_by, self.body = 0, piece.offset, piece.offset + plain.end + 1
-        self.without, self.is_cut = True, False
+        self.claimed, self.claimed_by, self.body, self.is_cut = 0, piece.offset, piece.offset + plain.end + 1, False
+        if plain.has_marks:
+            self.header(Header.of(piece), piece)
+        else:
+            self.without = True
 
     def text(self, piece: Piece) -> None:
         """Looks at lines of mail."""

@@ -57,7 +57,7 @@ def may_hold_mail(from_line: bytes) -> bool:
 def of_plain(piece: Piece, plain: Plain, with_cores: bool) -> Message:
     """The message that a piece is, of which this is known. What several forms of it begin with is hashed once, and
     nothing is copied."""
-    data, (body, end, last, date, bare) = memoryview(piece.data), plain
+    data, (body, end, last, date, bare, _) = memoryview(piece.data), plain
     of_core = of_bare = b""
     if with_cores:
         form = hashlib.sha256(data[body:end] if bare is None else bare)

@@ -18,14 +18,15 @@ GIT, NOTE = (b"Mon Sep 17", b"00", b"00", b"00", b"2001"), b"DON'T DELETE THIS M
 
 
 class Plain(NamedTuple):
-    """Where the header of a plain message begins, where that and the message end, its date, and its header without what
-    programs note, if they noted anything."""
+    """Where the header of a plain message begins, where that and the message end, its date, its header without what
+    programs note, if they noted anything, and whether that is to be looked at."""
 
     body: int
     end: int
     last: int
     date: int
     bare: Optional[bytes]
+    has_marks: bool
 
 
 # a piece of a text, and what is known of it if it is a plain message
@@ -51,8 +52,8 @@ def plain_of(piece: Piece) -> Optional[Plain]:
     if date is None or not end or is_odd:
         return None
     bare, count = NOTED_FIELD.subn(b"", header)
+    if count and len(bare) < 2:
+        return None
     lower = header.lower() if count else b""
     has_marks = b"content-length" in lower or b"x-mozilla-status" in lower or b"x-gm-thrid" in lower
-    if has_marks or count and len(bare) < 2:
-        return None
-    return Plain(body, end, len(data) - data.endswith(b"\n\n"), date, bare[1:] if count else None)
+    return Plain(body, end, len(data) - data.endswith(b"\n\n"), date, bare[1:] if count else None, has_marks)
