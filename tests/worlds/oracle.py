@@ -323,6 +323,8 @@ class Oracle:
 
 
 def numbers_in(row: Row) -> list[int]:
-    """The numbers that a row says, besides those of names."""
+    """The numbers that a row says, besides those of names. One that is left because a message was cut says that it is
+    there twice."""
     text = re.sub(r"[^\s'\"]*/[^\s'\"]*", "", texts_of(Row(row, next=None)))
-    return [int(number) for number in re.findall(r"(?<![\w.])\d+(?![\w.])", text)]
+    numbers = [int(number) for number in re.findall(r"(?<![\w.])\d+(?![\w.])", text)]
+    return [*numbers, *[1] * (row.get("reason") == "cut")]
