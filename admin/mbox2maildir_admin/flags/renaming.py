@@ -67,14 +67,14 @@ def add_flags(
     folder: bytes,
     inventory: Inventory,
     letters: Sequence[str],
-    is_placed: Callable[[Place], bool],
+    is_unread: Callable[[Place], bool],
     listed: Container[Place] = (),
 ) -> None:
-    """Adds the letters of messages to the flags of their files, if they were placed just now or nobody has touched
+    """Adds the letters of messages to the flags of their files, if these were placed just now, or if nobody has touched
     them. A file that is gone by now has been touched. A message that was listed is not new."""
     for file in flagged_in(folder, inventory):
         is_untouched = file.sub == b"new" and file.name == file.base
-        if is_untouched or is_placed(file.place):
+        if is_untouched or is_unread(file.place):
             with contextlib.suppress(FileNotFoundError):
                 file.give(folder, "".join(sorted({*file.letters, *letters[file.place]})), file.place in listed)
     sync_names(folder)

@@ -212,7 +212,7 @@ def want_alone(number: int, folder: bytes, since: int) -> None:
 
 
 def append_to(number: int, path: bytes, lines: Iterable[bytes], sync: bool) -> int:
-    """The same for the open file of a path."""
+    """Appends lines to the open file of a path, as `append` does, and returns its size then."""
     state = os.fstat(number)
     want_trusted(path, state)
     if state.st_size and os.pread(number, 1, state.st_size - 1) != b"\n":

@@ -404,7 +404,7 @@ class Match:
             held = sorted((one.message for one in lines), key=lambda one: (one.bare in forms, one.name in self.present))
             self.dropped += held[:count]
 
-    def count_gone(self) -> int:
+    def count_lost(self) -> int:
         """How many messages the mailbox no longer has that it brought."""
         return sum(self.lost.values()) - sum(self.unlabelled.values())
 

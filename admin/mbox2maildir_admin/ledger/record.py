@@ -282,7 +282,7 @@ class Record(History):
         return list(filter(is_unknown, self.index_of(name)))
 
     def add_entry(self, *entries: Entry) -> None:
-        """The same for lines, at once."""
+        """Appends lines at once, which are on the disk when this returns."""
         if entries:
             self.write(*entries)
         for entry in entries:

@@ -115,7 +115,7 @@ def convert(steps: Steps, program: Program, batch: int) -> int:
     """Converts what is nowhere. Returns how many messages were placed that were not to be: equal ones, which were
     deleted or moved after this run had looked."""
     try:
-        ran = run(steps, program)
+        ran = place_messages(steps, program)
     except Failed as failed:
         raise explained(failed, steps, batch) from failed
     is_whole, need = ran.end == steps.contents.text.end, len(steps.match.need)
@@ -126,7 +126,7 @@ def convert(steps: Steps, program: Program, batch: int) -> int:
     return max(0, ran.placed - need) if is_whole else 0
 
 
-def run(steps: Steps, program: Program) -> Converted:
+def place_messages(steps: Steps, program: Program) -> Converted:
     """Converts what is nowhere, and returns up to where the text was read and how many messages were placed. The
     program gets no message that is there, since that would come back if somebody deletes it now. A copy of what stands
     before messages that are there comes first. In a folder that is prepared, it does not run for nothing: what a killed

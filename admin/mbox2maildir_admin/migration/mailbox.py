@@ -496,7 +496,7 @@ class Transfer:
         if strangers:
             rest = self.matched_again(self.ledger, contents)
             raise self.left_to_store(PARTLY_THERE % len(strangers), Reason.PARTLY_THERE, contents, rest)
-        source, lost = self.ledger.sources.get(self.path), match.count_gone()
+        source, lost = self.ledger.sources.get(self.path), match.count_lost()
         is_much = source is not None and lost > max(FEW, source.count() // TENTH)
         if is_much and match.count_new() >= lost:
             raise Left(EDITED % counted(lost, "message"), Reason.REWRITTEN, self.command(Does.STORES, again=True))

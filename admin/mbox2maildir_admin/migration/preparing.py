@@ -335,8 +335,9 @@ def forget(record: Record, name: bytes, prepared: Prepared) -> None:
 def prepared_in(
     record: Record, how: Options, opened: Opened, ledger: Ledger, verified: Container[int]
 ) -> Optional[Prepared]:
-    """What is only prepared in the folder of a mailbox, or is going to be; None if mail is placed there at once. These
-    batches of the ledger were verified by this run, and their disk is not synced yet."""
+    """What is only prepared in the folder of a mailbox, or is going to be; None if mail is placed there at once. What a
+    killed last pass did there is taken back first, and a list that is over is removed. These batches of the ledger were
+    verified by this run, and their disk is not synced yet."""
     prepared = Prepared.read(opened.folder)
     note_begun(ledger, prepared)
     is_over = prepared.is_there and not is_prepared(record, opened.name, ledger, prepared)

@@ -261,7 +261,7 @@ class Several:
         return ended._replace(row=row)
 
     def run_one(self, one: Planned) -> Outcome:
-        """Migrates a mailbox."""
+        """Migrates a mailbox, unless it may not go into its folder."""
         if self.own and one.folder not in (INBOX, b""):
             try:
                 want_own(one.folder_in(self.migration.root))

@@ -321,7 +321,7 @@ class Extra:
         return self.remarks_on(kept, one) if kept else []
 
     def run(self, one: Steps) -> list[Remark]:
-        """Does it after the dates, before everything is verified. Returns what is to be said of it."""
+        """Does it once all is placed, before files get dates and are verified. Returns what is to be said of it."""
         kept = self.kept(one)
         if not kept:
             return []
@@ -387,7 +387,7 @@ def remarks_on_new(match: Match) -> Iterator[Remark]:
 def remarks_on_lost(match: Match) -> Iterator[Remark]:
     """What is to be said of messages that the mailbox no longer has, and that it brought, also in runs that were
     killed."""
-    unlabelled, lost = sum(match.unlabelled.values()), match.count_gone() + left_by_killed(match)
+    unlabelled, lost = sum(match.unlabelled.values()), match.count_lost() + left_by_killed(match)
     if unlabelled:
         yield Remark("unlabelled", UNLABELLED % counted(unlabelled, "message"))
     if lost:
