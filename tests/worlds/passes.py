@@ -18,6 +18,8 @@ from tests.worlds.stage import Stage
 from tests.worlds.trees import Trees
 
 MAIL = "mail"
+# what the name of a folder begins with while it is made
+ASIDE = "mbox2maildir-aside"
 PREPARE = ["--prepare", "--unread"]
 ENDED = re.compile(rb"(?m)^=\t")
 LIST = "mbox2maildir-prepared"
@@ -217,9 +219,10 @@ class Passes(Trees):
         return any(map(ENDED.search, ledgers)) or self.has_noted("empty")
 
     def was_prepared(self) -> bool:
-        """Whether any first pass got so far that it noted something. Otherwise the day has nothing but runs of plain
-        `migrate`: what one that was killed has placed stays, whatever becomes of its mailbox."""
-        return self.has_noted("prepared") or any(self.maildir.rglob(LIST))
+        """Whether any first pass noted something, in a folder that has its name. Otherwise the day has nothing but runs
+        of plain `migrate`: what one that was killed has placed stays, whatever becomes of its mailbox."""
+        lists = [path for path in self.maildir.rglob(LIST) if not path.parent.name.startswith(ASIDE)]
+        return self.has_noted("prepared") or bool(lists)
 
     def has_noted(self, word: str) -> bool:
         """Whether the record has a line with this word."""
