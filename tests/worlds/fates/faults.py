@@ -79,7 +79,7 @@ class Right(NamedTuple):
 NO_MAIL = r"cards\.sqlite|dovecot\.index\.log|\.imap|\.hidden|y\.lock"
 RIGHT = (
     Right("version.version", "", "a path is taken as it is where it cannot be looked at"),
-    Right("readings.texts.read_pieces", "", "what cannot be read at once is read anew, one after the other"),
+    Right("readings.texts.read", "", "what cannot be read at once is read anew, one after the other"),
     Right("readings.unnamed.unnamed", "b'M'", "where no file without a name can be made, a name is removed at once"),
     Right("commands.migrate.joined", "b'M tree'", "the words are looked at one by one"),
     Right("migration.several.refuse", "b'tree/tmp'", "whoever reads the tree sees whether it is a Maildir"),
