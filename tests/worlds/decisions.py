@@ -278,7 +278,8 @@ def wrong_of_user(stage: Stage, row: Row, written: Written) -> Iterator[str]:
     maildir, answers = stage.users().home(row["user"]) / "Maildir", answers_in(row)
     if row["verdict"] == "done":
         count = len(stage.place.mail(str(maildir)))
-        if count != len(written.pieces):
+        # an export does not quote: pasted mail begins a message in it
+        if count not in (len(written.pieces), len(split(written.text, written.word))):
             yield f"{count} messages, and {len(written.pieces)} were given: {row}"
     elif not answers:
         yield f"left without a command: {row['says']}"
