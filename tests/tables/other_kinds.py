@@ -220,7 +220,7 @@ KINDS = [
     (b"BM, as bitmaps begin\n", "not known", NOT_KNOWN),
     (b"BZh9 is how bzip2 begins\n", "not known", NOT_KNOWN),
     (b"PK is a company\n", "not known", NOT_KNOWN),
-    (b"%PDF is a format\n", "not known", NOT_KNOWN),
+    (b"%PDF is a format\nof files\n", "not known", NOT_KNOWN),
     (b"lists/sheds\nSent\n", "not known", NOT_KNOWN),
     (b"6b08b5d0", "not known", NOT_KNOWN),
     (b"V\t2\n\nlists\n\nFrom a\n", "not known", LIKE_MAIL),
