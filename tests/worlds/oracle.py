@@ -210,8 +210,6 @@ class Oracle:
         here, ids = self.counts()
         for name in {*here, *self.shelves}:
             self.shelves[name].undone(here.get(name, Counter()))
-            # nobody knows which of equal messages people had taken away
-            self.shelves[name].foreign |= here.get(name, Counter()) if self.is_one else Counter()
         self.all.undone(ids)
         # an edited message that it kept, as its row says, has the Message-ID of the one that the mailbox has now
         self.all.foreign = Counter(ids)
