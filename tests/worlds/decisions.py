@@ -264,22 +264,24 @@ def in_a_spool(stage: Stage, seed: int) -> Iterator[str]:
     place.clear(is_for_users=True)
     homes = Homes(World(place.home), stage.users())
     for user in homes.who.names:
-        boxes[user] = drawn(draw)[1]
+        boxes[user] = drawn(draw)
         homes.own(bytes(homes.home(user)), user)
-        homes.mailbox(user, done(boxes[user].text))
+        homes.mailbox(user, done(boxes[user][1].text))
     homes.world.finish()
     for row in place.run(["migrate", "--users", "--now", "--json", "spool", *boxes]).rows:
-        yield from wrong_of_user(stage, row, boxes[row["user"]])
+        yield from wrong_of_user(stage, row, *boxes[row["user"]])
 
 
-def wrong_of_user(stage: Stage, row: Row, written: Written) -> Iterator[str]:
+def wrong_of_user(stage: Stage, row: Row, writer: str, written: Written) -> Iterator[str]:
     """What is wrong with the mail of a user that is done, or with the commands that are printed for one that is
     left."""
     maildir, answers = stage.users().home(row["user"]) / "Maildir", answers_in(row)
     if row["verdict"] == "done":
-        count = len(stage.place.mail(str(maildir)))
-        # an export does not quote: pasted mail begins a message in it
-        if count not in (len(written.pieces), len(split(written.text, written.word))):
+        count, counts = len(stage.place.mail(str(maildir))), {len(written.pieces)}
+        if writer == "export":
+            # it does not quote: pasted mail begins a message in it
+            counts.add(len(split(written.text, written.word)))
+        if count not in counts:
             yield f"{count} messages, and {len(written.pieces)} were given: {row}"
     elif not answers:
         yield f"left without a command: {row['says']}"

@@ -26,6 +26,8 @@ Counts = typing.Counter[bytes]
 INBOX = "INBOX"
 # the remarks on files that an undo keeps though its mailbox brought them
 KEPT = ("already-gone", "kept-renamed", "kept-edited")
+# how the name of a converted file begins
+CONVERTED = re.compile(r"[0-9a-f]{64}\.\d")
 
 
 class Reading(NamedTuple):
@@ -205,11 +207,16 @@ class Oracle:
             shelf.take(what)
 
     def undone(self) -> None:
-        """All that a mailbox brought was undone. Nothing that came back before is said any more."""
+        """All that a mailbox brought was undone. Nothing that came back before is said any more. Of equal messages of
+        which people have taken one away, the name of the other says whether it came from elsewhere."""
         self.owed.clear()
         here, ids = self.counts()
+        elsewhere: collections.defaultdict[str, Counts] = collections.defaultdict(Counter)
+        for name, path, mail in self.mail():
+            elsewhere[name][content(mail)] += not CONVERTED.match(path.name)
         for name in {*here, *self.shelves}:
             self.shelves[name].undone(here.get(name, Counter()))
+            self.shelves[name].foreign |= elsewhere[name]
         self.all.undone(ids)
         # an edited message that it kept, as its row says, has the Message-ID of the one that the mailbox has now
         self.all.foreign = Counter(ids)
