@@ -63,7 +63,8 @@ class Call(NamedTuple):
 
 
 class Right(NamedTuple):
-    """Why all is well though a call fails that a function makes, or has others make, about something."""
+    """Why all is well though a call fails that a function makes, or has others make, about something. `inner in outer`
+    is the function `inner` where `outer` calls it."""
 
     function: str
     about: str
@@ -71,15 +72,16 @@ class Right(NamedTuple):
 
     def is_for(self, call: Call) -> bool:
         """Whether a call is meant."""
-        is_its = f" {self.function}:" in f" {call.callers}"
-        return is_its and re.search(self.about, call.about) is not None
+        ways = r":\d+ ".join(map(re.escape, self.function.split(" in ")))
+        return bool(re.search(f"(?:^| ){ways}:", call.callers) and re.search(self.about, call.about))
 
 
 # a file of the small tree that holds no mail, or what would stand beside it
 NO_MAIL = r"cards\.sqlite|dovecot\.index\.log|\.imap|\.hidden|y\.lock"
 RIGHT = (
     Right("version.version", "", "a path is taken as it is where it cannot be looked at"),
-    Right("readings.texts.read", "", "what cannot be read at once is read anew, one after the other"),
+    Right("program.listing in readings.texts.read", "", "what the program does not list at once, it is asked again"),
+    Right("mbox.inventory.read in readings.texts.read", "", "what cannot be read at once is read anew"),
     Right("readings.unnamed.unnamed", "b'M'", "where no file without a name can be made, a name is removed at once"),
     Right("commands.migrate.joined", "b'M tree'", "the words are looked at one by one"),
     Right("migration.several.refuse", "b'tree/tmp'", "whoever reads the tree sees whether it is a Maildir"),
