@@ -26,6 +26,8 @@ Counts = typing.Counter[bytes]
 INBOX = "INBOX"
 # the remarks on files that an undo keeps though its mailbox brought them
 KEPT = ("already-gone", "kept-renamed", "kept-edited")
+# the remark on messages that were there already, by no mailbox
+NOBODYS = "there-already"
 # how the name of a converted file begins
 CONVERTED = re.compile(r"[0-9a-f]{64}\.\d")
 
@@ -156,6 +158,8 @@ class Oracle:
         self.bytes: set[bytes] = set()
         # what runs that were killed have done, and nobody has said yet, by folders
         self.owed: collections.defaultdict[str, typing.Counter[str]] = collections.defaultdict(Counter)
+        # how many messages of a mailbox in a folder no mailbox had brought, as rows have said
+        self.nobodys: typing.Counter[str] = Counter()
         # what was there when a wrong answer was given, by which the same mail is read in another way
         self.before_misread: Counts = Counter()
         self.is_misread = False
@@ -271,6 +275,11 @@ class Oracle:
     def ran(self, rows: Sequence[Row], is_killed: bool) -> Iterator[str]:
         """A run has ended, or was killed. Returns what is wrong with it."""
         here, ids = self.counts()
+        for row in rows:
+            for one in row["remarks"]:
+                if one["remark"] == NOBODYS:
+                    name = row["folder"] or INBOX
+                    self.nobodys[name] = max(self.nobodys[name], int(one["says"].split()[0]))
         for name in {*here, *self.shelves}:
             told = self.shelves[name].ran(here.get(name, Counter()))
             if told["gone"]:
@@ -318,7 +327,9 @@ class Oracle:
                 yield f"done, and {shelf.seen[what]} of {count} there, {taken} taken: {what[:100]!r}"
             # one more of a message may have the name of one that is gone, which no row sees then
             gone += 0 if shelf.seen[what] else count
-        if gone and not numbers_in(row) and "gone" not in texts_of(row):
+        # only what a mailbox has brought is missed, as the ledger of the folder knows
+        is_missed = gone > self.nobodys[row["folder"] or INBOX]
+        if is_missed and not numbers_in(row) and "gone" not in texts_of(row):
             yield f"{gone} gone from {row['folder']}, unsaid"
 
     def read_otherwise(self, row: Row, own: Reading, others: Iterable[Reading]) -> Iterator[str]:
