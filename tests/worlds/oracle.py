@@ -84,6 +84,8 @@ class Shelf:
         # what people took away that killed runs were to bring: an undo keeps nothing in place of that
         self.unkept: Counts = Counter()
         self.taken: Counts = Counter()
+        # what an undo left, until a mailbox is done again: who takes that away takes nothing of a mailbox
+        self.left: Counts = Counter()
         self.gone: Counts = Counter()
         self.seen: Counts = Counter()
 
@@ -99,15 +101,16 @@ class Shelf:
             self.taken[what] -= back
             self.foreign[what] += count - back
         for what, count in (self.seen - now).items():
-            self.foreign[what] -= min(count, self.foreign[what])
-            self.taken[what] += count
+            self.take(what, count)
         self.seen = now
 
-    def take(self, what: bytes) -> None:
-        """People have taken away a message."""
-        self.foreign[what] -= min(1, self.foreign[what])
-        self.taken[what] += 1
-        self.seen[what] -= 1
+    def take(self, what: bytes, count: int = 1) -> None:
+        """People have taken away a message so often."""
+        self.foreign[what] -= min(count, self.foreign[what])
+        of_mailboxes = min(count, self.seen[what] - min(self.left[what], self.seen[what]))
+        self.left[what] -= min(count - of_mailboxes, self.left[what])
+        self.taken[what] += of_mailboxes
+        self.seen[what] -= count
 
     def ran(self, now: Counts) -> typing.Counter[str]:
         """A run has changed what is there. Returns how much is there too often, came back, and went away."""
@@ -126,7 +129,7 @@ class Shelf:
     def undone(self, now: Counts) -> None:
         """All that a mailbox brought was undone. What people had taken away may be there again then."""
         self.taken.clear()
-        self.seen = now
+        self.seen, self.left = now, now.copy()
 
     def undoes(self, now: Counts, mailboxes: Sequence[int], is_over: bool) -> typing.Counter[str]:
         """Mailboxes are undone. Returns how much of others went away, and how much of these is still there when it is
@@ -256,8 +259,9 @@ class Oracle:
         """A mailbox has brought this into a folder."""
         self.shelves[folder].sure[mailbox] = contents
 
-    def undoes(self, mailboxes: Sequence[int], row: Optional[Row]) -> Iterator[str]:
-        """Mailboxes are undone. When that is over, a row says what is kept."""
+    def undoes(self, mailboxes: Sequence[int], row: Optional[Row], is_blurred: bool = False) -> Iterator[str]:
+        """Mailboxes are undone. When that is over, a row says what is kept: also as nobody's, if another program may
+        have renamed what killed runs had placed."""
         here, ids = self.counts()
         told: typing.Counter[str] = Counter()
         for name in {*here, *self.shelves}:
@@ -265,21 +269,27 @@ class Oracle:
         if told["gone"]:
             yield f"{told['gone']} removed that others have"
         remarks = row["remarks"] if row else []
-        said = " ".join(one["says"] for one in remarks if one["remark"] in KEPT)
+        words = (*KEPT, *["kept-foreign"] * is_blurred)
+        said = " ".join(one["says"] for one in remarks if one["remark"] in words)
         if told["kept"] > sum(map(int, re.findall(r"\d+", said))):
             yield f"{told['kept']} still there of what was undone, unsaid"
         self.all.undoes(ids, mailboxes, row is not None)
         if row:
             self.owed.clear()
 
+    def hear(self, row: Row) -> None:
+        """A row says what no mailbox had brought. A mailbox that is done has what an undo left."""
+        name = row["folder"] or INBOX
+        if row["verdict"] == "done":
+            self.shelves[name].left.clear()
+        counts = [int(one["says"].split()[0]) for one in row["remarks"] if one["remark"] == NOBODYS]
+        self.nobodys[name] = max([self.nobodys[name], *counts])
+
     def ran(self, rows: Sequence[Row], is_killed: bool) -> Iterator[str]:
         """A run has ended, or was killed. Returns what is wrong with it."""
         here, ids = self.counts()
         for row in rows:
-            for one in row["remarks"]:
-                if one["remark"] == NOBODYS:
-                    name = row["folder"] or INBOX
-                    self.nobodys[name] = max(self.nobodys[name], int(one["says"].split()[0]))
+            self.hear(row)
         for name in {*here, *self.shelves}:
             told = self.shelves[name].ran(here.get(name, Counter()))
             if told["gone"]:
