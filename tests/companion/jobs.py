@@ -8,7 +8,7 @@ import subprocess
 import sys
 import time
 from collections import Counter
-from collections.abc import Iterable, Iterator
+from collections.abc import Iterator
 from contextlib import contextmanager
 from pathlib import Path
 
@@ -82,23 +82,14 @@ def as_one_at_a_time(home: Path) -> None:
 
 
 def largest_first(home: Path) -> None:
-    """The largest mailboxes begin first, and each is noted as done when it is. Rows come in the order of names."""
+    """The largest mailboxes begin first. Rows come in the order of names."""
     for number in range(FOLDERS):
         mailbox(home / f"old/f{number}", text_of(number, 4**number))
     words = ["migrate", "--all", "--jobs", "2", "M", "old"]
     _, out, _ = run(words, home)
     equal("rows", [line.split(" ", 1)[0] for line in out.splitlines()[:-1]], [f"old/f{n}" for n in range(FOLDERS)])
-    # when the folder was made, and when the last line of its ledger was written
-    changed = {
-        name: [path.parent.name for path in by_time((home / "M").glob(f".f*/{name}"))] for name in ("cur", LEDGER)
-    }
-    equal("which begins first", changed["cur"][0] in (f".f{FOLDERS - 1}", f".f{FOLDERS - 2}"), True)
-    equal("whether the smallest, which begins last, is noted first", changed[LEDGER][0] == ".f0", False)
-
-
-def by_time(paths: Iterable[Path]) -> list[Path]:
-    """Files or folders in the order in which they were changed."""
-    return sorted(paths, key=lambda path: path.stat().st_mtime_ns)
+    first = min((home / "M").glob(".f*/cur"), key=lambda path: path.stat().st_mtime_ns).parent.name
+    equal("which is made first", first in (f".f{FOLDERS - 1}", f".f{FOLDERS - 2}"), True)
 
 
 def names_in(maildir: Path) -> list[str]:
@@ -198,6 +189,7 @@ def ended_out_of_turn(home: Path) -> None:
     says = "left (process): its process was interrupted: run this again"
     wanted = [f"old/f1 -> f1: {says}", f"old/f2 -> f2: {says}", "old/f3 -> f3: mboxrd or mboxo, messages 99: done"]
     equal("what is told", out.decode().splitlines()[:-1], wanted)
+    equal("whether it is noted", (home / "M/.f3" / LEDGER).read_text().splitlines()[-1], "=\t1")
     waits = r"mbox2maildir-admin: old/f2: interrupted: waiting \d+ seconds, because it changed a moment ago"
     assert any(re.fullmatch(waits, line) for line in err.decode().splitlines()), err
 
