@@ -15,7 +15,7 @@ from tests.support.checks import equal, matches
 from tests.support.homes import by_json, check_all, expect, is_root, mailbox, run, run_printed, subjects
 from tests.support.ledgers import RECORD
 from tests.support.mail import ONE
-from tests.support.printed import row_in
+from tests.support.printed import groups_in, row_in
 from tests.support.terminals import Terminal
 
 LABELS = ["migrate", "--all", "--labels", "M", "t.mbox"]
@@ -475,6 +475,63 @@ def room_is_counted_first(home: Path) -> None:
         subprocess.run(["umount", str(home / "disk")], check=True)
 
 
+def a_label_that_no_message_has(home: Path) -> None:
+    """It is named, with those that are spelled alike, also by a rehearsal; with several Takeouts if none has it. Of one
+    that cannot be read nothing is said."""
+    takeout(home, [("one", "Inbox,Garden,Opened"), ("two", "Sent,Gardens"), ("three", "Sent")])
+    takeout(home, [("four", "Inbox,Werbung"), ("five", "Sent"), ("six", "Inbox")], "u.mbox")
+    said = "mbox2maildir-admin: --label {}: no message that was read has this label{}\n"
+    for label, alike in (
+        ("gardn=none", "; spelled alike: Garden, Gardens"),
+        ("Kategorie: x=read", ""),
+        ("Werbung=folder", ""),
+    ):
+        err = run(["migrate", "--dry-run", "--labels", "--label", label, "M", "t.mbox"], home).err
+        shown = f"'{label[:-5]}'{label[-5:]}" if " " in label else label
+        equal(label, err, said.format(shown, alike))
+    given = ["--labels", "--label", "Werbung=none", "--label", "Gardens=none"]
+    ran = run(["migrate", *given, "M", "t.mbox", "u.mbox"], home)
+    equal("of two Takeouts", (ran.status, ran.err), (0, ""))
+    equal("the folders", [*folders_in(home / "M")], ["", ".Garden", ".Sent"])
+    mailbox(home / "t.mbox", ONE)
+    equal("of none", run(["migrate", "--labels", "--label", "x=none", "N", "t.mbox"], home).err, "")
+
+
+def mail_that_goes_back(home: Path) -> None:
+    """It has no labels, so the Takeout takes none of it, and is checked and migrated again as before."""
+    takeout(home)
+    expect(LABELS, home, 0, None)
+    text, new = (home / "t.mbox").read_bytes(), ONE.split(b"\n", 1)[1]
+    for folder in ("", ".Sent"):
+        mailbox(home / "M" / folder / "new/1.other", new)
+    (home / "old").mkdir()
+    says = "t.mbox takes nothing"
+    rows = f"INBOX -> old/inbox-back: mboxrd, messages 1: back, {says}\nSent -> old/Sent: mboxrd, messages 1: back\n"
+    status, out, _ = run("back --all --now M t.mbox old", home)
+    equal("back", (status, "".join(re.findall(r"(?m)^\S* -> old/.*\n", out))), (0, rows))
+    equal("the Takeout", (home / "t.mbox").read_bytes(), text)
+    expect(LABELS, home, 0, "10 mailboxes: 10 done before\n")
+    equal("verify", run("verify M t.mbox", home)[0], 0)
+    equal("a second time", run("back --now M t.mbox old", home)[0], 0)
+    equal("what went back", [messages_in(home / "old" / name) for name in ("inbox-back", "Sent")], [1, 1])
+
+
+def messages_in(path: Path) -> int:
+    """How many messages a mailbox has."""
+    return path.read_bytes().count(b"\nSubject: ")
+
+
+def a_look_has_its_folder(home: Path) -> None:
+    """Of several folders of a Takeout, those that ask for a look are named, as they are in the rows."""
+    takeout(home, [("one", "Inbox,x"), ("two", "Sent,y"), ("three", "Unread")])
+    groups = groups_in(run("migrate --labels M t.mbox", home).out)
+    wanted = ["t.mbox -> INBOX", "t.mbox -> Sent", "t.mbox -> x", "t.mbox -> y"]
+    equal("unread", [(one.word, [*one.rows]) for one in groups], [("look at", wanted)])
+    next((home / "M/.Sent/new").iterdir()).unlink()
+    (group,) = groups_in(run("verify M t.mbox", home).out)
+    equal("not whole", (group.word, [*group.rows]), ("not whole", ["t.mbox -> Sent"]))
+
+
 def the_command_for_an_archive_leads_to_its_mailbox(home: Path) -> None:
     """An archive stays as it is: a folder in its place would be refused. The mailboxes in it are printed, and the same
     words migrate these."""
@@ -518,6 +575,9 @@ if __name__ == "__main__":
         many_lose_a_label,
         a_label_says_what_was_read,
         a_label_gives_no_folder,
+        a_label_that_no_message_has,
+        mail_that_goes_back,
+        a_look_has_its_folder,
         only_a_takeout_has_labels,
         a_later_takeout,
         with_labels_and_without,

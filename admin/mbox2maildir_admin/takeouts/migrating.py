@@ -28,12 +28,14 @@ from ..program import Program, find_program
 from ..readings.plans import Question
 from ..readings.reading import UNDECIDED
 from ..readings.texts import Choice, choice_at_once, read_messages
-from ..terminal import named
+from ..terminal import complain, named
 from .folder import FolderTransfer, Source
 
 NO_MESSAGE = "it has no message, and so no labels"
 WITHOUT_LABELS = "it was migrated without --labels, so all of its mail is in one folder"
 OTHERWISE = "it was migrated with other words about its labels: %s"
+# what is said of a label that is named and that no message has; and of those that are spelled alike
+NOT_THERE, ALIKE = "--label %s=%s: no message that was read has this label", "; spelled alike: %s"
 # nothing of it would be finished or removed
 ONLY_PREPARED = "mail is only prepared in %s, and --labels is for a Maildir without such mail"
 
@@ -50,6 +52,7 @@ def migrate_takeouts(root: bytes, names: Sequence[bytes], options: Options, obse
         observer.total += len(names)
         for name in names:
             takeouts.report(name)
+        takeouts.say_not_there()
 
 
 class Takeouts(Migration):
@@ -58,6 +61,8 @@ class Takeouts(Migration):
     def __init__(self, root: bytes, record: Record, how: Options, observer: Observer) -> None:
         super().__init__(Program(find_program()), root, record, how)
         self.observer, self.syncs = observer, Syncs(Several.settle)
+        # the labels of the messages that were read
+        self.labels: set[str] = set()
 
     def report(self, path: bytes) -> None:
         """Does what is left to do of a Takeout, and reports what became of each folder, or why it is left."""
@@ -74,6 +79,19 @@ class Takeouts(Migration):
         finally:
             # what was verified is done, even if a signal ends this
             self.syncs.sync()
+
+    def say_not_there(self) -> None:
+        """Says which labels were named that no message has, with those that are spelled alike: then nothing that was
+        said of them had an effect. Nothing is said if no labels could be read."""
+        lacking = [one for one in self.how.labels.given if one[0] not in self.labels] if self.how.labels else []
+        if lacking and self.labels:
+            # the module is loaded only here, so that nothing else waits for it
+            from difflib import get_close_matches
+
+            plain = {label.casefold(): label for label in sorted(self.labels)}
+            for label, gives in lacking:
+                near = [named(plain[one]) for one in get_close_matches(label.casefold(), plain)]
+                complain(NOT_THERE % (named(label), gives) + (ALIKE % ", ".join(near) if near else ""))
 
     def add(self, ended: Outcome) -> None:
         """Reports what became of a folder, once its disk is synced."""
@@ -166,8 +184,9 @@ class Takeouts(Migration):
             inventory = read_messages(self.program, text, choice)
             if len(inventory) == 0:
                 raise LabelsLeft(NO_MESSAGE)
-            headers = headers_at(text.mailbox, inventory.offsets[:-1])
-            yield Source(choice, text, inventory, Sorting(headers, choosing).sorted())
+            sorting = Sorting(headers_at(text.mailbox, inventory.offsets[:-1]), choosing)
+            self.labels.update(sorting.counts)
+            yield Source(choice, text, inventory, sorting.sorted())
 
     def want_room_for(self, source: Source) -> None:
         """Raises Left if the disk has too little room for what no folder has, with the largest of the texts of
