@@ -6,6 +6,7 @@ from collections.abc import Iterator, Sequence
 from typing import NamedTuple
 
 from ..faults import Left, Reason
+from ..labels.noted import line_of
 from ..ledger.history import Key, Note
 from ..ledger.ledger import Ledger
 from ..ledger.lines import END_LINE, RETURNED, Brought, Head
@@ -100,6 +101,9 @@ class Way(NamedTuple):
     def append(self, target: Target) -> Returned:
         """Appends to a mailbox what did not come from it. Raises TakesNothing if it takes none."""
         with self.opened(target.path, self.observer.say(target.path)) as mailbox:
+            if line_of(self.record, mailbox):
+                # a message without labels would keep all others from their folders
+                raise TakesNothing("it is a Takeout in the folders of its labels", Reason.OTHER_KIND)
             numbering, known = self.known(target, mailbox)
             for style in styles_of(known, self.disk):
                 with contextlib.suppress(NotAsItIs):
