@@ -46,7 +46,8 @@ class Does:
     # answers to other questions
     DROP = Phrase("drop-deleted", "deleted mail is left out")
     KEEP = Phrase("keep-deleted", "deleted mail is kept")
-    READ_AS = Phrase("read-as", "it was written in the format of this command")
+    # `{}` stands for the format that the command names
+    READ_AS = Phrase("read-as", "it was written as {}")
     KEEP_BOTH = Phrase("keep-both", "if none is a copy, run this next")
     UNDO = Phrase("undo", "if these are right, run this next")
     UNDO_THERE = Phrase("undo-there", "this removes what it placed there")
@@ -160,6 +161,10 @@ class Command(NamedTuple):
         return {"shell": self.shell or line_of(self.words)}
 
 
+# what is said in place of a format if the command names lines
+BY_LINES = "it is read by the lines that this command names"
+
+
 class Answer(NamedTuple):
     """A command, what it is an answer to, and how many messages it gives, if that is known."""
 
@@ -169,7 +174,11 @@ class Answer(NamedTuple):
 
     def sentence(self) -> str:
         """What a reader gets before the command."""
-        return self.does.says + ("" if self.messages is None else ": " + counted(self.messages, "message"))
+        given = dict(zip(self.command.words, self.command.words[1:]))
+        says = self.does.says.format(given.get("--as", ""))
+        if self.does is Does.READ_AS and {"--text", "--begin"} & given.keys():
+            says = BY_LINES
+        return says + ("" if self.messages is None else ": " + counted(self.messages, "message"))
 
 
 class Task(NamedTuple):

@@ -31,7 +31,7 @@ def asks(lines: str, *answers: tuple[str, int]) -> str:
         says = "a mail begins here" if is_most else "this belongs to the mail above"
         says += ", and deleted mail is left out" if drops else ""
         if len({count for _, count in answers}) == 1:
-            says = "it was written in the format of this command" if answers[1:] else "run this next"
+            says = f"it was written as {words.split()[1]}" if answers[1:] else "run this next"
         if answers[0][0] == DROP:
             says = "deleted mail is left out" if drops else "deleted mail is kept"
         found += f"    {says}: {count} message{'' if count == 1 else 's'}:\n"
