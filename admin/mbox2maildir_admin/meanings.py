@@ -88,7 +88,7 @@ TO_DO = {
     ),
     Reason.NO_USER: "Find out whose mail it is. If it is nobody's, [move it away](SERVER.md#nobodys)",
     Reason.SYSTEM_ACCOUNT: "Name it on the command line, or choose a Maildir for it, as the line says",
-    Reason.NO_MAILBOX: "Correct the name",
+    Reason.NO_MAILBOX: "Correct the name, or do as the line says",
     Reason.OTHER_OWNER: "In a spool, give the file to its user. Otherwise run `migrate` as the owner",
     Reason.SAME_USER: "Its command. Choose the folder in it, such as `info` for mia's mailbox `info`",
     Reason.HOME: "Mount it, or correct its owner or mode. If there is none, [make one](SERVER.md#nobodys)",
@@ -107,7 +107,8 @@ LOOK = {
     "doubtful-line": "Lines in it may begin messages that were not counted.",
     "elsewhere": "It went into another folder before. Its command removes it there.",
     "first-appears": "A message in which an IMAP server kept its own notes becomes mail: delete that message.",
-    "flags-differ": "Messages have flags in it that their files lack. The files are of another mailbox, and stay.",
+    "flags-differ": "Messages are marked in it, as read or flagged, but not in the Maildir: another mailbox brought "
+    "them first, and its marks stay.",
     "folder-gone": "The folder was removed. If nobody meant that, migrate the mailbox with --again.",
     "gone": "Mail that it brought was deleted in the Maildir.",
     "gone-elsewhere": "Mail that another mailbox brought too was deleted in the Maildir. Its command brings it back.",

@@ -13,6 +13,8 @@ from tests.support.schema import SCHEMA
 
 TITLE = "unclear: {} (not quoted): does a mail begin at the line that is shown?".format
 ASKED = "1 or 2 messages: line 5: a line `From ` without a date at its end: From the garden, {}"
+# of two mailboxes with a mail that another one quotes with its length, by their formats
+ANSWERS_TO_WORDS = ("mboxcl2", 4), ("mboxrd", 6), ("unquoted", 4)
 BELONGS, BEGINS = "this belongs to the mail above", "a mail begins here"
 
 
@@ -79,7 +81,7 @@ def groups(home: Path) -> None:
     equal("its command", command, "mbox2maildir-admin migrate --no-mail old/blob --no-mail old/notes --now M old")
     equal("no file", (no_file.word, no_file.rows), ("no-file", {"old/pipe": "it is not a regular file"}))
     wanted = "look at: 1 mailbox: Its last line has no line end: check that the file is complete."
-    equal("a look", (look.title, look.rows), (wanted, {"old/cut": ""}))
+    equal("a look", (look.title, look.rows), (wanted, {"old/cut -> cut": ""}))
     last = out.splitlines()[-1]
     equal("the sum", last, "10 mailboxes: 3 done, 7 left")
     assert "rehearsal" not in out, out
@@ -90,6 +92,18 @@ def groups(home: Path) -> None:
         [one.word for one in groups_in(out)],
         ["unclear", "not-known", "no-file"],
     )
+
+
+def formats(home: Path) -> None:
+    """If a word for several mailboxes contradicts what is in them, each answer names its format."""
+    body = b"Text\n\nFrom boris@example.com\nFrom: boris\n\nyes\n"
+    header = b"From a@b Mon Mar  3 09:12:44 2025\nSubject: %d\nContent-Length: %d\n\n"
+    for number in range(2):
+        mailbox(home / f"old/{number}", header % (number, len(body)) + body + b"\n" + B + b"\n>From me\n\n")
+    (group,) = groups_in(run("migrate --now --as mboxcl2 M old", home).out)
+    wanted = [f"it was written as {word}: {count} messages:" for word, count in ANSWERS_TO_WORDS]
+    equal("its answers", [reply.says for reply in group.answers()], wanted)
+    equal("by the first one", run_printed(group.answers()[0].command, home).status, 0)
 
 
 def one_answer_for_many(home: Path) -> None:
@@ -199,6 +213,7 @@ if __name__ == "__main__":
         one_mailbox,
         one_of_a_kind,
         groups,
+        formats,
         one_answer_for_many,
         many_of_one_kind,
         of_users,

@@ -81,7 +81,7 @@ def each_reason(home: Path) -> None:
             "not whole": {
                 "m61three INBOX": "of another owner 1",
                 "m61two INBOX": "nowhere 1",
-                "m61two mail/lists/sheds": "other bytes 1; doubles 1",
+                "m61two mail/lists/sheds -> lists/sheds": "other bytes 1; doubles 1",
             },
         }
         equal("the groups", {one.word: one.rows for one in groups_in(out)}, wanted)

@@ -6,6 +6,7 @@ from typing import NamedTuple, Optional, Union
 
 from ..faults import Fault, Left, Reason, fault_of
 from ..looks import type_at
+from ..maildir.folders import folder_shown
 from ..nexts import BELOW, NOTHING, Next, Phrase, Quote, Remark, lines_below
 from ..progress import Beat, Spent
 from ..readings.plans import Plan
@@ -100,6 +101,12 @@ class Row(NamedTuple):
         """What its line begins with: the user, and the path unless it is the mailbox of the spool."""
         names = [named(self.user)] if self.user is not None else []
         return " ".join([*names, *([named(self.path)] if self.path or not names else [])])
+
+    @property
+    def way(self) -> str:
+        """The same and its folder, in the order in which its mail goes."""
+        names = [self.label, folder_shown(self.folder) if self.folder else ""]
+        return " -> ".join(filter(None, reversed(names) if self.is_back else names))
 
     @property
     def says(self) -> str:

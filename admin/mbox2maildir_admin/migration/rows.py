@@ -8,7 +8,6 @@ from typing import NamedTuple, Optional, Protocol
 
 from .. import ADMIN
 from ..faults import Status
-from ..maildir.folders import folder_shown
 from ..meanings import COUNTED, LOOK
 from ..nexts import COMMAND, Phrase, lines_below
 from ..progress import AtWork, Estimate, Progress, Task, duration, length
@@ -260,15 +259,13 @@ class Reporter(Observer):
 def line_of(row: Row) -> str:
     """The line of a row: the mailbox, its folder, unless it was done before its kind and how many messages it has, what
     became of it, and what is said of it."""
-    names = [row.label, folder_shown(row.folder) if row.folder else ""]
-    way = " -> ".join(filter(None, reversed(names) if row.is_back else names))
     count = "" if row.messages is None or row.fate == Fate.BEFORE else "messages %d" % row.messages
     count += " to %d" % row.most if count and row.most is not None and row.most != row.messages else ""
     what = ", ".join(filter(None, [row.kind, count]))
     if row.fate == Fate.FOUND:
-        return ": ".join(filter(None, [way, what, row.says]))
+        return ": ".join(filter(None, [row.way, what, row.says]))
     fate, sign = ("%s (%s)" % (row.fate, row.word), ": ") if row.word else (row.fate, ", ")
-    return ": ".join(filter(None, [way, what, fate + (sign + row.says if row.says else "")]))
+    return ": ".join(filter(None, [row.way, what, fate + (sign + row.says if row.says else "")]))
 
 
 def with_looks(row: Row) -> Row:

@@ -371,7 +371,8 @@ def remarks_on_flags_that_differ(one: Steps) -> Iterator[Remark]:
         return
     count = lacking_flags(one.opened.folder, full.mailbox, offsets.get, one.contents.is_bare)
     if count:
-        yield Remark("flags-differ", "%s of these with flags in it that the file lacks" % counted(count, "message"))
+        says = "%s of these marked in it, as read or flagged, but not in the Maildir"
+        yield Remark("flags-differ", says % counted(count, "message"))
 
 
 def remarks_on_new(match: Match) -> Iterator[Remark]:
