@@ -165,6 +165,69 @@ def names_of_languages(home: Path) -> None:
     equal("of two languages", [*folders_in(home / "N")], ["", ".Papierkorb", ".Posteingang"])
 
 
+def names_without_inbox(home: Path) -> None:
+    """Without a word for INBOX they count if each message has one of one language, and none has one that only others
+    have."""
+    for number, names in enumerate(LANGUAGES):
+        takeout(home, [*zip(GMAILS, names.split(","))][1:])
+        expect(f"migrate --labels M{number} t.mbox", home, 0, None)
+        equal(names, folders_in(home / f"M{number}"), {folder: [folder] for folder in GMAILS[1:]})
+    for number, (label, other) in enumerate((("Gesendet", "Sent"), ("Gesendet", "Work"), ("Gesendet", "Corbeille"))):
+        takeout(home, [("one", label), ("two", other)])
+        expect(f"migrate --labels N{number} t.mbox", home, 0, None)
+        equal(f"{label} beside {other}", folders_in(home / f"N{number}"), {f".{label}": ["one"], f".{other}": ["two"]})
+
+
+def a_mailbox_for_each_label(home: Path) -> None:
+    """A German Takeout may have one, each in a command that names all, or with its own folder: most have no word for
+    INBOX. Gmail's folders and flags are those of a single mailbox, and nothing is asked."""
+    mails = {
+        "one": "Posteingang,Ge\u00f6ffnet,Garten",
+        "two": "Gesendet,Ge\u00f6ffnet",
+        "three": "Gesendet,Ungelesen,Wichtig",
+        "four": "Archiviert,Ungelesen",
+        "five": "Archiviert,Ge\u00f6ffnet,Garten",
+        "six": "Entw\u00fcrfe",
+        "seven": "Papierkorb,Ge\u00f6ffnet,Markiert",
+        "eight": "Posteingang",
+    }
+    labels = ["Posteingang", "Gesendet", "Archiviert", "Entw\u00fcrfe", "Papierkorb"]
+    for label in labels:
+        takeout(home, [(name, its) for name, its in mails.items() if label in its.split(",")], f"{label}.mbox")
+    expect(["migrate", "--labels", "M", *(f"{label}.mbox" for label in labels)], home, 0, None)
+    wanted = {"": ["eight", "one"], ".Archive": ["four"], ".Drafts": ["six"], ".Garten": ["five", "one"]}
+    equal("the folders", folders_in(home / "M"), {**wanted, ".Sent": ["three", "two"], ".Trash": ["seven"]})
+    flags = {"one": "S", "two": "S", "five": "S", "seven": "FS"}
+    equal("the flags", flags_in(home / "M"), flags)
+    equal("verify", run(["verify", "M", *(f"{label}.mbox" for label in labels)], home).status, 0)
+    says = "1 message with flags of Gmail; labelled Sent 2: with --labels, labels become folders"
+    row = f"Gesendet.mbox -> Sent: {KIND}, messages 2: done, {says}\n"
+    expect("migrate --all --folder Sent N Gesendet.mbox", home, 0, f"{row}1 mailbox: 1 done\n")
+    equal("the flags of one", flags_in(home / "N"), {"two": "S"})
+
+
+def a_label_keeps_its_folder(home: Path) -> None:
+    """A label that gave a folder of its name does so although it counts as Gmail's by a later Takeout, and what is done
+    stays so, until an undo. `verify` knows that too."""
+    first = [("one", "Gesendet"), ("two", "Work")]
+    takeout(home, first)
+    expect(LABELS, home, 0, None)
+    takeout(home, [*first, ("three", "Posteingang,Papierkorb,Gesendet"), ("four", "Posteingang")])
+    rows = (
+        f"t.mbox -> INBOX: {KIND}, messages 2: done, {UNREAD.format(2)}\n"
+        f"t.mbox -> Gesendet: {KIND}, messages 2: done, it grew by 1 message; {UNREAD.format(1)}\n"
+        f"t.mbox -> Trash: {KIND}, messages 1: done, {UNREAD.format(1)}\n"
+    )
+    expect(LABELS, home, 0, f"{rows}4 mailboxes: 3 done, 1 done before\n")
+    there = {"": ["four", "three"], ".Gesendet": ["one", "three"], ".Trash": ["three"], ".Work": ["two"]}
+    equal("the folders", folders_in(home / "M"), there)
+    equal("verify", run("verify M t.mbox", home).status, 0)
+    expect(LABELS, home, 0, "4 mailboxes: 4 done before\n")
+    expect("migrate --undo M t.mbox", home, 0, None)
+    expect(LABELS, home, 0, None)
+    equal("after an undo", folders_in(home / "M").get(".Sent"), ["one", "three"])
+
+
 def flags_by_what_was_said(home: Path) -> None:
     """Flags by Gmail's own labels, and by those of which it was said what they give."""
     for number, (words, labels, flags) in enumerate(SAID):
@@ -566,6 +629,9 @@ if __name__ == "__main__":
         each_label_is_a_folder,
         forms_of_fields,
         names_of_languages,
+        names_without_inbox,
+        a_mailbox_for_each_label,
+        a_label_keeps_its_folder,
         flags_by_what_was_said,
         one_folder_for_each,
         a_label_is_asked_about,

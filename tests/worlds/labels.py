@@ -5,7 +5,7 @@ the undo."""
 import base64
 import collections
 from collections import Counter
-from collections.abc import Mapping, Sequence
+from collections.abc import Container, Mapping, Sequence
 from dataclasses import dataclass, field
 from random import Random
 from typing import NamedTuple, Optional
@@ -27,15 +27,16 @@ OWN: dict[str, Optional[str]] = {
     "Trash": ".Trash",
     **dict.fromkeys(["Archived", "Opened", "Unread", "Starred", "Important", "Category Updates", "Muted"]),
 }
-# the same in German, beside the English ones
+# the same in other languages, as far as messages have such labels
 GERMAN: dict[str, Optional[str]] = {
-    **OWN,
     "Posteingang": "",
     "Gesendet": ".Sent",
     "Entw\u00fcrfe": ".Drafts",
+    "Spam": ".Junk",
     "Papierkorb": ".Trash",
     **dict.fromkeys(["Archiviert", "Ge\u00f6ffnet", "Ungelesen", "Wichtig"]),
 }
+DUTCH: dict[str, Optional[str]] = {"Concepten": ".Drafts", "Spam": ".Junk"}
 # in this order a message gets one folder
 ORDER = ("", ".Sent", ".Drafts", ".Junk", ".Trash")
 # labels of people, and the folders that they give: dots are hyphens, a slash is a dot, and the rest is modified UTF-7
@@ -124,6 +125,18 @@ def quoted(byte: int) -> bytes:
     return bytes([byte]) if bytes([byte]).isalnum() or byte == 0x2C else b"_" if byte == 0x20 else b"=%02X" % byte
 
 
+def language_of(messages: Sequence[Message]) -> Mapping[str, Optional[str]]:
+    """What the names of the language give that a Takeout is in: that of its word for Inbox, or the only one that has a
+    name for each message, and all names that are Gmail's."""
+    several = [set(message.labels) for message in messages]
+    there = {label for labels in several for label in labels}
+    if "Inbox" in there or "Posteingang" in there:
+        return OWN if "Inbox" in there else GERMAN
+    gmails = there & {*OWN, *GERMAN, *DUTCH}
+    found = (its for its in (OWN, GERMAN, DUTCH) if gmails <= its.keys() and all(its.keys() & one for one in several))
+    return next(found, OWN)
+
+
 @dataclass
 class Model:
     """The folders into which messages go, by the option that was given, and what was said of labels."""
@@ -132,20 +145,21 @@ class Model:
     is_german: bool
     said: dict[str, str] = field(default_factory=dict)
 
-    def own(self, labels: Mapping[str, int]) -> Mapping[str, Optional[str]]:
-        """What Gmail's own labels give in a Takeout that has these."""
-        own = GERMAN if "Posteingang" in labels and "Inbox" not in labels else OWN
-        return {label: gives for label, gives in own.items() if self.said.get(label) != "folder"}
+    def own(self, messages: Sequence[Message], before: Container[str]) -> Mapping[str, Optional[str]]:
+        """What Gmail's own labels give in a Takeout that has had these folders before."""
+        names = {**OWN, **{label: gives for label, gives in language_of(messages).items() if label not in OWN}}
+        kept = [label for label in names if label not in OWN and {**PEOPLE, **UNKNOWN}[label] in before]
+        return {one: gives for one, gives in names.items() if one not in kept and self.said.get(one) != "folder"}
 
-    def asked(self, messages: Sequence[Message]) -> list[str]:
+    def asked(self, messages: Sequence[Message], before: Container[str]) -> list[str]:
         """The labels about which a human is asked."""
         counts = Counter(label for message in messages for label in set(message.labels))
-        own = self.own(counts)
+        own = self.own(messages, before)
         return [one for one in counts if one not in own and one not in self.said and 2 * counts[one] > len(messages)]
 
-    def folders(self, messages: Sequence[Message]) -> dict[str, list[int]]:
+    def folders(self, messages: Sequence[Message], before: Container[str]) -> dict[str, list[int]]:
         """The folders of a Takeout, each with the places of its messages."""
-        own = self.own(Counter(label for message in messages for label in message.labels))
+        own = self.own(messages, before)
         found: collections.defaultdict[str, list[int]] = collections.defaultdict(list)
         for place, message in enumerate(messages):
             labels = [one for one in message.labels if self.said.get(one) != "none"]
@@ -239,13 +253,13 @@ class Labels(History):
         texts = [message.text(self.draw) for message in messages]
         self.place.write(box.path, b"".join(texts))
         self.steps.append(f"{box.path} has {[(one.number, one.labels) for one in messages]}")
-        asked = self.model.asked(messages)
+        before = ["." + name.replace("/", ".") for name in self.parted.pop(box, {})]
+        asked = self.model.asked(messages, before)
         if asked:
-            self.parted.pop(box, None)
             self.ends(1, box, *self.options())
             self.model.said.update({label: self.draw.choice(["none", "folder"]) for label in asked})
         mails = [split(text, "mboxrd")[0] for text in texts]
-        folders = self.model.folders(messages).items()
+        folders = self.model.folders(messages, before).items()
         self.parted[box] = {name: reading_of([mails[place] for place in places]) for name, places in folders}
         for _ in range(self.draw.choice([0, 1, 1, 2])):
             self.killed(box, *self.options())

@@ -117,8 +117,7 @@ class Kept(NamedTuple):
         from .gmail import letters_by, own_names
 
         known = {one: tuple(labels_in(one) or ()) for one in set(fields)}
-        roles = own_names(label for labels in known.values() for label in labels)
-        return cls(GMAIL, *letters_by([known[one] for one in fields], roles))
+        return cls(GMAIL, *letters_by([known[one] for one in fields], own_names(known.values())))
 
     def at(self, places: Iterable[int]) -> "Kept":
         """Those of the messages at some places."""

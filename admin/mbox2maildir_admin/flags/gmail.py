@@ -63,15 +63,24 @@ ENGLISH, *OTHERS = (
     )
 )
 ENGLISH.update({"Draft": Own.DRAFTS, **{name: Own.MARK for name in MARKS}})
+# a name that several of them have stands for the same in each
+LANGUAGES: Sequence[Roles] = (ENGLISH, *OTHERS)
+KNOWN = frozenset[str]().union(*LANGUAGES)
 
 
-def own_names(labels: Iterable[str]) -> Roles:
-    """The names of Gmail's own labels in a mailbox that has these labels. Those of another language than English count
-    if its word for Inbox is among them, and no label `Inbox`: what is a folder of Gmail's in one language may be
-    somebody's label in another."""
-    there = set(labels)
-    language: Roles = next((names for names in OTHERS if next(iter(names)) in there), {})
-    return ENGLISH if "Inbox" in there else {**ENGLISH, **language}
+def own_names(several: Iterable[Iterable[str]]) -> Roles:
+    """The names of Gmail's own labels in a mailbox whose messages have these labels. Those of another language than
+    English count if its word for Inbox is among them, and no label `Inbox`: what is a folder of Gmail's in one language
+    may be somebody's label in another. In a mailbox without a word for Inbox they count if each message has one of
+    them, since Gmail says of each where it is, and none has one that only other languages have."""
+    messages = {frozenset(labels) for labels in several}
+    there = frozenset[str]().union(*messages)
+    languages = [names for names in LANGUAGES if next(iter(names)) in there]
+    if not languages:
+        gmails = there & KNOWN
+        whole = [names for names in LANGUAGES if gmails <= names.keys()]
+        languages = [names for names in whole if all(names.keys() & labels for labels in messages)]
+    return {**ENGLISH, **next(iter(languages), ENGLISH)}
 
 
 def letters_by(several: Sequence[tuple[str, ...]], roles: Roles) -> tuple[list[str], bytes]:

@@ -33,7 +33,7 @@ def labels_of(field: bytes) -> Optional[tuple[str, ...]]:
 def remarks_on_labels(headers: Iterable[bytes]) -> list[Remark]:
     """How many of some messages have labels of Gmail's folders that are not INBOX."""
     several = [set(labels_of(field_of(header) or b"") or ()) for header in headers]
-    own = own_names(label for labels in several for label in labels)
+    own = own_names(several)
     roles = collections.Counter(role for labels in several for role in {own.get(label) for label in labels})
     counts = ["%s %d" % (name, roles[role]) for role, name in SAID.items() if roles[role]]
     return [Remark("labelled", SAYS % ", ".join(counts))] if counts else []

@@ -45,7 +45,7 @@ def checks_of(
     """Looks into each folder of a Takeout, which is read as it was when it was recorded, and gives what was found."""
     with open_text(file, maildir, say, recorded) as text:
         inventory = text.messages(with_cores=False)
-        found = Sorting(headers_at(text.mailbox, inventory.offsets[:-1]), noted.choosing).sorted()
+        found = Sorting(headers_at(text.mailbox, inventory.offsets[:-1]), noted.choosing, noted.folders).sorted()
         for folder, places in found.places.items():
             with part_of(text, inventory, places, disk_of(maildir)) as part:
                 check, bare = look(folder_path(maildir, folder), part, say)

@@ -2,12 +2,12 @@
 import array
 import collections
 import functools
-from collections.abc import Iterable, Mapping, Sequence
+from collections.abc import Container, Iterable, Mapping, Sequence
 from typing import NamedTuple
 
 from ..faults import Left, Reason
 from ..flags.clients import GMAIL, Kept
-from ..flags.gmail import ARCHIVE, ORDER, Own, letters_by, own_names
+from ..flags.gmail import ARCHIVE, ENGLISH, ORDER, Own, letters_by, own_names
 from ..maildir.folders import INBOX, folder_of, on_disk, why_no_folder
 from ..nexts import Does, Phrase
 from ..terminal import named
@@ -45,8 +45,9 @@ class Sorted(NamedTuple):
 class Sorting:
     """The labels of the messages of a Takeout."""
 
-    def __init__(self, headers: Iterable[bytes], choosing: Choosing) -> None:
-        """Takes the headers of the messages. Raises LabelsLeft if one has no labels, or if they cannot be read."""
+    def __init__(self, headers: Iterable[bytes], choosing: Choosing, before: Container[bytes] = ()) -> None:
+        """Takes the headers of the messages, and the folders that have mail of them since an earlier run. Raises
+        LabelsLeft if one has no labels, or if they cannot be read."""
         self.choosing = choosing
         self.messages: list[tuple[str, ...]] = []
         # how many messages have each label
@@ -63,9 +64,11 @@ class Sorting:
                 known[field] = labels
             self.messages.append(known[field])
             self.counts.update(known[field])
-        # what the labels stand for that make no folders of their names: what was said of them comes first
-        said = {label: gives for label, gives in choosing.given if gives != FOLDER}
-        own = {**own_names(self.counts), **{label: Own(gives) for label, gives in said.items()}}
+        # what the labels stand for that make no folders of their names, and made none before: what was said of them
+        # comes first
+        names = own_names(known.values()).items()
+        own = {label: role for label, role in names if label in ENGLISH or on_disk(folder_of(label)) not in before}
+        own.update((label, Own(gives)) for label, gives in choosing.given if gives != FOLDER)
         self.roles = {label: role for label, role in own.items() if choosing.gives(label) != FOLDER}
 
     def want_decided(self) -> None:

@@ -106,13 +106,13 @@ class Takeouts(Migration):
         if not line:
             self.want_labelled(opened)
         noted = Noted.of(line)
-        choosing = self.chosen(opened, noted)
+        noted = noted._replace(choosing=self.chosen(opened, noted))
         try:
-            with self.chosen_text(opened, noted) as choice, self.read(choice, choosing) as source:
+            with self.chosen_text(opened, noted) as choice, self.read(choice, noted) as source:
                 self.want_room_for(source)
                 folders = tuple(source.sorted.places)
                 self.record.make()
-                note(self.record, opened.mailbox, Noted(choosing, folders), len(source.inventory))
+                note(self.record, opened.mailbox, noted._replace(folders=folders), len(source.inventory))
                 self.observer.total += len(folders) - 1
                 for folder in folders[:-1]:
                     self.add(self.bring(source, folder, opened))
@@ -176,15 +176,16 @@ class Takeouts(Migration):
             yield choice
 
     @contextlib.contextmanager
-    def read(self, choice: Choice, choosing: Choosing) -> Iterator[Source]:
-        """Reads the text, and sorts its messages by their labels."""
+    def read(self, choice: Choice, noted: Noted) -> Iterator[Source]:
+        """Reads the text, and sorts its messages by their labels, and by what is noted."""
         if choice.plan.is_copied:
             self.want_room(Need.of(self.disk, [], choice.mailbox.size))
         with choice.text(self.disk) as text:
             inventory = read_messages(self.program, text, choice)
             if len(inventory) == 0:
                 raise LabelsLeft(NO_MESSAGE)
-            sorting = Sorting(headers_at(text.mailbox, inventory.offsets[:-1]), choosing)
+            headers = headers_at(text.mailbox, inventory.offsets[:-1])
+            sorting = Sorting(headers, noted.choosing, noted.folders)
             self.labels.update(sorting.counts)
             yield Source(choice, text, inventory, sorting.sorted())
 
