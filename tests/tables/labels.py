@@ -254,6 +254,22 @@ def one_folder_for_each(home: Path) -> None:
     expect(LABELS, home, 1, out)
 
 
+def what_is_gone_is_missing(home: Path) -> None:
+    """An undo of a Takeout that was removed asks for no folder. One that is there is asked about by the names that mail
+    programs show, if its folders are not known as those of labels."""
+    takeout(home)
+    expect(LABELS, home, 0, None)
+    (home / "t.mbox").rename(home / "gone")
+    for words in ["--dry-run"], []:
+        out = "t.mbox: left (missing): No such file or directory\n    run this next:\n        ls .\n1 mailbox: 1 left\n"
+        expect(["migrate", "--undo", *words, "M", "t.mbox"], home, 1, out)
+    mailbox(home / "box", ONE)
+    for folder in ("Gr\u00fc\u00dfe", "Old"):
+        expect(["migrate", "--folder", folder, "M", "box"], home, 0, None)
+    says = "the record has it in several folders: Gr\u00fc\u00dfe, Old"
+    equal("of another one", by_json("migrate --undo M box", home).row["says"], says)
+
+
 def a_label_is_asked_about(home: Path) -> None:
     """More than half of the messages have a label that nobody knows: a mark in another language, or a folder. What is
     answered holds for later Takeouts at this path, and nothing is placed before."""
@@ -634,6 +650,7 @@ if __name__ == "__main__":
         a_label_keeps_its_folder,
         flags_by_what_was_said,
         one_folder_for_each,
+        what_is_gone_is_missing,
         a_label_is_asked_about,
         several_labels_are_asked_about,
         a_line_is_asked_about,

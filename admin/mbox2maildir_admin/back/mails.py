@@ -16,7 +16,7 @@ from ..ledger.ledger import Ledger
 from ..ledger.prepared import has_list
 from ..looks import is_folder
 from ..maildir.files import listings_of
-from ..maildir.folders import folder_named, folders_in, name_of
+from ..maildir.folders import folder_shown, folders_in, name_of
 from ..maildir.making import SUBFOLDERS
 from ..mbox.bases import BASE, before_info
 from ..mbox.core import forms_of
@@ -154,13 +154,13 @@ def want_whole(root: bytes, folder: bytes, ledger: Ledger) -> None:
     if ledger.leaving:
         raise PlaceFault(NOT_UNDONE % min(ledger.leaving), Reason.UNDO)
     if ledger.damage:
-        raise PlaceFault(DAMAGED % (folder_named(folder), ledger.damage), Reason.LEDGER)
+        raise PlaceFault(DAMAGED % (folder_shown(folder), ledger.damage), Reason.LEDGER)
     is_prepared = has_list(ledger.folder)
     # what is only to go back has no file of its own
     begun = [one for one in ledger.paths() if is_begun(ledger, one)]
     if is_prepared or begun:
         then = run_next(ADMIN, "migrate", operand(root), *begun[:1] or ["MAILBOX"])
-        raise PlaceFault(NOT_DONE % folder_named(folder), Reason.PREPARED if is_prepared else Reason.OTHER, then)
+        raise PlaceFault(NOT_DONE % folder_shown(folder), Reason.PREPARED if is_prepared else Reason.OTHER, then)
 
 
 def is_begun(ledger: Ledger, path: str) -> bool:
@@ -181,7 +181,7 @@ def mails_in(folder: bytes, path: bytes, say: Say) -> Iterator[Mail]:
     met: set[bytes] = set()
     for listing in listings_of(path):
         for number, (name, file) in enumerate(listing, 1):
-            say("looking at file %d of %s" % (number, folder_named(folder)))
+            say("looking at file %d of %s" % (number, folder_shown(folder)))
             if before_info(name) in met:
                 continue
             try:

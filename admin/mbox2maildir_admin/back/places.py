@@ -14,9 +14,9 @@ from ..ledger.record import Record, is_gone, unspelled
 from ..looks import is_file, is_folder, is_link, is_there
 from ..maildir.folders import (
     INBOX,
-    folder_named,
     folder_on_disk,
     folder_path,
+    folder_shown,
     folders_in,
     name_given,
     name_of,
@@ -108,9 +108,9 @@ class Places:
     def new(self, folder: bytes, paths: Sequence[str]) -> bytes:
         """The new mailbox of a folder, in the first tree."""
         if not self.trees and self.names.tree:
-            raise Left(TREE_GONE % (folder_named(folder), named(self.names.tree)), Reason.MISSING)
+            raise Left(TREE_GONE % (folder_shown(folder), named(self.names.tree)), Reason.MISSING)
         if not self.trees:
-            raise Left(NO_TREE % folder_named(folder), Reason.NO_MAILBOX)
+            raise Left(NO_TREE % folder_shown(folder), Reason.NO_MAILBOX)
         parts, tree = name_given(folder).split(b"/"), self.trees[0]
         nested = os.path.join(tree, *parts)
         if folder_on_disk(os.path.relpath(nested, tree)) == folder and self.is_free(nested, paths):

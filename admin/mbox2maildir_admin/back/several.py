@@ -9,7 +9,7 @@ from ..ledger.history import names_of
 from ..ledger.ledger import Ledger
 from ..ledger.record import Record, unspelled
 from ..looks import is_file, is_there, may_be
-from ..maildir.folders import folder_named, folder_path, folders_in, name_of
+from ..maildir.folders import folder_path, folder_shown, folders_in, name_of
 from ..maildir.making import GOES_BACK, RECORD, real_place, want_roots_alone
 from ..mbox.files import is_empty
 from ..migration.outcomes import Fate, Observer, Row, row_left
@@ -125,7 +125,7 @@ class Several:
         remarks = []
         for other, count in collections.Counter(found.moved.get(folder, ())).items():
             stays = "stays" if count == 1 else "stay"
-            remarks.append(Remark("moved", MOVED % (counted(count, "message"), folder_named(other), stays)))
+            remarks.append(Remark("moved", MOVED % (counted(count, "message"), folder_shown(other), stays)))
         return Target(path, folder, found.new.get(folder, ()), tuple(remarks), found.returned.get(folder, ()))
 
     def standing(self, found: Sorted, folder: bytes) -> dict[bytes, Remarks]:

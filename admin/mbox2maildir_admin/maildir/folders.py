@@ -35,13 +35,9 @@ def folder_name(folder: bytes) -> str:
     return shown(name_given(folder))
 
 
-def folder_named(folder: bytes) -> str:
-    """The same as it stands in a sentence."""
-    return named(folder_name(folder))
-
-
 def folder_shown(folder: bytes) -> str:
-    """The same as a mail program shows it: no name that a reader gets is in modified UTF-7."""
+    """The same as it stands in a sentence, and as a mail program shows it: no name that a reader gets is in modified
+    UTF-7."""
     return named(without_utf7(text_of(name_given(folder))))
 
 

@@ -19,7 +19,7 @@ from ..ledger.history import Entry, Key, Note, names_of
 from ..ledger.record import Record
 from ..looks import is_there
 from ..maildir.files import names_in
-from ..maildir.folders import INBOX, folder_named, folder_of_place
+from ..maildir.folders import INBOX, folder_of_place, folder_shown
 from ..maildir.making import sync_folder
 from ..mbox.fields import headers_at
 from ..mbox.files import WHOLE, open_file, read_up_to
@@ -141,7 +141,7 @@ class Dovecot(Extra):
         opened = one.opened
         numbered = self.record.numbered(opened.name)
         if numbered and not is_of(numbered, opened):
-            says = OF_ANOTHER % folder_named(opened.name)
+            says = OF_ANOTHER % folder_shown(opened.name)
             if one.places and first_head(one.contents.full.mailbox, one.contents.full.start):
                 raise Left(AFTER_THOSE % says, Reason.NUMBERED)
             return [WHAT_IS_NEW if one.places else Remark("without-uids", WITHOUT % says)]

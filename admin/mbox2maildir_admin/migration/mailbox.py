@@ -20,7 +20,7 @@ from ..ledger.prepared import Prepared, in_milliseconds, milliseconds_since
 from ..ledger.record import Record, unspelled
 from ..looks import is_folder
 from ..maildir.disk import Need, want_room, want_syncs
-from ..maildir.folders import folder_named, folder_path
+from ..maildir.folders import folder_path, folder_shown
 from ..mbox.locks import open_mailbox
 from ..mbox.mailbox import Mailbox
 from ..mbox.snapshot import snapshot
@@ -396,7 +396,7 @@ class Transfer:
         elsewhere = known.elsewhere(steps.contents.inventory)
         remarks = list(remarks_on(steps, how.dry))
         for line, _ in elsewhere:
-            says = "%s of it went into %s too" % (counted(line.messages, "message"), folder_named(line.key.folder))
+            says = "%s of it went into %s too" % (counted(line.messages, "message"), folder_shown(line.key.folder))
             says += "" if line.path in known.names else ", from %s" % named(unspelled(line.path))
             remarks.append(Remark("elsewhere", says))
         remarks += [*back_in(self.ledger), *remarks_on_joined(known.joined(how.names))]

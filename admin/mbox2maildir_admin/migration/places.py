@@ -13,7 +13,7 @@ from ..ledger.history import History, Step
 from ..ledger.record import Record, unspelled
 from ..looks import is_file
 from ..maildir.files import names_of
-from ..maildir.folders import COPY, INBOX, folder_named, folder_path, words_of
+from ..maildir.folders import COPY, INBOX, folder_path, folder_shown, words_of
 from ..maildir.disk import SyncOne
 from ..nexts import Answer, Command, Does, Next, Phrase, Todo, in_shell, line_of, run_next, task
 from ..readings.copies import COMPRESSED
@@ -88,7 +88,7 @@ def as_named(one: Planned, record: Record, options: Options) -> Planned:
     if not found or folder in found:
         return one._replace(folder=folder)
     words = [*options.words(), *words_of(found[0]), operand(record.maildir)]
-    return one.left_to_human(ELSEWHERE % folder_named(found[0]), words)
+    return one.left_to_human(ELSEWHERE % folder_shown(found[0]), words)
 
 
 def settled(
@@ -109,7 +109,7 @@ def settled(
             continue
         mail = [one for one in found if not has_no_mail(one)]
         is_free = len(mail) == 1 and folder not in taken
-        why = "another mailbox goes into %s too" % folder_named(folder)
+        why = "another mailbox goes into %s too" % folder_shown(folder)
         several += [one if is_free and one in mail else one.left_to_human(why, words) for one in found]
     return several
 

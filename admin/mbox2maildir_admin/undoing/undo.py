@@ -27,7 +27,7 @@ from ..ledger.record import Record, is_gone, unspelled
 from ..looks import is_there
 from ..maildir.files import digest_of, forms_in
 from ..maildir.files import names_of as mail_in
-from ..maildir.folders import INBOX, folder_named, folder_of, folders_in, name_of, on_disk
+from ..maildir.folders import INBOX, folder_of, folder_shown, folders_in, name_of, on_disk
 from ..maildir.making import RECORD, real_place
 from ..mbox.bases import DIGEST, base_in, before_info, is_own
 from ..mbox.locks import WITHOUT_LOCKS, open_mailbox
@@ -117,10 +117,13 @@ class Undo:
             return row_left(path, name, fault, None, size)
 
     def folder_of(self, path: bytes) -> bytes:
-        """The folder in which the record has a mailbox by its path; INBOX if it has none by that path."""
+        """The folder in which the record has a mailbox by its path; INBOX if it has none by that path. Raises OSError
+        if it is in several, and nothing is at the path."""
         names = sorted(self.record.folders_of(path))
         if len(names) > 1:
-            raise Left(IN_SEVERAL % ", ".join(map(folder_named, names)), Reason.UNDO, task(Todo.NAME_FOLDER))
+            # which folder is not asked about what is not there
+            os.stat(path)
+            raise Left(IN_SEVERAL % ", ".join(map(folder_shown, names)), Reason.UNDO, task(Todo.NAME_FOLDER))
         return names[0] if names else INBOX
 
     def undo(self, opened: Opened) -> Row:
