@@ -254,6 +254,17 @@ def one_folder_for_each(home: Path) -> None:
     expect(LABELS, home, 1, out)
 
 
+def what_was_said_is_printed_as_it_is_typed(home: Path) -> None:
+    """The words of the earlier run stand as a shell reads them, and the command below them undoes that."""
+    takeout(home, [("one", "Inbox,Kategorie: Werbung")])
+    said = ["--labels", "one", "--label", "Kategorie: Werbung=none"]
+    expect(["migrate", *said, "M", "t.mbox"], home, 0, None)
+    row = by_json("migrate --labels M t.mbox", home).row
+    equal("the words", shlex.split(row["says"].partition("labels: ")[2]), said)
+    equal("its undo", run_printed(row.command, home).status, 0)
+    expect(["migrate", *said, "M", "t.mbox"], home, 0, None)
+
+
 def what_is_gone_is_missing(home: Path) -> None:
     """An undo of a Takeout that was removed asks for no folder. One that is there is asked about by the names that mail
     programs show, if its folders are not known as those of labels."""
@@ -650,6 +661,7 @@ if __name__ == "__main__":
         a_label_keeps_its_folder,
         flags_by_what_was_said,
         one_folder_for_each,
+        what_was_said_is_printed_as_it_is_typed,
         what_is_gone_is_missing,
         a_label_is_asked_about,
         several_labels_are_asked_about,

@@ -28,7 +28,7 @@ from ..program import Program, find_program
 from ..readings.plans import Question
 from ..readings.reading import UNDECIDED
 from ..readings.texts import Choice, choice_at_once, read_messages
-from ..terminal import complain, named
+from ..terminal import complain, named, quoted
 from .folder import FolderTransfer, Source
 
 NO_MESSAGE = "it has no message, and so no labels"
@@ -154,7 +154,7 @@ class Takeouts(Migration):
         is_other = noted.folders and (before.word == ONE) != (now.word == ONE)
         if is_other or any(before.gives(label) not in ("", gives) for label, gives in now.given):
             undo = self.how.undo_command(self.root, opened)
-            says = OTHERWISE % " ".join(before.words())
+            says = OTHERWISE % " ".join(map(quoted, before.words()))
             raise Left(says, Reason.ANOTHER_READING, (Answer(undo),))
         return before.with_given(*now.given)._replace(word=now.word or before.word)
 
