@@ -265,6 +265,26 @@ def what_was_said_is_printed_as_it_is_typed(home: Path) -> None:
     expect(["migrate", *said, "M", "t.mbox"], home, 0, None)
 
 
+def folders_are_named_where_a_path_has_several(home: Path) -> None:
+    """In the last block too, each as a mail program shows it: by `verify`, also of a single one that is not whole; and
+    by a run without the ledgers."""
+    takeout(home)
+    expect(LABELS, home, 0, None)
+    missing = {".Gr&APwA3w-e": "Gr\u00fc\u00dfe", ".Work.A": "Work/A"}
+    for folder in missing:
+        next((home / "M" / folder / "new").iterdir()).unlink()
+        status, out, _ = run("verify M t.mbox", home)
+        gone = [name for path, name in missing.items() if not any((home / "M" / path / "new").iterdir())]
+        rows = {f"t.mbox -> {name}": "nowhere 1" for name in [*missing.values()][: 1 + (folder == ".Work.A")]}
+        equal(f"{gone}: status", status, 1)
+        equal("verify", groups_in(out)[0].rows, rows)
+    for path in (home / "M").rglob("mbox2maildir-*"):
+        path.unlink()
+    next((home / "M/new").iterdir()).unlink()
+    (group,) = groups_in(run("migrate --labels M t.mbox", home).out)
+    equal("partly-there", (group.word, [*group.rows]), ("partly-there", ["t.mbox -> INBOX", "t.mbox -> Work/A"]))
+
+
 def what_is_gone_is_missing(home: Path) -> None:
     """An undo of a Takeout that was removed asks for no folder. One that is there is asked about by the names that mail
     programs show, if its folders are not known as those of labels."""
@@ -662,6 +682,7 @@ if __name__ == "__main__":
         flags_by_what_was_said,
         one_folder_for_each,
         what_was_said_is_printed_as_it_is_typed,
+        folders_are_named_where_a_path_has_several,
         what_is_gone_is_missing,
         a_label_is_asked_about,
         several_labels_are_asked_about,

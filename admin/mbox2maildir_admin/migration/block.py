@@ -42,9 +42,9 @@ class Typed(NamedTuple):
 
 
 def name_of(row: Row) -> str:
-    """The user and the mailbox, or INBOX for that of the spool. Unless it is left, it has its folder: a Takeout has
-    several."""
-    if row.path and row.fate != Fate.LEFT:
+    """The user and the mailbox, or INBOX for that of the spool. Unless the mailbox is left, it has its folder: a
+    Takeout has several, and some of these may be left."""
+    if row.path and (row.is_part or row.fate != Fate.LEFT):
         return row.way
     path = named(row.path) if row.path else folder_shown(row.folder) if row.folder else ""
     return " ".join(filter(None, [named(row.user) if row.user is not None else "", path]))

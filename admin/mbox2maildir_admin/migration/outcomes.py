@@ -95,6 +95,8 @@ class Row(NamedTuple):
     details: tuple[Detail, ...] = ()
     # the user to whom it belongs, if it is that of one of many, as the name is printed
     user: Optional[str] = None
+    # whether its mailbox has a row for each of its folders, as a Takeout has
+    is_part: bool = False
 
     @property
     def label(self) -> str:

@@ -95,6 +95,7 @@ class Takeouts(Migration):
 
     def add(self, ended: Outcome) -> None:
         """Reports what became of a folder, once its disk is synced."""
+        ended = ended._replace(row=ended.row._replace(is_part=bool(ended.row.folder)))
         self.syncs.add(ended.folder, (ended, self.observer.row))
 
     def migrate(self, opened: Opened, making: Optional[Making] = None) -> Outcome:

@@ -29,7 +29,7 @@ def undo_takeout(root: bytes, path: bytes, options: Options, observer: Observer)
         for row in TakeoutUndo(root, record, options).rows(path, observer.say(path)):
             observer.total += 1
             observer.begin()
-            observer.row(row)
+            observer.row(row._replace(is_part=bool(row.folder)))
 
 
 class TakeoutUndo(Undo):
