@@ -37,7 +37,7 @@ from ..readings.unnamed import copy_of_some
 from ..terminal import operand
 from ..units import Offset, Place, counted
 from .known import Known
-from .outcomes import Fate, Outcome, Row
+from .outcomes import Fate, Outcome, Pass, Row
 from .steps import Steps
 
 CHANGED_MEANWHILE = "it changed in the meantime: stop the program that writes to it, and run this again"
@@ -68,24 +68,24 @@ END = 64
 def carry_out(steps: Steps, program: Program) -> tuple[int, list[Remark]]:
     """Does what was planned. Returns the number of its batch in the ledger, 0 if the mail stays only prepared, and what
     else is to be said. Raises Left if something fails, or is not as it was any more."""
-    prepared, first, said = steps.prepared, steps.first_pass, list[Remark]()
+    prepared, is_first, said = steps.prepared, steps.which is Pass.FIRST, list[Remark]()
     if prepared:
         edited = prepared.remove()
         said += [Remark("kept-edited", KEPT % counted(edited, "file"))] * bool(edited)
     batch = begin(steps)
     back = steps.back + (convert(steps, program, batch) if len(steps.places) else 0)
-    if prepared and first:
+    if prepared and is_first:
         # flags are those of the last pass: a mail program may change them until then. A date changes a file's ctime
-        Dating(steps.contents.text, steps.part).give_all(steps.opened.folder)
+        Dating(steps.contents.text, steps.files).give_all(steps.opened.folder)
         prepared.note_facts()
-    of_extra = steps.extra.run(steps) if steps.extra else []
+    of_extra = [] if is_first else steps.extra.run(steps)
     said += finish(steps) + of_extra
     want_none_cut(steps)
     if back:
         says = BACK % counted(min(back, len(steps.contents.inventory)), "message")
         said.append(Remark("came-back", says))
-    if prepared and first and steps.origin:
-        prepared.write_whole(steps.origin, first.text, first.took)
+    if prepared and is_first and steps.origin:
+        prepared.write_whole(steps.origin, steps.text, steps.took)
     return batch, said
 
 
@@ -97,10 +97,10 @@ def begin(steps: Steps) -> int:
     if prepared:
         record.make()
         prepared.make_folder()
-        ends = [] if steps.first_pass else [b">\t%d\n" % (ledger.last + 1)]
+        ends = [] if steps.which is Pass.FIRST else [b">\t%d\n" % (ledger.last + 1)]
         prepared.append(*([steps.origin.line()] if steps.origin else []), *prepared.names(), *ends)
     record.make(opened.make_folder, ledger.make)
-    if steps.first_pass:
+    if steps.which is Pass.FIRST:
         before = record.prepared(opened.name)
         if not before or (before.key, before.path) != (known.key, known.path):
             words = len(contents.inventory), unspelled(known.path), contents.words
@@ -172,7 +172,7 @@ def explained(failed: Failed, steps: Steps, batch: int) -> Left:
 def finish(one: Steps) -> list[Remark]:
     """Dates what was brought, and returns what is to be said of that. Raises Left unless each message is there once."""
     text = one.contents.text
-    check, dating = Check(one.part, say=one.opened.mailbox.say), Dating(text, one.part)
+    check, dating = Check(one.files, say=one.opened.mailbox.say), Dating(text, one.files)
 
     def look_first(place: Place, number: int, state: os.stat_result) -> Optional[bytes]:
         """Gives a file its date, and finds its digest by its text."""
@@ -268,12 +268,12 @@ def settled(several: Sequence[tuple[Outcome, Optional[OSError]]]) -> list[Row]:
                 raise Left(CHANGED_MEANWHILE, Reason.CHANGED)
             if one.batch:
                 ended[one.folder][place] = one
-            elif one.is_prepared:
+            elif one.which is Pass.FIRST:
                 finish_list(one.folder)
     for folder, its in ended.items():
         with leaving(rows, *its):
             note_ends(folder, (one.batch for one in its.values()))
-            if any(one.is_prepared for one in its.values()):
+            if any(one.which in (Pass.AGAIN, Pass.LAST) for one in its.values()):
                 drop_list(folder)
     return rows
 

@@ -54,6 +54,7 @@ class Dovecot(Extra):
     IS_BARE = True
 
     def __init__(self, record: Record) -> None:
+        super().__init__()
         self.record = record
 
     def start_of(self, text: Mailbox, start: Offset) -> Offset:
@@ -188,7 +189,7 @@ def give_flags(one: Steps) -> None:
     marks = [marks_of(fields_of(one.contents.header(Place(place))), {}) for place in one.places]
     letters = [info_of(its, "") for its in marks]
     listed = {Place(place) for place, its in enumerate(marks) if is_listed(its)}
-    add_flags(one.opened.folder, one.part, letters, one.is_unread, listed)
+    add_flags(one.opened.folder, one.files, letters, one.is_unread, listed)
 
 
 def place_file(folder: bytes, name: bytes, text: bytes, note: Noted) -> None:

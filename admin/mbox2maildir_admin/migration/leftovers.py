@@ -9,7 +9,7 @@ from typing import NamedTuple
 from .. import ADMIN
 from ..faults import Fault, Left, Reason
 from ..ledger.ledger import Ledger
-from ..ledger.prepared import ASIDE, Prepared, has_list, origin_in, remove_aside
+from ..ledger.prepared import ASIDE, has_list, origin_in, remove_aside
 from ..ledger.record import Record, unspelled
 from ..looks import is_folder, is_there, may_be, real_path
 from ..maildir.files import names_in
@@ -18,7 +18,7 @@ from ..nexts import Does, Remark, Todo, run_next, task
 from ..terminal import operand, spelled, text_of
 from .outcomes import Row, row_left
 from .places import Planned
-from .preparing import empty, is_prepared, undone
+from .preparing import Preparation, undone
 from .options import Options
 from .mailbox import TENTH
 
@@ -115,9 +115,8 @@ class Leftovers:
             with contextlib.suppress(Fault, OSError):
                 # what cannot be read stays
                 if name not in went and has_list(folder) and not origin_in(folder):
-                    empty(self.record, name, Ledger(folder), Prepared.read(folder))
+                    Preparation(self.record, name, Ledger(folder)).empty()
 
     def is_open(self, one: Listed) -> bool:
         """Whether a folder is only prepared still."""
-        folder = folder_path(self.root, one.name)
-        return is_prepared(self.record, one.name, Ledger(folder), Prepared.read(folder))
+        return Preparation(self.record, one.name, Ledger(folder_path(self.root, one.name))).is_open

@@ -6,6 +6,7 @@ Files have the digests of messages as names, so one is right or not wanted, what
 """
 import collections
 import contextlib
+import functools
 import time
 from collections.abc import Callable, Iterator
 from typing import IO, TYPE_CHECKING, Any, Optional
@@ -16,7 +17,7 @@ from ..labels.noted import line_of
 from ..ledger.gone import back_in, gone_before, gone_from, unexplained
 from ..ledger.ledger import Ledger, count_in, has_failed
 from ..ledger.match import Files, Match
-from ..ledger.prepared import Prepared, in_milliseconds, milliseconds_since
+from ..ledger.prepared import in_milliseconds, milliseconds_since
 from ..ledger.record import Record, unspelled
 from ..looks import is_folder
 from ..maildir.disk import Need, want_room, want_syncs
@@ -27,7 +28,7 @@ from ..mbox.snapshot import snapshot
 from ..nexts import NOTHING, Answer, Does, Next, Phrase, Remark
 from ..program import Program
 from ..progress import Spent
-from ..readings.plans import NoMail, NotKnown, OtherKind, Plan, Question, read_begun
+from ..readings.plans import NoMail, NotKnown, OtherKind, Question, read_begun
 from ..readings.reading import UNDECIDED
 from ..readings.texts import Choice, choice_at_once, choice_of, disk_of, read_messages
 from ..readings.unnamed import unnamed
@@ -50,23 +51,23 @@ from .answers import (
 from .carrying import CHANGED_MEANWHILE, SYNC_FAILED, begin, carry_out, names_that_may_be_cut
 from .known import Known, Opened
 from .options import Options
-from .outcomes import BY_NO_MAIL, BY_RECORD, Fate, Outcome, Row, row_left
+from .outcomes import BY_NO_MAIL, BY_RECORD, Fate, Outcome, Pass, Row, row_left
 from .preparing import (
-    Same,
-    clear,
+    Preparation,
     is_prepared_already,
-    origin_of,
-    prepared_in,
+    mended,
     remarks_on_prepared,
     row_unchanged,
     same_as_prepared,
-    text_of,
+    take_prepared,
     want_free,
     want_usable,
+    with_list,
 )
 from .steps import (
     Contents,
-    FirstPass,
+    Extra,
+    Part,
     Steps,
     remarks_on,
     remarks_on_dropped,
@@ -88,9 +89,6 @@ LOST = "the ledger of its folder is %s, so nothing shows which of its messages w
 FOLDER_GONE = Remark("folder-gone", "its folder is gone")
 LEDGER_GONE = Remark("ledger-gone", "the ledger of its folder is gone")
 OLDER = "the ledger of its folder is older than its record, and lacks %s of it: mail may be missing there"
-
-# makes the transfer of an open mailbox into a folder with a ledger
-Making = Callable[["Migration", Opened, Ledger], "Transfer"]
 
 
 class Migration:
@@ -165,20 +163,21 @@ class Migration:
             pass
         return row_left(mailbox.path, b"", why, None, mailbox.size)
 
-    def migrate(self, opened: Opened, making: Optional[Making] = None) -> Outcome:
+    def migrate(self, opened: Opened) -> Outcome:
         """Does what is left to do, and returns what became of the mailbox."""
         if not self.how.is_labelled and line_of(self.record, opened.mailbox):
             undo = self.how._replace(is_labelled=True).undo_command(self.root, opened)
             left = Left(WITH_LABELS, Reason.ANOTHER_READING, (Answer(undo),))
             return Outcome(row_left(opened.mailbox.path, b"", left, None, opened.mailbox.size))
+        return self.bring(opened)
+
+    def bring(self, opened: Opened, part: Optional[Part] = None) -> Outcome:
+        """Brings a mailbox, or a part of it, into its folder, and returns what became of that."""
         verified, ledger, self.kept = self.verified[opened.name], self.kept, None
         if not ledger or ledger.folder != opened.folder:
             ledger = Ledger(opened.folder, verified, self.how.dry)
-        if making:
-            ended = making(self, opened, ledger).run()
-        else:
-            prepared = prepared_in(self.record, self.how, opened, ledger, verified)
-            ended = Transfer(self, opened, ledger, prepared).run()
+        preparation = None if part else mended(self.record, self.how, opened, ledger, verified)
+        ended = Transfer(self, opened, ledger, preparation, part).run()
         if ended.batch:
             verified.add(ended.batch)
             ledger.end(ended.batch)
@@ -190,43 +189,57 @@ class Transfer:
     """One mailbox, which is open, on its way into a folder."""
 
     def __init__(
-        self, migration: Migration, opened: Opened, ledger: Ledger, prepared: Optional[Prepared] = None
+        self,
+        migration: Migration,
+        opened: Opened,
+        ledger: Ledger,
+        preparation: Optional[Preparation] = None,
+        part: Optional[Part] = None,
     ) -> None:
-        """Takes what is only prepared in the folder, if mail is not placed there for good at once."""
+        """Takes what is only prepared in the folder, if mail is not placed there for good at once; and what goes there,
+        if that is not all of the mailbox."""
         self.program, self.root, self.record = migration.program, migration.root, migration.record
         self.how, self.want_room, self.disk = migration.how, migration.want_room, migration.disk
-        self.opened, self.ledger, self.prepared = opened, ledger, prepared
+        self.opened, self.ledger, self.part = opened, ledger, part
+        self.preparation, self.prepared = preparation, preparation.prepared if preparation else None
         # a first pass writes nothing into the ledger
         ledger.is_dry = ledger.is_dry or self.how.prepare
-        # what stands for the text, if the mailbox is as it was prepared
-        self.same: Optional[Same] = None
         # when this began; and whether a last pass would have it to do again, since the mailbox may change again
-        self.began, self.is_changed = time.monotonic(), prepared is not None and prepared.is_whole
+        self.began, self.is_changed = time.monotonic(), self.prepared is not None and self.prepared.is_whole
         self.known = Known(self.record, ledger, opened)
         # what is to be said of it
-        self.remarks: list[Remark] = [*opened.mailbox.remarks]
+        self.remarks: list[Remark] = [*opened.mailbox.remarks, *(part.remarks if part else ())]
+        if part:
+            self.how = self.how._replace(extra=Extra(part.kept))
 
     @property
     def path(self) -> str:
         """Its path as the ledger spells it."""
         return self.known.path
 
+    @property
+    def which(self) -> Pass:
+        """Which pass this is."""
+        if self.how.prepare:
+            return Pass.FIRST
+        return Pass.AGAIN if self.how.again else Pass.LAST if self.prepared else Pass.AT_ONCE
+
     def run(self) -> Outcome:
         """Does what is left to do, and returns what became of the mailbox."""
         line = None if self.how.again else self.known.done()
-        if line:
+        if line and (not self.part or self.part.is_in(line)):
             more, then = ([], NOTHING) if self.how.prepare else contradicted(self.how, self.root, self.opened, line)
             return Outcome(self.row_before(line.plan, line.messages, more)._replace(next=then))
         try:
-            if self.prepared and self.how.prepare:
+            if self.preparation and self.how.prepare:
                 is_another = self.ledger.sources and self.path not in self.ledger.paths()
-                if is_another and not self.opened.mailbox.size and not self.prepared.is_there:
+                if is_another and not self.opened.mailbox.size:
                     # a program that delivers makes such a file once the old one was moved away
-                    with self.choice() as choice:
-                        return Outcome(self.row(choice.plan))
-                want_free(self.known, self.prepared)
-            with self.choice() as choice:
-                return self.bring(choice)
+                    with self.chosen() as part:
+                        return Outcome(self.row(part))
+                want_free(self.preparation, self.known)
+            with self.chosen() as part:
+                return self.bring(part)
         except Question as question:
             ended = self.answered(question)
             if not ended:
@@ -268,20 +281,21 @@ class Transfer:
         return ended._replace(row=ended.row._replace(tie=given.of if given else ""))
 
     @contextlib.contextmanager
-    def choice(self) -> Iterator[Choice]:
-        """Chooses which text stands for the mailbox, which is not read again if it is as it was prepared."""
-        self.same = same_as_prepared(self.prepared, self.how, self.opened) if self.prepared else None
-        if self.same:
-            yield self.same.choice
+    def chosen(self) -> Iterator[Part]:
+        """What goes of the mailbox into the folder, once it is chosen which text stands for it. It is not read again if
+        it is as it was prepared."""
+        part = same_as_prepared(self.prepared, self.how, self.opened) if self.prepared else self.part
+        if part:
+            yield part
             return
         mailbox, is_bare, decision = self.opened.mailbox, self.how.extra.IS_BARE, self.how.decision
         if decision == UNDECIDED:
             decision = noted_last(self.record, self.opened)
         with choice_at_once(self.program, mailbox, self.disk, decision, is_bare) as choice:
             self.remarks += [AS_ANSWERED] * (decision.noted and choice.plan.answer is not None)
-            yield choice
+            yield Part(choice, functools.partial(self.read, choice), mailbox.size)
 
-    def bring(self, choice: Choice) -> Outcome:
+    def bring(self, part: Part) -> Outcome:
         """Brings what is new, once it is chosen which text stands for the mailbox. Everything that is nowhere is
         brought of one that was rewritten, or whose sync failed, if that is wanted of such mailboxes alone."""
         mailbox, before, again = self.opened.mailbox, self.remarks[:], self.how._replace(again=True)
@@ -289,73 +303,78 @@ class Transfer:
             if self.how.again_rewritten and self.has_failed():
                 self.how = again
             try:
-                return self.bring_any(choice)
+                return self.bring_any(part)
             except Left as left:
                 is_rewritten = left.reason in (Reason.REWRITTEN, Reason.LEDGER)
                 if not (is_rewritten and self.how.again_rewritten) or self.how.again:
                     raise
             self.remarks, self.how = before, again
-            return self.bring_any(choice)
+            return self.bring_any(part)
         except (Fault, OSError) as fault:
-            return Outcome(row_left(mailbox.path, self.opened.name, fault, choice.plan, mailbox.size))
+            return Outcome(row_left(mailbox.path, self.opened.name, fault, part.plan, mailbox.size))
 
-    def bring_any(self, choice: Choice) -> Outcome:
+    def bring_any(self, part: Part) -> Outcome:
         """The same, but raises what keeps the mailbox from being done. One without mail only gets its folder, from
         which everything is removed that is prepared."""
-        if self.prepared and not self.how.again:
-            want_usable(self.how, self.known, self.prepared)
-        if choice.plan.is_empty:
-            if self.prepared and not self.how.dry:
-                clear(self.how, self.known, self.prepared)
+        if self.preparation and not self.how.again:
+            want_usable(self.preparation, self.how, self.opened)
+        if part.plan.is_empty:
+            if self.preparation and not self.how.dry:
+                self.preparation.clear(self.how, self.opened.mailbox.say)
             if not self.how.prepare:
                 self.record.make(self.opened.make_folder)
                 self.remarks += note_empty(self.record, self.opened, self.ledger, self.path)
-            return Outcome(self.row(choice.plan))
+            return Outcome(self.row(part))
         self.remarks += want_syncs(self.opened.folder, self.how.any_disk)
         self.want_ended()
-        with self.read(choice) as contents:
+        with part.read() as contents:
             if not self.how.prepare:
                 # a first pass goes by nothing in the ledger
                 self.want_ledger(contents)
-                want_same_reading(self.how, self.known, choice, contents)
+                want_same_reading(self.how, self.known, part.choice, contents)
                 if not self.how.again:
                     self.known.take_place(contents.inventory)
-            match = self.matched(contents)
+            match = self.matched(part, contents)
             self.want_sure(contents, match)
             if AS_BROUGHT not in self.remarks:
-                note_answer(self.record, self.opened, choice.plan)
+                note_answer(self.record, self.opened, part.plan)
             if match.is_known and self.path in self.ledger.sources and not self.how.prepare:
                 row = self.row_before(contents.words, len(contents.inventory), list(remarks_on_lost(match)))
                 # the ledger notes that it was read
                 return (
                     Outcome(row) if self.how.dry else self.verified(row, begin(self.steps(contents, match)), contents)
                 )
-            return self.done(choice, self.planned(choice, contents, match))
+            return self.done(part, self.planned(part, contents, match))
 
-    def done(self, choice: Choice, steps: Steps) -> Outcome:
+    def done(self, part: Part, steps: Steps) -> Outcome:
         """Does what was planned, unless this is a rehearsal, and returns what became of the mailbox."""
         self.remarks += steps.remarks
         if self.how.dry:
-            self.remarks += steps.extra.foresee(steps) if steps.extra else []
-            return Outcome(self.row(choice.plan, steps.next))
+            self.remarks += [] if self.how.prepare else steps.extra.foresee(steps)
+            return Outcome(self.row(part, steps.next))
         if is_prepared_already(steps):
             self.is_changed = False
-            return Outcome(self.row(choice.plan))
+            return Outcome(self.row(part))
         batch, said = carry_out(steps, self.program)
         self.remarks += said
-        return self.verified(self.row(choice.plan, steps.next), batch, steps.contents)
+        return self.verified(self.row(part, steps.next), batch, steps.contents)
 
-    def matched(self, contents: Contents) -> Match:
-        """The messages of the text, with what is there of them besides what was prepared."""
+    def matched(self, part: Part, contents: Contents) -> Match:
+        """The messages of the text, with what is there of them besides what was prepared. What only left the folder of
+        a label is not gone."""
         say, hides = self.opened.mailbox.say, None
         if self.how.again:
-            return self.matched_again(self.ledger, contents)
-        if self.prepared:
-            hides = self.prepared.hides
-            if not self.same:
-                self.prepared.look(say)
-        files = Files(self.ledger.folder, contents.inventory, say, hides)
-        return Match.of(self.ledger, self.path, files, contents.is_deleted)
+            match = self.matched_again(self.ledger, contents)
+        else:
+            if self.prepared:
+                hides = self.prepared.hides
+                if not part.is_known:
+                    self.prepared.look(say)
+            files = Files(self.ledger.folder, contents.inventory, say, hides)
+            match = Match.of(self.ledger, self.path, files, contents.is_deleted)
+        if part.cores:
+            match.unlabelled = match.lost & part.cores
+        return match
 
     def matched_again(self, ledger: Ledger, contents: Contents) -> Match:
         """The same if all that is nowhere is placed."""
@@ -364,26 +383,24 @@ class Transfer:
 
     def steps(self, contents: Contents, match: Match) -> Steps:
         """What is to be done by what was found of the messages, as far as that alone decides it."""
+        steps = Steps.of(self.known, contents, match, self.which, self.how.extra)
         # with --again, what was prepared stays as it is
-        prepared = None if self.how.again else self.prepared
-        return Steps.of(self.known, contents, match, self.how.again, prepared)
+        return steps._replace(prepared=None if self.how.again else self.prepared)
 
-    def planned(self, choice: Choice, contents: Contents, match: Match) -> Steps:
+    def planned(self, part: Part, contents: Contents, match: Match) -> Steps:
         """What is to be done. Raises Left if it cannot be, with the command that does what can."""
         took, how, prepared = self.passed(), self.how, self.prepared
         if prepared:
-            self.remarks += remarks_on_prepared(match, prepared, how, self.opened.mailbox.say)
-            if self.same and len(match.need):
+            if how.again:
+                prepared.look(self.opened.mailbox.say)
+            else:
+                take_prepared(match, prepared)
+            self.remarks += remarks_on_prepared(prepared, how)
+            if part.is_known and len(match.need):
                 raise Left(CHANGED_MEANWHILE, Reason.CHANGED)
-        steps = self.steps(contents, match)
-        if prepared and (how.prepare or not prepared.origin):
-            steps = steps._replace(origin=origin_of(how, self.known, contents))
-        if how.prepare:
-            text = text_of(choice, contents)
-            took = in_milliseconds(self.opened.mailbox.took) if text else took
-            steps = steps._replace(first_pass=FirstPass(text, took))
-        else:
-            steps = steps._replace(extra=how.extra, back=self.may_come_back(match))
+        steps = with_list(self.steps(contents, match), how, part.choice, took)
+        if not how.prepare:
+            steps = steps._replace(back=self.may_come_back(match))
             hindrance = how.extra.hindrance(steps)
             if hindrance:
                 raise Left(str(hindrance), hindrance.reason, self.command(Does.RUN, again=how.again, dovecot=False))
@@ -393,7 +410,8 @@ class Transfer:
     def said_of(self, steps: Steps) -> Steps:
         """The same, with what is said of mail that does not stay only prepared, and what is to be done next."""
         known, how = self.known, self.how
-        elsewhere = known.elsewhere(steps.contents.inventory)
+        # a message of a Takeout may be in many folders
+        elsewhere = [] if self.part else known.elsewhere(steps.contents.inventory)
         remarks = list(remarks_on(steps, how.dry))
         for line, _ in elsewhere:
             says = "%s of it went into %s too" % (counted(line.messages, "message"), folder_shown(line.key.folder))
@@ -415,14 +433,14 @@ class Transfer:
         if len(need):
             self.want_room(Need.of(self.opened.folder, wanted, freed=freed))
 
-    def row(self, plan: Plan, then: Next = NOTHING) -> Row:
+    def row(self, part: Part, then: Next = NOTHING) -> Row:
         """The row of a mailbox that is done or prepared, or would be."""
-        mailbox, how, spent = self.opened.mailbox, self.how, None
+        plan, how, spent = part.plan, self.how, None
         done, would = (Fate.PREPARED, Fate.WOULD_PREPARE) if how.prepare else (Fate.DONE, Fate.WOULD)
         if self.prepared and how.prepare and not how.dry:
             spent = Spent(self.passed(), self.passed() if self.is_changed else self.prepared.noted.foreseen())
         its = self.opened.name, plan.kind, plan.messages, would if how.dry else done
-        row = Row(mailbox.path, *its, size=mailbox.size, spent=spent)
+        row = Row(self.opened.mailbox.path, *its, size=part.size, spent=spent)
         return row._replace(remarks=(*plan.remarks, *self.remarks), next=then)
 
     def passed(self) -> int:
@@ -473,11 +491,7 @@ class Transfer:
 
     @contextlib.contextmanager
     def read(self, choice: Choice) -> Iterator[Contents]:
-        """Reads the text that stands for the mailbox, unless all of it is known. The program must list the same
-        messages."""
-        if self.same:
-            yield self.same.contents
-            return
+        """Reads the text that stands for the mailbox. The program must list the same messages."""
         copies = choice.plan.is_copied + choice.plan.reading.bare
         if copies:
             self.want_room(Need.of(self.disk, [], copies * choice.mailbox.size))
@@ -503,8 +517,8 @@ class Transfer:
 
     def verified(self, row: Row, batch: int, contents: Contents) -> Outcome:
         """The outcome of a mailbox all of whose messages are verified, in a batch or, if it is only prepared, none."""
-        path, state, is_prepared = unspelled(self.path), self.opened.mailbox.state, self.prepared is not None
-        return Outcome(row, self.opened.folder, batch, is_prepared, contents.words, path, state)
+        path, state = unspelled(self.path), self.opened.mailbox.state
+        return Outcome(row, self.opened.folder, batch, self.which, contents.words, path, state)
 
     def may_come_back(self, match: Match) -> int:
         """How many messages that are nowhere may have been there before, and were deleted."""

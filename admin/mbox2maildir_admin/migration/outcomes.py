@@ -1,4 +1,5 @@
 """What became of a mailbox, and who is told of it."""
+import enum
 import functools
 import os
 from collections.abc import Iterator, Sequence
@@ -146,16 +147,25 @@ class Row(NamedTuple):
         return self.fate not in (Fate.BEFORE, Fate.NOTHING_NEW, Fate.FOUND, Fate.WHOLE, Fate.NO_MAIL)
 
 
+class Pass(enum.IntEnum):
+    """How a run brings mail: it is mail at once, and with --again all that is nowhere is placed. Or first passes only
+    prepare it, until a last pass makes mail of that."""
+
+    AT_ONCE = 0
+    AGAIN = 1
+    FIRST = 2
+    LAST = 3
+
+
 class Outcome(NamedTuple):
     """What became of a mailbox: the row that is printed of it and, if all of its messages were verified in a folder,
     what is noted there once the disk was synced."""
 
     row: Row
-    # the folder, the batch of its ledger, which what is only prepared does not have, and whether a list has what was
-    # prepared
+    # the folder, the batch of its ledger, which a first pass does not have, and which pass it was
     folder: bytes = b""
     batch: int = 0
-    is_prepared: bool = False
+    which: Pass = Pass.AT_ONCE
     # how the mailbox was read, its path, and the state of its file: it is closed, so others may write to it
     words: str = ""
     path: bytes = b""

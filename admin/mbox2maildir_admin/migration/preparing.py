@@ -26,11 +26,12 @@ changed, and flags and UIDs from the headers.
 """
 import array
 import contextlib
+import enum
 import functools
 import os
 import time
 from collections.abc import Container, Sequence
-from typing import NamedTuple, Optional
+from typing import Optional
 
 from ..faults import Left, Reason
 from ..flags.renaming import sync_names
@@ -49,6 +50,7 @@ from ..ledger.prepared import (
     aside_of,
     has_list,
     home_of,
+    in_milliseconds,
     milliseconds_since,
     remove_aside,
     remove_list,
@@ -61,7 +63,6 @@ from ..maildir.making import LEDGER, MARK, PREPARED, SUBFOLDERS, sync_folder
 from ..mbox.bases import base_in, before_info, own_base_in
 from ..mbox.dates import seconds_of
 from ..mbox.inventory import NO_DATE
-from ..mbox.mailbox import Mailbox
 from ..nexts import Answer, Does, Remark
 from ..progress import Spent
 from ..readings import texts
@@ -74,8 +75,8 @@ from .carrying import KEPT, PREPARED_SYNC_FAILED, SYNC_FAILED
 from .dovecot import KEYWORDS, LIST, Dovecot, remove_part
 from .known import Known, Opened
 from .options import Options
-from .outcomes import Fate, Row
-from .steps import Contents, Placing, Steps, remarks_on_dropped
+from .outcomes import Fate, Pass, Row
+from .steps import Contents, Part, Placing, Steps, remarks_on_dropped
 
 NOT_FREE = "mail of a mailbox is in its folder already, and migrate brings the rest"
 READ = "somebody reads in its folder already: %s"
@@ -85,43 +86,220 @@ LIST_LOST = "the list of what was prepared in its folder is gone, so nothing sho
 STAYS = "%d prepared before stay, whatever the mailbox has now"
 
 
-def want_free(known: Known, prepared: Prepared) -> None:
+class State(enum.Enum):
+    """What the list of a folder, its ledger and the record say of it."""
+
+    # nothing
+    FREE = enum.auto()
+    # mailboxes brought mail there, or may have
+    MAIL = enum.auto()
+    # the same, and the list was left by a killed run, or comes from a backup: its files are mail
+    OVER = enum.auto()
+    # it is only prepared
+    PREPARED = enum.auto()
+    # the same, and a last pass has begun
+    BEGUN = enum.auto()
+    # it is only prepared, and its list is gone
+    LOST = enum.auto()
+
+
+class Preparation:
+    """A folder of a Maildir, as far as mail is only prepared in it, or may be."""
+
+    def __init__(self, record: Record, name: bytes, ledger: Ledger) -> None:
+        """Reads the list of the folder."""
+        self.record, self.name, self.ledger, self.folder = record, name, ledger, ledger.folder
+        self.prepared = Prepared.read(self.folder)
+
+    @property
+    def state(self) -> State:
+        """What is known of the folder."""
+        ledger, prepared, unknown = self.ledger, self.prepared, self.record.unknown_to(self.name, self.ledger)
+        if prepared.is_there:
+            is_over = ledger.sources or any(one.what is Step.DONE for one in unknown)
+            return State.OVER if is_over else State.BEGUN if prepared.batch else State.PREPARED
+        if self.record.prepared(self.name) and not ledger.sources:
+            return State.LOST
+        return State.MAIL if ledger.paths() or unknown else State.FREE
+
+    @property
+    def is_open(self) -> bool:
+        """Whether the list counts."""
+        return self.state in (State.PREPARED, State.BEGUN)
+
+    def reader(self) -> Optional[bytes]:
+        """The path of a file that shows that somebody reads in the folder; None if nothing does."""
+        return reader_in(self.record, self.name, self.prepared)
+
+    def take_begun(self) -> None:
+        """Takes the files that a killed `migrate` was to place there, for whichever mailbox."""
+        ledger, is_begun = self.ledger, self.prepared.batch
+        begun = {number for number, batch in ledger.open.items() if is_begun and batch.is_whole}
+        for _, one in ledger.messages(begun):
+            base = own_base_in(one.name)
+            if one.word == PLACED and base is not None:
+                self.prepared.note(base)
+
+    def take_back(self) -> None:
+        """Takes back what a `migrate` that was killed has done there, of each mailbox: flags, lists of UIDs, and what
+        it noted. Afterwards the folder is only prepared."""
+        folder, is_dry = self.folder, self.record.is_dry
+        if not is_dry:
+            self.take_begun()
+            self.give_names_back()
+            for file in names_in(folder):
+                if Dovecot(self.record).is_own_in(self.name, folder, file):
+                    os.unlink(os.path.join(folder, file))
+            for file in (KEYWORDS, LIST):
+                remove_part(folder, file)
+            if all(is_folder(os.path.join(folder, sub)) for sub in (b"new", b"cur")):
+                # a run may have been killed before it made them
+                sync_names(folder)
+        for path in self.ledger.paths():
+            self.ledger.undo(path)
+        self.record.add_entry(*self.record.changes_in(self.name, self.ledger))
+        if not is_dry:
+            self.prepared.take_back()
+
+    def give_names_back(self) -> None:
+        """Gives files the names that they were prepared with. Those that only the killed run has placed are removed."""
+        table = self.prepared.table
+        for name, path in list(names_of(self.folder)):
+            at = table.place_of(own_base_in(name))
+            home = self.prepared.homes[at] if at is not None else None
+            if at is not None and home is None and digest_of(path)[0] == table.digest(at):
+                os.unlink(path)
+            elif home and home != home_of(name, path):
+                target = os.path.join(self.folder, home[:3], before_info(name) + home[3:])
+                if not is_there(target):
+                    os.rename(path, target)
+
+    def empty(self) -> None:
+        """Removes everything that was prepared, and the folder itself if it was made for that and no mailbox has
+        brought anything."""
+        self.prepared.remove()
+        aside = aside_of(self.folder)
+        is_unused = self.name != INBOX and not self.ledger.paths() and clear_folder(self.prepared)
+        if is_unused:
+            remove_aside(aside)
+            os.rename(self.folder, aside)
+            sync_folder(os.path.dirname(aside))
+        self.forget()
+        if is_unused:
+            remove_aside(aside)
+            self.ledger.forget_all()
+
+    def clear(self, how: Options, say: Say) -> None:
+        """Removes everything that is prepared, since the mailbox has no mail any more. A first pass also removes the
+        folder if it was made for that: the mailbox may go later."""
+        if self.prepared.is_there and not how.again:
+            self.prepared.look(say)
+            if how.prepare:
+                self.empty()
+            else:
+                self.prepared.remove()
+        if not how.prepare:
+            self.forget()
+
+    def forget(self) -> None:
+        """Notes that nothing is prepared there any more. Without its list the folder would count as lost."""
+        entry = self.record.prepared(self.name)
+        if entry:
+            self.record.add(Note.UNPREPARED, entry.key, 0, unspelled(entry.path))
+        if has_list(self.folder):
+            remove_list(self.folder)
+
+
+def mended(
+    record: Record, how: Options, opened: Opened, ledger: Ledger, verified: Container[int]
+) -> Optional[Preparation]:
+    """Removes a list that is over from the folder of a mailbox, and takes back what a killed last pass did there.
+    Returns what is only prepared there then, or is going to be; None if mail is placed there at once. These batches of
+    the ledger were verified by this run, and their disk is not synced yet."""
+    one = Preparation(record, opened.name, ledger)
+    one.take_begun()
+    state = one.state
+    if state is State.OVER:
+        if one.prepared.batch not in verified and ledger.sources and not how.dry:
+            remove_list(opened.folder)
+        one.prepared = Prepared(opened.folder)
+    elif state is State.BEGUN and not (how.again or ledger.damage or has_failed(ledger) or one.reader()):
+        one.take_back()
+    # once something was prepared in the Maildir, a run that is killed may be followed by a first pass, or by other
+    # mailboxes
+    is_free = state is State.FREE and record.has_prepared and not one.reader()
+    is_last = is_free or state in (State.PREPARED, State.BEGUN, State.LOST)
+    return one if how.prepare or is_last else None
+
+
+def want_free(one: Preparation, known: Known) -> None:
     """Raises Left if a folder cannot be prepared from a mailbox."""
-    if prepared.is_there:
-        other = unspelled(prepared.origin.path) if prepared.origin else known.opened.mailbox.path
+    if one.is_open:
+        origin = one.prepared.origin
+        other = unspelled(origin.path) if origin else known.opened.mailbox.path
         # a symbolic link may lead from one to the other
         if not {*names_by(other)} & {*known.names} and is_there(other):
             raise Left(ANOTHER % named(other), Reason.PREPARED)
-    elif known.ledger.paths() or known.unknown:
+    elif one.state in (State.MAIL, State.OVER):
         raise Left(NOT_FREE, Reason.PREPARED)
 
 
-def want_usable(how: Options, known: Known, prepared: Prepared) -> None:
+def want_usable(one: Preparation, how: Options, opened: Opened) -> None:
     """Raises Left if what is prepared cannot be finished, with the command that keeps what is there, and stores what is
     nowhere. A first pass prints none: what is there may be mail by then."""
-    record, opened, ledger, origin = known.record, known.opened, known.ledger, prepared.origin
-    command = functools.partial(how.command, record.maildir, opened)
+    state, command = one.state, functools.partial(how.command, one.record.maildir, opened)
+    if state is State.FREE and not how.prepare:
+        return
     then = () if how.prepare else (Answer(command(again=True), Does.STORES),)
-    if is_there(opened.folder) and not prepared.is_there and record.prepared(opened.name):
+    if state is State.LOST and is_there(one.folder):
         raise Left(LIST_LOST, Reason.LEDGER, then)
-    if prepared.has_failed:
-        raise Left(PREPARED_SYNC_FAILED, Reason.SYNC_FAILED)
-    if has_failed(ledger):
-        raise Left(SYNC_FAILED, Reason.SYNC_FAILED)
-    reader = reader_in(record, opened.name, opened.folder, prepared)
+    if one.prepared.has_failed or has_failed(one.ledger):
+        raise Left(PREPARED_SYNC_FAILED if one.prepared.has_failed else SYNC_FAILED, Reason.SYNC_FAILED)
+    reader = one.reader()
     if reader:
         raise Left(READ % named(reader), Reason.PREPARED, then)
-    was_bare = not how.extra.IS_BARE
+    origin, was_bare = one.prepared.origin, not how.extra.IS_BARE
     if origin and Reading.of_words(origin.words).bare == was_bare:
         run = Answer(command(dovecot=was_bare), Does.RUN)
         raise Left(OTHERWISE % ("with" if was_bare else "without"), Reason.PREPARED, (run,))
 
 
-def origin_of(how: Options, known: Known, contents: Contents) -> Origin:
-    """What a pass reads."""
-    mailbox = known.opened.mailbox
-    state, tree = signs_of(mailbox.copied or mailbox.state), tree_above(mailbox.path, how.names)
-    return Origin(mailbox.key(), state, len(contents.inventory), contents.words, tree, known.path)
+def reader_in(record: Record, name: bytes, prepared: Prepared) -> Optional[bytes]:
+    """The path of a file that shows that somebody reads in a folder of this name; None if nothing does. If `migrate`
+    has begun to finish it, files that were prepared may have flags."""
+    folder = prepared.folder
+    for file in names_in(folder):
+        is_ours = prepared.batch and Dovecot(record).is_own_in(name, folder, file)
+        if file.startswith(b"dovecot") and not is_ours:
+            return os.path.join(folder, file)
+    for file, path in names_of(folder):
+        home, at = home_of(file, path), prepared.table.place_of(base_in(file))
+        if at is None:
+            is_read = home.startswith(b"cur")
+        else:
+            is_own, before = own_base_in(file) is not None, prepared.homes[at]
+            is_read = not is_own or not prepared.batch and before is not None and home != before
+        if is_read:
+            return path
+    return None
+
+
+def with_list(steps: Steps, how: Options, choice: Choice, took: int) -> Steps:
+    """The same steps, with what the list is to have: what is read, and after a first pass, what need not be read again,
+    and how many milliseconds the mailbox took to read."""
+    known, contents, mailbox, plan = steps.known, steps.contents, steps.opened.mailbox, choice.plan
+    if steps.prepared and (how.prepare or not steps.prepared.origin):
+        state, tree = signs_of(mailbox.copied or mailbox.state), tree_above(mailbox.path, how.names)
+        its = len(contents.inventory), contents.words, tree, known.path
+        steps = steps._replace(origin=Origin(mailbox.key(), state, *its))
+    if not how.prepare:
+        return steps
+    # what was unpacked or quoted is read again
+    if choice.is_packed or plan.is_copied or not is_as_it_is(plan.reading):
+        return steps._replace(took=took)
+    as_read = AsRead(plan.start, plan.messages, plan.kind, plan.remarks)
+    text = Text(as_read, contents.inventory, contents.full.offsets)
+    return steps._replace(text=text, took=in_milliseconds(mailbox.took))
 
 
 def signs_of(state: os.stat_result) -> tuple[int, ...]:
@@ -136,23 +314,6 @@ def tree_above(path: bytes, names: Sequence[bytes]) -> str:
         if real.startswith(tree.rstrip(b"/") + b"/"):
             return spelled(tree)
     return ""
-
-
-def remarks_on_prepared(match: Match, prepared: Prepared, how: Options, say: Say) -> list[Remark]:
-    """Takes the files that were prepared for messages that are nowhere, and returns what is to be said of what was
-    prepared. With --again, it stays as it is."""
-    if how.again:
-        prepared.look(say)
-        stays = sum(prepared.files) + len(prepared.edited)
-        return [Remark("prepared-before", STAYS % stays)] * bool(stays)
-    take_prepared(match, prepared)
-    gone, remarks = prepared.unwanted(), []
-    if any(prepared.files):
-        removed = ", %s %s" % (counted(gone, "message"), "to be removed" if how.dry else "removed") if gone else ""
-        remarks.append(Remark("prepared-before", "%d prepared before" % prepared.count() + removed))
-    if prepared.edited:
-        remarks.append(Remark("kept-edited", KEPT % counted(len(prepared.edited), "file")))
-    return remarks
 
 
 def take_prepared(match: Match, prepared: Prepared) -> None:
@@ -178,110 +339,33 @@ def take_prepared(match: Match, prepared: Prepared) -> None:
         match.need = need
 
 
-def clear(how: Options, known: Known, prepared: Prepared) -> None:
-    """Removes everything that is prepared, since the mailbox has no mail any more. A first pass also removes the folder
-    if it was made for that: the mailbox may go later."""
-    record, opened = known.record, known.opened
-    if prepared.is_there and not how.again:
-        prepared.look(opened.mailbox.say)
-        if how.prepare:
-            empty(record, opened.name, known.ledger, prepared)
-        else:
-            prepared.remove()
-    if not how.prepare:
-        forget(record, opened.name, prepared)
-
-
-def reader_in(record: Record, name: bytes, folder: bytes, prepared: Prepared) -> Optional[bytes]:
-    """The path of a file that shows that somebody reads in a folder; None if nothing does. If `migrate` has begun to
-    finish it, files that were prepared may have flags."""
-    for file in names_in(folder):
-        is_ours = prepared.batch and Dovecot(record).is_own_in(name, folder, file)
-        if file.startswith(b"dovecot") and not is_ours:
-            return os.path.join(folder, file)
-    for file, path in names_of(folder):
-        home, at = home_of(file, path), prepared.table.place_of(base_in(file))
-        if at is None:
-            is_read = home.startswith(b"cur")
-        else:
-            is_own, before = own_base_in(file) is not None, prepared.homes[at]
-            is_read = not is_own or not prepared.batch and before is not None and home != before
-        if is_read:
-            return path
-    return None
-
-
-def is_prepared(record: Record, name: bytes, ledger: Ledger, prepared: Prepared) -> bool:
-    """Whether the list of a folder counts: once something of the folder is done, a list that is there was left by a
-    killed run, or comes from a backup, and its files are mail."""
-    is_over = ledger.sources or any(one.what is Step.DONE for one in record.unknown_to(name, ledger))
-    return prepared.is_there and not is_over
-
-
-def is_free(record: Record, opened: Opened, ledger: Ledger) -> bool:
-    """Whether a folder without a list becomes a prepared one: once something was prepared in the Maildir, a run that is
-    killed may be followed by a first pass, or by other mailboxes."""
-    has_none = record.has_prepared and not ledger.paths() and not record.unknown_to(opened.name, ledger)
-    return has_none and not reader_in(record, opened.name, opened.folder, Prepared(opened.folder))
-
-
-def note_begun(ledger: Ledger, prepared: Prepared) -> None:
-    """Takes the files that a killed `migrate` was to place in a prepared folder, for whichever mailbox."""
-    begun = {number for number, batch in ledger.open.items() if prepared.batch and batch.is_whole}
-    for _, one in ledger.messages(begun) if begun else ():
-        base = own_base_in(one.name)
-        if one.word == PLACED and base is not None:
-            prepared.note(base)
-
-
-def take_back(record: Record, name: bytes, ledger: Ledger, prepared: Prepared) -> None:
-    """Takes back what a `migrate` that was killed has done in a folder, of each mailbox: flags, lists of UIDs, and what
-    it noted. Afterwards the folder is only prepared."""
-    folder = ledger.folder
-    if not record.is_dry:
-        note_begun(ledger, prepared)
-        give_names_back(folder, prepared)
-        for file in names_in(folder):
-            if Dovecot(record).is_own_in(name, folder, file):
-                os.unlink(os.path.join(folder, file))
-        for file in (KEYWORDS, LIST):
-            remove_part(folder, file)
-        if all(is_folder(os.path.join(folder, sub)) for sub in (b"new", b"cur")):
-            # a run may have been killed before it made them
-            sync_names(folder)
-    for path in ledger.paths():
-        ledger.undo(path)
-    record.add_entry(*record.changes_in(name, ledger))
-    if not record.is_dry:
-        prepared.take_back()
-
-
-def give_names_back(folder: bytes, prepared: Prepared) -> None:
-    """Gives files the names that they were prepared with. Those that only the killed run has placed are removed."""
-    for name, path in list(names_of(folder)):
-        at = prepared.table.place_of(own_base_in(name))
-        home = prepared.homes[at] if at is not None else None
-        if at is not None and home is None and digest_of(path)[0] == prepared.table.digest(at):
-            os.unlink(path)
-        elif home and home != home_of(name, path):
-            target = os.path.join(folder, home[:3], before_info(name) + home[3:])
-            if not is_there(target):
-                os.rename(path, target)
+def remarks_on_prepared(prepared: Prepared, how: Options) -> list[Remark]:
+    """What is to be said of what was prepared. With --again, it stays as it is."""
+    if how.again:
+        stays = sum(prepared.files) + len(prepared.edited)
+        return [Remark("prepared-before", STAYS % stays)] * bool(stays)
+    gone, remarks = prepared.unwanted(), []
+    if any(prepared.files):
+        removed = ", %s %s" % (counted(gone, "message"), "to be removed" if how.dry else "removed") if gone else ""
+        remarks.append(Remark("prepared-before", "%d prepared before" % prepared.count() + removed))
+    if prepared.edited:
+        remarks.append(Remark("kept-edited", KEPT % counted(len(prepared.edited), "file")))
+    return remarks
 
 
 def undone(record: Record, path: bytes, name: bytes, dry: bool, say: Say = silent) -> Optional[Row]:
     """The row of a mailbox from which a folder was prepared, once everything is removed that is prepared there, and
     that a `migrate` that was killed has done; None if nothing is prepared there. A dry run only counts."""
-    folder = folder_path(record.maildir, name)
-    ledger, prepared = Ledger(folder, dry=dry), Prepared.read(folder)
-    if not is_prepared(record, name, ledger, prepared):
+    one = Preparation(record, name, Ledger(folder_path(record.maildir, name), dry=dry))
+    if not one.is_open:
         return None
+    prepared = one.prepared
     if prepared.batch:
-        take_back(record, name, ledger, prepared)
+        one.take_back()
     prepared.look(say)
     count = prepared.unwanted()
     if not dry:
-        empty(record, name, ledger, prepared)
+        one.empty()
     fate, removes, keeps = (Fate.WOULD_UNDO, "would remove", "would keep") if dry else (Fate.UNDONE, "removed", "kept")
     remarks = [Remark("removed", "%s %s" % (removes, counted(count, "message")))]
     if prepared.edited:
@@ -289,22 +373,6 @@ def undone(record: Record, path: bytes, name: bytes, dry: bool, say: Say = silen
         remarks.append(Remark("kept-edited", "%s %s that somebody edited" % (keeps, edited)))
     messages = prepared.origin.messages if prepared.origin else None
     return Row(path, name, "", messages, fate, remarks=tuple(remarks))
-
-
-def empty(record: Record, name: bytes, ledger: Ledger, prepared: Prepared) -> None:
-    """Removes everything that was prepared in a folder, and the folder itself if it was made for that and no mailbox
-    has brought anything."""
-    prepared.remove()
-    aside = aside_of(prepared.folder)
-    is_unused = name != INBOX and not ledger.paths() and clear_folder(prepared)
-    if is_unused:
-        remove_aside(aside)
-        os.rename(prepared.folder, aside)
-        sync_folder(os.path.dirname(aside))
-    forget(record, name, prepared)
-    if is_unused:
-        remove_aside(aside)
-        ledger.forget_all()
 
 
 def clear_folder(prepared: Prepared) -> bool:
@@ -323,49 +391,7 @@ def clear_folder(prepared: Prepared) -> bool:
     return True
 
 
-def forget(record: Record, name: bytes, prepared: Prepared) -> None:
-    """Notes that nothing is prepared in a folder any more. Without its list it would count as lost."""
-    entry = record.prepared(name)
-    if entry:
-        record.add(Note.UNPREPARED, entry.key, 0, unspelled(entry.path))
-    if has_list(prepared.folder):
-        remove_list(prepared.folder)
-
-
-def prepared_in(
-    record: Record, how: Options, opened: Opened, ledger: Ledger, verified: Container[int]
-) -> Optional[Prepared]:
-    """What is only prepared in the folder of a mailbox, or is going to be; None if mail is placed there at once. What a
-    killed last pass did there is taken back first, and a list that is over is removed. These batches of the ledger were
-    verified by this run, and their disk is not synced yet."""
-    prepared = Prepared.read(opened.folder)
-    note_begun(ledger, prepared)
-    is_over = prepared.is_there and not is_prepared(record, opened.name, ledger, prepared)
-    if is_over:
-        if prepared.batch not in verified and ledger.sources and not how.dry:
-            remove_list(opened.folder)
-        prepared = Prepared(opened.folder)
-    elif (
-        prepared.batch
-        and not how.again
-        and not ledger.damage
-        and not has_failed(ledger)
-        and not reader_in(record, opened.name, opened.folder, prepared)
-    ):
-        take_back(record, opened.name, ledger, prepared)
-    is_noted = record.prepared(opened.name) is not None and not ledger.sources
-    is_last = not is_over and (prepared.is_there or is_noted or is_free(record, opened, ledger))
-    return prepared if how.prepare or is_last else None
-
-
-class Same(NamedTuple):
-    """The text of a mailbox that is as it was prepared, and what is known of its messages."""
-
-    choice: Choice
-    contents: Contents
-
-
-def same_as_prepared(prepared: Prepared, how: Options, opened: Opened) -> Optional[Same]:
+def same_as_prepared(prepared: Prepared, how: Options, opened: Opened) -> Optional[Part]:
     """What stands for the text of a mailbox that has the bytes from which its folder was prepared, if the folder has
     all of that and nothing else; None for any other one."""
     origin, as_read, mailbox = prepared.origin, prepared.noted.as_read, opened.mailbox
@@ -380,10 +406,13 @@ def same_as_prepared(prepared: Prepared, how: Options, opened: Opened) -> Option
     if not inventory or not is_as_it_is(reading):
         return None
     plan = Plan(as_read.kind, as_read.messages, Offset(as_read.start), reading, remarks=as_read.remarks)
-    inventory.dates = array.array("q", (date_at(mailbox, offset) for offset in inventory.offsets[:-1]))
+    # where a From_ line names no time zone, its date is that of today's zone
+    dates = (seconds_of(mailbox.from_line_at(offset)) for offset in inventory.offsets[:-1])
+    inventory.dates = array.array("q", (NO_DATE if date is None else date for date in dates))
     full = texts.Text(mailbox, plan.start, offsets=inventory.offsets)
     copy = texts.Text(mailbox, plan.start, full=full) if reading.bare else None
-    return Same(Choice(mailbox, plan), Contents(mailbox, Offset(inventory.offsets[0]), inventory, reading, copy))
+    contents = Contents(mailbox, Offset(inventory.offsets[0]), inventory, reading, copy)
+    return Part(Choice(mailbox, plan), lambda: contextlib.nullcontext(contents), mailbox.size, is_known=True)
 
 
 def is_as_it_is(reading: Reading) -> bool:
@@ -391,28 +420,14 @@ def is_as_it_is(reading: Reading) -> bool:
     return bool(reading.word) and reading == Reading(reading.word, bare=reading.bare)
 
 
-def date_at(mailbox: Mailbox, offset: int) -> int:
-    """The date of the From_ line at an offset. Where it names no time zone, it is that of today's zone."""
-    date = seconds_of(mailbox.from_line_at(offset))
-    return NO_DATE if date is None else date
-
-
-def text_of(choice: Choice, contents: Contents) -> Optional[Text]:
-    """What is noted of a text that was read; None for one that is read again: it was unpacked or quoted."""
-    plan = choice.plan
-    if choice.is_packed or plan.is_copied or not is_as_it_is(plan.reading):
-        return None
-    as_read = AsRead(plan.start, plan.messages, plan.kind, plan.remarks)
-    return Text(as_read, contents.inventory, contents.full.offsets)
-
-
 def is_prepared_already(steps: Steps) -> bool:
     """Whether a first pass finds everything as the last one has left it. Notes that the file of the mailbox has another
     state, and the same bytes, so that the next first pass does not read it."""
     prepared, now = steps.prepared, steps.origin
-    if not steps.first_pass or not prepared or not now or not prepared.origin or prepared.origin.key != now.key:
+    if steps.which is not Pass.FIRST or not prepared or not now or not prepared.origin:
         return False
-    is_same = prepared.is_whole and len(steps.match.need) == 0 and prepared.count() == len(prepared.table)
+    is_all = prepared.is_whole and len(steps.match.need) == 0 and prepared.count() == len(prepared.table)
+    is_same = is_all and prepared.origin.key == now.key
     if is_same and prepared.origin.state != now.state and prepared.noted.as_read:
         prepared.append(now.line(), prepared.noted.as_read.line(), WHOLE + b"\n")
     return is_same
@@ -429,7 +444,7 @@ def row_unchanged(record: Record, how: Options, path: bytes, name: bytes, folder
     if not is_same or Reading.of_words(origin.words).bare != how.extra.IS_BARE:
         return None
     prepared.look(say)
-    if not all(prepared.files) or prepared.edited or reader_in(record, name, folder, prepared):
+    if not all(prepared.files) or prepared.edited or reader_in(record, name, prepared):
         return None
     dropped = remarks_on_dropped(origin.words)
     says = Remark("prepared-before", "%d prepared before" % len(prepared.files))

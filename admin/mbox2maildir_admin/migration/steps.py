@@ -2,10 +2,11 @@
 what it says, and `carrying.py` carries it out."""
 import array
 import collections
+import contextlib
 import itertools
 import os
 import time
-from collections.abc import Container, Iterable, Iterator, Sequence
+from collections.abc import Callable, Container, Iterable, Iterator, Sequence
 from typing import NamedTuple, Optional
 
 from ..faults import Left
@@ -13,11 +14,12 @@ from ..flags.clients import GMAIL, Kept, kept_in, letters_of_evolution
 from ..flags.dovecot_headers import flags_in
 from ..flags.renaming import add_flags, lacking_flags
 from ..ledger.gone import left_by_killed
+from ..ledger.history import Entry
 from ..ledger.ledger import Ledger
 from ..ledger.lines import LOST, PLACED, Brought
 from ..ledger.match import Files, Match
 from ..ledger.prepared import Origin, Prepared
-from ..ledger.prepared import Text as Noted
+from ..ledger.prepared import Text as PreparedText
 from ..ledger.record import unspelled
 from ..maildir.folders import INBOX
 from ..mbox.bases import BASE, FIRST, Table, base_in
@@ -25,12 +27,13 @@ from ..mbox.fields import Header
 from ..mbox.inventory import Inventory
 from ..mbox.mailbox import Mailbox
 from ..nexts import NOTHING, Next, Remark
-from ..readings.plans import left_out
+from ..readings.plans import Plan, left_out
 from ..readings.reading import PLAIN, Reading
-from ..readings.texts import Text
+from ..readings.texts import Choice, Text
 from ..terminal import named
 from ..units import Offset, Place, counted
 from .known import Known, Opened
+from .outcomes import Pass
 
 # the words for messages that no mailbox brought, and for those that a mailbox no longer has, with what is said of them
 THERE, NO_LONGER = "there-already", "lost"
@@ -83,12 +86,28 @@ class Contents(NamedTuple):
         return sum(self.inventory.unquoted[place] for place in places) - by_copy
 
 
-class FirstPass(NamedTuple):
-    """What the list of a folder says in the end, if mail stays only prepared there: what is noted of the text, and how
-    many milliseconds it took to read."""
+class Part(NamedTuple):
+    """What goes of a mailbox into one folder: the text that was chosen for it, what reads that, and how many bytes it
+    has. That is all of a mailbox, or the messages of one folder of a Takeout: then it also has their flags, how often
+    the Takeout has each core, and what is to be said of the folder."""
 
-    text: Optional[Noted]
-    took: int
+    choice: Choice
+    read: Callable[[], contextlib.AbstractContextManager[Contents]]
+    size: int
+    # whether all of it was known before it was read, since the mailbox is as it was prepared
+    is_known: bool = False
+    kept: Optional[Kept] = None
+    cores: Optional[collections.Counter[bytes]] = None
+    remarks: tuple[Remark, ...] = ()
+
+    @property
+    def plan(self) -> Plan:
+        """What the text is, and how it is read."""
+        return self.choice.plan
+
+    def is_in(self, line: Entry) -> bool:
+        """Whether a line about the mailbox is one about these messages."""
+        return Reading.of_words(line.plan).part == self.plan.reading.part
 
 
 class Steps(NamedTuple):
@@ -99,10 +118,13 @@ class Steps(NamedTuple):
     known: Known
     contents: Contents
     placing: "Placing"
+    # which pass it is, and what is done besides mail and dates
+    which: Pass
+    extra: "Extra"
     # the places in the text of the messages that are placed, or that a run has placed that was killed; and these with
     # the bases of their files
     places: Sequence[int]
-    part: Inventory
+    files: Inventory
     # the places of those that were nowhere
     need: Container[int]
     # whether a run was killed that had begun with this; whether the mailbox has brought other messages before; and when
@@ -110,15 +132,12 @@ class Steps(NamedTuple):
     is_begun: bool
     is_grown: bool
     begun_at: int
-    # whether all that is nowhere is placed
-    again: bool = False
     # what was only prepared in the folder, unless it stays as it is; what is read, if its list does not have that; and
-    # what the list says in the end, if mail stays only prepared
+    # after a first pass, what the list notes of the text, and how many milliseconds it took to read
     prepared: Optional[Prepared] = None
     origin: Optional[Origin] = None
-    first_pass: Optional[FirstPass] = None
-    # what is done besides mail and dates
-    extra: Optional["Extra"] = None
+    text: Optional[PreparedText] = None
+    took: int = 0
     # how many messages may come back that were deleted, and the names of files that may hold the beginning of one
     back: int = 0
     may_be_cut: Container[bytes] = ()
@@ -127,13 +146,13 @@ class Steps(NamedTuple):
     next: Next = NOTHING
 
     @classmethod
-    def of(cls, known: Known, contents: Contents, match: Match, again: bool, prepared: Optional[Prepared]) -> "Steps":
+    def of(cls, known: Known, contents: Contents, match: Match, which: Pass, extra: "Extra") -> "Steps":
         """What is to be done by what was found of the messages."""
         placing, begun_at = Placing(match), known.begun_at
         places, need = placing.places(), match.need if isinstance(match.need, range) else set(match.need)
         is_grown, now = known.path in known.ledger.sources, int(time.time())
-        its = placing.part(places), need, known.is_begun, is_grown, now if begun_at is None else begun_at
-        return cls(known, contents, placing, places, *its, again, prepared)
+        its = placing.files(places), need, known.is_begun, is_grown, now if begun_at is None else begun_at
+        return cls(known, contents, placing, which, extra, places, *its)
 
     @property
     def opened(self) -> Opened:
@@ -156,14 +175,14 @@ class Steps(NamedTuple):
 
     def place_prepared(self, place: Place) -> Optional[int]:
         """The place of the file of a message among those that were prepared; None if it was not."""
-        return self.prepared.table.place_of(self.part.table.base(place)) if self.prepared else None
+        return self.prepared.table.place_of(self.files.table.base(place)) if self.prepared else None
 
     def digest_by(self, place: Place, number: int, state: os.stat_result) -> Optional[bytes]:
         """The digest of an open file of this state, if it is known that it has the bytes of one of its messages."""
         at = self.place_prepared(place)
         # what was prepared, and is as it was verified then, is not read again
         if self.prepared and at is not None and self.prepared.verified[at]:
-            return self.part.table.digest(place)
+            return self.files.table.digest(place)
         return self.contents.inventory.digest_by(self.contents.text, self.places[place], number, state)
 
 
@@ -251,12 +270,12 @@ class Placing:
         mine = (place for place, is_mine in enumerate(match.mine) if is_mine)
         return array.array("Q", sorted(itertools.chain(match.need, mine, match.fresh)))
 
-    def part(self, places: Sequence[int]) -> Inventory:
+    def files(self, places: Sequence[int]) -> Inventory:
         """The messages at these places, with the bases of their files."""
         if len(places) == len(self.inventory) and not self.names and not self.match.fresh:
             return self.inventory
         names = (self.match.found[place].name if place in self.match.found else self.name(place) for place in places)
-        return part_of(self.inventory, places, map(base_in, names))
+        return with_bases(self.inventory, places, map(base_in, names))
 
     def whole(self) -> Inventory:
         """All messages, with the bases of the files that stand for them as far as these have bases."""
@@ -270,18 +289,18 @@ class Placing:
             own = self.inventory.table.base(place)
             if bases[place] is None or place not in names and own in used:
                 bases[place] = own if own not in used else b"%s.%d" % (bytes(32), place + 1)
-        return part_of(self.inventory, several, bases)
+        return with_bases(self.inventory, several, bases)
 
 
-def part_of(inventory: Inventory, places: Sequence[int], bases: Iterable[Optional[bytes]]) -> Inventory:
+def with_bases(inventory: Inventory, places: Sequence[int], bases: Iterable[Optional[bytes]]) -> Inventory:
     """Some messages of a text, with other bases."""
-    part = Inventory()
-    part.table = Table.of(base for base in bases if base)
-    part.count_lines = lambda: (inventory.lines[place] for place in places)
+    some = Inventory()
+    some.table = Table.of(base for base in bases if base)
+    some.count_lines = lambda: (inventory.lines[place] for place in places)
     for name in ("sizes", "offsets", "unquoted", "dates"):
         row = getattr(inventory, name)
-        setattr(part, name, array.array(row.typecode, (row[place] for place in places)))
-    return part
+        setattr(some, name, array.array(row.typecode, (row[place] for place in places)))
+    return some
 
 
 class Extra:
@@ -289,6 +308,10 @@ class Extra:
 
     # whether bare text goes into the files
     IS_BARE = False
+
+    def __init__(self, by_labels: Optional[Kept] = None) -> None:
+        """Takes the flags if they are known by the labels of a Takeout, whose folders were asked for."""
+        self.by_labels = by_labels
 
     def start_of(self, text: Mailbox, start: Offset) -> Offset:
         """The offset at which the part of a text begins that is converted; the text begins at this offset."""
@@ -313,7 +336,7 @@ class Extra:
 
     def kept(self, one: Steps) -> Optional[Kept]:
         """The flags that a mail program kept, if one did."""
-        return kept_in(one.contents.text, one.contents.inventory)
+        return self.by_labels or kept_in(one.contents.text, one.contents.inventory)
 
     def foresee(self, one: Steps) -> list[Remark]:
         """What `run` would say, if nothing may be made."""
@@ -326,13 +349,13 @@ class Extra:
         if not kept:
             return []
         letters = [kept.letters[place] for place in one.places]
-        add_flags(one.opened.folder, one.part, letters, one.is_unread)
+        add_flags(one.opened.folder, one.files, letters, one.is_unread)
         return self.remarks_on(kept, one)
 
     def remarks_on(self, kept: Kept, one: Steps) -> list[Remark]:
         """What is to be said of flags that a program kept, and of labels that were not asked for."""
         remarks = list(kept.remarks(one.places))
-        if kept.program == GMAIL:
+        if kept.program == GMAIL and not self.by_labels:
             from ..labels.fields import remarks_on_labels
 
             remarks += remarks_on_labels(map(one.contents.header, map(Place, one.places)))
@@ -342,7 +365,7 @@ class Extra:
 def remarks_on(one: Steps, dry: bool) -> Iterator[Remark]:
     """What is to be said of what is new, what is there, and what is gone."""
     match, ledger = one.match, one.known.ledger
-    if one.again:
+    if one.which is Pass.AGAIN:
         placed = counted(len(match.need), "message")
         yield Remark("placed", "would place %s" % placed if dry else "placed %s" % placed)
     elif match.path in ledger.sources:

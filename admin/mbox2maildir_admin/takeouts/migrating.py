@@ -1,35 +1,41 @@
-"""The migration of a Takeout into the folders of its labels. It is done once each of them is."""
+"""The migration of a Takeout into the folders of its labels: for each of them, a text of its messages takes the place
+of the mailbox. The Takeout is done once each folder is."""
+import collections
 import contextlib
 import functools
 import os
 from collections.abc import Iterator, Sequence
-from typing import Any, Optional
+from dataclasses import dataclass
+from typing import Any
 
 from ..faults import Fault, Left, Reason
 from ..labels.choosing import ONE, Choosing
 from ..labels.noted import Noted, line_of, note
-from ..labels.sorting import LabelsLeft, Sorting
+from ..labels.parts import part_of, want_same, word_of
+from ..labels.sorting import LabelsLeft, Sorted, Sorting
 from ..ledger.ledger import Ledger
-from ..ledger.prepared import Prepared, has_list
+from ..ledger.match import cores_of
+from ..ledger.prepared import has_list
 from ..ledger.record import Record, is_gone, unspelled
 from ..maildir.folders import folder_path, folders_in, name_of
 from ..maildir.making import real_place
 from ..maildir.disk import Need, Syncs
 from ..mbox.fields import headers_at
+from ..mbox.inventory import Inventory
 from ..migration.answers import answer_to
-from ..migration.mailbox import Making, Migration
+from ..migration.mailbox import Migration
 from ..migration.outcomes import Observer, Outcome, row_left, seen
-from ..migration.preparing import is_prepared
+from ..migration.preparing import Preparation
 from ..migration.several import Several, refuse
+from ..migration.steps import Contents, Part
 from ..migration.options import Options
 from ..migration.known import Opened
-from ..nexts import Answer
+from ..nexts import Answer, Remark
 from ..program import Program, find_program
 from ..readings.plans import Question
 from ..readings.reading import UNDECIDED
-from ..readings.texts import Choice, choice_at_once, read_messages
+from ..readings.texts import Choice, Text, choice_at_once, read_messages
 from ..terminal import complain, named, quoted
-from .folder import FolderTransfer, Source
 
 NO_MESSAGE = "it has no message, and so no labels"
 WITHOUT_LABELS = "it was migrated without --labels, so all of its mail is in one folder"
@@ -53,6 +59,25 @@ def migrate_takeouts(root: bytes, names: Sequence[bytes], options: Options, obse
         for name in names:
             takeouts.report(name)
         takeouts.say_not_there()
+
+
+@dataclass(frozen=True)
+class Source:
+    """A Takeout that was read: what stands for it, its text and messages, and which of these go into which folder."""
+
+    choice: Choice
+    text: Text
+    inventory: Inventory
+    sorted: Sorted
+
+    @functools.cached_property
+    def cores(self) -> "collections.Counter[bytes]":
+        """How often each core is among its messages."""
+        return cores_of(self.inventory)
+
+    def size(self, folder: bytes) -> int:
+        """How many bytes the messages of a folder have."""
+        return sum(self.inventory.sizes[place] for place in self.sorted.places[folder])
 
 
 class Takeouts(Migration):
@@ -98,10 +123,9 @@ class Takeouts(Migration):
         ended = ended._replace(row=ended.row._replace(is_part=bool(ended.row.folder)))
         self.syncs.add(ended.folder, (ended, self.observer.row))
 
-    def migrate(self, opened: Opened, making: Optional[Making] = None) -> Outcome:
+    def migrate(self, opened: Opened) -> Outcome:
         """Migrates an open Takeout, and reports what became of each folder but the last, which it returns. Raises Fault
         if the Takeout is left."""
-        del making
         line = line_of(self.record, opened.mailbox)
         self.want_none_prepared(opened)
         if not line:
@@ -116,9 +140,9 @@ class Takeouts(Migration):
                 note(self.record, opened.mailbox, noted._replace(folders=folders), len(source.inventory))
                 self.observer.total += len(folders) - 1
                 for folder in folders[:-1]:
-                    self.add(self.bring(source, folder, opened))
+                    self.add(self.bring_into(folder, source, opened))
                     self.observer.begin()
-                return self.bring(source, folders[-1], opened)
+                return self.bring_into(folders[-1], source, opened)
         except LabelsLeft as left:
             command = functools.partial(self.how.command, self.root, opened)
             left.next = tuple(Answer(command(labels=choosing), does) for choosing, does in left.says)
@@ -129,11 +153,11 @@ class Takeouts(Migration):
     def want_none_prepared(self, opened: Opened) -> None:
         """Raises Left if a folder is only prepared, with the command that removes what is there."""
         for folder in filter(has_list, folders_in(self.root)):
-            name, prepared = name_of(self.root, folder), Prepared.read(folder)
+            one = Preparation(self.record, name_of(self.root, folder), Ledger(folder))
             # before a list has what a pass reads, nothing is placed
-            if prepared.origin and is_prepared(self.record, name, Ledger(folder), prepared):
-                how, path = self.how._replace(is_labelled=False), unspelled(prepared.origin.path)
-                undo = how.undo_command(self.root, opened._replace(name=name), path)
+            if one.prepared.origin and one.is_open:
+                how, path = self.how._replace(is_labelled=False), unspelled(one.prepared.origin.path)
+                undo = how.undo_command(self.root, opened._replace(name=one.name), path)
                 raise Left(ONLY_PREPARED % named(folder), Reason.PREPARED, (Answer(undo),))
 
     def want_labelled(self, opened: Opened) -> None:
@@ -204,10 +228,28 @@ class Takeouts(Migration):
         most = max(map(source.size, source.sorted.places))
         self.want_room(Need.of(self.root, sizes, 0 if self.how.dry else most))
 
-    def bring(self, source: Source, folder: bytes, opened: Opened) -> Outcome:
+    def bring_into(self, folder: bytes, source: Source, opened: Opened) -> Outcome:
         """Brings the messages of one folder."""
         try:
-            into = Opened.into(self.root, folder, opened.mailbox)
-            return super().migrate(into, functools.partial(FolderTransfer, source))
+            return self.bring(Opened.into(self.root, folder, opened.mailbox), self.part(folder, source))
         except (Fault, OSError) as fault:
             return Outcome(row_left(opened.mailbox.path, folder, fault))
+
+    def part(self, folder: bytes, source: Source) -> Part:
+        """The messages of one folder."""
+        plan, places, labels = source.choice.plan, source.sorted.places[folder], source.sorted.labels.get(folder)
+        plan = plan._replace(messages=len(places), reading=plan.reading._replace(part=word_of(places)))
+        choice, kept = source.choice._replace(plan=plan, known=None), source.sorted.kept.at(places)
+        says = [Remark("same-folder", "its labels are %s" % " and ".join(map(named, labels)))] if labels else []
+        read = functools.partial(self.read_part, folder, source, choice)
+        return Part(choice, read, source.size(folder), False, kept, source.cores, tuple(says))
+
+    @contextlib.contextmanager
+    def read_part(self, folder: bytes, source: Source, choice: Choice) -> Iterator[Contents]:
+        """Reads the text of the messages of one folder. The program must list them."""
+        self.want_room(Need.of(self.disk, [], source.size(folder)))
+        places = source.sorted.places[folder]
+        with part_of(source.text, source.inventory, places, self.disk) as text:
+            inventory = read_messages(self.program, text, choice)
+            want_same(inventory, source.inventory, places)
+            yield Contents(text.mailbox, text.start, inventory, choice.plan.reading, text)
