@@ -11,6 +11,7 @@ messages it gets so many copies that exactly k of these names are free, whatever
 import array
 import bisect
 import collections
+import enum
 import itertools
 from collections.abc import Callable, Container, Iterable, Iterator, Sequence
 from typing import Optional
@@ -138,6 +139,18 @@ class Files:
 IsDeleted = Callable[[Place], bool]
 
 
+class Stand(enum.IntEnum):
+    """How a message of a mailbox stands: no file holds it; the mailbox had it before; a killed run of the mailbox has
+    placed it under the base that it has in the text; a file stands for it; or the same, and this program has placed
+    that file, and no run has finished with it."""
+
+    NOWHERE = 0
+    KNOWN = 1
+    MINE = 2
+    FOUND = 3
+    FRESH = 4
+
+
 class Seen:
     """What is to be said of new messages."""
 
@@ -159,20 +172,15 @@ class Match:
     def __init__(self, ledger: Ledger, path: str, files: Files, is_deleted: IsDeleted) -> None:
         """Takes the path of the mailbox as the ledger spells it, and what the folder has of its messages."""
         self.ledger, self.path, self.files, self.is_deleted = ledger, path, files, is_deleted
-        self.inventory = inventory = files.inventory
-        # the places that the mailbox did not have before, and how often it no longer has a core
-        self.new: Sequence[int] = range(len(inventory))
+        self.inventory = files.inventory
+        # by place: how the message stands; and what stands for those that were found
+        self.states = bytearray(len(self.inventory))
+        self.found: dict[int, Brought] = {}
+        # how often the mailbox no longer has a core, and the lines about these messages
         self.lost: collections.Counter[bytes] = collections.Counter()
+        self.dropped: list[Brought] = []
         # of these, what only left the folder of a label, and is in the Takeout all the same
         self.unlabelled: collections.Counter[bytes] = collections.Counter()
-        # by place: 1 if a run that was killed has placed the message under its base
-        self.mine = bytearray(len(inventory))
-        # what stands for other new messages, by their places, and those of them that such a run has placed; the places
-        # of what is nowhere; and what is no longer in the mailbox
-        self.found: dict[int, Brought] = {}
-        self.fresh: set[int] = set()
-        self.need: Sequence[int] = range(len(inventory))
-        self.dropped: list[Brought] = []
         # the lines of the ledger about these messages, by their cores
         self.lines: dict[bytes, list[Line]] = {}
         # those of the names in these lines that are there, and files of other programs by their bare forms
@@ -188,16 +196,31 @@ class Match:
         self.take_mine()
         self.look()
         self.find_strangers()
-        groups, needed = self.groups()
-        needed += self.serve(groups)
-        self.need = self.new if len(needed) == len(self.new) else array.array("Q", sorted(needed))
+        self.serve(self.groups())
         self.drop()
         return self
 
-    def serve(self, groups: dict[bytes, list[int]]) -> list[int]:
-        """Finds what stands for new messages, whose places are given by their cores. Returns the places of the rest."""
+    def places(self, *stands: Stand) -> Sequence[int]:
+        """The places of the messages that stand so."""
+        count = sum(map(self.states.count, stands))
+        if count == len(self.states):
+            return range(count)
+        are_wanted = self.states.translate(bytes(one in stands for one in range(256)))
+        return array.array("Q", itertools.compress(itertools.count(), are_wanted))
+
+    @property
+    def need(self) -> Sequence[int]:
+        """The places of what is nowhere."""
+        return self.places(Stand.NOWHERE)
+
+    def count(self, stand: Stand) -> int:
+        """How many messages stand so."""
+        return self.states.count(stand)
+
+    def serve(self, groups: dict[bytes, list[int]]) -> None:
+        """Finds what stands for new messages, whose places are given by their cores."""
         bares = set(map(self.inventory.bare, itertools.chain.from_iterable(groups.values())))
-        most, needed = self.ledger.most(self.path, bares), []
+        most = self.ledger.most(self.path, bares)
         most.subtract(self.known(bares))
         for core, places in groups.items():
             files = files_of(self.lines.get(core, ()), self.present)
@@ -208,8 +231,7 @@ class Match:
                     file.find(unnamed, file.bare)
             files += [nobodys(name, core, bare) for bare, names in unnamed.items() for name in names]
             served = {one for one in files if self.is_mine(one.name or b"") or one.is_held_by(self.path)}
-            needed += self.take(places, offers_of(files, self.path), served, most)
-        return needed
+            self.take(places, offers_of(files, self.path), served, most)
 
     def unnamed(self, files: Iterable[File], places: Iterable[int]) -> Unnamed:
         """The files that may hold messages at these places, and that no line about some files names."""
@@ -223,10 +245,10 @@ class Match:
 
     def take(
         self, places: Iterable[int], offers: Sequence[Offer], served: set[File], most: collections.Counter[bytes]
-    ) -> list[int]:
+    ) -> None:
         """Takes what is offered for new messages at these places, which have the same core: first for those in its
         form. Some files stand for messages already, and other mailboxes brought at most so many more in each form,
-        which are counted down. Returns the places of what is nowhere."""
+        which are counted down."""
         waiting: dict[bytes, list[int]] = {}
         refused: list[tuple[bytes, File]] = []
         for place in places:
@@ -245,19 +267,17 @@ class Match:
                 self.note(one, found)
             elif is_trashed:
                 refused += [(form, one.file) for form in forms]
-        return self.counted(
-            [*itertools.chain(*waiting.values())], {file for form, file in refused if waiting.get(form)} - served
-        )
+        marked = {file for form, file in refused if waiting.get(form)} - served
+        self.count_nowhere([*itertools.chain(*waiting.values())], marked)
 
-    def counted(self, rest: list[int], marked: set[File]) -> list[int]:
-        """Counts what is said of messages that are nowhere, which have the same core, and returns their places: for how
-        many a file is there that is marked as deleted, and how many another mailbox brought in another form alone."""
+    def count_nowhere(self, rest: list[int], marked: set[File]) -> None:
+        """Counts what is said of messages at these places, which have the same core, and are nowhere: for how many a
+        file is there that is marked as deleted, and how many another mailbox brought in another form alone."""
         self.seen.marked += min(len(marked), len(rest))
         lines = self.lines.get(self.inventory.core(rest[0]), ()) if rest else ()
         theirs = (one for one in lines if one.path != self.path and one.state is State.HELD)
         there = {one.message.bare for one in theirs if one.message.name in self.present}
         self.seen.other_form += sum(bool(there) and self.inventory.bare(place) not in there for place in rest)
-        return rest
 
     def note(self, offer: Offer, place: int) -> None:
         """Notes that a file stands for a message. What this program has placed and no run has finished gets dates and
@@ -266,7 +286,7 @@ class Match:
         word = its.word if path == self.path else word_for_others(its.word)
         self.found[place] = Brought(word, its.name, self.inventory.core(place), self.inventory.bare(place))
         is_there = its.name == offer.file.name and is_own(its.name)
-        self.fresh.update([place] if is_there and why in (Why.BEGUN, Why.NOBODYS) else ())
+        self.states[place] = Stand.FRESH if is_there and why in (Why.BEGUN, Why.NOBODYS) else Stand.FOUND
         if not path:
             seen.foreign.append(its.name)
         elif why is not Why.ANY:
@@ -283,7 +303,7 @@ class Match:
         several = ledger.messages({*ledger.ended, *ledger.open} if is_first else ())
         named = (one.name for number, one in several if number in ledger.ended or one.word != FOREIGN)
         known = Hashes(itertools.chain(self.taken(), self.names_of_lines(), named))
-        self.strangers = self.files.foreign(self.new, known, is_first)
+        self.strangers = self.files.foreign(self.need, known, is_first)
 
     @classmethod
     def again(cls, ledger: Ledger, path: str, files: Files, is_deleted: IsDeleted) -> "Match":
@@ -297,13 +317,11 @@ class Match:
         groups: collections.defaultdict[bytes, list[int]] = collections.defaultdict(list)
         for place in range(len(self.inventory)):
             groups[self.inventory.core(place)].append(place)
-        needed: list[int] = []
         for core, places in groups.items():
             its = sorted(files_of(self.lines.get(core, ()), self.present), key=lambda one: not one.line_of(path))
             its += [nobodys(name, core, bare) for bare, name in unnamed.get(core, ())]
             offers = [Offer(Why.ANY, one, one.line_of(path) or one.lines[-1], True) for one in its if one.name]
-            needed += self.take(places, offers, set(), collections.Counter())
-        self.need = array.array("Q", sorted(needed))
+            self.take(places, offers, set(), collections.Counter())
         self.dropped = [one.message for one in self.own_lines() if one.state is State.HELD]
         return self
 
@@ -315,38 +333,36 @@ class Match:
             return
         first = source.same_start(self.inventory.cores, self.inventory.bares)
         cores, bares = source.has(first), counted_in(source.bares[first * SHORT :])
-        rest, new = array.array("Q"), array.array("Q")
+        self.states[:first] = bytes([Stand.KNOWN]) * first
+        rest = array.array("Q")
         for place in range(first, len(self.inventory)):
             core, bare = self.inventory.core(place), self.inventory.bare(place)
             if cores[core] > 0 and bares[bare] > 0:
                 cores[core] -= 1
                 bares[bare] -= 1
+                self.states[place] = Stand.KNOWN
             else:
                 rest.append(place)
         for place in rest:
             core = self.inventory.core(place)
             if cores[core] > 0:
                 cores[core] -= 1
-            else:
-                new.append(place)
-        self.new, self.lost = new, +cores
+                self.states[place] = Stand.KNOWN
+        self.lost = +cores
 
     def take_mine(self) -> None:
         """Finds what a run that was killed has placed under the bases of this text. Most of it needs no more
         looking."""
         table, there = self.inventory.table, self.files.there
-        new = self.new if len(self.new) == len(self.inventory) else set(self.new)
         for one in self.ledger.intended(self.path, is_new=True):
             place = table.own_place(one.name)
-            if place is not None and there[place] and place in new:
-                self.mine[place] = 1
-        if any(self.mine):
-            self.new = array.array("Q", (place for place in self.new if not self.mine[place]))
+            if place is not None and there[place] and self.states[place] == Stand.NOWHERE:
+                self.states[place] = Stand.MINE
 
     def look(self) -> None:
         """Looks into the ledger for what is new, and for what is lost."""
         if self.ledger.last:
-            cores = {self.inventory.core(place) for place in self.new}.union(self.lost)
+            cores = {self.inventory.core(place) for place in self.need}.union(self.lost)
             for line in self.ledger.entries(cores):
                 if line.state is State.UNDONE:
                     self.files.kept.add(line.message.name)
@@ -359,11 +375,11 @@ class Match:
     def is_mine(self, name: bytes) -> bool:
         """Whether a run that was killed has placed a file of the mailbox under this name, which the text has."""
         place = self.inventory.table.own_place(name)
-        return place is not None and bool(self.mine[place])
+        return place is not None and self.states[place] == Stand.MINE
 
     def taken(self) -> set[bytes]:
         """The names of what stands for new messages."""
-        mine = map(self.inventory.table.name, itertools.compress(itertools.count(), self.mine))
+        mine = map(self.inventory.table.name, self.places(Stand.MINE))
         return {*mine, *(one.name for one in self.found.values())}
 
     def own_lines(self) -> Iterator[Line]:
@@ -374,23 +390,20 @@ class Match:
         """The names of the files in the lines that were looked at."""
         return {line.message.name for lines in self.lines.values() for line in lines} - {NAMELESS}
 
-    def groups(self) -> tuple[dict[bytes, list[int]], list[int]]:
-        """The places of the new messages for which a file or a line may stand, by their cores, and the places of the
-        others."""
+    def groups(self) -> dict[bytes, list[int]]:
+        """The places of the new messages for which a file or a line may stand, by their cores."""
         groups: collections.defaultdict[bytes, list[int]] = collections.defaultdict(list)
-        others: list[int] = []
         digest_at, files = self.inventory.table.digest, self.files
         has_files = bool(files.counts or self.strangers or any(files.there))
-        for place in self.new if self.lines or has_files else ():
+        for place in self.need if self.lines or has_files else ():
             core, bare = self.inventory.core(place), self.inventory.bare(place)
-            is_known = core in self.lines or bare in self.strangers or files.has_digest(digest_at(place))
-            (groups[core] if is_known else others).append(place)
-        return groups, others if groups else list(self.new)
+            if core in self.lines or bare in self.strangers or files.has_digest(digest_at(place)):
+                groups[core].append(place)
+        return groups
 
     def known(self, bares: Container[bytes]) -> collections.Counter[bytes]:
         """How often the mailbox has each of these bare forms among the messages that it had before."""
-        new = set(self.new) if bares else ()
-        places = (place for place in range(len(self.inventory)) if place not in new) if bares else ()
+        places = self.places(Stand.KNOWN, Stand.MINE) if bares else ()
         return collections.Counter(bare for bare in map(self.inventory.bare, places) if bare in bares)
 
     def drop(self) -> None:
@@ -410,12 +423,7 @@ class Match:
 
     def count_new(self) -> int:
         """How many messages the mailbox did not have before."""
-        return len(self.new) + sum(self.mine)
-
-    @property
-    def is_known(self) -> bool:
-        """Whether the mailbox has nothing new."""
-        return not (self.found or any(self.mine) or len(self.need))
+        return len(self.states) - self.count(Stand.KNOWN)
 
 
 def cores_of(inventory: Inventory) -> collections.Counter[bytes]:

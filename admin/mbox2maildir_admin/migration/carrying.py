@@ -19,7 +19,7 @@ from ..ledger.gone import BACK, times_of
 from ..ledger.history import Note
 from ..ledger.lines import PLACED, Head, note_all_placed, note_ends
 from ..ledger.lines import note_failed as note_batch_failed
-from ..ledger.match import Files, Match
+from ..ledger.match import Files, Match, Stand
 from ..ledger.prepared import drop_list, finish_list, note_failed
 from ..ledger.record import unspelled
 from ..maildir.checking import Check
@@ -107,7 +107,7 @@ def begin(steps: Steps) -> int:
             record.add(Note.PREPARED, known.key, *words)
         return 0
     its = times_of(opened.folder), mailbox.key(), contents.words, known.path, mailbox.state.st_ino, int(time.time())
-    head = Head(steps.placing.count_of_lines(), len(steps.match.need), steps.back, *its)
+    head = Head(steps.placing.count_of_lines(), len(steps.placing.need), steps.back, *its)
     return ledger.begin(head, steps.placing.lines())
 
 
@@ -118,7 +118,7 @@ def convert(steps: Steps, program: Program, batch: int) -> int:
         ran = place_messages(steps, program)
     except Failed as failed:
         raise explained(failed, steps, batch) from failed
-    is_whole, need = ran.end == steps.contents.text.end, len(steps.match.need)
+    is_whole, need = ran.end == steps.contents.text.end, len(steps.placing.need)
     if batch and is_whole and 0 < need <= ran.placed:
         note_all_placed(steps.opened.folder, batch)
     if steps.opened.has_changed(steps.contents.text):
@@ -157,7 +157,7 @@ def explained(failed: Failed, steps: Steps, batch: int) -> Left:
     """Why the program failed, in better words than its own. If a sync failed, the ledger notes that."""
     folder, whole = steps.opened.folder, steps.placing.whole()
     there = Files(folder, whole, steps.opened.mailbox.say).there
-    nowhere = [place for place in steps.match.need if not there[place]]
+    nowhere = [place for place in steps.placing.need if not there[place]]
     found = FOLDER_CALL.search(str(failed))
     call = int(found.group(1)) if found else 0
     unlisted = why_not_listed(folder) if call in SYNCED else None
@@ -224,8 +224,8 @@ def want_none_cut(one: Steps) -> None:
     found = (path for name, path in listed if before_info(name) in one.may_be_cut)
     paths = {beginning_in(path): path for path in found}
     text, inventory = one.contents.text, one.contents.inventory
-    mine = (place for place, is_mine in enumerate(one.match.mine) if is_mine)
-    for place in [*one.match.new, *mine] if paths else []:
+    new = Stand.NOWHERE, Stand.MINE, Stand.FOUND, Stand.FRESH
+    for place in one.match.places(*new) if paths else ():
         digest = Digest({size for size, _ in paths})
         start = text.at(inventory.offsets[place], BLOCK).find(b"\n") + 1
         reader = Reader(text.number, Offset(inventory.offsets[place] + start), inventory.offsets[place + 1])

@@ -16,7 +16,7 @@ from ..kinds.named import is_no_mail
 from ..labels.noted import line_of
 from ..ledger.gone import back_in, gone_before, gone_from, unexplained
 from ..ledger.ledger import Ledger, count_in, has_failed
-from ..ledger.match import Files, Match
+from ..ledger.match import Files, Match, Stand
 from ..ledger.prepared import in_milliseconds, milliseconds_since
 from ..ledger.record import Record, unspelled
 from ..looks import is_folder
@@ -330,7 +330,7 @@ class Transfer:
         with part.read() as contents:
             if not self.how.prepare:
                 # a first pass goes by nothing in the ledger
-                self.want_ledger(contents)
+                self.go_by_ledger(contents)
                 want_same_reading(self.how, self.known, part.choice, contents)
                 if not self.how.again:
                     self.known.take_place(contents.inventory)
@@ -338,15 +338,13 @@ class Transfer:
             self.want_sure(contents, match)
             if AS_BROUGHT not in self.remarks:
                 note_answer(self.record, self.opened, part.plan)
-            if match.is_known and self.path in self.ledger.sources and not self.how.prepare:
+            if not match.count_new() and self.path in self.ledger.sources and not self.how.prepare:
                 row = self.row_before(contents.words, len(contents.inventory), list(remarks_on_lost(match)))
                 # the ledger notes that it was read
-                return (
-                    Outcome(row) if self.how.dry else self.verified(row, begin(self.steps(contents, match)), contents)
-                )
-            return self.done(part, self.planned(part, contents, match))
+                return Outcome(row) if self.how.dry else self.outcome(row, begin(self.steps(contents, match)), contents)
+            return self.take_steps(part, self.planned(part, contents, match))
 
-    def done(self, part: Part, steps: Steps) -> Outcome:
+    def take_steps(self, part: Part, steps: Steps) -> Outcome:
         """Does what was planned, unless this is a rehearsal, and returns what became of the mailbox."""
         self.remarks += steps.remarks
         if self.how.dry:
@@ -357,7 +355,7 @@ class Transfer:
             return Outcome(self.row(part))
         batch, said = carry_out(steps, self.program)
         self.remarks += said
-        return self.verified(self.row(part, steps.next), batch, steps.contents)
+        return self.outcome(self.row(part, steps.next), batch, steps.contents)
 
     def matched(self, part: Part, contents: Contents) -> Match:
         """The messages of the text, with what is there of them besides what was prepared. What only left the folder of
@@ -396,7 +394,7 @@ class Transfer:
             else:
                 take_prepared(match, prepared)
             self.remarks += remarks_on_prepared(prepared, how)
-            if part.is_known and len(match.need):
+            if part.is_known and match.count(Stand.NOWHERE):
                 raise Left(CHANGED_MEANWHILE, Reason.CHANGED)
         steps = with_list(self.steps(contents, match), how, part.choice, took)
         if not how.prepare:
@@ -427,7 +425,7 @@ class Transfer:
     def want_room_for(self, steps: Steps) -> None:
         """Raises Left if there is no space for what is to be placed, and for the lines of the ledger, once what no
         message wants is removed."""
-        sizes, need = steps.contents.inventory.sizes, steps.match.need
+        sizes, need = steps.contents.inventory.sizes, steps.placing.need
         wanted = [*(sizes[place] for place in need), LONGEST_LINE * steps.placing.count_of_lines()]
         freed = self.prepared.sizes_unwanted() if self.prepared and not self.how.again else ()
         if len(need):
@@ -461,9 +459,10 @@ class Transfer:
         if self.has_failed() and not self.how.again:
             raise Left(SYNC_FAILED, Reason.SYNC_FAILED)
 
-    def want_ledger(self, contents: Contents) -> None:
-        """Raises Left if the ledger is damaged, or lacks something that the index has of the mailbox, unless all that
-        is nowhere is placed; what it lacks does not matter if nothing is nowhere."""
+    def go_by_ledger(self, contents: Contents) -> None:
+        """Raises Left if the ledger is damaged, or lacks something that the index has of the mailbox. If all that is
+        nowhere is placed, what is damaged is put aside. If nothing is nowhere, the ledger gets what it lacks, as if
+        all that is nowhere were to be placed."""
         known, ledger = self.known, self.ledger
         if self.how.again:
             if ledger.damage:
@@ -474,7 +473,7 @@ class Transfer:
         elif known.lost:
             how, rest = "older than its record" if known.is_cut else "missing", self.matched_again(ledger, contents)
             # what is prepared is no mail yet
-            if len(rest.need) > 0 or self.prepared and self.prepared.is_there:
+            if rest.count(Stand.NOWHERE) or self.prepared and self.prepared.is_there:
                 raise self.left_to_store(LOST % how, Reason.LEDGER, contents, rest)
             self.how = self.how._replace(again=True)
 
@@ -482,7 +481,7 @@ class Transfer:
         """Why it is left, with the command that stores what is nowhere: without what could not be done besides then."""
         hindrance = self.how.extra.hindrance(self.steps(contents, match))
         stays = self.how.dovecot and not hindrance
-        then = self.command(Does.DOUBLES, len(match.need), again=True, dovecot=stays)
+        then = self.command(Does.DOUBLES, match.count(Stand.NOWHERE), again=True, dovecot=stays)
         return Left("%s; %s" % (why, hindrance) if hindrance else why, reason, then)
 
     def command(self, does: Phrase, messages: Optional[int] = None, **changes: Any) -> Next:
@@ -504,7 +503,7 @@ class Transfer:
         """Raises Left if nobody knows what the files of the folder are, or whether it is the same mailbox."""
         if self.how.again:
             return
-        strangers = unexplained(self.root, match) if len(match.need) else []
+        strangers = unexplained(self.root, match) if match.count(Stand.NOWHERE) else []
         if strangers and self.how.prepare:
             raise Left(PARTLY_THERE % len(strangers), Reason.PARTLY_THERE)
         if strangers:
@@ -515,7 +514,7 @@ class Transfer:
         if is_much and match.count_new() >= lost:
             raise Left(EDITED % counted(lost, "message"), Reason.REWRITTEN, self.command(Does.STORES, again=True))
 
-    def verified(self, row: Row, batch: int, contents: Contents) -> Outcome:
+    def outcome(self, row: Row, batch: int, contents: Contents) -> Outcome:
         """The outcome of a mailbox all of whose messages are verified, in a batch or, if it is only prepared, none."""
         path, state = unspelled(self.path), self.opened.mailbox.state
         return Outcome(row, self.opened.folder, batch, self.which, contents.words, path, state)
@@ -526,7 +525,7 @@ class Transfer:
             return 0
         # the ledger may lack what was deleted of other mailboxes that the index counts
         others = sum(one.messages for one in self.known.unknown if one.path not in self.known.names)
-        back, ledger = min(others, len(match.need)), self.ledger
+        back, ledger = min(others, match.count(Stand.NOWHERE)), self.ledger
         gone = gone_before(ledger)
         if gone:
             back += sum((gone & collections.Counter(map(match.inventory.core, match.need))).values())

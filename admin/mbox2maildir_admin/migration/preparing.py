@@ -39,7 +39,7 @@ from ..ledger.history import Note, Step
 from ..ledger.history import names_of as names_by
 from ..ledger.ledger import Ledger, has_failed
 from ..ledger.lines import PLACED, Brought
-from ..ledger.match import Match
+from ..ledger.match import Match, Stand
 from ..ledger.prepared import (
     NEXT_LIST,
     WHOLE,
@@ -319,24 +319,17 @@ def tree_above(path: bytes, names: Sequence[bytes]) -> str:
 def take_prepared(match: Match, prepared: Prepared) -> None:
     """Takes the files that were prepared for those messages that are to be placed under their names. Then no message
     wants the others."""
-    inventory, need, placing = match.inventory, array.array("Q"), Placing(match)
-    for place in match.need:
+    inventory, placing = match.inventory, Placing(match)
+    for place in placing.need:
         at = prepared.note(placing.base(place))
         prepared.wanted[at] = 1
-        if not prepared.files[at]:
-            need.append(place)
-        elif place in placing.names:
-            name = placing.name(place)
-            match.found[place] = Brought(PLACED, name, inventory.core(place), inventory.bare(place))
-            match.fresh.add(place)
-        else:
-            match.mine[place] = 1
-    if len(need) < len(match.need):
-        for at, is_file in enumerate(prepared.files):
-            if is_file and prepared.wanted[at]:
-                match.files.take(prepared.table.base(at))
-        match.new = array.array("Q", (place for place in match.new if not match.mine[place]))
-        match.need = need
+        if prepared.files[at]:
+            match.files.take(prepared.table.base(at))
+            match.states[place] = Stand.MINE
+            if place in placing.names:
+                name = placing.name(place)
+                match.found[place] = Brought(PLACED, name, inventory.core(place), inventory.bare(place))
+                match.states[place] = Stand.FRESH
 
 
 def remarks_on_prepared(prepared: Prepared, how: Options) -> list[Remark]:
@@ -426,7 +419,7 @@ def is_prepared_already(steps: Steps) -> bool:
     prepared, now = steps.prepared, steps.origin
     if steps.which is not Pass.FIRST or not prepared or not now or not prepared.origin:
         return False
-    is_all = prepared.is_whole and len(steps.match.need) == 0 and prepared.count() == len(prepared.table)
+    is_all = prepared.is_whole and not steps.placing.need and prepared.count() == len(prepared.table)
     is_same = is_all and prepared.origin.key == now.key
     if is_same and prepared.origin.state != now.state and prepared.noted.as_read:
         prepared.append(now.line(), prepared.noted.as_read.line(), WHOLE + b"\n")

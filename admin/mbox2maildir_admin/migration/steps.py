@@ -17,7 +17,7 @@ from ..ledger.gone import left_by_killed
 from ..ledger.history import Entry
 from ..ledger.ledger import Ledger
 from ..ledger.lines import LOST, PLACED, Brought
-from ..ledger.match import Files, Match
+from ..ledger.match import Files, Match, Stand
 from ..ledger.prepared import Origin, Prepared
 from ..ledger.prepared import Text as PreparedText
 from ..ledger.record import unspelled
@@ -125,8 +125,6 @@ class Steps(NamedTuple):
     # the bases of their files
     places: Sequence[int]
     files: Inventory
-    # the places of those that were nowhere
-    need: Container[int]
     # whether a run was killed that had begun with this; whether the mailbox has brought other messages before; and when
     # it was begun first, in seconds since 1970
     is_begun: bool
@@ -148,10 +146,10 @@ class Steps(NamedTuple):
     @classmethod
     def of(cls, known: Known, contents: Contents, match: Match, which: Pass, extra: "Extra") -> "Steps":
         """What is to be done by what was found of the messages."""
-        placing, begun_at = Placing(match), known.begun_at
-        places, need = placing.places(), match.need if isinstance(match.need, range) else set(match.need)
-        is_grown, now = known.path in known.ledger.sources, int(time.time())
-        its = placing.files(places), need, known.is_begun, is_grown, now if begun_at is None else begun_at
+        placing, places = Placing(match), match.places(Stand.NOWHERE, Stand.MINE, Stand.FRESH)
+        is_grown, begun_at = known.path in known.ledger.sources, known.begun_at
+        begun_at = int(time.time()) if begun_at is None else begun_at
+        its = placing.files(places), known.is_begun, is_grown, begun_at
         return cls(known, contents, placing, which, extra, places, *its)
 
     @property
@@ -166,7 +164,7 @@ class Steps(NamedTuple):
 
     def is_placed(self, place: Place) -> bool:
         """Whether this run places one of its messages."""
-        return self.places[place] in self.need
+        return self.match.states[self.places[place]] == Stand.NOWHERE
 
     def is_unread(self, place: Place) -> bool:
         """Whether nobody but this program has given the file of a message its name."""
@@ -191,7 +189,7 @@ class Placing:
     messages first, then the text itself from a place on."""
 
     def __init__(self, match: Match) -> None:
-        self.match, self.inventory = match, match.inventory
+        self.match, self.inventory, self.need = match, match.inventory, match.need
         # the names that differ from those that the messages have in the text, and how many more copies of a message the
         # program gets
         self.names: dict[int, bytes] = {}
@@ -205,8 +203,8 @@ class Placing:
 
     def tail(self) -> Place:
         """The place from which on all messages are nowhere."""
-        need, place = self.match.need, len(self.inventory)
-        for one in reversed(need):
+        place = len(self.inventory)
+        for one in reversed(self.need):
             if one != place - 1:
                 break
             place = one
@@ -217,7 +215,7 @@ class Placing:
         found: collections.defaultdict[bytes, list[int]] = collections.defaultdict(list)
         table, files = self.inventory.table, self.match.files
         has_files = bool(files.counts) or any(files.there)
-        for place in self.match.need if has_files or table.repeats else ():
+        for place in self.need if has_files or table.repeats else ():
             digest = table.digest(place)
             if table.place_of(digest + FIRST) in table.repeats or has_files and files.has_digest(digest):
                 found[digest].append(place)
@@ -244,7 +242,7 @@ class Placing:
 
     def copied(self) -> list[Place]:
         """The places of the messages of which the program gets copies first, as often as it gets them."""
-        return [Place(one) for one in self.match.need if one < self.rest for _ in range(1 + self.more[one])]
+        return [Place(one) for one in self.need if one < self.rest for _ in range(1 + self.more[one])]
 
     def lines(self) -> Iterator[Brought]:
         """The lines of the batch, in the order in which messages are placed."""
@@ -252,27 +250,19 @@ class Placing:
         yield from (one._replace(word=LOST) for one in match.dropped)
         for place in sorted(match.found):
             yield match.found[place]
-        for place, is_mine in enumerate(match.mine):
-            if is_mine:
-                yield Brought(PLACED, inventory.table.name(place), inventory.core(place), inventory.bare(place))
-        for place in match.need:
+        for place in match.places(Stand.MINE):
+            yield Brought(PLACED, inventory.table.name(place), inventory.core(place), inventory.bare(place))
+        for place in self.need:
             yield Brought(PLACED, self.name(place), inventory.core(place), inventory.bare(place))
 
     def count_of_lines(self) -> int:
         """How many lines these are."""
-        return len(self.match.dropped) + sum(self.match.mine) + len(self.match.found) + len(self.match.need)
-
-    def places(self) -> Sequence[int]:
-        """The places of what is nowhere, and of what a run has placed that was killed."""
         match = self.match
-        if len(match.need) == len(self.inventory):
-            return match.need
-        mine = (place for place, is_mine in enumerate(match.mine) if is_mine)
-        return array.array("Q", sorted(itertools.chain(match.need, mine, match.fresh)))
+        return len(match.dropped) + len(match.found) + match.count(Stand.MINE) + len(self.need)
 
     def files(self, places: Sequence[int]) -> Inventory:
         """The messages at these places, with the bases of their files."""
-        if len(places) == len(self.inventory) and not self.names and not self.match.fresh:
+        if len(places) == len(self.inventory) and not self.names and not self.match.count(Stand.FRESH):
             return self.inventory
         names = (self.match.found[place].name if place in self.match.found else self.name(place) for place in places)
         return with_bases(self.inventory, places, map(base_in, names))
@@ -366,7 +356,7 @@ def remarks_on(one: Steps, dry: bool) -> Iterator[Remark]:
     """What is to be said of what is new, what is there, and what is gone."""
     match, ledger = one.match, one.known.ledger
     if one.which is Pass.AGAIN:
-        placed = counted(len(match.need), "message")
+        placed = counted(match.count(Stand.NOWHERE), "message")
         yield Remark("placed", "would place %s" % placed if dry else "placed %s" % placed)
     elif match.path in ledger.sources:
         yield from remarks_on_new(match)
