@@ -16,7 +16,7 @@ from ..faults import Fault, Left, Reason
 from ..flags.clients import CLIENTS, EVOLUTION, THUNDERBIRD, kept_in
 from ..kinds.starts import FIELD, text_start
 from ..ledger.record import is_gone
-from ..maildir.files import names_of
+from ..maildir.files import mail_in
 from ..mbox.bases import before_info
 from ..mbox.core import forms_of
 from ..mbox.dates import TOO_LATE, is_dated
@@ -30,7 +30,7 @@ from ..program import Program
 from ..readings.plans import plan_of
 from ..readings.reading import BY_LENGTHS, CR, CRLF, MBOXCL2, MBOXO, MBOXRD, UNQUOTED, Reading
 from ..readings.texts import form_of, text_then
-from ..readings.unnamed import text_of
+from ..readings.unnamed import copy_of
 from .mails import Mail
 
 FROM, FROM_OR_QUOTED = re.compile(rb"^(?=From )", re.M), re.compile(rb"^(?=>*From )", re.M)
@@ -76,7 +76,7 @@ class Letter(NamedTuple):
     @classmethod
     def of(cls, folder: bytes, mail: Mail) -> Optional["Letter"]:
         """The message of a file, which programs may have renamed; None if it was removed meanwhile."""
-        for name, path in [(mail.name, mail.path), *names_of(folder)]:
+        for name, path in [(mail.name, mail.path), *mail_in(folder)]:
             if before_info(name) != mail.before:
                 continue
             with contextlib.suppress(FileNotFoundError), open_file(path, os.O_NOFOLLOW) as file:
@@ -251,7 +251,7 @@ class Style(NamedTuple):
         before = b"" if is_empty else self.dialect.spelled(Letter(ANOTHER))
         for one in entries:
             its = draft.at(one.start, one.size)
-            with text_of(draft, [before, its], self.disk) as text:
+            with copy_of(draft, [before, its], self.disk) as text:
                 if not self.gives(text, [one], bool(before)):
                     yield one.mail
                 else:

@@ -59,10 +59,10 @@ def bring_all(program: Program, root: bytes, names: Names, how: Options, keeper:
     """Does it by a program, whoever runs this, and whatever was migrated."""
     os.umask(0o077)
     with Record.open(root, not how.dry) as record:
-        return Several(Way(program, root, record, how, Places(root, record, names), keeper, observer)).run()
+        return Folders(Way(program, root, record, how, Places(root, record, names), keeper, observer)).run()
 
 
-class Several:
+class Folders:
     """The folders of a Maildir whose mail goes back."""
 
     def __init__(self, way: Way) -> None:

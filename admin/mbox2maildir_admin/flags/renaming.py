@@ -6,7 +6,7 @@ from collections.abc import Callable, Container, Iterator, Sequence
 from typing import NamedTuple, Optional
 
 from ..looks import is_there
-from ..maildir.files import names_of
+from ..maildir.files import mail_in
 from ..maildir.making import sync_folder
 from ..mbox.bases import OWN, before_info
 from ..mbox.fields import Header
@@ -84,7 +84,7 @@ def lacking_flags(folder: bytes, mailbox: Mailbox, offset_of: OffsetOf, is_bare:
     """How many messages, whose offsets are given by the bases of their files, have a flag in their headers that their
     files lack. `is_bare` says whether bare text was converted, which decides the flags that they got."""
     count = 0
-    for name, _ in names_of(folder):
+    for name, _ in mail_in(folder):
         base, info = OWN.match(name), name[len(before_info(name)) :]
         offset = offset_of(base[0]) if base else None
         if offset is not None and (not info or info.startswith(INFO)):

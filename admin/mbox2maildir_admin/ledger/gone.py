@@ -15,7 +15,7 @@ import os
 from collections.abc import Sequence
 
 from ..faults import Fault
-from ..maildir.files import names_in, names_of
+from ..maildir.files import mail_in, names_in
 from ..maildir.folders import folders_in
 from ..maildir.making import SUBFOLDERS
 from ..mbox.bases import BASE, Table, base_in, before_info, is_own
@@ -47,7 +47,7 @@ def may_be_gone(folder: bytes, table: Table, before: tuple[int, ...]) -> list[in
     killed. `before` has the times at which names had last been changed when it began."""
     # by place: when the file of the message was last renamed, in nanoseconds since 1970; 0 if there is none
     changes = array.array("q", bytes(8 * len(table)))
-    for name, path in names_of(folder):
+    for name, path in mail_in(folder):
         place = table.own_place(name)
         if place is not None:
             with contextlib.suppress(FileNotFoundError):
@@ -87,7 +87,7 @@ def gone_from(ledger: Ledger) -> list[Remark]:
     if state != ledger.looked_at:
         # names would take much memory
         brought = array.array("q", set(map(hash, ledger.names())))
-        there = {hash(before_info(name)) for name, _ in names_of(ledger.folder)} if brought else set()
+        there = {hash(before_info(name)) for name, _ in mail_in(ledger.folder)} if brought else set()
         ledger.gone = sum(one not in there for one in brought), len(brought)
         ledger.looked_at = state
     return [Remark("gone", GONE % ledger.gone)] * (ledger.gone[0] > 0)
@@ -134,7 +134,7 @@ def gone_of(ledger: Ledger, number: int) -> collections.Counter[bytes]:
         if base and one.word != LOST and table.place_of(base) is None:
             table.keep(base)
             places[at >= first].append(at)
-    there = {before.own_place(name) for name, _ in names_of(ledger.folder)} if len(before) else set()
+    there = {before.own_place(name) for name, _ in mail_in(ledger.folder)} if len(before) else set()
     gone = [places[0][place] for place in range(len(before)) if place not in there]
     if len(after):
         gone += [places[1][place] for place in may_be_gone(ledger.folder, after, batch.head.times)]
@@ -159,7 +159,7 @@ def unexplained(root: bytes, match: Match) -> set[bytes]:
 def without_line(root: bytes, folder: bytes) -> set[bytes]:
     """The names of this program's that files of a folder have, and no line of a ledger of the Maildir, whatever became
     of its batch. So the ledger of the folder is older than these files."""
-    names = set(filter(is_own, (before_info(name) for name, _ in names_of(folder))))
+    names = set(filter(is_own, (before_info(name) for name, _ in mail_in(folder))))
     for place in (folder, *folders_in(root)):
         # what cannot be read explains nothing
         with contextlib.suppress(Fault, OSError):

@@ -16,7 +16,7 @@ import os
 from collections.abc import Container, Iterable, Iterator
 from typing import Optional
 
-from ..maildir.files import names_of
+from ..maildir.files import mail_in
 from ..maildir.making import LEDGER, SyncNames, sync_folder
 from ..mbox.bases import before_info
 from ..mbox.core import SHORT
@@ -41,7 +41,7 @@ from .lines import (
     Head,
     Line,
     Lines,
-    Several,
+    Messages,
     State,
     append,
     counted_in,
@@ -285,7 +285,7 @@ class Ledger:
         most: collections.Counter[bytes] = collections.Counter()
         for source in self.sources.values():
             most |= counted_in(source.cores)
-        there = {before_info(name) for name, _ in names_of(self.folder)} if self.open else set()
+        there = {before_info(name) for name, _ in mail_in(self.folder)} if self.open else set()
         begun: collections.defaultdict[int, collections.Counter[bytes]] = collections.defaultdict(collections.Counter)
         for number, one in self.messages(self.open):
             begun[number][one.core] += one.name in there
@@ -307,7 +307,7 @@ class Ledger:
                 most |= counted_in(source.bares, wanted)
         return most
 
-    def pieces(self) -> Iterator[tuple[int, Several, int]]:
+    def pieces(self) -> Iterator[tuple[int, Messages, int]]:
         """The lines of messages, the number of their batch, and how many come before those that it was to place."""
         number = first = 0
         for text, several in itertools.chain(pieces_in(self.folder), pieces_of(self.in_memory)):

@@ -76,7 +76,7 @@ class Brought(NamedTuple):
         return b"%s\t%s\t%s%s\n" % (self.word, name, b"=" if name.startswith(core) else core, bare)
 
 
-class Several(NamedTuple):
+class Messages(NamedTuple):
     """Messages whose lines follow each other: their words, the names of their files, and the digests of their cores and
     of their bare forms, one after the other."""
 
@@ -86,7 +86,7 @@ class Several(NamedTuple):
     bares: bytes
 
     @classmethod
-    def parse(cls, text: bytes) -> Optional["Several"]:
+    def parse(cls, text: bytes) -> Optional["Messages"]:
         """The messages of whole lines; None if another line is among them."""
         found = MESSAGE.findall(text)
         if not found or len(found) != text.count(b"\n"):
@@ -144,7 +144,7 @@ class Lines:
 
 
 # lines of messages that follow each other, with these; any other line by itself, with none
-Piece = tuple[bytes, Optional[Several]]
+Piece = tuple[bytes, Optional[Messages]]
 
 
 class Head(NamedTuple):
@@ -304,7 +304,7 @@ def pieces_in(folder: bytes) -> Iterator[Piece]:
 
 def pieces_of(text: bytes) -> Iterator[Piece]:
     """The same of some whole lines."""
-    several, at = Several.parse(text), 0
+    several, at = Messages.parse(text), 0
     if several:
         yield text, several
         return
@@ -317,7 +317,7 @@ def pieces_of(text: bytes) -> Iterator[Piece]:
         return
     # one of them only looks like that of a message
     for line in text.split(b"\n")[:-1]:
-        yield line + b"\n", Several.parse(line + b"\n")
+        yield line + b"\n", Messages.parse(line + b"\n")
 
 
 def want_trusted(path: bytes, state: os.stat_result) -> None:

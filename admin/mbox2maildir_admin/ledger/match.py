@@ -17,7 +17,7 @@ from collections.abc import Callable, Container, Iterable, Iterator, Sequence
 from typing import Optional
 
 from ..looks import is_link
-from ..maildir.files import digest_of, forms_in, names_of
+from ..maildir.files import digest_of, forms_in, mail_in
 from ..mbox.bases import BASE, DIGEST, FIRST, base_in, before_info, is_own
 from ..mbox.core import SHORT
 from ..mbox.inventory import Inventory
@@ -72,7 +72,7 @@ class Files:
 
     def listed(self) -> Iterator[tuple[bytes, bytes]]:
         """The names and paths of the files that are not passed over."""
-        return (one for one in names_of(self.folder) if not (self.hides and self.hides(before_info(one[0]))))
+        return (one for one in mail_in(self.folder) if not (self.hides and self.hides(before_info(one[0]))))
 
     def has_digest(self, digest: bytes) -> bool:
         """Whether a file has a base with a digest of the text."""

@@ -16,7 +16,7 @@ from typing import NamedTuple, Optional
 
 from ..faults import PlaceFault, Reason
 from ..looks import is_there
-from ..maildir.files import CLOCK_TICK, digest_of, names_in, names_of
+from ..maildir.files import CLOCK_TICK, digest_of, mail_in, names_in
 from ..maildir.making import PREPARED, sync_folder
 from ..mbox.bases import FIRST, Table, base_in, before_info, own_base_in
 from ..mbox.core import SHORT
@@ -206,7 +206,7 @@ class Text(NamedTuple):
         )
 
 
-class Noted:
+class Notes:
     """What the lines of a list have of the messages of a text, in their order."""
 
     def __init__(self, table: Table) -> None:
@@ -275,7 +275,7 @@ class Prepared:
         self.is_whole = self.has_failed = self.is_made = False
         self.batch: Optional[int] = None
         # what is noted of the text
-        self.noted = Noted(self.table)
+        self.notes = Notes(self.table)
         # by place: whether its file is there, and is ours; whether it was verified since it changed last; and whether a
         # message wants it
         self.files, self.verified, self.wanted = bytearray(), bytearray(), bytearray()
@@ -300,13 +300,13 @@ class Prepared:
             return self.take_file(file)
         begun, finishes, as_read, took = (one.match(line) for one in (BEGUN, FINISHES, AS_READ, TOOK))
         if begun:
-            self.origin, self.is_whole, self.noted.as_read = Origin.of(begun), False, None
+            self.origin, self.is_whole, self.notes.as_read = Origin.of(begun), False, None
         elif finishes:
             self.batch = int(finishes[1])
         elif as_read:
-            self.noted.as_read = AsRead.of(as_read)
+            self.notes.as_read = AsRead.of(as_read)
         elif took:
-            self.noted.reading = int(took[1])
+            self.notes.reading = int(took[1])
         self.is_whole = self.is_whole or line == WHOLE
         self.has_failed = self.has_failed or line == FAILED
         self.is_made = self.is_made or line == MADE
@@ -322,7 +322,7 @@ class Prepared:
             self.set_facts(place, (int(file[2]), int(file[3]), int(file[4])))
             self.homes[place] = shared(file[5])
         if file[6]:
-            self.noted.take(place, file[6], file[7], (int(file[8]), int(file[9]), int(file[10])))
+            self.notes.take(place, file[6], file[7], (int(file[8]), int(file[9]), int(file[10])))
         return True
 
     def note(self, base: bytes) -> int:
@@ -352,7 +352,7 @@ class Prepared:
         their bases."""
         self.files, self.edited, began = bytearray(len(self.table)), set(), time.monotonic()
         owner = os.stat(self.folder).st_uid if self.is_there else 0
-        for number, (name, path) in enumerate(names_of(self.folder) if self.is_there else (), 1):
+        for number, (name, path) in enumerate(mail_in(self.folder) if self.is_there else (), 1):
             say("looking at file %d of the folder" % number)
             place = self.table.place_of(own_base_in(name))
             if place is None:
@@ -364,15 +364,15 @@ class Prepared:
             else:
                 self.files[place] = OURS
                 self.set_facts(place, facts_of(state))
-        self.verified, self.noted.looking = self.files[:], milliseconds_since(began)
+        self.verified, self.notes.looking = self.files[:], milliseconds_since(began)
 
     def inventory(self, end: int) -> Optional[Inventory]:
         """The messages of the text, which has this end, if all are noted, and the folder has their files, as the last
         look has found them, and no other ones; otherwise None."""
         if not self.origin or not self.is_whole or not self.origin.messages == len(self.table) > 0:
             return None
-        has_all = all(self.files) and sum(1 for _ in names_of(self.folder)) == len(self.files)
-        return self.noted.inventory(self.facts[1::3], end) if has_all else None
+        has_all = all(self.files) and sum(1 for _ in mail_in(self.folder)) == len(self.files)
+        return self.notes.inventory(self.facts[1::3], end) if has_all else None
 
     def hides(self, name: bytes) -> bool:
         """Whether a file of this name, without its info, was prepared and is ours."""
@@ -402,7 +402,7 @@ class Prepared:
                 os.unlink(os.path.join(tmp, name))
         if not self.unwanted():
             return 0
-        for name, path in names_of(self.folder):
+        for name, path in mail_in(self.folder):
             place = self.table.place_of(own_base_in(name))
             if place is None or self.files[place] != OURS or self.wanted[place]:
                 continue
@@ -448,7 +448,7 @@ class Prepared:
         """Writes the list anew beside the other one: what is wanted, with the facts of its files, what is known of the
         text, and how many milliseconds it took to read. It is on the disk when this returns, and counts once that of
         the files was synced."""
-        self.noted.reading = took
+        self.notes.reading = took
         places = text.places_in(self.table, self.wanted) if text else None
         head, lines = [origin.line(), b"t\t%d\n" % took], map(self.line, range(len(self.table)))
         if text and places:
@@ -490,7 +490,7 @@ class Prepared:
         time.sleep(CLOCK_TICK)
         before, began, looked_at = (time.time() - CLOCK_TICK) * 10**9, time.monotonic(), self.facts
         self.facts = array.array("Q", READ_AGAIN) * len(self.table)
-        for name, path in names_of(self.folder):
+        for name, path in mail_in(self.folder):
             place = self.table.place_of(own_base_in(name))
             if place is not None and self.wanted[place]:
                 facts, home = facts_of(os.lstat(path)), home_of(name, path)
@@ -498,4 +498,4 @@ class Prepared:
                 self.verified[place] &= facts == tuple(looked_at[3 * place : 3 * place + 3])
                 if 0 < facts[2] < before and facts[2] % 10**9:
                     self.set_facts(place, facts)
-        self.noted.looking = milliseconds_since(began)
+        self.notes.looking = milliseconds_since(began)

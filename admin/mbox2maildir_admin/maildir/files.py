@@ -30,7 +30,7 @@ def paths_of(maildir: bytes) -> Iterator[Named]:
                 yield entry.name, entry.path
 
 
-def names_of(folder: bytes) -> Iterator[Named]:
+def mail_in(folder: bytes) -> Iterator[Named]:
     """The names and paths of the mail in a folder; none if the folder does not exist."""
     try:
         yield from paths_of(folder)

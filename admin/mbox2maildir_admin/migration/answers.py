@@ -12,7 +12,7 @@ from ..ledger.history import Entry, History, Key, Note
 from ..ledger.lines import counted_in
 from ..ledger.match import Files, Match, bares_of, cores_of
 from ..ledger.record import Record, unspelled
-from ..maildir.files import names_in, names_of
+from ..maildir.files import mail_in, names_in
 from ..maildir.folders import INBOX
 from ..mbox.bases import before_info
 from ..mbox.inventory import Inventory
@@ -221,7 +221,7 @@ def has_begun(known: Known) -> bool:
         return False
     names, folder = {one.name for one in known.ledger.intended(known.path)}, known.opened.folder
     is_numbered = any(name.startswith(b"dovecot") for name in names_in(folder))
-    return is_numbered or any(before_info(name) in names for name, _ in names_of(folder))
+    return is_numbered or any(before_info(name) in names for name, _ in mail_in(folder))
 
 
 def is_enough(text: Mailbox, decision: Reading, disk: bytes) -> bool:

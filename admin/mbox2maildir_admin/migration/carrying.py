@@ -25,7 +25,7 @@ from ..ledger.record import unspelled
 from ..maildir.checking import Check
 from ..maildir.dating import Dating
 from ..maildir.disk import what_fails, why_not_listed
-from ..maildir.files import names_of
+from ..maildir.files import mail_in
 from ..mbox.bases import base_in, before_info, is_own, own_base_in
 from ..mbox.core import beginning_of
 from ..mbox.digest import Digest
@@ -208,7 +208,7 @@ def names_that_may_be_cut(known: Known, match: Match) -> set[bytes]:
     several = [one for one in last.values() if one.name in lost]
     cores = set(map(match.inventory.core, range(len(match.inventory)))) if several else set()
     names: set[bytes] = set()
-    for name, file in names_of(ledger.folder) if known.is_begun else ():
+    for name, file in mail_in(ledger.folder) if known.is_begun else ():
         base = own_base_in(name)
         # files that were dated have the dates of their From_ lines
         if base and match.inventory.table.place_of(base) is None and os.lstat(file).st_mtime >= (known.begun_at or 0):
@@ -220,7 +220,7 @@ def names_that_may_be_cut(known: Known, match: Match) -> set[bytes]:
 
 def want_none_cut(one: Steps) -> None:
     """Raises Left if a file that may do so holds the beginning of a new message, whoever has rewritten it."""
-    listed = names_of(one.opened.folder) if one.may_be_cut else ()
+    listed = mail_in(one.opened.folder) if one.may_be_cut else ()
     found = (path for name, path in listed if before_info(name) in one.may_be_cut)
     paths = {beginning_in(path): path for path in found}
     text, inventory = one.contents.text, one.contents.inventory

@@ -44,7 +44,7 @@ DONE_WITHOUT = Remark("without-uids", WITHOUT % "it was migrated without --dovec
 
 
 # records a file by its path, its size and its SHA-256 before it is written
-Noted = Callable[[bytes, int, str], None]
+NoteFile = Callable[[bytes, int, str], None]
 
 
 class Dovecot(Extra):
@@ -133,7 +133,7 @@ class Dovecot(Extra):
         name_of = functools.partial(name_by, whole.table, infos)
         place_file(opened.folder, LIST, list_of(reading.numbers(one.begun_at), name_of), self.writer(opened.name))
 
-    def writer(self, name: bytes) -> Noted:
+    def writer(self, name: bytes) -> NoteFile:
         """Returns the function that records a file of a folder before it is written."""
         return lambda file, size, digest: self.record.add(Note.WROTE, Key(name, Size(size), digest), 0, file)
 
@@ -192,7 +192,7 @@ def give_flags(one: Steps) -> None:
     add_flags(one.opened.folder, one.files, letters, one.is_unread, listed)
 
 
-def place_file(folder: bytes, name: bytes, text: bytes, note: Noted) -> None:
+def place_file(folder: bytes, name: bytes, text: bytes, note: NoteFile) -> None:
     """Writes a file under another name, and links it to its own name once it is on the disk. A file that is there
     stays."""
     path, part = os.path.join(folder, name), part_of(folder, name)

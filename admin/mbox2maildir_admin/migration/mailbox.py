@@ -436,7 +436,7 @@ class Transfer:
         plan, how, spent = part.plan, self.how, None
         done, would = (Fate.PREPARED, Fate.WOULD_PREPARE) if how.prepare else (Fate.DONE, Fate.WOULD)
         if self.prepared and how.prepare and not how.dry:
-            spent = Spent(self.passed(), self.passed() if self.is_changed else self.prepared.noted.foreseen())
+            spent = Spent(self.passed(), self.passed() if self.is_changed else self.prepared.notes.foreseen())
         its = self.opened.name, plan.kind, plan.messages, would if how.dry else done
         row = Row(self.opened.mailbox.path, *its, size=part.size, spent=spent)
         return row._replace(remarks=(*plan.remarks, *self.remarks), next=then)

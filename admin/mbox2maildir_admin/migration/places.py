@@ -12,7 +12,7 @@ from ..kinds.named import is_no_mail, name_of_folder
 from ..ledger.history import History, Step
 from ..ledger.record import Record, unspelled
 from ..looks import is_file
-from ..maildir.files import names_of
+from ..maildir.files import mail_in
 from ..maildir.folders import COPY, INBOX, folder_path, folder_shown, words_of
 from ..maildir.disk import SyncOne
 from ..nexts import Answer, Command, Does, Next, Phrase, Todo, in_shell, line_of, run_next, task
@@ -148,7 +148,7 @@ class Pairs(NamedTuple):
     def without_folders_in_inbox(self, several: Sequence[Planned], given: Container[bytes]) -> list[Planned]:
         """Mailboxes, of which those are left that are named as a folder and would join other mail in INBOX, if these
         files were given without a folder."""
-        has_mail, line = bool(self.record.last_steps(INBOX)) or any(names_of(self.root)), self.record.prepared(INBOX)
+        has_mail, line = bool(self.record.last_steps(INBOX)) or any(mail_in(self.root)), self.record.prepared(INBOX)
         for_inbox = [os.path.basename(one.path) for one in several if one.folder == INBOX and not one.why]
         # it may stand elsewhere than when it was prepared
         is_its_own = line and for_inbox == [os.path.basename(unspelled(line.path))]

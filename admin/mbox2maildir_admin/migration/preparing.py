@@ -36,7 +36,7 @@ from typing import Optional
 from ..faults import Left, Reason
 from ..flags.renaming import sync_names
 from ..ledger.history import Note, Step
-from ..ledger.history import names_of as names_by
+from ..ledger.history import names_of
 from ..ledger.ledger import Ledger, has_failed
 from ..ledger.lines import PLACED, Brought
 from ..ledger.match import Match, Stand
@@ -57,7 +57,7 @@ from ..ledger.prepared import (
 )
 from ..ledger.record import Record, unspelled
 from ..looks import is_folder, is_there, real_path
-from ..maildir.files import digest_of, names_in, names_of
+from ..maildir.files import digest_of, mail_in, names_in
 from ..maildir.folders import INBOX, folder_path
 from ..maildir.making import LEDGER, MARK, PREPARED, SUBFOLDERS, sync_folder
 from ..mbox.bases import base_in, before_info, own_base_in
@@ -164,7 +164,7 @@ class Preparation:
     def give_names_back(self) -> None:
         """Gives files the names that they were prepared with. Those that only the killed run has placed are removed."""
         table = self.prepared.table
-        for name, path in list(names_of(self.folder)):
+        for name, path in list(mail_in(self.folder)):
             at = table.place_of(own_base_in(name))
             home = self.prepared.homes[at] if at is not None else None
             if at is not None and home is None and digest_of(path)[0] == table.digest(at):
@@ -238,7 +238,7 @@ def want_free(one: Preparation, known: Known) -> None:
         origin = one.prepared.origin
         other = unspelled(origin.path) if origin else known.opened.mailbox.path
         # a symbolic link may lead from one to the other
-        if not {*names_by(other)} & {*known.names} and is_there(other):
+        if not {*names_of(other)} & {*known.names} and is_there(other):
             raise Left(ANOTHER % named(other), Reason.PREPARED)
     elif one.state in (State.MAIL, State.OVER):
         raise Left(NOT_FREE, Reason.PREPARED)
@@ -272,7 +272,7 @@ def reader_in(record: Record, name: bytes, prepared: Prepared) -> Optional[bytes
         is_ours = prepared.batch and Dovecot(record).is_own_in(name, folder, file)
         if file.startswith(b"dovecot") and not is_ours:
             return os.path.join(folder, file)
-    for file, path in names_of(folder):
+    for file, path in mail_in(folder):
         home, at = home_of(file, path), prepared.table.place_of(base_in(file))
         if at is None:
             is_read = home.startswith(b"cur")
@@ -387,7 +387,7 @@ def clear_folder(prepared: Prepared) -> bool:
 def same_as_prepared(prepared: Prepared, how: Options, opened: Opened) -> Optional[Part]:
     """What stands for the text of a mailbox that has the bytes from which its folder was prepared, if the folder has
     all of that and nothing else; None for any other one."""
-    origin, as_read, mailbox = prepared.origin, prepared.noted.as_read, opened.mailbox
+    origin, as_read, mailbox = prepared.origin, prepared.notes.as_read, opened.mailbox
     is_otherwise = how.again or how.again_rewritten or how.decision != UNDECIDED
     if not origin or not as_read or prepared.batch or is_otherwise:
         return None
@@ -421,8 +421,8 @@ def is_prepared_already(steps: Steps) -> bool:
         return False
     is_all = prepared.is_whole and not steps.placing.need and prepared.count() == len(prepared.table)
     is_same = is_all and prepared.origin.key == now.key
-    if is_same and prepared.origin.state != now.state and prepared.noted.as_read:
-        prepared.append(now.line(), prepared.noted.as_read.line(), WHOLE + b"\n")
+    if is_same and prepared.origin.state != now.state and prepared.notes.as_read:
+        prepared.append(now.line(), prepared.notes.as_read.line(), WHOLE + b"\n")
     return is_same
 
 
@@ -433,7 +433,7 @@ def row_unchanged(record: Record, how: Options, path: bytes, name: bytes, folder
     origin = prepared.origin
     if not origin or not prepared.is_whole or prepared.batch or prepared.has_failed or how.decision != UNDECIDED:
         return None
-    is_same = origin.state == signs_of(os.stat(path)) and origin.path in names_by(path)
+    is_same = origin.state == signs_of(os.stat(path)) and origin.path in names_of(path)
     if not is_same or Reading.of_words(origin.words).bare != how.extra.IS_BARE:
         return None
     prepared.look(say)
@@ -442,5 +442,5 @@ def row_unchanged(record: Record, how: Options, path: bytes, name: bytes, folder
     dropped = remarks_on_dropped(origin.words)
     says = Remark("prepared-before", "%d prepared before" % len(prepared.files))
     fate = Fate.WOULD_PREPARE if how.dry else Fate.PREPARED
-    spent = None if how.dry else Spent(milliseconds_since(began), prepared.noted.foreseen())
+    spent = None if how.dry else Spent(milliseconds_since(began), prepared.notes.foreseen())
     return Row(path, name, "", origin.messages, fate, size=origin.key[0], remarks=(*dropped, says), spent=spent)

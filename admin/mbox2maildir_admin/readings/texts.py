@@ -30,7 +30,7 @@ from ..units import Line, Offset, Say, silent
 from .plans import NoMail, NotKnown, OtherKind, Plan, Question, is_as_it_is, plan_of, wants_copy
 from .quoting import Quoter
 from .reading import PLAIN, UNDECIDED, Reading
-from .unnamed import text_of
+from .unnamed import copy_of
 
 # how a mailbox was read when it was recorded, if it was; and where the messages of a text begin that are converted
 ReadingOf = Callable[[Mailbox], Reading]
@@ -67,7 +67,7 @@ class Text(NamedTuple):
                 mailbox.say("copying", piece.offset, mailbox.size)
             mailbox.check()
 
-        copy = text_of(self.mailbox, given(), folder)
+        copy = copy_of(self.mailbox, given(), folder)
         offsets.append(self.mailbox.size)
         bare_offsets.append(copy.size)
         full = self._replace(offsets=offsets)
@@ -138,7 +138,7 @@ def copy_by(quoter: Quoter, folder: bytes) -> Optional[Mailbox]:
     for data in given:
         if wants_copy(quoter.how, quoter):
             same = Reader(quoter.mailbox.number, quoter.start, quoter.start + quoter.given - len(data))
-            return text_of(quoter.mailbox, itertools.chain(same.blocks(), [data], given), folder)
+            return copy_of(quoter.mailbox, itertools.chain(same.blocks(), [data], given), folder)
     return None
 
 

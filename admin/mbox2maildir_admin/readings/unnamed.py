@@ -20,7 +20,7 @@ def unnamed(folder: bytes) -> IO[bytes]:
     return tempfile.TemporaryFile(buffering=BLOCK, prefix=PREFIX, dir=folder)
 
 
-def text_of(mailbox: Mailbox, given: Iterable[bytes], folder: bytes) -> Mailbox:
+def copy_of(mailbox: Mailbox, given: Iterable[bytes], folder: bytes) -> Mailbox:
     """What is given of a mailbox, as a text that is open. Raises Fault if the disk has not all of it."""
     size = 0
     with unnamed(folder) as file:
@@ -47,4 +47,4 @@ def copy_of_some(mailbox: Mailbox, inventory: Inventory, places: Sequence[Place]
             if reader.offset < end:
                 raise Left(CUT, Reason.CHANGED)
 
-    return text_of(mailbox, given(), folder)
+    return copy_of(mailbox, given(), folder)

@@ -18,7 +18,7 @@ from ..signals import INTERRUPTS, running, status_of
 from ..units import Line, Offset, Size
 from .plans import OtherKind
 from .streams import FORMATS, streams_in
-from .unnamed import text_of
+from .unnamed import copy_of
 
 # a text of more bytes than this, and of more than this many times the bytes of its file, is unpacked by hand. Mail
 # shrinks to a tenth or so
@@ -89,7 +89,7 @@ def size_of(mailbox: Mailbox, form: Form, folder: bytes) -> Size:
 def unpacked(mailbox: Mailbox, form: Form, folder: bytes) -> Mailbox:
     """What a mailbox holds, as a text on the disk of a folder."""
     size = size_of(mailbox, form, folder)
-    text = text_of(mailbox, unpack(mailbox, mailbox.again(), form), folder)
+    text = copy_of(mailbox, unpack(mailbox, mailbox.again(), form), folder)
     if text.size != size:
         raise Left("%s of its %s bytes were unpacked" % (text.size, size), Reason.PACKED)
     return text

@@ -25,8 +25,7 @@ from ..ledger.ledger import Ledger, count_in
 from ..ledger.prepared import Prepared, has_list
 from ..ledger.record import Record, is_gone, unspelled
 from ..looks import is_there
-from ..maildir.files import digest_of, forms_in
-from ..maildir.files import names_of as mail_in
+from ..maildir.files import digest_of, forms_in, mail_in
 from ..maildir.folders import INBOX, folder_of, folder_shown, folders_in, name_of, on_disk
 from ..maildir.making import RECORD, real_place
 from ..mbox.bases import DIGEST, base_in, before_info, is_own

@@ -10,7 +10,7 @@ from ..back.several import bring_all, want_migrated
 from ..faults import Left, Reason, naming
 from ..jobs.crew import Parent
 from ..looks import is_folder, is_link, is_there, may_be
-from ..maildir.files import names_of
+from ..maildir.files import mail_in
 from ..maildir.folders import folders_in
 from ..mbox.bases import BASE
 from ..mbox.lock_file import hold, look_for_lock_file, spot_of
@@ -82,7 +82,7 @@ def is_bare(path: bytes) -> bool:
 
 def has_own_names(root: bytes) -> bool:
     """Whether a file of a Maildir has a name that only this program gives."""
-    return any(BASE.match(name) for folder in folders_in(root) for name, _ in names_of(folder))
+    return any(BASE.match(name) for folder in folders_in(root) for name, _ in mail_in(folder))
 
 
 class Asking(Keeper):

@@ -22,7 +22,7 @@ from mbox2maildir_admin.ledger.lines import (
     UNDONE,
     Brought,
     Head,
-    Several,
+    Messages,
     pieces_of,
 )
 from mbox2maildir_admin.ledger.prepared import AS_READ, BEGUN, AsRead, Origin, Prepared
@@ -49,7 +49,7 @@ FILE = b"p\t" + NAME + b"\t18446744073709551615\t9\t1\tcur:2,S\t=\t" + HEXB + b"
 
 def message_of(line: bytes) -> Optional[Brought]:
     """The message of a line of a ledger; None if it has none."""
-    several = Several.parse(line + b"\n")
+    several = Messages.parse(line + b"\n")
     return next(one for _, one in several.counted()) if several else None
 
 
@@ -176,7 +176,7 @@ class LineTest(unittest.TestCase):
             self.assertEqual([text for text, _ in pieces], wanted)
             have_messages = [text[:1] in (b"p", b"s") and text != damaged for text in wanted]
             self.assertEqual([several is not None for _, several in pieces], have_messages)
-        together = Several.parse(one + other)
+        together = Messages.parse(one + other)
         assert together
         several = [(0, Brought(PLACED, NAME, A, A)), (1, Brought(SHARED, NAME, B, A))]
         self.assertEqual([list(together.counted(wanted)) for wanted in (None, {B})], [several, several[1:]])
