@@ -220,8 +220,8 @@ class Match:
     def serve(self, groups: dict[bytes, list[int]]) -> None:
         """Finds what stands for new messages, whose places are given by their cores."""
         bares = set(map(self.inventory.bare, itertools.chain.from_iterable(groups.values())))
-        most = self.ledger.most(self.path, bares)
-        most.subtract(self.known(bares))
+        most, had = self.ledger.most(self.path, bares), self.places(Stand.KNOWN, Stand.MINE) if bares else ()
+        most.subtract(bare for bare in map(self.inventory.bare, had) if bare in bares)
         for core, places in groups.items():
             files = files_of(self.lines.get(core, ()), self.present)
             unnamed = self.unnamed(files, places)
@@ -400,11 +400,6 @@ class Match:
             if core in self.lines or bare in self.strangers or files.has_digest(digest_at(place)):
                 groups[core].append(place)
         return groups
-
-    def known(self, bares: Container[bytes]) -> collections.Counter[bytes]:
-        """How often the mailbox has each of these bare forms among the messages that it had before."""
-        places = self.places(Stand.KNOWN, Stand.MINE) if bares else ()
-        return collections.Counter(bare for bare in map(self.inventory.bare, places) if bare in bares)
 
     def drop(self) -> None:
         """Finds the lines of what the mailbox no longer has: first forms that it has not, then files that are gone."""

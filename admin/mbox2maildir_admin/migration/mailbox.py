@@ -366,7 +366,7 @@ class Transfer:
         else:
             if self.prepared:
                 hides = self.prepared.hides
-                if not part.is_known:
+                if not part.is_as_prepared:
                     self.prepared.look(say)
             files = Files(self.ledger.folder, contents.inventory, say, hides)
             match = Match.of(self.ledger, self.path, files, contents.is_deleted)
@@ -394,7 +394,7 @@ class Transfer:
             else:
                 take_prepared(match, prepared)
             self.remarks += remarks_on_prepared(prepared, how)
-            if part.is_known and match.count(Stand.NOWHERE):
+            if part.is_as_prepared and match.count(Stand.NOWHERE):
                 raise Left(CHANGED_MEANWHILE, Reason.CHANGED)
         steps = with_list(self.steps(contents, match), how, part.choice, took)
         if not how.prepare:

@@ -225,11 +225,11 @@ def mended(
         one.prepared = Prepared(opened.folder)
     elif state is State.BEGUN and not (how.again or ledger.damage or has_failed(ledger) or one.reader()):
         one.take_back()
+    if how.prepare or state in (State.PREPARED, State.BEGUN, State.LOST):
+        return one
     # once something was prepared in the Maildir, a run that is killed may be followed by a first pass, or by other
     # mailboxes
-    is_free = state is State.FREE and record.has_prepared and not one.reader()
-    is_last = is_free or state in (State.PREPARED, State.BEGUN, State.LOST)
-    return one if how.prepare or is_last else None
+    return one if state is State.FREE and record.has_prepared and not one.reader() else None
 
 
 def want_free(one: Preparation, known: Known) -> None:
@@ -405,7 +405,7 @@ def same_as_prepared(prepared: Prepared, how: Options, opened: Opened) -> Option
     full = texts.Text(mailbox, plan.start, offsets=inventory.offsets)
     copy = texts.Text(mailbox, plan.start, full=full) if reading.bare else None
     contents = Contents(mailbox, Offset(inventory.offsets[0]), inventory, reading, copy)
-    return Part(Choice(mailbox, plan), lambda: contextlib.nullcontext(contents), mailbox.size, is_known=True)
+    return Part(Choice(mailbox, plan), lambda: contextlib.nullcontext(contents), mailbox.size, is_as_prepared=True)
 
 
 def is_as_it_is(reading: Reading) -> bool:

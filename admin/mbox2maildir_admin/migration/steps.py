@@ -94,8 +94,8 @@ class Part(NamedTuple):
     choice: Choice
     read: Callable[[], contextlib.AbstractContextManager[Contents]]
     size: int
-    # whether all of it was known before it was read, since the mailbox is as it was prepared
-    is_known: bool = False
+    # whether the mailbox is as it was prepared, so that all of it is known and nothing is read
+    is_as_prepared: bool = False
     kept: Optional[Kept] = None
     cores: Optional[collections.Counter[bytes]] = None
     remarks: tuple[Remark, ...] = ()
