@@ -64,10 +64,10 @@ def operand(name: bytes) -> str:
     return text_of(b"./" + name if name.startswith(b"-") else name)
 
 
-def first_of(names: Sequence[bytes], between: str = ", ") -> str:
+def first_of(names: Sequence[bytes], between: str = ", ", most: int = NAMED) -> str:
     """Returns the first of some names, as they stand in a sentence, and how many more there are."""
-    more = " and %d more" % (len(names) - NAMED) if names[NAMED:] else ""
-    return between.join(map(named, names[:NAMED])) + more
+    more = " and %d more" % (len(names) - most) if names[most:] else ""
+    return between.join(map(named, names[:most])) + more
 
 
 def option(name: str, value: bytes) -> list[str]:

@@ -269,7 +269,7 @@ def styles_of(known: Known, disk: bytes) -> Iterator[Style]:
     if known.path not in ledger.paths():
         same = (one for one in ledger.paths() if ledger.is_of(one, mailbox.key(), mailbox.state.st_ino))
         paths = list(filter(is_gone, same))
-    for words in dict.fromkeys([*map(ledger.words_of, paths[:1]), now]):
+    for words in dict.fromkeys([*(ledger.last_read(one).words for one in paths[:1]), now]):
         dialect = Dialect.of_words(words)
         if dialect:
             for gap in dialect.gaps_after(mailbox.at(mailbox.size - ENDS, ENDS)):

@@ -14,7 +14,7 @@ import copy
 import itertools
 import os
 from collections.abc import Container, Iterable, Iterator
-from typing import Optional
+from typing import Optional, Union
 
 from ..maildir.files import mail_in
 from ..maildir.making import LEDGER, SyncNames, sync_folder
@@ -254,26 +254,16 @@ class Ledger:
         several = (number for number, batch in self.open.items() if batch.path == path and batch.is_whole)
         return max((number for number in several if number > self.last_end(path)), default=None)
 
-    def words_of(self, path: str) -> str:
-        """The words by which a mailbox was read last; none if the ledger does not have it."""
+    def last_read(self, path: str) -> Union[Head, Source]:
+        """How a mailbox was when it was read last: the words of its reading, its size and SHA-256, and its inode."""
         number = self.pending(path)
-        if number is not None:
-            return self.open[number].head.words
-        return self.sources[path].words if path in self.sources else ""
-
-    def key_of(self, path: str) -> tuple[int, str]:
-        """The size and the SHA-256 that a mailbox had when it was read last."""
-        number = self.pending(path)
-        if number is not None:
-            return self.open[number].head.key
-        return self.sources[path].key
+        return self.sources[path] if number is None else self.open[number].head
 
     def is_of(self, path: str, key: tuple[int, str], inode: int) -> bool:
         """Whether a mailbox with this size and SHA-256, or in the file with this inode, is the one that was at a
         path."""
-        number = self.pending(path)
-        before = self.sources[path].inode if number is None else self.open[number].head.inode
-        return self.key_of(path) == key or bool(inode) and before == inode
+        before = self.last_read(path)
+        return before.key == key or bool(inode) and before.inode == inode
 
     def paths(self) -> list[str]:
         """The paths of the mailboxes that brought something, or may have."""

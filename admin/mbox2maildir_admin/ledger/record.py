@@ -268,8 +268,9 @@ class Record(History):
         if path not in ledger.paths():
             return Entry(step, Key(name, Size(0), "0" * 64), 0, when, path, "-", *at)
         step = Step.DONE if ledger.pending(path) is None and path not in ledger.leaving else Step.BEGUN
-        (size, digest), words = ledger.key_of(path), ledger.words_of(path)
-        return Entry(step, Key(name, Size(size), digest), count_in(ledger, path), when, path, words, *at)
+        read = ledger.last_read(path)
+        key = Key(name, Size(read.key[0]), read.key[1])
+        return Entry(step, key, count_in(ledger, path), when, path, read.words, *at)
 
     def unknown_to(self, name: bytes, ledger: Ledger) -> list[Entry]:
         """The last line about each mailbox of a folder of which the ledger there lacks something: the folder had

@@ -30,7 +30,7 @@ from ..nexts import NOTHING, Next, Remark
 from ..readings.plans import Plan, left_out
 from ..readings.reading import PLAIN, Reading
 from ..readings.texts import Choice, Text
-from ..terminal import named
+from ..terminal import first_of, named
 from ..units import Offset, Place, counted
 from .known import Known, Opened
 from .outcomes import Pass
@@ -417,11 +417,9 @@ def remarks_on_none(ledger: Ledger, path: str) -> Iterator[Remark]:
 def remarks_on_shared(match: Match) -> Iterator[Remark]:
     """What is to be said of messages that other mailboxes brought."""
     if match.seen.shared:
-        paths = [path for path, _ in match.seen.shared.most_common()]
-        several = " and %d more" % (len(paths) - 1) if len(paths) > 1 else ""
-        says = "%s there already, from %s%s"
-        total = sum(match.seen.shared.values())
-        yield Remark("shared", says % (counted(total, "message"), named(unspelled(paths[0])), several), total)
+        paths, total = [unspelled(path) for path, _ in match.seen.shared.most_common()], sum(match.seen.shared.values())
+        says = "%s there already, from %s" % (counted(total, "message"), first_of(paths, most=1))
+        yield Remark("shared", says, total)
     for path, count in match.seen.gone.items():
         if count:
             yield Remark("gone-elsewhere", "%d that %s brought are gone" % (count, named(unspelled(path))))
@@ -429,16 +427,14 @@ def remarks_on_shared(match: Match) -> Iterator[Remark]:
 
 def remarks_on_joined(others: Sequence[bytes]) -> list[Remark]:
     """What is to be said of a mailbox whose folder has the mail of others."""
-    several = " and %d more" % (len(others) - 1) if len(others) > 1 else ""
-    return [Remark("joined", "its folder has mail of %s%s too" % (named(others[0]), several))] if others else []
+    return [Remark("joined", "its folder has mail of %s too" % first_of(others, most=1))] if others else []
 
 
 def remarks_on_inbox(ledger: Ledger) -> Iterator[Remark]:
     """What is to be said of a mailbox that comes to INBOX beside others, with which it shares no message."""
-    others = [path for path, source in ledger.sources.items() if source.count()]
+    others = [unspelled(path) for path, source in ledger.sources.items() if source.count()]
     if others:
-        several = " and %d more" % (len(others) - 1) if len(others) > 1 else ""
-        yield Remark("joins", "INBOX has the mail of %s%s too" % (named(unspelled(others[0])), several))
+        yield Remark("joins", "INBOX has the mail of %s too" % first_of(others, most=1))
 
 
 def remarks_on_dropped(words: Optional[str]) -> list[Remark]:

@@ -77,7 +77,7 @@ class TakeoutUndo(Undo):
 
     def cores_now(self, opened: Opened, ledger: Ledger, path: str) -> "collections.Counter[bytes]":
         """How often the Takeout has each core now, which is counted once."""
-        reading = Reading.of_words(ledger.words_of(path) if path else "").of_text
+        reading = Reading.of_words(ledger.last_read(path).words).of_text
         if reading not in self.known:
             self.known[reading] = super().cores_now(opened, ledger, path)
         return self.known[reading].copy()

@@ -42,7 +42,7 @@ from ..migration.steps import Extra
 from ..nexts import Remark, Todo, task
 from ..readings.reading import Reading, with_deleted
 from ..readings.texts import content_of, disk_of, text_then
-from ..terminal import named
+from ..terminal import first_of, named
 from ..units import Say, counted, silent
 
 NOT_RECORDED = "no ledger has it, so nothing shows which files are its own"
@@ -162,7 +162,7 @@ class Undo:
 
     def cores_now(self, opened: Opened, ledger: Ledger, path: str) -> Cores:
         """How often the mailbox has each core now, as it was read when it was migrated."""
-        words, disk = ledger.words_of(path), disk_of(self.root, self.options.dry)
+        words, disk = ledger.last_read(path).words, disk_of(self.root, self.options.dry)
         reading = Reading.of_words(words)
         extra = Dovecot(self.record) if reading.bare else Extra()
         # it still has what was marked as deleted since
@@ -292,7 +292,8 @@ def hand_over(ledger: Ledger, plan: Sequence[Planned]) -> None:
             handed[other.path] += other.message._replace(word=LOST), one.line.message
     for path, several in handed.items():
         if ledger.pending(path) is None:
-            head = Head(len(several), 0, 0, (), ledger.key_of(path), ledger.words_of(path), path)
+            read = ledger.last_read(path)
+            head = Head(len(several), 0, 0, (), read.key, read.words, path)
             ledger.note(END_LINE % ledger.begin(head, sorted(several, key=lambda one: one.word != LOST)))
 
 
@@ -396,10 +397,9 @@ def remarks_on(counts: Counts, keepers: collections.Counter[str], dry: bool) -> 
     removed, kept = ("would remove %s", "would keep %s ") if dry else ("removed %s", "kept %s ")
     yield Remark(Why.REMOVED.value, removed % counted(counts[Why.REMOVED], "message"))
     # a run that was killed may have changed the order in which mailboxes were begun
-    paths = [named(unspelled(path)) for path in sorted(keepers, key=lambda one: (-keepers[one], one))]
-    others = "".join(paths[:1]) + (" and %d more" % (len(paths) - 1) if len(paths) > 1 else "")
+    paths = [unspelled(path) for path in sorted(keepers, key=lambda one: (-keepers[one], one))]
     for why, says in (
-        (Why.SHARED, "that %s %s too" % (others, "have" if len(paths) > 1 else "has")),
+        (Why.SHARED, "that %s %s too" % (first_of(paths, most=1), "have" if len(paths) > 1 else "has")),
         (Why.FORMER, "that another mailbox brought too"),
         (Why.FOREIGN, "that %s nobody's" % ("was" if counts[Why.FOREIGN] == 1 else "were")),
         (Why.LOST, "that it no longer has"),
