@@ -267,8 +267,9 @@ class Match:
                 self.note(one, found)
             elif is_trashed:
                 refused += [(form, one.file) for form in forms]
-        marked = {file for form, file in refused if waiting.get(form)} - served
-        self.count_nowhere([*itertools.chain(*waiting.values())], marked)
+        self.count_nowhere(
+            [*itertools.chain(*waiting.values())], {file for form, file in refused if waiting.get(form)} - served
+        )
 
     def count_nowhere(self, rest: list[int], marked: set[File]) -> None:
         """Counts what is said of messages at these places, which have the same core, and are nowhere: for how many a

@@ -325,11 +325,10 @@ def take_prepared(match: Match, prepared: Prepared) -> None:
         prepared.wanted[at] = 1
         if prepared.files[at]:
             match.files.take(prepared.table.base(at))
-            match.states[place] = Stand.MINE
+            match.states[place] = Stand.FRESH if place in placing.names else Stand.MINE
             if place in placing.names:
                 name = placing.name(place)
                 match.found[place] = Brought(PLACED, name, inventory.core(place), inventory.bare(place))
-                match.states[place] = Stand.FRESH
 
 
 def remarks_on_prepared(prepared: Prepared, how: Options) -> list[Remark]:
