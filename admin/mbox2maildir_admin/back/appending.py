@@ -29,7 +29,7 @@ from ..readings.unnamed import unnamed
 from ..terminal import first_of, named
 from ..units import Say, Size, counted, silent
 from .beside import Beside, Draft
-from .dialect import Client, Entry, Letter, Style, are_at, forms_in, reading_now, styles_of
+from .dialect import Client, Appended, Letter, Style, are_at, forms_of_letter, reading_now, styles_of
 from .mails import Mail, Target
 from .numbers import Numbering, numbering_of
 from .places import Keeper, Places
@@ -131,7 +131,7 @@ class Plan(NamedTuple):
     """What goes back into a mailbox: the messages that are appended, which are in a draft of this size; those that it
     has already, and those that it cannot hold; and whether it has more than the Maildir."""
 
-    entries: Sequence[Entry]
+    entries: Sequence[Appended]
     size: int
     there: Sequence[Mail]
     refused: Sequence[Mail]
@@ -196,27 +196,27 @@ class Appending:
             bad = self.unheld(draft, entries)
         return Plan(entries, draft.size if entries else 0, there, refused, bool(+extra))
 
-    def drafted(self, draft: Draft, mails: Sequence[Mail]) -> list[Entry]:
+    def drafted(self, draft: Draft, mails: Sequence[Mail]) -> list[Appended]:
         """Writes messages as the mailbox is to have them. What was removed meanwhile is left out."""
         draft.clear()
         draft.add(self.style.gap)
-        entries: list[Entry] = []
+        entries: list[Appended] = []
         for number, (mail, fields) in enumerate(self.numbering.fields(mails), 1):
             self.mailbox.say("reading file %d of %d" % (number, len(mails)))
             letter = Letter.of(self.opened.folder, mail)
             if not letter:
                 continue
             letter = self.client.bare(letter)
-            core, bares = forms_in(letter.text)
+            core, bares = forms_of_letter(letter.text)
             if core != mail.core:
                 raise Left(FILE_CHANGED % named(mail.path), Reason.CHANGED)
             notes = *fields, *self.client.fields(letter, core, number)
             text = self.style.dialect.spelled(letter._replace(notes=notes))
-            entries.append(Entry(mail, bares, draft.size, len(text), letter.taken))
+            entries.append(Appended(mail, bares, draft.size, len(text), letter.taken))
             draft.add(text)
         return entries
 
-    def unheld(self, draft: Draft, entries: Sequence[Entry]) -> list[Mail]:
+    def unheld(self, draft: Draft, entries: Sequence[Appended]) -> list[Mail]:
         """The messages of a draft that the mailbox cannot hold. Raises NotAsItIs if it holds each of them, but not
         all."""
         is_empty = not self.mailbox.size
@@ -269,7 +269,7 @@ class Appending:
         head = Head(len(lines), 0, 0, (), key, self.style.words, self.known.path, self.mailbox.state.st_ino)
         return self.known.ledger.begin(head, lines)
 
-    def want_right(self, beside: Beside, entries: Sequence[Entry], reads: str) -> None:
+    def want_right(self, beside: Beside, entries: Sequence[Appended], reads: str) -> None:
         """Raises Left if a message of the mailbox with what was appended is not as it is to be: then the mailbox is as
         it was before."""
         cores = self.inventory.cores

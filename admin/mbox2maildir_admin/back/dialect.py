@@ -195,7 +195,7 @@ def bits_of(flags: str, table: dict[int, str]) -> int:
     return sum(bit for bit, flag in table.items() if flag in flags)
 
 
-class Entry(NamedTuple):
+class Appended(NamedTuple):
     """A message that is going to be appended: its file, the bare forms in which a mailbox may give it back, where its
     text is in the draft, and the names of the fields that were taken out of it."""
 
@@ -237,7 +237,7 @@ class Style(NamedTuple):
         start = text_start(mailbox) if len(inventory) > 1 and not self.is_asked else None
         return start is not None and not is_dated(mailbox.from_line_at(start))
 
-    def gives(self, text: Mailbox, entries: Sequence[Entry], first: int = 0) -> bool:
+    def gives(self, text: Mailbox, entries: Sequence[Appended], first: int = 0) -> bool:
         """Whether a text has exactly these messages from a place on, and nobody would be asked how it is read."""
         try:
             is_clear = self.is_asked or not reading_now(text).startswith(ASKED)
@@ -245,7 +245,7 @@ class Style(NamedTuple):
         except Fault:
             return False
 
-    def unheld(self, draft: Mailbox, entries: Sequence[Entry], is_empty: bool) -> Iterator[Mail]:
+    def unheld(self, draft: Mailbox, entries: Sequence[Appended], is_empty: bool) -> Iterator[Mail]:
         """The mail of those entries of a draft that a mailbox does not give back, each behind another one, as it is
         going to stand. If the mailbox is empty, that is the first one of these."""
         before = b"" if is_empty else self.dialect.spelled(Letter(ANOTHER))
@@ -286,14 +286,14 @@ def reading_now(mailbox: Mailbox) -> str:
         return ASKED + left.reason.word
 
 
-def forms_in(text: bytes) -> tuple[bytes, Sequence[bytes]]:
+def forms_of_letter(text: bytes) -> tuple[bytes, Sequence[bytes]]:
     """The core of a message whose last line has ended, as it has in a mailbox; and the bare forms in which one may give
     it back."""
     pairs = [forms_of(io.BytesIO(one).read) for one in ([text] if text.endswith(b"\n") else [text, text + b"\n"])]
     return pairs[-1][0], [bare for _, bare in pairs]
 
 
-def are_at(entries: Sequence[Entry], inventory: Inventory, first: int = 0) -> bool:
+def are_at(entries: Sequence[Appended], inventory: Inventory, first: int = 0) -> bool:
     """Whether a text has these messages, and no others, from a place on."""
     return len(inventory) == first + len(entries) and all(
         inventory.core(place) == one.mail.core and inventory.bare(place) in one.bares

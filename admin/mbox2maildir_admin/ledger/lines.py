@@ -244,7 +244,7 @@ def note_ends(folder: bytes, numbers: Iterable[int]) -> None:
     append(folder, [END_LINE % number for number in numbers])
 
 
-def note_failed(folder: bytes, number: int) -> None:
+def note_batch_failed(folder: bytes, number: int) -> None:
     """Notes that a sync failed of a batch of the ledger of a folder, of which nothing is to be believed."""
     append(folder, [b"!\t%d\n" % number])
 

@@ -178,7 +178,7 @@ class AsRead(NamedTuple):
         return "\t".join(words).encode("utf-8", "surrogateescape") + b"\n"
 
 
-class Text(NamedTuple):
+class ReadText(NamedTuple):
     """A text that was read: what is known of it, its messages, and their offsets in it with all its header fields."""
 
     as_read: AsRead
@@ -444,7 +444,7 @@ class Prepared:
             if is_wanted and not self.files[place]:
                 yield b"p\t%s\n" % self.table.name(place)
 
-    def write_whole(self, origin: Origin, text: Optional[Text], took: int) -> None:
+    def write_whole(self, origin: Origin, text: Optional[ReadText], took: int) -> None:
         """Writes the list anew beside the other one: what is wanted, with the facts of its files, what is known of the
         text, and how many milliseconds it took to read. It is on the disk when this returns, and counts once that of
         the files was synced."""

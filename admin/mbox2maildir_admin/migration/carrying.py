@@ -17,8 +17,7 @@ from typing import Optional
 from ..faults import Fault, Left, Reason, fault_of
 from ..ledger.gone import BACK, times_of
 from ..ledger.history import Note
-from ..ledger.lines import PLACED, Head, note_all_placed, note_ends
-from ..ledger.lines import note_failed as note_batch_failed
+from ..ledger.lines import PLACED, Head, note_all_placed, note_batch_failed, note_ends
 from ..ledger.match import Files, Match, Stand
 from ..ledger.prepared import drop_list, finish_list, note_failed
 from ..ledger.record import unspelled
@@ -239,17 +238,17 @@ def want_none_cut(one: Steps) -> None:
 def beginning_in(path: bytes) -> tuple[int, str]:
     """The size and the SHA-256 of the core of the beginning of a message in a file. No symbolic link is followed."""
     size, end = 0, b""
-    for piece in pieces_in(path):
+    for piece in core_pieces_in(path):
         size, end = size + len(piece), (end + piece)[-END:]
     found = UNFINISHED.search(end)
     size -= len(found[0]) if found else 0
     digest = Digest([size])
-    for piece in pieces_in(path):
+    for piece in core_pieces_in(path):
         digest.update(piece)
     return size, digest.beginnings.get(size, "")
 
 
-def pieces_in(path: bytes) -> Iterator[bytes]:
+def core_pieces_in(path: bytes) -> Iterator[bytes]:
     """The core of the beginning of a message in a file."""
     with open_file(path, os.O_NOFOLLOW) as file:
         yield from beginning_of(file.read)

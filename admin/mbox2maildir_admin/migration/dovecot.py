@@ -195,7 +195,7 @@ def give_flags(one: Steps) -> None:
 def place_file(folder: bytes, name: bytes, text: bytes, note: NoteFile) -> None:
     """Writes a file under another name, and links it to its own name once it is on the disk. A file that is there
     stays."""
-    path, part = os.path.join(folder, name), part_of(folder, name)
+    path, part = os.path.join(folder, name), part_path(folder, name)
     remove_part(folder, name)
     if is_there(path):
         if content_of(path, len(text)) == text:
@@ -211,7 +211,7 @@ def place_file(folder: bytes, name: bytes, text: bytes, note: NoteFile) -> None:
     sync_folder(folder)
 
 
-def part_of(folder: bytes, name: bytes) -> bytes:
+def part_path(folder: bytes, name: bytes) -> bytes:
     """The path at which a file is written before it gets its name."""
     return os.path.join(folder, b"tmp", b"mbox2maildir-admin-" + name)
 
@@ -219,7 +219,7 @@ def part_of(folder: bytes, name: bytes) -> bytes:
 def remove_part(folder: bytes, name: bytes) -> None:
     """Removes what a killed run may have left there, even if the file has got its name since."""
     with contextlib.suppress(FileNotFoundError):
-        os.unlink(part_of(folder, name))
+        os.unlink(part_path(folder, name))
 
 
 @contextlib.contextmanager

@@ -91,7 +91,7 @@ def as_named(one: Planned, record: Record, options: Options) -> Planned:
     return one.left_to_human(ELSEWHERE % folder_shown(found[0]), words)
 
 
-def settled(
+def with_own_folders(
     mailboxes: Iterable[Planned],
     taken: Container[bytes] = (),
     has_no_mail: Callable[[Planned], bool] = lambda one: False,

@@ -46,7 +46,7 @@ from ..ledger.prepared import (
     AsRead,
     Origin,
     Prepared,
-    Text,
+    ReadText,
     aside_of,
     has_list,
     home_of,
@@ -65,10 +65,9 @@ from ..mbox.dates import seconds_of
 from ..mbox.inventory import NO_DATE
 from ..nexts import Answer, Does, Remark
 from ..progress import Spent
-from ..readings import texts
 from ..readings.plans import Plan
 from ..readings.reading import UNDECIDED, Reading
-from ..readings.texts import Choice
+from ..readings.texts import Choice, Text
 from ..terminal import named, spelled
 from ..units import Offset, Say, counted, silent
 from .carrying import KEPT, PREPARED_SYNC_FAILED, SYNC_FAILED
@@ -86,7 +85,7 @@ LIST_LOST = "the list of what was prepared in its folder is gone, so nothing sho
 STAYS = "%d prepared before stay, whatever the mailbox has now"
 
 
-class State(enum.Enum):
+class Stage(enum.Enum):
     """What the list of a folder, its ledger and the record say of it."""
 
     # nothing
@@ -112,20 +111,20 @@ class Preparation:
         self.prepared = Prepared.read(self.folder)
 
     @property
-    def state(self) -> State:
+    def stage(self) -> Stage:
         """What is known of the folder."""
         ledger, prepared, unknown = self.ledger, self.prepared, self.record.unknown_to(self.name, self.ledger)
         if prepared.is_there:
             is_over = ledger.sources or any(one.what is Step.DONE for one in unknown)
-            return State.OVER if is_over else State.BEGUN if prepared.batch else State.PREPARED
+            return Stage.OVER if is_over else Stage.BEGUN if prepared.batch else Stage.PREPARED
         if self.record.prepared(self.name) and not ledger.sources:
-            return State.LOST
-        return State.MAIL if ledger.paths() or unknown else State.FREE
+            return Stage.LOST
+        return Stage.MAIL if ledger.paths() or unknown else Stage.FREE
 
     @property
     def is_open(self) -> bool:
         """Whether the list counts."""
-        return self.state in (State.PREPARED, State.BEGUN)
+        return self.stage in (Stage.PREPARED, Stage.BEGUN)
 
     def reader(self) -> Optional[bytes]:
         """The path of a file that shows that somebody reads in the folder; None if nothing does."""
@@ -218,18 +217,18 @@ def mended(
     the ledger were verified by this run, and their disk is not synced yet."""
     one = Preparation(record, opened.name, ledger)
     one.take_begun()
-    state = one.state
-    if state is State.OVER:
+    stage = one.stage
+    if stage is Stage.OVER:
         if one.prepared.batch not in verified and ledger.sources and not how.dry:
             remove_list(opened.folder)
         one.prepared = Prepared(opened.folder)
-    elif state is State.BEGUN and not (how.again or ledger.damage or has_failed(ledger) or one.reader()):
+    elif stage is Stage.BEGUN and not (how.again or ledger.damage or has_failed(ledger) or one.reader()):
         one.take_back()
-    if how.prepare or state in (State.PREPARED, State.BEGUN, State.LOST):
+    if how.prepare or stage in (Stage.PREPARED, Stage.BEGUN, Stage.LOST):
         return one
     # once something was prepared in the Maildir, a run that is killed may be followed by a first pass, or by other
     # mailboxes
-    return one if state is State.FREE and record.has_prepared and not one.reader() else None
+    return one if stage is Stage.FREE and record.has_prepared and not one.reader() else None
 
 
 def want_free(one: Preparation, known: Known) -> None:
@@ -240,18 +239,18 @@ def want_free(one: Preparation, known: Known) -> None:
         # a symbolic link may lead from one to the other
         if not {*names_of(other)} & {*known.names} and is_there(other):
             raise Left(ANOTHER % named(other), Reason.PREPARED)
-    elif one.state in (State.MAIL, State.OVER):
+    elif one.stage in (Stage.MAIL, Stage.OVER):
         raise Left(NOT_FREE, Reason.PREPARED)
 
 
 def want_usable(one: Preparation, how: Options, opened: Opened) -> None:
     """Raises Left if what is prepared cannot be finished, with the command that keeps what is there, and stores what is
     nowhere. A first pass prints none: what is there may be mail by then."""
-    state, command = one.state, functools.partial(how.command, one.record.maildir, opened)
-    if state is State.FREE and not how.prepare:
+    stage, command = one.stage, functools.partial(how.command, one.record.maildir, opened)
+    if stage is Stage.FREE and not how.prepare:
         return
     then = () if how.prepare else (Answer(command(again=True), Does.STORES),)
-    if state is State.LOST and is_there(one.folder):
+    if stage is Stage.LOST and is_there(one.folder):
         raise Left(LIST_LOST, Reason.LEDGER, then)
     if one.prepared.has_failed or has_failed(one.ledger):
         raise Left(PREPARED_SYNC_FAILED if one.prepared.has_failed else SYNC_FAILED, Reason.SYNC_FAILED)
@@ -295,10 +294,10 @@ def with_list(steps: Steps, how: Options, choice: Choice, took: int) -> Steps:
     if not how.prepare:
         return steps
     # what was unpacked or quoted is read again
-    if choice.is_packed or plan.is_copied or not is_as_it_is(plan.reading):
+    if choice.is_packed or plan.is_copied or not is_by_word(plan.reading):
         return steps._replace(took=took)
     as_read = AsRead(plan.start, plan.messages, plan.kind, plan.remarks)
-    text = Text(as_read, contents.inventory, contents.full.offsets)
+    text = ReadText(as_read, contents.inventory, contents.full.offsets)
     return steps._replace(text=text, took=in_milliseconds(mailbox.took))
 
 
@@ -395,19 +394,19 @@ def same_as_prepared(prepared: Prepared, how: Options, opened: Opened) -> Option
         return None
     prepared.look(mailbox.say)
     inventory = prepared.inventory(mailbox.size)
-    if not inventory or not is_as_it_is(reading):
+    if not inventory or not is_by_word(reading):
         return None
     plan = Plan(as_read.kind, as_read.messages, Offset(as_read.start), reading, remarks=as_read.remarks)
     # where a From_ line names no time zone, its date is that of today's zone
     dates = (seconds_of(mailbox.from_line_at(offset)) for offset in inventory.offsets[:-1])
     inventory.dates = array.array("q", (NO_DATE if date is None else date for date in dates))
-    full = texts.Text(mailbox, plan.start, offsets=inventory.offsets)
-    copy = texts.Text(mailbox, plan.start, full=full) if reading.bare else None
+    full = Text(mailbox, plan.start, offsets=inventory.offsets)
+    copy = Text(mailbox, plan.start, full=full) if reading.bare else None
     contents = Contents(mailbox, Offset(inventory.offsets[0]), inventory, reading, copy)
     return Part(Choice(mailbox, plan), lambda: contextlib.nullcontext(contents), mailbox.size, is_as_prepared=True)
 
 
-def is_as_it_is(reading: Reading) -> bool:
+def is_by_word(reading: Reading) -> bool:
     """Whether nothing but a word says how a text is read, so that it may be converted as it is, or as bare text."""
     return bool(reading.word) and reading == Reading(reading.word, bare=reading.bare)
 

@@ -18,8 +18,7 @@ from ..ledger.history import Entry
 from ..ledger.ledger import Ledger
 from ..ledger.lines import LOST, PLACED, Brought
 from ..ledger.match import Files, Match, Stand
-from ..ledger.prepared import Origin, Prepared
-from ..ledger.prepared import Text as PreparedText
+from ..ledger.prepared import Origin, Prepared, ReadText
 from ..ledger.record import unspelled
 from ..maildir.folders import INBOX
 from ..mbox.bases import BASE, FIRST, Table, base_in
@@ -134,7 +133,7 @@ class Steps(NamedTuple):
     # after a first pass, what the list notes of the text, and how many milliseconds it took to read
     prepared: Optional[Prepared] = None
     origin: Optional[Origin] = None
-    text: Optional[PreparedText] = None
+    text: Optional[ReadText] = None
     took: int = 0
     # how many messages may come back that were deleted, and the names of files that may hold the beginning of one
     back: int = 0

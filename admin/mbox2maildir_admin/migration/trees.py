@@ -27,7 +27,7 @@ from ..nexts import Remark, Todo, run_next, task
 from ..readings.copies import UNFINISHED
 from ..terminal import is_text, named, operand, text_of
 from .outcomes import Fate, Row, row_left
-from .places import Pairs, Planned, recorded, settled
+from .places import Pairs, Planned, recorded, with_own_folders
 from .options import Options
 
 # what is said of a file without mail
@@ -251,7 +251,7 @@ class Tree:
                 links.append(recorded(Planned(path, folders[-1], target=target), record))
         stay = [one for one in found if not one.why and record.folders_of(one.path)]
         taken.update(one.folder for one in [*stay, *links] if not one.why)
-        moving = settled([one for one in found if one not in stay], taken, has_no_mail, self.words_by_hand)
+        moving = with_own_folders([one for one in found if one not in stay], taken, has_no_mail, self.words_by_hand)
         plan = sorted([*stay, *moving, *links], key=lambda one: one.path)
         taken.update(one.folder for one in plan if not one.why)
         return plan

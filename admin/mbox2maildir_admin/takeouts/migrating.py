@@ -62,7 +62,7 @@ def migrate_takeouts(root: bytes, names: Sequence[bytes], options: Options, obse
 
 
 @dataclass(frozen=True)
-class Source:
+class Takeout:
     """A Takeout that was read: what stands for it, its text and messages, and which of these go into which folder."""
 
     choice: Choice
@@ -133,16 +133,16 @@ class Takeouts(Migration):
         noted = Noted.of(line)
         noted = noted._replace(choosing=self.chosen(opened, noted))
         try:
-            with self.chosen_text(opened, noted) as choice, self.read(choice, noted) as source:
-                self.want_room_for(source)
-                folders = tuple(source.sorted.places)
+            with self.chosen_text(opened, noted) as choice, self.read(choice, noted) as takeout:
+                self.want_room_for(takeout)
+                folders = tuple(takeout.sorted.places)
                 self.record.make()
-                note(self.record, opened.mailbox, noted._replace(folders=folders), len(source.inventory))
+                note(self.record, opened.mailbox, noted._replace(folders=folders), len(takeout.inventory))
                 self.observer.total += len(folders) - 1
                 for folder in folders[:-1]:
-                    self.add(self.bring_into(folder, source, opened))
+                    self.add(self.bring_into(folder, takeout, opened))
                     self.observer.begin()
-                return self.bring_into(folders[-1], source, opened)
+                return self.bring_into(folders[-1], takeout, opened)
         except LabelsLeft as left:
             command = functools.partial(self.how.command, self.root, opened)
             left.next = tuple(Answer(command(labels=choosing), does) for choosing, does in left.says)
@@ -201,7 +201,7 @@ class Takeouts(Migration):
             yield choice
 
     @contextlib.contextmanager
-    def read(self, choice: Choice, noted: Noted) -> Iterator[Source]:
+    def read(self, choice: Choice, noted: Noted) -> Iterator[Takeout]:
         """Reads the text, and sorts its messages by their labels, and by what is noted."""
         if choice.plan.is_copied:
             self.want_room(Need.of(self.disk, [], choice.mailbox.size))
@@ -212,44 +212,44 @@ class Takeouts(Migration):
             headers = headers_at(text.mailbox, inventory.offsets[:-1])
             sorting = Sorting(headers, noted.choosing, noted.folders)
             self.labels.update(sorting.counts)
-            yield Source(choice, text, inventory, sorting.sorted())
+            yield Takeout(choice, text, inventory, sorting.sorted())
 
-    def want_room_for(self, source: Source) -> None:
+    def want_room_for(self, takeout: Takeout) -> None:
         """Raises Left if the disk has too little room for what no folder has, with the largest of the texts of
         folders."""
         sizes: list[int] = []
-        for folder, places in source.sorted.places.items():
+        for folder, places in takeout.sorted.places.items():
             brought = Ledger(folder_path(self.root, folder)).brought()
             for place in places:
-                core = source.inventory.core(place)
+                core = takeout.inventory.core(place)
                 brought[core] -= 1
                 if brought[core] < 0:
-                    sizes.append(source.inventory.sizes[place])
-        most = max(map(source.size, source.sorted.places))
+                    sizes.append(takeout.inventory.sizes[place])
+        most = max(map(takeout.size, takeout.sorted.places))
         self.want_room(Need.of(self.root, sizes, 0 if self.how.dry else most))
 
-    def bring_into(self, folder: bytes, source: Source, opened: Opened) -> Outcome:
+    def bring_into(self, folder: bytes, takeout: Takeout, opened: Opened) -> Outcome:
         """Brings the messages of one folder."""
         try:
-            return self.bring(Opened.into(self.root, folder, opened.mailbox), self.part(folder, source))
+            return self.bring(Opened.into(self.root, folder, opened.mailbox), self.part(folder, takeout))
         except (Fault, OSError) as fault:
             return Outcome(row_left(opened.mailbox.path, folder, fault))
 
-    def part(self, folder: bytes, source: Source) -> Part:
+    def part(self, folder: bytes, takeout: Takeout) -> Part:
         """The messages of one folder."""
-        plan, places, labels = source.choice.plan, source.sorted.places[folder], source.sorted.labels.get(folder)
+        plan, places, labels = takeout.choice.plan, takeout.sorted.places[folder], takeout.sorted.labels.get(folder)
         plan = plan._replace(messages=len(places), reading=plan.reading._replace(part=word_of(places)))
-        choice, kept = source.choice._replace(plan=plan, known=None), source.sorted.kept.at(places)
+        choice, kept = takeout.choice._replace(plan=plan, known=None), takeout.sorted.kept.at(places)
         says = [Remark("same-folder", "its labels are %s" % " and ".join(map(named, labels)))] if labels else []
-        read = functools.partial(self.read_part, folder, source, choice)
-        return Part(choice, read, source.size(folder), False, kept, source.cores, tuple(says))
+        read = functools.partial(self.read_part, folder, takeout, choice)
+        return Part(choice, read, takeout.size(folder), False, kept, takeout.cores, tuple(says))
 
     @contextlib.contextmanager
-    def read_part(self, folder: bytes, source: Source, choice: Choice) -> Iterator[Contents]:
+    def read_part(self, folder: bytes, takeout: Takeout, choice: Choice) -> Iterator[Contents]:
         """Reads the text of the messages of one folder. The program must list them."""
-        self.want_room(Need.of(self.disk, [], source.size(folder)))
-        places = source.sorted.places[folder]
-        with part_of(source.text, source.inventory, places, self.disk) as text:
+        self.want_room(Need.of(self.disk, [], takeout.size(folder)))
+        places = takeout.sorted.places[folder]
+        with part_of(takeout.text, takeout.inventory, places, self.disk) as text:
             inventory = read_messages(self.program, text, choice)
-            want_same(inventory, source.inventory, places)
+            want_same(inventory, takeout.inventory, places)
             yield Contents(text.mailbox, text.start, inventory, choice.plan.reading, text)
