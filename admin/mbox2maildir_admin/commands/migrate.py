@@ -122,7 +122,7 @@ def printer_of(given: Given) -> Reporter:
         return reporter_of(given, shows)
     from .questions import Asker
 
-    return Asker(given.operands[1:], shows=shows)
+    return Asker(given.operands[1:], shows)
 
 
 def typed_in(given: Given) -> Typed:

@@ -3,15 +3,16 @@ once for those that have the same question. An answer is a command that would be
 had been typed."""
 import os
 import termios
+import time
 from collections.abc import Sequence
-from typing import Any, Optional
+from typing import Optional
 
 from ..faults import Fault, complain_of
 from ..mbox.lines import AROUND, cut, texts_of
 from ..mbox.mailbox import Mailbox
 from ..migration.block import LETTERS, MIGRATE, Group, answers_of, groups_of
 from ..migration.outcomes import Row
-from ..migration.rows import Reporter, Run
+from ..migration.rows import Reporter, Run, Shows
 from ..nexts import BELOW, Answer, Quote
 from ..progress import say_of
 from ..readings.texts import content_of, disk_of
@@ -29,9 +30,9 @@ MOST = 4096
 class Asker(Reporter):
     """Prints rows, but keeps those of mailboxes about which it can ask."""
 
-    def __init__(self, names: Sequence[bytes] = (), **others: Any) -> None:
+    def __init__(self, names: Sequence[bytes], shows: Shows) -> None:
         """Takes the names that a human has typed: a symbolic link is followed if it is one of them."""
-        super().__init__(**others)
+        super().__init__(shows)
         self.names = names
         self.asked: list[Row] = []
         self.is_asking = False
@@ -55,10 +56,10 @@ class Asker(Reporter):
         its row when this is known."""
         self.is_asking, groups, number = True, groups_of(self.asked), 1
         while groups and has_terminal():
-            group, begun = groups.pop(0), self.clock()
+            group, begun = groups.pop(0), time.monotonic()
             letter = letter_for(group, "question %d of %d" % (number, number + len(groups)), self.names)
             # how long somebody thinks is not the time of the work
-            self.start += self.clock() - begun
+            self.start += time.monotonic() - begun
             if letter == SINGLY:
                 groups[:0] = [Group([row]) for row in group.rows]
                 continue

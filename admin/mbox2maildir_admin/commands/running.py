@@ -17,9 +17,9 @@ Telling = Callable[[Reporter, Tally], None]
 
 def reporter_of(given: Given, shows: Shows, steps: Mapping[str, int] = STEPS, task: str = "migrating") -> Reporter:
     """What prints the rows of a command: lines, or objects for programs."""
-    reporter = Reporter(steps=steps, task=task, shows=shows._replace(is_silent=given.json))
+    reporter = Reporter(shows._replace(is_silent=given.json), steps, task)
     if given.json:
-        from .objects import Objects
+        from ..migration.objects import Objects
 
         reporter.objects.append(Objects())
     return reporter
@@ -30,7 +30,7 @@ def run_reported(task: Telling, reporter: Reporter, report: Optional[str], after
     do if the output takes no more."""
     tally, written = Tally(), contextlib.ExitStack()
     if report is not None:
-        from .objects import Report
+        from ..migration.objects import Report
 
         reporter.objects.insert(0, written.enter_context(contextlib.closing(Report(os.fsencode(report)))))
     try:

@@ -1,17 +1,17 @@
-"""What became of a mailbox, and who is told of it."""
+"""What became of a mailbox, how that is said, and who is told of it."""
 import enum
 import functools
 import os
 from collections.abc import Iterator, Sequence
-from typing import NamedTuple, Optional, Union
+from typing import Any, NamedTuple, Optional, Union
 
 from ..faults import Fault, Left, Reason, fault_of
 from ..looks import type_at
-from ..maildir.folders import folder_shown
-from ..nexts import BELOW, NOTHING, Next, Phrase, Quote, Remark, lines_below
+from ..maildir.folders import folder_name, folder_shown
+from ..nexts import BELOW, NOTHING, ROOT, Next, Phrase, Quote, Remark, lines_below, objects_of
 from ..progress import Beat, Spent
 from ..readings.plans import Plan
-from ..terminal import named
+from ..terminal import is_text, named, shown, text_of
 from ..units import Say
 
 # what is said of a file that holds no mail by a pattern of the command line, and by that of an earlier run
@@ -61,6 +61,12 @@ class Detail(NamedTuple):
         """What is said."""
         where = "message %s (line %s): " % (self.message, self.line) if self.message else "line %s: " % self.line
         return (where if self.line else "") + self.says + (" " + named(self.path) if self.path else "")
+
+    def as_object(self) -> dict[str, Any]:
+        """The same for programs."""
+        where = path_of(self.path) if self.path else {"path": None}
+        named_by = {"sort": self.word or None, "message": self.message, "line": self.line, **where}
+        return {"says": self.sentence(), **named_by, "text": self.text or None}
 
 
 class Row(NamedTuple):
@@ -116,8 +122,19 @@ class Row(NamedTuple):
         """What is said of it in its line."""
         return "; ".join(filter(None, [self.why, *(remark.says for remark in self.remarks)]))
 
+    def line(self) -> str:
+        """Its line: the mailbox, its folder, unless it was done before its kind and how many messages it has, what
+        became of it, and what is said of it."""
+        count = "" if self.messages is None or self.fate == Fate.BEFORE else "messages %d" % self.messages
+        count += " to %d" % self.most if count and self.most is not None and self.most != self.messages else ""
+        what = ", ".join(filter(None, [self.kind, count]))
+        if self.fate == Fate.FOUND:
+            return ": ".join(filter(None, [self.way, what, self.says]))
+        fate, sign = ("%s (%s)" % (self.fate, self.word), ": ") if self.word else (self.fate, ", ")
+        return ": ".join(filter(None, [self.way, what, fate + (sign + self.says if self.says else "")]))
+
     def below(self) -> Iterator[str]:
-        """The lines that stand below it."""
+        """The lines that stand below its line."""
         asked = {one.line for one in self.quotes if not one.is_around}
         for one in self.details:
             if one.says:
@@ -125,6 +142,29 @@ class Row(NamedTuple):
             if one.text and one.line and one.line not in asked:
                 yield from lines_below([Quote(one.line, one.text)], ())
         yield from lines_below(self.quotes, self.next)
+
+    def as_object(self) -> dict[str, Any]:
+        """The same for programs."""
+        return {
+            "type": "row",
+            "user": self.user,
+            **path_of(self.path),
+            "folder": folder_name(self.folder) or None,
+            "directory": shown(self.folder) or None,
+            "kind": self.kind or None,
+            "messages": self.messages,
+            "bytes": self.size,
+            "verdict": self.fate,
+            "reason": self.word or None,
+            "says": self.says,
+            "remarks": [{"remark": one.word, "says": one.says} for one in self.remarks],
+            "lines": [{"line": one.line, "text": one.text, "around": one.is_around} for one in self.quotes],
+            # of the mailboxes of users, root runs what nobody else does
+            "next": objects_of(self.next, None if self.user is None else ROOT),
+            **({} if self.most is None else {"most": self.most}),
+            **({"counts": dict(self.counts)} if self.counts else {}),
+            **({"details": [one.as_object() for one in self.details]} if self.details else {}),
+        }
 
     @property
     def left_for(self) -> Optional[Phrase]:
@@ -203,6 +243,11 @@ class Observer:
 
     def ended(self, user: str) -> None:
         """Takes that nothing follows of a user."""
+
+
+def path_of(path: bytes) -> dict[str, Any]:
+    """A path for programs, with its bytes if it is no text."""
+    return {"path": text_of(path)} if is_text(path) else {"path": shown(path), "path_hex": path.hex()}
 
 
 def with_name(row: Row, before: str) -> Row:

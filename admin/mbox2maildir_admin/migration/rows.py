@@ -4,7 +4,7 @@ import math
 import time
 from collections.abc import Callable, Mapping, Sequence
 from types import MappingProxyType
-from typing import NamedTuple, Optional, Protocol
+from typing import TYPE_CHECKING, NamedTuple, Optional
 
 from .. import ADMIN
 from ..faults import Status
@@ -15,6 +15,9 @@ from ..terminal import LINE, complain, flush, named, put
 from ..units import WAITING, counted
 from .block import Typed, groups_of
 from .outcomes import FATES, Fate, Observer, Row
+
+if TYPE_CHECKING:
+    from .objects import Objects
 
 # the mailboxes whose messages and bytes are summed up
 SUMMED = (
@@ -47,16 +50,6 @@ class Shows(NamedTuple):
     is_silent: bool = False
 
 
-class Objects(Protocol):
-    """What writes the objects of rows and of sums."""
-
-    def row(self, row: Row) -> None:
-        """Writes the object of a row."""
-
-    def end(self, sums: "Reporter", line: str) -> bool:
-        """Writes that of the sums, with their line. Returns whether all was written."""
-
-
 class Kept:
     """What is kept of rows: those that have their place in the last block; how many mailboxes have each remark that is
     counted; of each user who is at work, how many mailboxes have each fate; and the ties of answers for several
@@ -72,16 +65,10 @@ class Kept:
 class Reporter(Observer):
     """Prints rows, how far the mailboxes are, and last what is left. A migration has steps."""
 
-    def __init__(
-        self,
-        clock: Callable[[], float] = time.monotonic,
-        steps: Mapping[str, int] = STEPS,
-        task: str = "migrating",
-        shows: Shows = Shows(Row.is_said),
-    ) -> None:
+    def __init__(self, shows: Shows, steps: Mapping[str, int] = STEPS, task: str = "migrating") -> None:
         self.shows = shows
         self.kept = Kept()
-        self.clock, self.start = clock, clock()
+        self.start = time.monotonic()
         self.counts: collections.Counter[str] = collections.Counter()
         # of the mailboxes that are left
         self.reasons: collections.Counter[Phrase] = collections.Counter()
@@ -103,7 +90,7 @@ class Reporter(Observer):
         # those of which it was said that they wait
         self.waiting: set[str] = set()
         # what programs read besides, or instead
-        self.objects: list[Objects] = []
+        self.objects: "list[Objects]" = []
 
     def begin(self, count: int = 1) -> None:
         """Notes that this many more have begun."""
@@ -189,8 +176,7 @@ class Reporter(Observer):
     @staticmethod
     def put_row(row: Row) -> None:
         """Prints the line of a row, and what stands below it."""
-        put(line_of(row))
-        for line in row.below():
+        for line in (row.line(), *row.below()):
             put(line)
         flush()
 
@@ -238,7 +224,7 @@ class Reporter(Observer):
 
     def seconds(self) -> float:
         """How long it took so far."""
-        return self.clock() - self.start
+        return time.monotonic() - self.start
 
     def print_sums(self, line: str) -> None:
         """Prints what is left, and below it the line with the sums."""
@@ -254,18 +240,6 @@ class Reporter(Observer):
         for below in lines_below((), self.then, True):
             put(below)
         flush()
-
-
-def line_of(row: Row) -> str:
-    """The line of a row: the mailbox, its folder, unless it was done before its kind and how many messages it has, what
-    became of it, and what is said of it."""
-    count = "" if row.messages is None or row.fate == Fate.BEFORE else "messages %d" % row.messages
-    count += " to %d" % row.most if count and row.most is not None and row.most != row.messages else ""
-    what = ", ".join(filter(None, [row.kind, count]))
-    if row.fate == Fate.FOUND:
-        return ": ".join(filter(None, [row.way, what, row.says]))
-    fate, sign = ("%s (%s)" % (row.fate, row.word), ": ") if row.word else (row.fate, ", ")
-    return ": ".join(filter(None, [row.way, what, fate + (sign + row.says if row.says else "")]))
 
 
 def with_looks(row: Row) -> Row:

@@ -6,55 +6,12 @@ from collections.abc import Iterator
 from typing import Any
 
 from ..faults import REASONS, PlaceFault
-from ..maildir.folders import folder_name
 from ..maildir.making import sync_folder
-from ..migration.outcomes import FATES, Detail, Fate, Row
-from ..migration.rows import SUMMED, Reporter
-from ..nexts import ROOT, Todo, objects_of, task
-from ..terminal import complain, flush, is_text, named, put, shown, text_of
+from ..nexts import Todo, objects_of, task
+from ..terminal import complain, flush, named, put
 from ..version import version
-
-
-def object_of(row: Row) -> dict[str, Any]:
-    """The object of a row."""
-    return {
-        "type": "row",
-        "user": row.user,
-        **path_of(row.path),
-        **folder_of(row.folder),
-        "kind": row.kind or None,
-        "messages": row.messages,
-        "bytes": row.size,
-        "verdict": row.fate,
-        "reason": row.word or None,
-        "says": row.says,
-        "remarks": [{"remark": remark.word, "says": remark.says} for remark in row.remarks],
-        "lines": [{"line": one.line, "text": one.text, "around": one.is_around} for one in row.quotes],
-        # of the mailboxes of users, root runs what nobody else does
-        "next": objects_of(row.next, None if row.user is None else ROOT),
-        **({} if row.most is None else {"most": row.most}),
-        **({"counts": dict(row.counts)} if row.counts else {}),
-        **({"details": [fields_of(one) for one in row.details]} if row.details else {}),
-    }
-
-
-def fields_of(one: Detail) -> dict[str, Any]:
-    """The object of what is said of a message, a file or a line."""
-    where = path_of(one.path) if one.path else {"path": None}
-    named_by = {"sort": one.word or None, "message": one.message, "line": one.line, **where}
-    return {"says": one.sentence(), **named_by, "text": one.text or None}
-
-
-def path_of(path: bytes) -> dict[str, Any]:
-    """The fields of a path."""
-    if is_text(path):
-        return {"path": text_of(path)}
-    return {"path": shown(path), "path_hex": path.hex()}
-
-
-def folder_of(folder: bytes) -> dict[str, Any]:
-    """The fields of a folder: its name, and its path below the Maildir."""
-    return {"folder": folder_name(folder) or None, "directory": shown(folder) or None}
+from .outcomes import FATES, Fate, Row
+from .rows import SUMMED, Reporter
 
 
 class Objects:
@@ -66,7 +23,7 @@ class Objects:
 
     def row(self, row: Row) -> None:
         """Prints what became of a mailbox."""
-        self.print_object(object_of(row))
+        self.print_object(row.as_object())
 
     def end(self, sums: Reporter, line: str) -> bool:
         """Prints the sums, and the line that says them."""
