@@ -5,16 +5,16 @@ from typing import Any, AnyStr, Union, cast
 
 
 class Uncompiled:
-    """A pattern of which nothing was used yet. It keeps what is used."""
+    """A pattern of which nothing was used yet but its text. It keeps what is used."""
 
     all: "list[Uncompiled]" = []
 
     def __init__(self, text: Union[str, bytes], flags: int) -> None:
-        self.text, self.flags = text, flags
+        self.pattern, self.flags = text, flags
         self.all.append(self)
 
     def __getattr__(self, name: str) -> Any:
-        value = getattr(re.compile(self.text, self.flags), name)
+        value = getattr(re.compile(self.pattern, self.flags), name)
         setattr(self, name, value)
         return value
 
@@ -22,7 +22,7 @@ class Uncompiled:
 def compile_all() -> None:
     """Compiles all patterns, for the processes that begin as copies of this one. The library keeps so many."""
     for one in Uncompiled.all:
-        re.compile(one.text, one.flags)
+        re.compile(one.pattern, one.flags)
 
 
 def pattern(text: AnyStr, flags: int = 0) -> re.Pattern[AnyStr]:

@@ -40,6 +40,8 @@ INDEXES = {
     "a Takeout's settings": rb"archive_browser\.html"
     rb"|(?:Blocked Addresses|Delegates|Filters|Settings|Vacation responder)\.json",
 }
+# the same as one pattern, with a group for each of them
+INDEX = pattern(b"|".join(b"(%s)" % names for names in INDEXES.values()), re.DOTALL)
 # the most bytes of a line that a program writes into its lock: ASCII, such as its number, which Dovecot's host follows
 LONGEST_LOCK = 256
 LINE_OF_LOCK = pattern(rb"(?:\d+:|(?!From |%s))[\t -~]*(?:\r?\n)?\Z" % FIELD.pattern)
@@ -91,5 +93,5 @@ def is_auxiliary(name: bytes) -> bool:
 
 def index_of(path: bytes) -> str:
     """What a file is by its name if a mail program writes such files; empty otherwise. One that holds mail is none."""
-    name = os.path.basename(path)
-    return next((kind for kind, names in INDEXES.items() if re.fullmatch(names, name, re.DOTALL)), "")
+    found = INDEX.fullmatch(os.path.basename(path))
+    return [*INDEXES][found.lastindex - 1] if found and found.lastindex else ""
