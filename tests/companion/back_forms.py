@@ -47,6 +47,28 @@ FIELDS = {
     "mutt": b"Lines: 1\n",
 }
 DAY = 86400
+# mailboxes by their formats, and the answer that gives these; new mail; and what goes beside: the first would lose its
+# `>`, and the others would leave it open whether lengths are right in the mailbox
+INSIDE = b"hello\n\nFrom the shed.\n"
+BY_LENGTH = letter(1, b"Content-Length: %d\n" % len(INSIDE), INSIDE)
+FORMATS = {
+    "": {
+        "mboxrd": OLD,
+        "mboxcl2": BY_LENGTH,
+        "mboxcl2-part": BY_LENGTH + letters(2),
+        "mboxcl2-quoted": BY_LENGTH + letter(2, body=b">From afar\n"),
+    },
+    "--as mboxo": {"mboxo": OLD},
+    "--as mboxcl": {"mboxcl": BY_LENGTH + letters(2)},
+}
+LINES = {
+    "none": b"Subject: new\n\nhello\n",
+    "from": b"Subject: new\n\nhello\nFrom here on\n",
+    "quoted": b"Subject: new\n\nhello\n>From here on\n",
+    "twice": b"Subject: new\n\nhello\n>>From here on\n",
+}
+IN_PART = "mboxcl2-part", "mboxcl2-quoted", "mboxcl"
+GO_BESIDE = {("mboxo", "quoted"), *((name, line) for name in IN_PART for line in ("quoted", "twice"))}
 
 
 class Told(NamedTuple):
@@ -61,15 +83,18 @@ class Told(NamedTuple):
 
 
 class House:
-    """A home whose mailboxes were migrated, and in whose Maildir mail came since."""
+    """A home whose mailboxes were migrated, and in whose Maildir mail came since. Each run is told the words, and
+    that of `migrate` the answer too."""
 
-    def __init__(self, home: Home, boxes: Optional[Mapping[str, bytes]] = None, words: Sequence[str] = ()) -> None:
+    def __init__(
+        self, home: Home, boxes: Optional[Mapping[str, bytes]] = None, words: Sequence[str] = (), answer: str = ""
+    ) -> None:
         self.home, self.boxes, self.words = home, boxes or BOXES, words
         home.begin("--jobs", "1", *words)
         for path, text in self.boxes.items():
             home.write(path, text)
         home.place.own(home.path / "mail")
-        home.done("spool", "mail")
+        home.done("spool", "mail", words=answer.split())
 
     def deliver(self, mails: Iterable[bytes], folder: str = "", first: int = 0) -> None:
         """Mail comes, one after the other."""
@@ -232,6 +257,23 @@ def a_line_in_a_header(home: Home) -> None:
     house.has({**dict.fromkeys(PATHS, []), "spool": [plain], "mail/inbox-back": [odd]})
 
 
+def lines_like_from(home: Home) -> None:
+    """Lines `From `, with `>` and without, come into mailboxes of each format. The rehearsal says where they go, and
+    they are there as they were, as the format of that mailbox has them."""
+    for answer, boxes in FORMATS.items():
+        paths = {f"mail/{name}-{line}": (name, line) for name in boxes for line in LINES}
+        texts = {path: boxes[name] for path, (name, _) in paths.items()}
+        house = House(home, {"spool": OLD, **texts}, answer=answer)
+        for path, (_, line) in paths.items():
+            house.deliver([LINES[line]], f".{Path(path).name}")
+        wanted = {path: f"{path}-back" if its in GO_BESIDE else path for path, its in paths.items()}
+        equal(f"{answer}: rows", [row.path for row in house.back()], sorted(wanted.values()))
+        for path, (name, line) in paths.items():
+            word = name.split("-")[0] if wanted[path] == path else "mboxrd"
+            found = split(house.texts()[wanted[path]], word)[-1]
+            equal(f"{answer}: the mail in {wanted[path]}", bare(found), LINES[line])
+
+
 def held_by_none(home: Home) -> None:
     """What no mailbox holds stays in the Maildir, by the name of its file; all else goes back. No mailbox is made for
     it."""
@@ -302,6 +344,7 @@ if __name__ == "__main__":
         without_dates,
         without_an_end,
         a_line_in_a_header,
+        lines_like_from,
         held_by_none,
         fields_of_programs,
         subscriptions,

@@ -25,7 +25,7 @@ from ..migration.options import Options
 from ..nexts import Remark, Todo, task
 from ..program import Program
 from ..readings.texts import disk_of
-from ..readings.unnamed import unnamed
+from ..readings.unnamed import copy_of, unnamed
 from ..terminal import first_of, named
 from ..units import Say, Size, counted, silent
 from .beside import Beside, Draft
@@ -164,7 +164,9 @@ class Appending:
             else:
                 draft = stack.enter_context(Draft.at(os.path.join(self.opened.folder, GOES_BACK + UNFINISHED)))
             plan = self.planned(draft)
-            if not dry:
+            if dry:
+                self.rehearse(plan, draft)
+            else:
                 self.carry_out(plan, draft)
         self.numbering.end([*self.target.returned, *plan.there, *(one.mail for one in plan.entries)], dry)
         row = self.row(plan)
@@ -245,10 +247,22 @@ class Appending:
             # a further run knows the numbers of the Maildir as those of the mailbox
             self.way.record.add(Note.NUMBERED, Key(self.opened.name, *key), len(plan.entries), mailbox.path)
         beside.append_to(mailbox)
-        self.want_right(beside, plan.entries, reads)
+        try:
+            self.want_right(mailbox, plan.entries, reads)
+        except BaseException:
+            beside.take_back(mailbox)
+            raise
         # once the ledger says that it went back, no run may take it for a part, and cut it off
         beside.remove()
         ledger.note(END_LINE % number)
+
+    def rehearse(self, plan: Plan, draft: Draft) -> None:
+        """Appends what was drafted to a copy of the mailbox. Raises what `carry_out` would raise of how that is
+        read."""
+        if plan.entries:
+            blocks = itertools.chain(self.mailbox.again().blocks(), Reader(draft.number, end=draft.size).blocks())
+            with copy_of(self.mailbox, blocks, self.way.disk) as text:
+                self.want_right(text, plan.entries, reading_now(self.mailbox))
 
     def key_after(self, beside: Beside) -> tuple[Size, str]:
         """The size and the SHA-256 of the mailbox once all is appended."""
@@ -269,19 +283,15 @@ class Appending:
         head = Head(len(lines), 0, 0, (), key, self.style.words, self.known.path, self.mailbox.state.st_ino)
         return self.known.ledger.begin(head, lines)
 
-    def want_right(self, beside: Beside, entries: Sequence[Appended], reads: str) -> None:
-        """Raises Left if a message of the mailbox with what was appended is not as it is to be: then the mailbox is as
-        it was before."""
+    def want_right(self, text: Mailbox, entries: Sequence[Appended], reads: str) -> None:
+        """Raises NotAsItIs if a message of the mailbox with what was appended, which is this text, is not as it is to
+        be, or if that is no longer read as the mailbox was."""
         cores = self.inventory.cores
-        try:
-            look = self.numbering.take if self.numbering.is_incomplete else None
-            found = self.style.messages(self.mailbox, self.way.program, look)
-            is_right = are_at(entries, found, len(self.inventory)) and found.cores[: len(cores)] == cores
-            if not is_right or reading_now(self.mailbox) != reads:
-                raise NotAsItIs(MISREAD, Reason.MISREAD)
-        except BaseException:
-            beside.take_back(self.mailbox)
-            raise
+        look = self.numbering.take if self.numbering.is_incomplete else None
+        found = self.style.messages(text, self.way.program, look)
+        is_right = are_at(entries, found, len(self.inventory)) and found.cores[: len(cores)] == cores
+        if not is_right or reading_now(text) != reads:
+            raise NotAsItIs(MISREAD, Reason.MISREAD)
 
     def row(self, plan: Plan) -> Row:
         """The row of the mailbox."""
