@@ -72,7 +72,7 @@ FORMS: list[tuple[str, Optional[str]]] = [
     (LABELS % "=?UTF-8?Q?Inbox,Opened,Caf=C3=A9?=", "S"),
     (LABELS % "=?UTF-8?Q?Inbox,Opened,?=\n =?UTF-8?Q?Caf=C3=A9,Starred?=", "FS"),
     (LABELS % "=?UTF-8?Q?Posteingang,Ge=C3=B6ffnet?=", "S"),
-    (LABELS % "=?UTF-8?Q?Ge=C3=B6ffnet?=", ""),
+    (LABELS % "=?UTF-8?Q?Ge=C3=B6ffnet?=", "S"),
     (LABELS % "Inbox, =?UTF-8?B?T3BlbmVk?=, Travel", "S"),
     (LABELS % "=?UTF-8?Q?Inbox,Ope?= =?UTF-8?Q?ned,Caf=C3=A9?=", "S"),
     (LABELS % "=?no-such-set?Q?Opened?=", ""),

@@ -225,8 +225,8 @@ def rule_2_flags(home: Home) -> None:
     home.has(0, 1, 2, 3)
     unread = [number for number in (1, 2) if "S" not in home.those(number)[0].name.partition(":2,")[2]]
     if unread:
-        want_said(row, len(unread), "flags")
-    want_unsaid(home.bring(SAME=letters(3, fields=b"Status: RO\n"))["SAME"], "flags")
+        want_said(row, len(unread), "marked in it")
+    want_unsaid(home.bring(SAME=letters(3, fields=b"Status: RO\n"))["SAME"], "marked in it")
 
 
 # what a mailbox of ten messages is then, with new ones

@@ -181,7 +181,7 @@ STORIES: dict[str, list[Step]] = {
     ],
     "the_list_comes_from_a_backup_and_the_ledger_is_lost": [
         *(("a", ONE + TWO), FIRST, f"!cp {LIST} kept", LAST, f"!cp -p kept {LIST}; rm {LEDGER}", ("a", TWO)),
-        *(LAST, "= one two M+"),
+        *(LAST, "= one two"),
     ],
     "a_sync_failed": [
         *(("a", ONE), FIRST, f"!echo '!' >>{LIST}", ("a", TWO), (FIRST, SYNC_FAILED), (LAST, SYNC_FAILED), "= one M+"),
