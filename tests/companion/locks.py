@@ -212,7 +212,7 @@ def locked_for_ten_seconds(home: Path) -> None:
 
     deeds = [(float(second), lambda second=second: try_at(second)) for second in (10, 14, 23)]
     words = ["migrate", "--json", "--prepare", "--unread", "M", "box"]
-    ran = Clocked(home, deeds, time.time(), step=2).run(words, BY_OTHERS)
+    ran = Clocked(home, deeds, time.time(), step=1).run(words, BY_OTHERS)
     equal(f"it is prepared: {ran.output}", (ran.status, row_of(ran)["verdict"]), (0, "prepared"))
     equal("when it was locked", sorted(one.name for one in home.glob("refused*")), ["refused at 10", "refused at 14"])
 
