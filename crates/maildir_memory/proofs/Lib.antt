@@ -2,3 +2,5 @@
 pub mod Plain
 -- A history of commands that the machine of plain data can have.
 pub mod Histories
+-- A word without a slash at its end.
+pub mod Slashes

@@ -1,16 +1,18 @@
 -- Calls of a Maildir of plain data, and of the machine that has it.
-use Rattle.std.proofs.Common.{◌≡◌, ◌++◌, ◌∷◌, ℕ, List, [], IfOk, IsErr, IsTrue, Option, Some, None, OnOk, Result, Ok, Err, String, Vec, Global}
-use Rattle.std.proofs.Common.{inl, inr, refl, ap, arith, subst, sym, ◌∙◌}
+use Rattle.std.proofs.Common.{◌≡◌, ◌⊎◌, ◌++◌, ◌∷◌, ℕ, Bool, List, [], IfOk, IsErr, IsNone, IsSome, IsTrue, Option, Some, None, Result, Ok, Err}
+use Rattle.std.proofs.Common.{String, Vec, Global, inl, inr, refl, ap, arith, subst, sym, ◌∙◌}
 use Rattle.std.proofs.lemmas.Bool.{false≢true}
-use Rattle.std.specs.FinMap.{contains_key}
+use Rattle.std.specs.FinMap.{contains_key, get}
 use Rattle.std.specs.declared.io.Error.{Error}
 use Rattle.maildir_name.specs.declared.target.Place.{Place}
-use Rattle.maildir_run.specs.Calls.{Again, Call, Called, CalledQuietly, Placing, Writing, folder_of, names_of}
+use Rattle.maildir_run.specs.Calls.{Again, Call, Called, CalledQuietly, IsReady, Placing, Writing, folder_of, names_of}
 use Rattle.maildir_run.specs.Cuts.{Follows, Leaves}
 use Rattle.maildir_run.specs.Files.{Files, Spared}
 use Rattle.maildir_run.specs.Folders.{folder_of_place}
-use Rattle.maildir_run.specs.MemFolder.{IsQuiet, files_of, lines_of}
+use Rattle.maildir_run.specs.MemFolder.{HasNoScript, IsQuiet, SameScript, Scripted, files_of, lines_of}
 use Rattle.maildir_run.specs.Touched.{FileName, TouchedNone, TouchedOnly, Touches, in_tmp}
+use Rattle.maildir_run.specs.declared.folder.FolderFault.{FolderFault}
+use Rattle.maildir_run.specs.declared.folder.FolderFault.TheVariants as fault
 use Rattle.maildir_run.specs.declared.folder.Sub.{Sub}
 use Rattle.maildir_run.specs.declared.in_memory.mem_folder.MemFolder.{MemFolder}
 use Rattle.maildir_run.proofs.Call.Cuts.{leaves_moves}
@@ -25,7 +27,7 @@ use Rattle.maildir_commands.specs.Opening.{OpensMaildir}
 use Rattle.maildir_commands.specs.Seen.{OpenMaildir, Untouched}
 use Rattle.maildir_commands.proofs.Resting.{untouched_same}
 use Rattle.maildir_memory.specs.Logs.{is_logged}
-use Rattle.maildir_memory.specs.Plain.{IsQuietly, found_in, held_by, held_plain, machine_with, seen_plain, world_of}
+use Rattle.maildir_memory.specs.Plain.{IsQuietly, found_in, held_by, held_plain, kept_in, machine_with, seen_plain, world_of}
 use Rattle.maildir_memory.specs.declared.log.Touched.{Touched}
 use Rattle.maildir_memory.specs.declared.plain_system.PlainSystem.{PlainSystem}
 
@@ -34,18 +36,41 @@ pub called_leaves : {spared : Spared} {A E : Type 0} {call : Call} {a : Files} (
 called_leaves {spared} {call = call} {a} (Ok x) {b} h = leaves_moves spared call a b (h.before ++ Again ∷ h.rest) h.left
 called_leaves {spared} {call = call} {a} (Err e) {b} h = leaves_moves spared call a b h.moves h.left
 
+-- ---- why calls fail, where nothing is scripted for them
+-- there was no memory, or a file that the call moves was not there
+pub memory_or_absent : {A : Type 0} (call : Call) (old new : MemFolder) (cause : FolderFault) → Scripted {A = A} call old (Err cause) new → HasNoScript old
+    → (cause ≡ fault.OutOfMemory) ⊎ ((cause ≡ fault.Absent) × ¬ IsReady call (files_of old))
+memory_or_absent call old new fault.OutOfMemory scripted none = inl refl
+memory_or_absent call old new fault.Absent scripted none = inr (refl, (scripted.plain none).1)
+memory_or_absent call old new fault.Failed scripted none = absurd (false≢true (scripted.plain none).0)
+
+-- there was no memory, if the call needs nothing else
+pub only_memory : {A : Type 0} (call : Call) (old new : MemFolder) (cause : FolderFault) → Scripted {A = A} call old (Err cause) new → HasNoScript old
+    → IsReady call (files_of old) → cause ≡ fault.OutOfMemory
+only_memory call old new cause scripted none ready =
+    elim (memory_or_absent call old new cause scripted none) [ inl memory ↦ memory | inr absent ↦ absurd (absent.1 ready) ]
+
+pub not_there : (held : Option (List ℕ)) → ¬ IsSome held → IsNone held
+not_there None missing = refl
+not_there (Some _) missing = absurd (missing refl)
+
+-- a script that stays
+pub same_script : {folder : MemFolder} → SameScript folder folder
+same_script = record { lines = refl; fail_from = refl }
+
 -- ---- calls that change the files
-module _ {call : Call} (old : PlainSystem) (folder : MemFolder) (log : Vec Touched Global) where
+module _ {call : Call} (old : PlainSystem) (folder : MemFolder) (durable : Option MemFolder) (log : Vec Touched Global)
+    (kept : kept_in durable (files_of folder) ≡ kept_in old.durable (files_of old.folder)) where
   pub left_by : {spared : Spared} → Leaves spared call (files_of old.folder) (files_of folder)
-      → Follows (Leaves spared call) (found_in old) (found_in (record old { folder = folder; log = log }))
+      → Follows (Leaves spared call) (found_in old) (found_in (record old { folder = folder; durable = durable; log = log }))
   left_by {spared} own left (inl e) = (files_of old.folder, inl refl, subst (Leaves spared call (files_of old.folder)) (sym e) own)
-  left_by own left (inr e) = (left, inr e, leaves_none)
+  left_by own left (inr e) = (left, inr (e ∙ kept), leaves_none)
 
   pub taken : {A E : Type 0} (result : Result A E) → TouchedOnly (Touches call) (is_logged old.log) (is_logged log)
       → ((file : FileName) → Touches call file → is_logged log file) → lines_of folder ≡ lines_of old.folder
       → ((spared : Spared) → Called spared call (files_of old.folder) result (files_of folder))
       → (IsQuiet old.folder → CalledQuietly call (files_of old.folder) result (files_of folder))
-      → TakesFromTmp call (seen_plain old) result (seen_plain (record old { folder = folder; log = log }))
+      → TakesFromTmp call (seen_plain old) result (seen_plain (record old { folder = folder; durable = durable; log = log }))
   taken result touches logged lines called quietly = record {
     honest = λ spared h. lines ∙ h;
     called = λ spared h. called spared;
@@ -57,14 +82,15 @@ module _ {call : Call} (old : PlainSystem) (folder : MemFolder) (log : Vec Touch
     quietly = quietly;
   }
 
--- a file could not be logged
-pub not_taken : {A E : Type 0} {call : Call} (old : PlainSystem) (log : Vec Touched Global) (result : Result A E) → IsErr result
-    → TouchedOnly (Touches call) (is_logged old.log) (is_logged log) → TakesFromTmp call (seen_plain old) result (seen_plain (record old { log = log }))
-not_taken old log (Ok _) is_err touches = absurd (false≢true is_err)
-not_taken old log (Err _) is_err touches = record {
+-- there was no memory to log a file, or to keep the files
+pub not_taken : {A E : Type 0} {call : Call} (old : PlainSystem) (durable : Option MemFolder) (log : Vec Touched Global) → durable ≡ old.durable
+    → (result : Result A E) → IsErr result → TouchedOnly (Touches call) (is_logged old.log) (is_logged log)
+    → TakesFromTmp call (seen_plain old) result (seen_plain (record old { durable = durable; log = log }))
+not_taken old durable log same (Ok _) is_err touches = absurd (false≢true is_err)
+not_taken old durable log same (Err _) is_err touches = record {
   honest = λ spared h. h;
   called = λ spared h. record { moves = []; left = refl };
-  left = λ spared h. left_none;
+  left = λ spared h. left_by old old.folder durable log (ap (λ d. kept_in d (files_of old.folder)) same) leaves_none;
   still_rooted = λ spared h rooted. rooted;
   logs = λ spared h. inr ([], refl);
   touches = touches;
@@ -73,16 +99,17 @@ not_taken old log (Err _) is_err touches = record {
 }
 
 -- the files are as they were
-module _ (old : PlainSystem) (folder : MemFolder) (log : Vec Touched Global) (lines : lines_of folder ≡ lines_of old.folder)
+module _ (old : PlainSystem) (folder : MemFolder) (durable : Option MemFolder) (log : Vec Touched Global)
+    (kept : kept_in durable (files_of folder) ≡ kept_in old.durable (files_of old.folder)) (lines : lines_of folder ≡ lines_of old.folder)
     (same : IsQuiet old.folder → files_of folder ≡ files_of old.folder) where
   pub not_made : {A E : Type 0} {name : List ℕ} (result : Result A E) → IsErr result
       → TouchedOnly (Touches (Writing name [])) (is_logged old.log) (is_logged log)
-      → MakesFile name (seen_plain old) result (seen_plain (record old { folder = folder; log = log }))
+      → MakesFile name (seen_plain old) result (seen_plain (record old { folder = folder; durable = durable; log = log }))
   not_made (Ok _) is_err touches = absurd (false≢true is_err)
   not_made (Err _) is_err touches = record {
     honest = λ spared h. lines ∙ h;
     created = λ spared h. inl (record { actions = []; files_are = same h });
-    left = λ spared h. left_by old folder log (record { kept = []; are = same h; whole = λ is. tt });
+    left = λ spared h. left_by old folder durable log kept (record { kept = []; are = same h; whole = λ is. tt });
     still_rooted = λ spared h rooted. rooted;
     logs = λ spared h. inr ([], same h);
     touches = touches;
@@ -91,34 +118,51 @@ module _ (old : PlainSystem) (folder : MemFolder) (log : Vec Touched Global) (li
   }
 
   pub not_appended : {name bytes : List ℕ} {is_current : Type 0} (result : Result ℕ Error) → IsErr result → log ≡ old.log
-      → AppendsToFile name is_current bytes (seen_plain old) result (seen_plain (record old { folder = folder; log = log }))
+      → AppendsToFile name is_current bytes (seen_plain old) result (seen_plain (record old { folder = folder; durable = durable; log = log }))
   not_appended (Ok _) is_err none = absurd (false≢true is_err)
   not_appended (Err _) is_err none = record {
     honest = λ spared h. lines ∙ h;
     appended = λ spared h current. inl (record { actions = []; files_are = same h });
-    left = λ spared h. left_by old folder log (record { kept = []; are = same h; whole = λ is. tt });
+    left = λ spared h. left_by old folder durable log kept (record { kept = []; are = same h; whole = λ is. tt });
     still_rooted = λ spared h rooted. rooted;
     touches = subst (λ log. TouchedNone (is_logged old.log) (is_logged log)) (sym none) touched_same;
     quiet = λ q. lines ∙ q;
     quietly = λ q current. inl (same q);
   }
 
-  still_left : {spared : Spared} → files_of folder ≡ files_of old.folder
-      → Follows (LeftByOthers spared) (found_in old) (found_in (record old { folder = folder; log = log }))
-  still_left alike left (inl e) = (files_of old.folder, inl refl, record { kept = []; are = e ∙ alike; whole = λ is. tt })
-  still_left alike left (inr e) = (left, inr e, others_none)
+-- the file is gone, so that no file takes the bytes
+pub taken_by_none : (old : PlainSystem) {name bytes : List ℕ} {is_current : Type 0} (result : Result ℕ Error)
+    → get (files_of old.folder).tmp name ≡ None → AppendsToFile name is_current bytes (seen_plain old) result (seen_plain old)
+taken_by_none old (Ok _) gone = record {
+  honest = λ spared h. h;
+  appended = λ spared h current. record { before = []; rest = []; left = rw gone refl };
+  left = λ spared h. left_none;
+  still_rooted = λ spared h rooted. rooted;
+  touches = touched_same;
+  quiet = λ q. q;
+  quietly = λ q current. rw gone refl;
+}
+taken_by_none old (Err _) gone = not_appended old old.folder old.durable old.log refl refl (λ h. refl) (Err _) refl refl
 
-  pub reads : {E : Type 0} (sub : Sub) (result : Result (Vec (String Global) Global) E) → log ≡ old.log
-      → (IsQuiet old.folder → IfOk result (λ names. ReadsNames sub (world_of old) (names_of names) (world_of (record old { folder = folder; log = log }))))
+-- ---- calls that read the names
+module _ (old : PlainSystem) (folder : MemFolder) (lines : lines_of folder ≡ lines_of old.folder)
+    (same : IsQuiet old.folder → files_of folder ≡ files_of old.folder) where
+  still_left : {spared : Spared} → files_of folder ≡ files_of old.folder
+      → Follows (LeftByOthers spared) (found_in old) (found_in (record old { folder = folder }))
+  still_left alike left (inl e) = (files_of old.folder, inl refl, record { kept = []; are = e ∙ alike; whole = λ is. tt })
+  still_left alike left (inr e) = (left, inr (e ∙ ap (kept_in old.durable) alike), others_none)
+
+  pub reads : {E : Type 0} (sub : Sub) (result : Result (Vec (String Global) Global) E)
+      → (IsQuiet old.folder → IfOk result (λ names. ReadsNames sub (world_of old) (names_of names) (world_of (record old { folder = folder }))))
       → (IsQuiet old.folder → IfOk result (AreNames sub (files_of old.folder)))
-      → ReadsFolder sub (seen_plain old) result (seen_plain (record old { folder = folder; log = log }))
-  reads sub result none names exact = record {
+      → ReadsFolder sub (seen_plain old) result (seen_plain (record old { folder = folder }))
+  reads sub result names exact = record {
     looks = record {
       honest = λ spared h. lines ∙ h;
       acts = λ spared h. record { actions = []; files_are = same h };
       left = λ spared h. still_left (same h);
       still_rooted = λ spared h rooted. rooted;
-      touches = subst (λ log. TouchedNone (is_logged old.log) (is_logged log)) (sym none) touched_same;
+      touches = touched_same;
       quiet = λ q. lines ∙ q;
       quietly = same;
     };
@@ -141,27 +185,36 @@ module _ (place : Place) {name target : List ℕ} {sub : Sub} (a b c : Vec Touch
   both_logged first then file (inr on) = subst (is_logged c) (ap (λ s. record { sub = s; name = target }) is ∙ sym on) then
 
 -- ---- syncs
-module _ (old new : PlainSystem) (folder : new.folder ≡ old.folder) (log : new.log ≡ old.log) (rooted : IsTrue old.is_rooted → IsTrue new.is_rooted)
-    (stays : (left : Files) → found_in new left → found_in old left) where
-  files : files_of new.folder ≡ files_of old.folder
+module _ (old new : PlainSystem) (rooted : Bool) (is : new ≡ record old { durable = None; is_rooted = rooted }) where
+  only_these : (left : Files) → found_in (record old { durable = None; is_rooted = rooted }) left → left ≡ files_of old.folder
+  only_these left (inl same) = same
+  only_these left (inr same) = same
+
+  pub only_left : (left : Files) → found_in new left → left ≡ files_of old.folder
+  only_left left may = only_these left (subst (λ (s : PlainSystem). found_in s left) is may)
+
+  folder : new.folder ≡ old.folder
+  folder = ap (λ (s : PlainSystem). s.folder) is
+
+  pub files : files_of new.folder ≡ files_of old.folder
   files = ap files_of folder
 
-  pub synced : Looks (seen_plain old) (seen_plain new)
-  synced = record {
+  pub synced : (IsTrue old.is_rooted → IsTrue rooted) → Looks (seen_plain old) (seen_plain new)
+  synced still = record {
     honest = λ spared h. subst IsQuiet (sym folder) h;
     acts = λ spared h. record { actions = []; files_are = files };
-    left = λ spared h left may. (left, stays left may, others_none);
-    still_rooted = λ spared h. rooted;
-    touches = subst (λ log. TouchedNone (is_logged old.log) (is_logged log)) (sym log) touched_same;
+    left = λ spared h left may. (left, inl (only_left left may), others_none);
+    still_rooted = λ spared h was. subst (λ (s : PlainSystem). IsTrue s.is_rooted) (sym is) (still was);
+    touches = subst (λ (s : PlainSystem). TouchedNone (is_logged old.log) (is_logged s.log)) (sym is) touched_same;
     quiet = λ q. subst IsQuiet (sym folder) q;
     quietly = λ q. files;
   }
 
-  pub names_kept : {spared : Spared} (sub : Sub) → ((left : Files) → found_in new left → left ≡ files_of old.folder)
+  pub names_kept : {spared : Spared} (sub : Sub)
       → Follows (λ before left. KeepsNames spared sub (files_of old.folder) before (files_of new.folder) left) (found_in old) (found_in new)
-  names_kept sub only left may = (
+  names_kept sub left may = (
     left,
-    stays left may,
+    inl (only_left left may),
     record {
       moment = files_of old.folder;
       actions = [];
@@ -171,7 +224,7 @@ module _ (old new : PlainSystem) (folder : new.folder ≡ old.folder) (log : new
       there = left;
       earlier = others_none;
       later = others_none;
-      names_are = λ name known. ap (λ s. contains_key (folder_of sub s) name) (only left may);
+      names_are = λ name known. ap (λ s. contains_key (folder_of sub s) name) (only_left left may);
     },
   )
 
@@ -185,10 +238,6 @@ asks result looks = record {
   quiet = λ q. on_ok _ result (looks.quiet q);
   quietly = looks.quietly;
 }
-
-pub ok_then : {A E P Q : Type 0} (result : Result A E) → (P → Q) → OnOk result P → OnOk result Q
-ok_then (Ok _) f p = f p
-ok_then (Err _) f p = tt
 
 -- ---- the machine
 abbrev pub open_plain : PlainSystem → OpenMaildir

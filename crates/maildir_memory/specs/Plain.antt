@@ -3,7 +3,8 @@ use Rattle.std.specs.Prelude.{◌≡◌, ◌⊎◌, ℕ, List, [], Option, Some,
 use Rattle.std.specs.Time.{system_time_nanos}
 use Rattle.maildir_run.specs.Files.{Files}
 use Rattle.maildir_run.specs.MemFiles.{no_files}
-use Rattle.maildir_run.specs.MemFolder.{IsQuiet, files_of}
+use Rattle.maildir_run.specs.MemFolder.{IsQuiet, SameScript, fail_from_of, files_of}
+use Rattle.maildir_run.specs.declared.in_memory.mem_folder.MemFolder.{MemFolder}
 use Rattle.maildir_disk.specs.declared.faults.OpenFault.TheVariants.{Locked}
 use Rattle.maildir_disk.specs.SeenSystem.{SeenSystem}
 use Rattle.maildir_disk.specs.World.{World}
@@ -17,9 +18,20 @@ use Rattle.maildir_memory.specs.declared.plain_system.PlainSystem.{PlainSystem}
 abbrev pub opened_as : MemFile → List ℕ
 opened_as file = string_bytes file.name
 
+-- the files when something was last synced: these, if they were not changed since
+abbrev pub kept_in : Option MemFolder → Files → Files
+kept_in None files = files
+kept_in (Some durable) files = files_of durable
+
+-- What is kept of the files of the last sync stays, and so do the script, the clocks and what is known of the Maildir itself.
+pub record Keeps (old new : PlainSystem) : Type 0 where
+  pub kept : kept_in new.durable (files_of new.folder) ≡ kept_in old.durable (files_of old.folder)
+  pub script : SameScript old.folder new.folder
+  pub rest : new ≡ record old { folder = new.folder; durable = new.durable; log = new.log }
+
 -- a power cut may leave the files as they are, or as they were when something was last synced
 abbrev pub found_in : PlainSystem → Files → Type 0
-found_in system left = (left ≡ files_of system.folder) ⊎ (left ≡ files_of system.durable)
+found_in system left = (left ≡ files_of system.folder) ⊎ (left ≡ kept_in system.durable (files_of system.folder))
 
 -- the files, the clock and the stamp of each folder
 abbrev pub world_of : PlainSystem → World
@@ -36,11 +48,12 @@ seen_plain system = record {
   touched = is_logged system.log;
 }
 
--- A Maildir holds nothing, a power cut takes it away, and nothing of it was touched.
+-- A Maildir holds nothing, a power cut takes it away, nothing of it was touched, and nothing is scripted for its calls.
 pub record IsNew (system : PlainSystem) : Type 0 where
   pub quiet : IsQuiet system.folder
+  pub never_fails : fail_from_of system.folder ≡ None
   pub empty : files_of system.folder ≡ no_files
-  pub none_kept : files_of system.durable ≡ no_files
+  pub none_kept : system.durable ≡ None
   pub apart : IsFalse system.is_rooted
   pub untouched : system.log.items ≡ []
 

@@ -1,13 +1,19 @@
 // A machine in memory.
-ghost use Rattle.std.specs.Prelude.{◌≡◌, None, OnErr, OnOk, Some, string_cmp};
+ghost use Rattle.std.specs.Prelude.{◌≡◌, IfErr, IfOk, None, OnErr, OnOk, Option, Some};
+ghost use Rattle.std.specs.Prelude.{false, string_cmp, true};
 ghost use Rattle.std.specs.BTreeMap.{IsEmpty, IsUnchanged, get_by_text, insert_entry};
+ghost use Rattle.std.specs.IoError.{error_kind};
 ghost use Rattle.std.specs.Option.{option_copied, option_flatten};
 ghost use Rattle.maildir_commands.proofs.Resting.{same_at};
-ghost use Rattle.maildir_commands.specs.Seen.{nothing_seen};
+ghost use Rattle.maildir_commands.specs.Opening.{ClosesMaildir, OpensMaildir, OpensSource};
+ghost use Rattle.maildir_commands.specs.Seen.{nothing_seen, opened};
+ghost use Rattle.maildir_disk.specs.Faults.{IsFailedAllocation};
+ghost use Rattle.maildir_memory.specs.MemMachines.{Makes, Puts, has_text, opened_of, text_under};
+ghost use Rattle.maildir_memory.specs.MemMachines.{without_slash};
 
 use crate::mem_system::MemSystem;
 use maildir_commands::Machine;
-use maildir_disk::OpenFault;
+use maildir_disk::{OpenFault, System};
 use maildir_run::FolderFault;
 use std::alloc::{AllocFailed, Global};
 use std::collections::BTreeMap;
@@ -73,7 +79,10 @@ impl<'a> MemMachine<'a> {
     }
 
     // Makes a Maildir that is missing, and opens it.
-    fn make(&mut self, path: &str) -> Result<MemSystem, OpenFault> {
+    fn make(&mut self, path: &str) -> Result<MemSystem, OpenFault>
+        ensures makes { Makes path.now self.old result self.new }
+        ensures rest { self.new ≡ record self.old { maildirs = self.new.maildirs; fresh = None } }
+    {
         let Some(fresh) = self.fresh.take() else {
             return Err(OpenFault::Folder(FolderFault::Failed));
         };
@@ -98,7 +107,9 @@ impl<'a> MemMachine<'a> {
 }
 
 // The word without one slash at its end: a word names the same Maildir with it and without it.
-fn without_slash(word: &str) -> &str {
+fn without_slash(word: &str) -> &str
+    ensures { result.now ≡ without_slash word.now }
+{
     match word.strip_suffix('/') {
         Some(front) => front,
         None => word,
@@ -123,7 +134,15 @@ impl<'a> Machine for MemMachine<'a> {
 
     ghost may_stay = { λ _ _ _ honest. absurd honest };
 
-    fn open_source(&mut self, path: &str) -> io::Result<&'a [u8]> {
+    fn open_source(&mut self, path: &str) -> io::Result<&'a [u8]>
+        ensures opens { OpensSource (λ source. Some source.now)
+            (λ error. ¬ IsFailedAllocation error) path.now result nothing_seen nothing_seen }
+        ensures text { IfOk result (λ source. source.now ≡ text_under self.old.texts.now path.now) }
+        ensures there { OnOk result (has_text self.old.texts.now path.now ≡ true) }
+        ensures missing { IfErr result (λ error. (error_kind error ≡ ErrorKind.NotFound)
+            × (has_text self.old.texts.now path.now ≡ false)) }
+        ensures rest { self.new ≡ self.old }
+    {
         let texts = self.texts;
         for named in texts {
             if named.name == path {
@@ -133,7 +152,17 @@ impl<'a> Machine for MemMachine<'a> {
         Err(io::Error::from(ErrorKind::NotFound))
     }
 
-    fn open_maildir(&mut self, path: &str) -> Result<MemSystem, OpenFault> {
+    fn open_maildir(&mut self, path: &str) -> Result<MemSystem, OpenFault>
+        ensures opens { OpensMaildir (opened ⟦<MemSystem as System>⟧) path.now result nothing_seen
+            nothing_seen }
+        ensures there { (slot : Option MemSystem) →
+            get_by_text self.old.maildirs (without_slash path.now) ≡ Some slot →
+            (result ≡ opened_of slot) × (self.new.fresh ≡ self.old.fresh)
+            × Puts path.now None (get_by_text self.old.maildirs) (get_by_text self.new.maildirs) }
+        ensures missing { get_by_text self.old.maildirs (without_slash path.now) ≡ None →
+            Makes path.now self.old result self.new }
+        ensures texts { self.new.texts ≡ self.old.texts }
+    {
         let Some(slot) = self.maildirs.get_mut(without_slash(path)) else {
             return self.make(path);
         };
@@ -143,7 +172,17 @@ impl<'a> Machine for MemMachine<'a> {
         }
     }
 
-    fn close_maildir(&mut self, path: &str, maildir: MemSystem) {
+    fn close_maildir(&mut self, path: &str, maildir: MemSystem)
+        ensures closes { ClosesMaildir path.now (opened ⟦<MemSystem as System>⟧ maildir) nothing_seen
+            nothing_seen }
+        ensures there { (slot : Option MemSystem) →
+            get_by_text self.old.maildirs (without_slash path.now) ≡ Some slot →
+            Puts path.now (Some maildir) (get_by_text self.old.maildirs)
+            (get_by_text self.new.maildirs) }
+        ensures missing { get_by_text self.old.maildirs (without_slash path.now) ≡ None →
+            get_by_text self.new.maildirs ≡ get_by_text self.old.maildirs }
+        ensures rest { self.new ≡ record self.old { maildirs = self.new.maildirs } }
+    {
         if let Some(slot) = self.maildirs.get_mut(without_slash(path)) {
             *slot = Some(maildir);
         }

@@ -1,5 +1,7 @@
 // The system calls of a Maildir in memory.
-ghost use Rattle.std.specs.Prelude.{◌≡◌, ◌++◌, [], IfOk, false, true};
+ghost use Rattle.std.specs.Prelude.{◌≡◌, ◌++◌, [], IfErr, IfOk, false, true};
+ghost use Rattle.std.specs.IoError.{error_kind};
+ghost use Rattle.std.specs.declared.io.ErrorKind.TheVariants.{OutOfMemory};
 ghost use Rattle.maildir_disk.specs.SeenSystem.{no_system};
 ghost use Rattle.maildir_run.specs.MemFolder.{IsQuiet, files_of};
 
@@ -274,7 +276,8 @@ impl System for MemSystem {
 }
 
 pub(crate) fn joined(alloc: Global, prefix: &[u8], rest: &[u8]) -> io::Result<Vec<u8>>
-    ensures { IfOk result (λ bytes. bytes.items ≡ prefix.now ++ rest.now) }
+    ensures joins { IfOk result (λ bytes. bytes.items ≡ prefix.now ++ rest.now) }
+    ensures causes { IfErr result (λ error. error_kind error ≡ OutOfMemory) }
 {
     let mut bytes = Vec::from_slice(alloc, prefix)?;
     bytes.extend_from_slice(rest)?;

@@ -1,14 +1,17 @@
 // A machine of plain data.
-ghost use Rattle.std.specs.Prelude.{◌≡◌, ◌∷◌, [], Bool, IfSome, List, None, Some, codes};
+ghost use Rattle.std.specs.Prelude.{◌≡◌, ◌∷◌, [], Bool, IfOk, IfSome, List, None, Ok, Some, codes};
 ghost use Rattle.std.specs.Option.{option_copied};
-ghost use Rattle.maildir_memory.specs.Histories.{CanHappen, CanHappenToOne};
+ghost use Rattle.maildir_commands.specs.Opening.{ClosesMaildir, OpensMaildir, OpensSource};
+ghost use Rattle.maildir_commands.specs.Seen.{opened};
+ghost use Rattle.maildir_disk.specs.Faults.{IsFailedAllocation};
+ghost use Rattle.maildir_memory.specs.Histories.{CanHappen, CanHappenToOne, seen_machine};
 ghost use Rattle.maildir_memory.specs.Plain.{machine_with};
 ghost use Rattle.maildir_run.specs.Delivery.{Message};
 ghost use Rattle.maildir_run.specs.Several.{IsMailbox, Mailbox};
 
 use crate::plain_system::PlainSystem;
 use maildir_commands::Machine;
-use maildir_disk::OpenFault;
+use maildir_disk::{OpenFault, System};
 use std::alloc::Global;
 use std::io;
 use std::time::{Instant, SystemTime};
@@ -35,6 +38,7 @@ impl<'a> PlainMachine<'a> {
         clock: SystemTime,
         instant: Instant,
     ) -> Self
+        ensures has { (result.text.now ≡ text.now) × ¬ (result.maildir ≡ None) }
         ensures times { IfSome result.maildir (λ system.
             (system.stamp ≡ stamp) × (system.clock ≡ clock)) }
         ensures happens { (mailbox : Mailbox) (gone : Message) (rest : List Message)
@@ -81,18 +85,32 @@ impl<'a> Machine for PlainMachine<'a> {
 
     ghost may_stay = { λ machine _ _ _. held_may_stay machine.maildir };
 
-    fn open_source(&mut self, _path: &str) -> io::Result<&'a [u8]> {
+    fn open_source(&mut self, _path: &str) -> io::Result<&'a [u8]>
+        ensures opens { OpensSource (λ source. Some source.now)
+            (λ error. ¬ IsFailedAllocation error) _path.now result (seen_machine self.old)
+            (seen_machine self.new) }
+        ensures answers { (result ≡ Ok self.old.text) × (self.new ≡ self.old) }
+    {
         Ok(self.text)
     }
 
-    fn open_maildir(&mut self, _path: &str) -> Result<PlainSystem, OpenFault> {
+    fn open_maildir(&mut self, _path: &str) -> Result<PlainSystem, OpenFault>
+        ensures opens { OpensMaildir (opened ⟦<PlainSystem as System>⟧) _path.now result
+            (seen_machine self.old) (seen_machine self.new) }
+        ensures answers { IfOk result (λ maildir. self.old.maildir ≡ Some maildir) }
+        ensures rest { self.new ≡ record self.old { maildir = None } }
+    {
         match self.maildir.take() {
             Some(maildir) => Ok(maildir),
             None => Err(OpenFault::Locked),
         }
     }
 
-    fn close_maildir(&mut self, _path: &str, maildir: PlainSystem) {
+    fn close_maildir(&mut self, _path: &str, maildir: PlainSystem)
+        ensures closes { ClosesMaildir _path.now (opened ⟦<PlainSystem as System>⟧ maildir)
+            (seen_machine self.old) (seen_machine self.new) }
+        ensures rest { self.new ≡ record self.old { maildir = Some maildir } }
+    {
         self.maildir = Some(maildir);
     }
 }

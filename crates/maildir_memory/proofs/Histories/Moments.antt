@@ -1,5 +1,5 @@
 -- The machine of plain data at one moment of the history: its Maildir has some of the files, and a power cut leaves these.
-use Rattle.std.proofs.Common.{◌≡◌, ◌⊎◌, ℕ, Bool, List, [], length, Contains, ap, subst, inl, inr, arith}
+use Rattle.std.proofs.Common.{◌≡◌, ◌⊎◌, ℕ, Bool, List, [], Option, None, length, Contains, ap, subst, inl, inr, arith}
 use Rattle.maildir_run.specs.Delivery.{IsSoundAt, Message}
 use Rattle.maildir_run.specs.Files.{Files, Spared, homes}
 use Rattle.maildir_run.specs.declared.in_memory.mem_folder.MemFolder.{MemFolder}
@@ -11,17 +11,17 @@ use Rattle.maildir_memory.specs.declared.plain_system.PlainSystem.{PlainSystem}
 abbrev folder_with : MemFolder → Files → MemFolder
 folder_with folder s = record folder { files = record folder.files { in_tmp = s.tmp; in_new = s.new; in_cur = s.cur } }
 
--- a Maildir with these files, and those when it was last synced; a power cut leaves it, or may take it away
-abbrev pub system_as : PlainSystem → (now durable : Files) → Bool → PlainSystem
+-- a Maildir with these files, and what is kept of those when it was last synced; a power cut leaves it, or may take it away
+abbrev pub system_as : PlainSystem → (now : Files) → (durable : Option MemFolder) → Bool → PlainSystem
 system_as system now durable rooted = record system {
   folder = folder_with system.folder now;
-  durable = folder_with system.durable durable;
+  durable = durable;
   is_rooted = rooted;
 }
 
 -- all of its files were synced
 abbrev pub system_with : PlainSystem → Files → Bool → PlainSystem
-system_with system s rooted = system_as system s s rooted
+system_with system s rooted = system_as system s None rooted
 
 pub sound_intact : (spared : Spared) (s : Files) (o : Message) → IsSoundAt s o → IsIntact spared s o
 sound_intact spared s o (inl none) = missing_intact o s none

@@ -1,19 +1,16 @@
-use Rattle.std.proofs.Common.{ap, subst, sym, ◌∙◌, IsTrue}
+use Rattle.std.proofs.Common.{ap, sym, ◌∙◌}
 use Rattle.std.specs.FinMap.{get}
 use Rattle.maildir_run.specs.Files.{Files}
-use Rattle.maildir_run.specs.MemFolder.{files_of}
 use Rattle.maildir_memory.specs.Plain.{opened_as}
-use Rattle.maildir_memory.proofs.Plain.{ok_then, synced}
+use Rattle.maildir_memory.proofs.Plain.{files, only_left, synced}
 use Rattle.maildir_memory.proofs.plain_system.PlainSystemSystem.sync_file.Goals as goal
-use Rattle.maildir_memory.specs.declared.plain_system.PlainSystem.{PlainSystem}
 
 pub returns-clause-looks : goal.returns-clause-looks
 returns-clause-looks c =
-    let did = c.sync.ensures in
-    synced c.args.self.now c.sync.new.self (ap (λ (s : PlainSystem). s.folder) did.rest) (ap (λ (s : PlainSystem). s.log) did.rest)
-    (λ rooted. subst (λ (s : PlainSystem). IsTrue s.is_rooted) (sym did.rest) rooted) did.stays
+    let old = c.args.self.now in synced old c.sync.new.self old.is_rooted c.sync.ensures (λ rooted. rooted)
 
 pub returns-clause-kept : goal.returns-clause-kept
-returns-clause-kept c = λ spared h current.
-    let same = sym (ap (λ (s : PlainSystem). files_of s.folder) c.sync.ensures.rest) in
-    ok_then c.sync.result (λ only left may known. ap (λ (s : Files). get s.tmp (opened_as c.args._file.now)) (only left may ∙ same)) c.sync.ensures.only
+returns-clause-kept c = λ spared h current left may known.
+    let old = c.args.self.now in
+    let same = only_left old c.sync.new.self old.is_rooted c.sync.ensures left may ∙ sym (files old c.sync.new.self old.is_rooted c.sync.ensures) in
+    ap (λ (s : Files). get s.tmp (opened_as c.args._file.now)) same
