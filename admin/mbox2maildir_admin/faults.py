@@ -135,7 +135,7 @@ class Left(Fault):
     messages: Optional[int] = None
     most: Optional[int] = None
 
-    def known(self, kind: str, messages: Optional[int] = None, most: Optional[int] = None) -> "Left":
+    def known(self, kind: str, messages: Optional[int], most: Optional[int]) -> "Left":
         """The same, with what is known of the mailbox."""
         self.kind, self.messages, self.most = kind, messages, most
         return self
@@ -147,22 +147,18 @@ def fault_of(error: Union[Fault, OSError], path: bytes) -> Fault:
     if isinstance(error, Fault):
         return error
     place = path if error.filename is None else os.fsencode(error.filename)
-    why, then = error.strerror or str(error), next_at(place, error.errno)
+    why, is_absent, then = error.strerror or str(error), error.errno in ABSENT, NOTHING
+    if error.errno == errno.EACCES:
+        then = run_next("ls", "-ld", operand(place))
+    elif is_absent:
+        # the folder above shows what is there
+        above = place
+        while above and not may_be(is_folder, above):
+            above = os.path.dirname(above)
+        then = run_next("ls", operand(above or b"."))
     if place != path:
         return PlaceFault("%s: %s" % (named(place), why), Reason.ERROR, then)
-    return Left(why, Reason.MISSING if error.errno in ABSENT else Reason.ERROR, then)
-
-
-def next_at(place: bytes, number: Optional[int]) -> Next:
-    """What is to be done about an error of the system of this number at a place. If nothing is there, its folder shows
-    what is."""
-    if number == errno.EACCES:
-        return run_next("ls", "-ld", operand(place))
-    if number not in ABSENT:
-        return NOTHING
-    while place and not may_be(is_folder, place):
-        place = os.path.dirname(place)
-    return run_next("ls", operand(place or b"."))
+    return Left(why, Reason.MISSING if is_absent else Reason.ERROR, then)
 
 
 def complain_of(error: Union[Fault, OSError], path: bytes = b"") -> None:

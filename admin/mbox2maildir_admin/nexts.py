@@ -284,12 +284,11 @@ def lines_below(quotes: Sequence[Quote], then: Next, is_once: bool = False) -> I
 
 def objects_of(then: Next, user: Optional[str] = None) -> list[dict[str, Any]]:
     """The same for programs. `user` is who runs what names no user, if that is said."""
-    return [object_of(step, user) for step in then]
-
-
-def object_of(step: Step, user: Optional[str]) -> dict[str, Any]:
-    """The object of one command or task."""
-    if isinstance(step, Task):
-        return {"task": step.sentence()}
-    by = user if step.command.user is None else step.command.user
-    return {"answer": step.does.word, **step.command.fields(), "user": by, "messages": step.messages}
+    objects: list[dict[str, Any]] = []
+    for step in then:
+        if isinstance(step, Task):
+            objects.append({"task": step.sentence()})
+            continue
+        command, by = step.command, user if step.command.user is None else step.command.user
+        objects.append({"answer": step.does.word, **command.fields(), "user": by, "messages": step.messages})
+    return objects

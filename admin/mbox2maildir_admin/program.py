@@ -89,10 +89,15 @@ class Program:
         return Converted(Offset(os.lseek(number, 0, os.SEEK_CUR)), int(placed[1]) if placed else 0)
 
     @contextlib.contextmanager
-    def listing(self, number: int, start: Offset) -> Iterator[Optional["Listing"]]:
-        """Gives what the program lists of an open text from an offset on; None for a program that lists nothing."""
-        with Listing.open(number, start, self.path, self.alive) as listing, INTERRUPTS.let_through():
-            yield listing
+    def listing(self, number: int, start: Offset) -> Iterator["Listing"]:
+        """Gives what the program lists of an open text from an offset on. This moves its offset."""
+        os.lseek(number, start, os.SEEK_SET)
+        with running(
+            [self.path, b"list"], stdin=number, stdout=subprocess.PIPE, stderr=subprocess.PIPE, bufsize=BUFFER
+        ) as child:
+            listing = Listing(child, self.alive)
+            with INTERRUPTS.let_through():
+                yield listing
 
     def wait_for(self, child: Process, number: int, tell: Callable[[Offset], None]) -> str:
         """Waits for the end of the program, and returns what it said. A program that was stopped says nothing
@@ -145,16 +150,6 @@ class Listing:
         assert child.stdout is not None, "it is a pipe"
         self.child = child
         self.rows = child.stdout if alive is None else io.BufferedReader(Printed(child.stdout, alive), BUFFER)
-
-    @classmethod
-    @contextlib.contextmanager
-    def open(cls, number: int, start: Offset, program: bytes, alive: Optional[int]) -> Iterator["Listing"]:
-        """Lists an open text from an offset on. This moves its offset. Signals are held meanwhile."""
-        os.lseek(number, start, os.SEEK_SET)
-        with running(
-            [program, b"list"], stdin=number, stdout=subprocess.PIPE, stderr=subprocess.PIPE, bufsize=BUFFER
-        ) as child:
-            yield cls(child, alive)
 
     def has(self, number: int, base: bytes, size: int) -> bool:
         """Whether the next line is that of a message: its number, its base and its size. Raises Fault if there is

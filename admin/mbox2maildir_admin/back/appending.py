@@ -164,10 +164,13 @@ class Appending:
             else:
                 draft = stack.enter_context(Draft.at(os.path.join(self.opened.folder, GOES_BACK + UNFINISHED)))
             plan = self.planned(draft)
-            if dry:
-                self.rehearse(plan, draft)
-            else:
+            if not dry:
                 self.carry_out(plan, draft)
+            elif plan.entries:
+                # a copy of the mailbox with it shows how that would be read
+                blocks = itertools.chain(self.mailbox.again().blocks(), Reader(draft.number, end=draft.size).blocks())
+                with copy_of(self.mailbox, blocks, self.way.disk) as text:
+                    self.want_right(text, plan.entries, reading_now(self.mailbox))
         self.numbering.end([*self.target.returned, *plan.there, *(one.mail for one in plan.entries)], dry)
         row = self.row(plan)
         if plan.refused and not plan.entries and was_empty:
@@ -255,14 +258,6 @@ class Appending:
         # once the ledger says that it went back, no run may take it for a part, and cut it off
         beside.remove()
         ledger.note(END_LINE % number)
-
-    def rehearse(self, plan: Plan, draft: Draft) -> None:
-        """Appends what was drafted to a copy of the mailbox. Raises what `carry_out` would raise of how that is
-        read."""
-        if plan.entries:
-            blocks = itertools.chain(self.mailbox.again().blocks(), Reader(draft.number, end=draft.size).blocks())
-            with copy_of(self.mailbox, blocks, self.way.disk) as text:
-                self.want_right(text, plan.entries, reading_now(self.mailbox))
 
     def key_after(self, beside: Beside) -> tuple[Size, str]:
         """The size and the SHA-256 of the mailbox once all is appended."""

@@ -293,7 +293,7 @@ def forms_of_letter(text: bytes) -> tuple[bytes, Sequence[bytes]]:
     return pairs[-1][0], [bare for _, bare in pairs]
 
 
-def are_at(entries: Sequence[Appended], inventory: Inventory, first: int = 0) -> bool:
+def are_at(entries: Sequence[Appended], inventory: Inventory, first: int) -> bool:
     """Whether a text has these messages, and no others, from a place on."""
     return len(inventory) == first + len(entries) and all(
         inventory.core(place) == one.mail.core and inventory.bare(place) in one.bares

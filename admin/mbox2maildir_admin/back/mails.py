@@ -6,7 +6,7 @@ one: IMAP keeps some names and changes others. Any further file is new, also a c
 import collections
 import os
 from collections.abc import Iterable, Iterator, Sequence
-from typing import NamedTuple, Optional, TypeVar
+from typing import NamedTuple, TypeVar
 
 from .. import ADMIN
 from ..faults import Fault, PlaceFault, Reason
@@ -23,7 +23,7 @@ from ..mbox.core import forms_of
 from ..mbox.files import open_file
 from ..nexts import Remark, run_next
 from ..terminal import named, operand
-from ..units import Say, silent
+from ..units import Say
 
 DAMAGED = "the ledger of %s is damaged in line %d, so nothing shows which mail came from the old mailboxes"
 NOT_DONE = "a migrate into %s was interrupted: run it again first"
@@ -127,10 +127,6 @@ class Sorted(NamedTuple):
             by_folder((mail.folder, mail) for mail, slot in at_home if slot.went_back(State.HELD)),
         )
 
-    def folders(self) -> set[bytes]:
-        """The folders with mail that goes back, and those about which something is to be said."""
-        return {*self.new, *self.moved, *self.changed, *self.deleted}
-
 
 def by_folder(pairs: Iterable[tuple[bytes, One]]) -> dict[bytes, list[One]]:
     """What each folder has."""
@@ -141,26 +137,20 @@ def by_folder(pairs: Iterable[tuple[bytes, One]]) -> dict[bytes, list[One]]:
 
 
 def lines_about(root: bytes) -> Iterator[tuple[bytes, list[Line]]]:
-    """The lines about the folders of a Maildir. Raises Fault if not all of them are known."""
+    """The lines about the folders of a Maildir. Raises Fault if a ledger does not say all that is in its folder."""
     for path in folders_in(root):
-        folder = name_of(root, path)
-        ledger = Ledger(path)
-        want_whole(root, folder, ledger)
+        folder, ledger = name_of(root, path), Ledger(path)
+        if ledger.leaving:
+            raise PlaceFault(NOT_UNDONE % min(ledger.leaving), Reason.UNDO)
+        if ledger.damage:
+            raise PlaceFault(DAMAGED % (folder_shown(folder), ledger.damage), Reason.LEDGER)
+        is_prepared = has_list(path)
+        # what is only to go back has no file of its own
+        begun = [one for one in ledger.paths() if is_begun(ledger, one)]
+        if is_prepared or begun:
+            then = run_next(ADMIN, "migrate", operand(root), *begun[:1] or ["MAILBOX"])
+            raise PlaceFault(NOT_DONE % folder_shown(folder), Reason.PREPARED if is_prepared else Reason.OTHER, then)
         yield folder, [line for line in ledger.entries(None) if line.state is not State.UNDONE]
-
-
-def want_whole(root: bytes, folder: bytes, ledger: Ledger) -> None:
-    """Raises Fault if a ledger does not say what is in its folder."""
-    if ledger.leaving:
-        raise PlaceFault(NOT_UNDONE % min(ledger.leaving), Reason.UNDO)
-    if ledger.damage:
-        raise PlaceFault(DAMAGED % (folder_shown(folder), ledger.damage), Reason.LEDGER)
-    is_prepared = has_list(ledger.folder)
-    # what is only to go back has no file of its own
-    begun = [one for one in ledger.paths() if is_begun(ledger, one)]
-    if is_prepared or begun:
-        then = run_next(ADMIN, "migrate", operand(root), *begun[:1] or ["MAILBOX"])
-        raise PlaceFault(NOT_DONE % folder_shown(folder), Reason.PREPARED if is_prepared else Reason.OTHER, then)
 
 
 def is_begun(ledger: Ledger, path: str) -> bool:
@@ -169,41 +159,34 @@ def is_begun(ledger: Ledger, path: str) -> bool:
     return number is not None and bool(set(ledger.open[number].letters) - set(RETURNED))
 
 
-def mails_of(root: bytes, say: Say = silent) -> Iterator[Mail]:
+def mails_of(root: bytes, say: Say) -> Iterator[Mail]:
     """The files of mail in all folders of a Maildir. Each is read."""
     for path in folders_in(root):
         if all(is_folder(os.path.join(path, sub)) for sub in SUBFOLDERS[1:]):
             yield from mails_in(name_of(root, path), path, say)
 
 
-def mails_in(folder: bytes, path: bytes, say: Say) -> Iterator[Mail]:
-    """The files of mail in one folder, each once, though programs may rename them meanwhile."""
+def mails_in(folder: bytes, place: bytes, say: Say) -> Iterator[Mail]:
+    """The files of mail in one folder, each once, though programs may rename them meanwhile. The core is that of the
+    message as a mailbox would have it: its last line has ended."""
     met: set[bytes] = set()
-    for listing in listings_of(path):
-        for number, (name, file) in enumerate(listing, 1):
+    for listing in listings_of(place):
+        for number, (name, path) in enumerate(listing, 1):
             say("looking at file %d of %s" % (number, folder_shown(folder)))
             if before_info(name) in met:
                 continue
             try:
-                time, core = int(os.lstat(file).st_mtime), core_in(file)
-            except FileNotFoundError:
+                time = int(os.lstat(path).st_mtime)
+                with open_file(path, os.O_NOFOLLOW) as file:
+                    core, _ = forms_of(file.read, is_ended=True)
+            except (FileNotFoundError, Fault):
+                # it is gone, or no file
                 continue
-            if core:
-                met.add(before_info(name))
-                yield Mail(folder, name, file, core, time)
+            met.add(before_info(name))
+            yield Mail(folder, name, path, core, time)
 
 
-def core_in(path: bytes) -> Optional[bytes]:
-    """The core of the message in a file, as a mailbox would have it: its last line has ended. None for what is no
-    file."""
-    try:
-        with open_file(path, os.O_NOFOLLOW) as file:
-            return forms_of(file.read, is_ended=True)[0]
-    except Fault:
-        return None
-
-
-def sorted_mail(root: bytes, say: Say = silent) -> Sorted:
+def sorted_mail(root: bytes, say: Say) -> Sorted:
     """Which mail of a Maildir is new, and what became of the rest. Raises Fault if nothing shows that."""
     try:
         return Sorted.by(lines_about(root), mails_of(root, say))

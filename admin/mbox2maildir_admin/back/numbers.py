@@ -313,13 +313,10 @@ class Numbering:
         names = [name for name, its in wanted.items() if its or is_dry]
         if names:
             self.remarks.append(Remark("keywords-added", ADDED % (self.why, first_of(names, " "))))
-        if not is_dry:
-            self.next = (*self.next, *(self.adding(name, wanted[name]) for name in names))
-
-    def adding(self, name: bytes, uids: Iterable[int]) -> Answer:
-        """The command by which Dovecot adds a keyword to the messages with these UIDs."""
-        words = [*["--"] * name.startswith(b"-"), text_of(name), "mailbox", self.name, "uid", ranges_of(uids)]
-        return Answer(Command.of("doveadm", "flags", "add", *of_this_user(), *words), Does.ADD_KEYWORDS)
+        for name in names if not is_dry else ():
+            to = "mailbox", self.name, "uid", ranges_of(wanted[name])
+            words = *of_this_user(), *["--"] * name.startswith(b"-"), text_of(name), *to
+            self.next += (Answer(Command.of("doveadm", "flags", "add", *words), Does.ADD_KEYWORDS),)
 
 
 def of_this_user() -> list[str]:

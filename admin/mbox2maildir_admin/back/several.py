@@ -112,7 +112,7 @@ class Folders:
 
     def folders(self, found: Sorted) -> Iterator[bytes]:
         """The folders with mail that goes back, or with a mailbox, and those about which something is to be said."""
-        wanted = {*found.folders(), *self.places.found}
+        wanted = {*found.new, *found.moved, *found.changed, *found.deleted, *self.places.found}
         for path in folders_in(self.way.root):
             folder = name_of(self.way.root, path)
             if folder in wanted or is_there(os.path.join(path, GOES_BACK)):

@@ -16,7 +16,6 @@ from ..units import counted
 from .beside import Draft
 from .places import Places
 
-KIND = "subscriptions"
 # the ending of its name while it is written
 PART = b".mbox2maildir-back"
 # the parts of the name of a folder
@@ -94,7 +93,7 @@ def rows_of(places: Places, is_dry: bool, would: Container[bytes]) -> Iterator[R
         yield row_left(path, b"", fault)._replace(reason=Reason.SUBSCRIPTIONS, is_back=True)
         return
     says = Remark("subscriptions", "subscribed to %s" % counted(len(names), "folder"))
-    yield Row(path, b"", KIND, None, Fate.WOULD_BACK if is_dry else Fate.BACK, remarks=(says,), is_back=True)
+    yield Row(path, b"", "subscriptions", None, Fate.WOULD_BACK if is_dry else Fate.BACK, remarks=(says,), is_back=True)
 
 
 def write(path: bytes, text: bytes) -> None:

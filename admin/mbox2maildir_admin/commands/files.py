@@ -84,22 +84,17 @@ def for_mailboxes(maildir: bytes, path: bytes, task: Callable[[bytes, bytes], bo
     and its folder. A file without mail by the record is left out."""
     if not is_folder(path):
         record = record_of(maildir)
-        left = left_out(path, maildir, record, tell) if record.noted(Note.NO_MAIL, INBOX, path) else None
+        left = left_out(path, maildir, record, tell) if record.noting(Note.NO_MAIL, INBOX, path) else None
         if left:
             return say_left_out([left], tell)
-        folder = folder_by_record(maildir, path, record)
+        # what was named may be a folder of a Maildir: then that is the one that has its mail
+        is_root = root_of(maildir) == maildir
+        folder = recorded(Planned(path, INBOX), record).folder_in(maildir) if is_root else maildir
         with of_folder(folder, maildir, path):
             return task(folder, path)
     with Record.open(maildir, False) as record:
         tree, plan = read_tree(path, maildir, record)
     return for_planned(maildir, path, (plan, tree.rows), record, task, tell)
-
-
-def folder_by_record(maildir: bytes, path: bytes, record: History) -> bytes:
-    """The folder in which the record of a Maildir has a mailbox; the Maildir itself if it has it in none, or if it is
-    not the record's own, but a folder that was named."""
-    is_root = root_of(maildir) == maildir
-    return recorded(Planned(path, INBOX), record).folder_in(maildir) if is_root else maildir
 
 
 def for_planned(

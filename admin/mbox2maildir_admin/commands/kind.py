@@ -19,7 +19,7 @@ from ..mbox.mailbox import Mailbox
 from ..migration.outcomes import Detail, Fate, Observer, Row
 from ..migration.rows import Shows
 from ..migration.trees import Tree
-from ..nexts import NOTHING, Answer, Command, Next, Quote, Todo, User, task
+from ..nexts import Answer, Command, Next, Quote, Todo, User, task
 from ..progress import say_of
 from ..readings.plans import OtherKind, Question, answers_to, question_of
 from ..readings.reading import UNDECIDED, Reading
@@ -37,7 +37,7 @@ def do_kind(given: Given) -> int:
     return Status.of(each(given.operands, lambda path: kind_below(path, tell), tell))
 
 
-def row_found(path: bytes, kind: str, then: Next = NOTHING) -> Row:
+def row_found(path: bytes, kind: str, then: Next) -> Row:
     """The row of a file of a kind."""
     return Row(path, b"", kind, None, Fate.FOUND, next=then)
 
@@ -61,18 +61,23 @@ def kind_below(path: bytes, tell: Observer) -> bool:
 def kind_of(path: bytes, tell: Observer, tree: Optional[Tree] = None) -> bool:
     """Prints what a file is. Returns whether it can be converted as it is or, in a tree, holds no mail."""
     with Mailbox.open(path, say_of(path)) as mailbox:
-        verdict = look_at(mailbox)
+        verdict, top = look_at(mailbox), tree.old if tree else b""
         if tree and verdict.holds == Holds.NO_MAIL:
             tree.pass_over(path, kind=verdict.kind.partition(": ")[2])
             return True
-        return say_kind_in(mailbox, verdict, tell, tree.old if tree else b"")
+        if form_of(mailbox):
+            say_kind_in(mailbox, verdict, tell, top)
+            # a packed file has to be unpacked first
+            return False
+        then, quotes = next_of(mailbox, verdict, top)
+        row = row_found(path, verdict.kind, then)._replace(messages=verdict.messages, most=verdict.most)
+        details = tuple(Detail(one.says, line=one.line or None, text=one.text) for one in verdict.remarks)
+        tell.row(row._replace(quotes=tuple(quotes), details=details))
+        return verdict.is_as_it_is
 
 
-def say_kind_in(mailbox: Mailbox, verdict: Verdict, tell: Observer, top: bytes) -> bool:
-    """The same for a file that may be packed: it prints what is in it, and a packed file cannot be converted as it is.
-    `top` is the folder of mailboxes that it is in, if it is in one."""
-    if not form_of(mailbox):
-        return say_kind(mailbox, verdict, tell, top)
+def say_kind_in(mailbox: Mailbox, verdict: Verdict, tell: Observer, top: bytes) -> None:
+    """Prints what is in a packed file. `top` is the folder of mailboxes that it is in, if it is in one."""
     path = mailbox.path
     try:
         with choice_of(mailbox, trial_folder()) as choice:
@@ -85,22 +90,12 @@ def say_kind_in(mailbox: Mailbox, verdict: Verdict, tell: Observer, top: bytes) 
         if isinstance(left, OtherKind):
             left.put(where(path, top))
         tell.row(left_as(left, path, left.kind or verdict.kind))
-    return False
 
 
 def left_as(left: Left, path: bytes, kind: str) -> Row:
     """What a file is that would be left."""
     row = row_found(path, kind, left.next)._replace(messages=left.messages, most=left.most)
     return row._replace(why=str(left), quotes=left.quotes)
-
-
-def say_kind(mailbox: Mailbox, verdict: Verdict, tell: Observer, top: bytes) -> bool:
-    """Prints what a file is. Returns whether it can be converted as it is."""
-    then, quotes = next_of(mailbox, verdict, top)
-    row = row_found(mailbox.path, verdict.kind, then)._replace(messages=verdict.messages, most=verdict.most)
-    details = tuple(Detail(one.says, line=one.line or None, text=one.text) for one in verdict.remarks)
-    tell.row(row._replace(quotes=tuple(quotes), details=details))
-    return verdict.is_as_it_is
 
 
 def next_of(mailbox: Mailbox, verdict: Verdict, top: bytes) -> tuple[Next, Sequence[Quote]]:
@@ -149,16 +144,10 @@ def may_write(folder: bytes, owner: int) -> bool:
     state = os.stat(folder)
     if owner == state.st_uid:
         return bool(state.st_mode & stat.S_IWUSR)
-    if owner in members_of(state.st_gid):
-        return bool(state.st_mode & stat.S_IWGRP)
-    return bool(state.st_mode & stat.S_IWOTH)
-
-
-def members_of(group: int) -> set[int]:
-    """The numbers of the users in a group. Some that its list names may have no account any more."""
-    members = {user.pw_uid for user in pwd.getpwall() if user.pw_gid == group}
+    members = {user.pw_uid for user in pwd.getpwall() if user.pw_gid == state.st_gid}
     with contextlib.suppress(KeyError):
-        for name in grp.getgrgid(group).gr_mem:
+        for name in grp.getgrgid(state.st_gid).gr_mem:
+            # some that its list names may have no account any more
             with contextlib.suppress(KeyError):
                 members.add(pwd.getpwnam(name).pw_uid)
-    return members
+    return bool(state.st_mode & (stat.S_IWGRP if owner in members else stat.S_IWOTH))

@@ -116,20 +116,17 @@ def migrate_named(maildir: bytes, names: Sequence[bytes], options: Options, repo
 
 def printer_of(given: Given) -> Reporter:
     """What prints the rows; on a terminal it may ask questions too."""
-    shows = Shows(Row.is_said if given.all else None, given.users, not given.dry_run, typed_in(given))
+    # the command that was typed, without what answers questions
+    words = [words for words in given.typed if words[0].split("=")[0] not in ANSWERS]
+    takes_users = given.users and len(given.operands) == 1 and given.names is None
+    typed = Typed([word for several in words for word in several], given.operands, takes_users)
+    shows = Shows(Row.is_said if given.all else None, given.users, not given.dry_run, typed)
     asks_nothing = given.json or given.no_questions or given.users or given.undo or given.dry_run
     if asks_nothing or not has_terminal():
         return reporter_of(given, shows)
     from .questions import Asker
 
     return Asker(given.operands[1:], shows)
-
-
-def typed_in(given: Given) -> Typed:
-    """The command that was typed, without what answers questions."""
-    words = [words for words in given.typed if words[0].split("=")[0] not in ANSWERS]
-    takes_users = given.users and len(given.operands) == 1 and given.names is None
-    return Typed([word for several in words for word in several], given.operands, takes_users)
 
 
 def options_of(given: Given, alone: bool) -> Options:

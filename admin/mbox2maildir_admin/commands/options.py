@@ -1,7 +1,6 @@
 """The options of all commands in one table: what each takes, what it says, what it needs and what it excludes; and what
 some of them give."""
 import os
-from collections.abc import Container, Iterator, Sequence
 from types import SimpleNamespace
 from typing import Any, NamedTuple, Optional
 
@@ -196,29 +195,19 @@ def options_of(command: str) -> dict[str, list[Option]]:
 
 def want_together(command: str, given: Given) -> None:
     """Raises WrongOptions unless the options and the operands of a command go together."""
-    names = {words[0].partition("=")[0] for words in given.typed}
+    names, mailboxes = {words[0].partition("=")[0] for words in given.typed}, given.operands[1:]
     for group, options in options_of(command).items():
         for name in (one.name for one in options if one.name in names):
-            of_users = "--users" if group == USERS else ""
-            for wrong in (*wrong_with(name, of_users, names), *wrong_for(name, given.operands[1:])):
-                raise WrongOptions(wrong)
-
-
-def wrong_with(name: str, needs: str, given: Container[str]) -> Iterator[str]:
-    """What is wrong with an option, which needs others besides, where these are given."""
-    for one in (*NEEDS.get(name, "").split(), *needs.split()):
-        if not any(other in given for other in one.split("|")):
-            yield "%s needs %s" % (name, one.replace("|", " or "))
-    for other in EXCLUDES.get(name, "").split():
-        if other in given:
-            yield "%s does not go with %s" % (name, other)
-
-
-def wrong_for(name: str, mailboxes: Sequence[bytes]) -> Iterator[str]:
-    """What is wrong with an option for these mailboxes."""
-    needs = MAILBOXES.get(name)
-    if needs and (needs == ONE and len(mailboxes) > 1 or any(map(is_folder, mailboxes))):
-        yield "%s needs %s" % (name, needs)
+            wanted = MAILBOXES.get(name)
+            are_others = wanted and (wanted == ONE and len(mailboxes) > 1 or any(map(is_folder, mailboxes)))
+            for needed in (*NEEDS.get(name, "").split(), *["--users"] * (group == USERS)):
+                if names.isdisjoint(needed.split("|")):
+                    raise WrongOptions("%s needs %s" % (name, needed.replace("|", " or ")))
+            for other in EXCLUDES.get(name, "").split():
+                if other in names:
+                    raise WrongOptions("%s does not go with %s" % (name, other))
+            if are_others:
+                raise WrongOptions("%s needs %s" % (name, wanted))
 
 
 def jobs_in(given: Given) -> Optional[int]:

@@ -92,7 +92,7 @@ class Asker(Reporter):
         return super().end(*more)
 
 
-def letter_for(group: Group, title: str, names: Sequence[bytes] = ()) -> str:
+def letter_for(group: Group, title: str, names: Sequence[bytes]) -> str:
     """Asks about mailboxes that have the same question, and returns the letter that was typed; that of what is left if
     the input ends."""
     rows, around = group.rows, AROUND

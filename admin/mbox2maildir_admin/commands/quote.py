@@ -28,7 +28,7 @@ def do_quote(given: Given) -> int:
     return Status.of(each(given.operands, lambda file: quote_file(decision, file, output, has_numbers), Complaints()))
 
 
-def quote_file(decision: Reading, file: bytes, output: bytes, is_bare: bool = False) -> bool:
+def quote_file(decision: Reading, file: bytes, output: bytes, is_bare: bool) -> bool:
     """Writes a copy of a file, and says what it has."""
     say: Say = say_of(file)
     if output == STANDARD_OUTPUT:

@@ -11,8 +11,7 @@ from ..labels.parts import checks_of
 from ..maildir.checking import Check, State
 from ..maildir.either import Either
 from ..maildir.files import forms_in, paths_of
-from ..maildir.folders import INBOX
-from ..mbox.inventory import IN_MEMORY, Inventory
+from ..mbox.inventory import IN_MEMORY
 from ..migration.outcomes import Detail, Fate, Observer, Row
 from ..migration.rows import Reporter, Shows
 from ..nexts import Remark
@@ -26,8 +25,6 @@ from .options import Given
 from .recorded import reading_then, record_of, root_of
 from .running import Telling, reporter_of, run_reported
 
-# what all mailboxes together are at, and what is to be done if the output takes no more
-VERIFYING, AGAIN = "verifying", "run the same command again"
 # what is said of how many messages, files and lines there are of each sort, and of each of them
 SORTS = {
     "other-bytes": ("other bytes %d", "other bytes in"),
@@ -44,13 +41,13 @@ STATES = {"other-bytes": State.OTHER, "renamed": State.RENAMED, "nowhere": State
 def do_verify(given: Given) -> int:
     """Says whether each message is in the Maildir."""
     shows = Shows((lambda row: True) if given.all else None, given.users)
-    reporter = reporter_of(given, shows, {}, VERIFYING)
+    reporter = reporter_of(given, shows, {}, "verifying")
     if given.users:
         # only this one needs what migrates
         task = importlib.import_module("%s.verify_users" % __package__).verifying_users(given)
     else:
         task = verifying(*given.operands)
-    return run_reported(task, reporter, given.report, AGAIN)
+    return run_reported(task, reporter, given.report, "run the same command again")
 
 
 def verifying(maildir: bytes, *files: bytes) -> Telling:
@@ -71,7 +68,7 @@ def verifying(maildir: bytes, *files: bytes) -> Telling:
     return verify
 
 
-def verify_file(maildir: bytes, file: bytes, program: bytes, tell: Observer, folder: bytes = INBOX) -> bool:
+def verify_file(maildir: bytes, file: bytes, program: bytes, tell: Observer, folder: bytes) -> bool:
     """Says which messages of one mailbox are there, and returns whether each is there exactly once."""
     say = tell.say(file)
     tell.begin()
@@ -100,8 +97,8 @@ def row_of(path: bytes, folder: bytes, check: Check, bare: int) -> Row:
     """The row of a mailbox that was compared with its folder, in which some of its messages are there without some
     fields."""
     counts = {
-        "there": check.count(State.THERE),
-        **{word: check.count(state) for word, state in STATES.items()},
+        "there": check.states.count(State.THERE),
+        **{word: check.states.count(state) for word, state in STATES.items()},
         "double": len(check.doubles),
         "other-owner": len(check.strangers),
         "doubtful-line": len(check.doubts),
@@ -126,8 +123,10 @@ def details_of(check: Check) -> Iterator[Detail]:
 
 def check_of(program: bytes, maildir: bytes, text: Text, say: Say) -> tuple[Check, int]:
     """What a look into a Maildir shows of the messages of a text, and how many of them are there without fields, or
-    with other ones."""
-    either = Either.of(maildir, inventory_of(text, program), text.mailbox, text.start)
+    with other ones. Raises Fault unless `mbox2maildir list` has the same messages."""
+    with Program(program).listing(text.mailbox.number, text.start) as listing:
+        inventory = text.messages(listing, with_cores=False)
+    either = Either.of(maildir, inventory, text.mailbox, text.start)
     check = Check(either.inventory, say, either.others())
     if not either.chosen and text.mailbox.size <= IN_MEMORY:
         # all files have what is in the text
@@ -140,7 +139,7 @@ def check_of(program: bytes, maildir: bytes, text: Text, say: Say) -> tuple[Chec
 def take_alike(maildir: bytes, text: Text, check: Check) -> int:
     """Takes a file for each message that is nowhere if they differ only in header fields that mail programs write for
     themselves: another mailbox has brought it. Returns how many."""
-    if not check.count(State.NOWHERE):
+    if not check.states.count(State.NOWHERE):
         return 0
     inventory, taken, count = text.messages(), {*check.paths.values()}, 0
     wanted: collections.defaultdict[bytes, list[Place]] = collections.defaultdict(list)
@@ -153,9 +152,3 @@ def take_alike(maildir: bytes, text: Text, check: Check) -> int:
             check.take_alike(places.pop(0), path)
             count += 1
     return count
-
-
-def inventory_of(text: Text, program: bytes) -> Inventory:
-    """The messages of a text. Raises Fault unless `mbox2maildir list` has the same ones."""
-    with Program(program).listing(text.mailbox.number, text.start) as listing:
-        return text.messages(listing, with_cores=False)

@@ -49,7 +49,8 @@ class Verifier(Migrant):
         with Record.open(root, False) as record:
             pairs = Pairs(record, root, own=names)
             for name in names:
-                tree = Tree(name, root, options=self.options).read() if is_tree(name) else None
+                is_tree = is_folder(name) and not is_link(name)
+                tree = Tree(name, root, options=self.options).read() if is_tree else None
                 plan = tree.plan(record, root) if tree else list(self.planned(name, pairs, relay))
                 for_planned(root, name, (plan, tree.rows if tree else ()), record, verify, relay)
 
@@ -64,8 +65,3 @@ class Verifier(Migrant):
             relay.leave(name, one.why)
         else:
             yield one
-
-
-def is_tree(name: bytes) -> bool:
-    """Whether a name is that of a folder of mailboxes."""
-    return is_folder(name) and not is_link(name)

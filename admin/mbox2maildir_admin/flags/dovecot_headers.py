@@ -74,22 +74,18 @@ def head_of(field: Field) -> Optional[Head]:
     found = HEAD.match(field.value) if field.name in (b"x-imapbase", b"x-imap") else None
     if not found or not number_of(found.group(1)):
         return None
-    names = keywords_of(field.value[found.end() :])
-    return Head(number_of(found.group(1)), number_of(found.group(2)), names, field.name == b"x-imap")
+    names: dict[bytes, bytes] = {}
+    for name in field.value[found.end() :].split():
+        if len(name) <= LONGEST_KEYWORD and not NO_KEYWORD.search(name):
+            # each counts once, whatever its case
+            names.setdefault(name.lower(), name)
+    keywords, is_hidden = list(names.values()), field.name == b"x-imap"
+    return Head(number_of(found.group(1)), number_of(found.group(2)), keywords, is_hidden)
 
 
 def number_of(digits: bytes) -> int:
     """A number as Dovecot reads it. Dovecot holds 32 bits: digits before the last 32 add nothing to these."""
     return int(digits[-32:]) & MOST_VALIDITY
-
-
-def keywords_of(value: bytes) -> list[bytes]:
-    """The keywords that a head names, each once, whatever its case."""
-    names: dict[bytes, bytes] = {}
-    for name in value.split():
-        if len(name) <= LONGEST_KEYWORD and not NO_KEYWORD.search(name):
-            names.setdefault(name.lower(), name)
-    return list(names.values())
 
 
 def internal_head(mailbox: Mailbox, start: Offset) -> tuple[Optional[Head], Offset]:

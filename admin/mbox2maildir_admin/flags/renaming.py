@@ -45,22 +45,17 @@ class Flagged(NamedTuple):
 def flagged_in(folder: bytes, inventory: Inventory) -> Iterator[Flagged]:
     """The files of a Maildir that belong to messages. A file that gets flags meanwhile comes twice."""
     for sub in (b"new", b"cur"):
-        for place, info in zip(*infos_in(os.path.join(folder, sub), inventory)):
+        # what follows the bases: files share few of these infos, while a list of their names would take much memory
+        places, infos, known = array.array("Q"), list[bytes](), {b"": b""}
+        with os.scandir(os.path.join(folder, sub)) as entries:
+            for name in (entry.name for entry in entries):
+                place, info = inventory.place(name), name[len(before_info(name)) :]
+                if place is not None and (not info or info.startswith(INFO)):
+                    places.append(place)
+                    infos.append(known.setdefault(info, info))
+        for place, info in zip(map(Place, places), infos):
             base = inventory.table.name(place)
-            yield Flagged(Place(place), sub, base + info, base, info[len(INFO) :].decode("latin-1"))
-
-
-def infos_in(path: bytes, inventory: Inventory) -> tuple[Sequence[int], Sequence[bytes]]:
-    """The places of the messages that have a file in this folder, and what follows the base in the name of each. Files
-    share few infos, while a list of their names would take much memory."""
-    places, infos, known = array.array("Q"), [], {b"": b""}
-    with os.scandir(path) as entries:
-        for name in (entry.name for entry in entries):
-            place, info = inventory.place(name), name[len(before_info(name)) :]
-            if place is not None and (not info or info.startswith(INFO)):
-                places.append(place)
-                infos.append(known.setdefault(info, info))
-    return places, infos
+            yield Flagged(place, sub, base + info, base, info[len(INFO) :].decode("latin-1"))
 
 
 def add_flags(

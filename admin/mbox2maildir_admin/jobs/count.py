@@ -15,32 +15,23 @@ NEED = 256 << 20
 AVAILABLE = re.compile(rb"^MemAvailable: +(\d+) kB$", re.M)
 
 
-def available() -> Optional[int]:
-    """How many bytes of memory are free, or can be made free; None if the system does not tell."""
-    try:
-        with open("/proc/meminfo", "rb") as file:
-            found = AVAILABLE.search(file.read())
-    except OSError:
-        return None
-    return int(found.group(1)) << 10 if found else None
-
-
 def jobs_of(asked: Optional[int], count: int) -> int:
     """How many of `count` are at work at the same time: as many as were asked for, otherwise eight, or as many as
     memory allows, which is said."""
     if asked is not None or count < 2:
         return asked or 1
-    memory, jobs = available(), min(MOST, count)
-    if memory is not None and memory // NEED < jobs:
+    jobs = min(MOST, count)
+    try:
+        with open("/proc/meminfo", "rb") as file:
+            found = AVAILABLE.search(file.read())
+    except OSError:
+        return jobs
+    # what is free, or can be made free, if the system tells that
+    memory = int(found.group(1)) << 10 if found else jobs * NEED
+    if memory // NEED < jobs:
         jobs = max(1, memory // NEED)
         complain("only %s of memory are free, so %d at a time; --jobs N sets another number" % (length(memory), jobs))
     return jobs
-
-
-def share_of(jobs: int, count: int, place: int) -> int:
-    """How many of these jobs the one at a place has, if `count` are at work at the same time. What is left over goes to
-    the first ones, which are the largest."""
-    return jobs // count + (place < jobs % count)
 
 
 def groups_of(folders: Sequence[bytes]) -> list[Places]:

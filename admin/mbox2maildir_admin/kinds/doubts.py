@@ -8,8 +8,7 @@ of numbers, by which lines are named, has these too.
 import array
 import functools
 import hashlib
-from collections.abc import Iterator, Mapping
-from types import MappingProxyType
+from collections.abc import Mapping
 from typing import NamedTuple, Optional
 
 from ..mbox.fields import NOTED_FIELD
@@ -38,7 +37,7 @@ class Ties(NamedTuple):
 
     messages: str
     numbers: str
-    first: Mapping[str, int] = MappingProxyType({})
+    first: Mapping[str, int]
 
 
 class Doubts:
@@ -90,30 +89,23 @@ class Doubts:
         if self.known is None:
             messages, numbers = hashlib.sha256(what.encode()), hashlib.sha256(b"lines of " + what.encode())
             first = {}
-            for count, (line, entry) in enumerate(self.entries(), 1):
+            for number, (line, why, offset) in enumerate(zip(self.lines, self.whys, self.offsets)):
+                shown = hashlib.sha256(around(self.mailbox, offset)).hexdigest()
+                entry = b"\n%d %d %s " % (number, why, shown.encode())
                 messages.update(entry)
                 numbers.update(entry + b"%d" % line)
-                first[messages.hexdigest()[:DIGITS]] = count
+                first[messages.hexdigest()[:DIGITS]] = number + 1
             self.known = Ties(messages.hexdigest()[:DIGITS], numbers.hexdigest()[:DIGITS], first)
         return self.known
 
-    def entries(self) -> Iterator[tuple[int, bytes]]:
-        """Each line with its number among them, why it is doubtful, and what is around it."""
-        for number, (line, why, offset) in enumerate(zip(self.lines, self.whys, self.offsets)):
-            shown = b"\n".join([*before(self.mailbox, offset), b"", *from_on(self.mailbox, offset)])
-            yield line, b"\n%d %d %s " % (number, why, hashlib.sha256(shown).hexdigest().encode())
 
-
-def before(mailbox: Mailbox, offset: int) -> list[bytes]:
-    """The lines before an offset back to a line `From `, and the beginning of its own."""
+def around(mailbox: Mailbox, offset: int) -> bytes:
+    """The line that has an offset, parted there, with those around it: back to a line `From `, and on up to the next
+    one, without empty ones at the end."""
     begin = max(0, offset - NEAR)
     text = b"\n" * (begin == 0) + mailbox.at(begin, offset - begin)
     text = text[max(0, text.find(b"\n", text.rfind(b"\n" + FROM) + 1)) :]
-    return NOTED_FIELD.sub(b"", text).split(b"\n")[1:][-AROUND - 1 :]
-
-
-def from_on(mailbox: Mailbox, offset: int) -> list[bytes]:
-    """The rest of the line of an offset, and the lines after it up to a line `From `, without empty ones at the end."""
+    before = NOTED_FIELD.sub(b"", text).split(b"\n")[1:][-AROUND - 1 :]
     own, end, rest = mailbox.at(offset, NEAR).partition(b"\n")
-    lines = NOTED_FIELD.sub(b"", (end + rest).split(b"\n" + FROM, 1)[0]).split(b"\n")[1:][:AROUND]
-    return [own, *b"\n".join(lines).rstrip(b"\n").split(b"\n")]
+    after = NOTED_FIELD.sub(b"", (end + rest).split(b"\n" + FROM, 1)[0]).split(b"\n")[1:][:AROUND]
+    return b"\n".join([*before, b"", own, *b"\n".join(after).rstrip(b"\n").split(b"\n")])

@@ -14,12 +14,12 @@ from ..mbox.inventory import may_hold_mail
 from ..mbox.lines import Lines, Reasons, Said
 from ..mbox.mailbox import Mailbox
 from ..mbox.pieces import FROM, Piece, header_of
-from ..mbox.plain import NOTE, Marked, Plain, marked
+from ..mbox.plain import NOTE, Marked, marked
 from ..terminal import NAMED
 from ..units import Line, Offset
 from .doubts import CUT, DELETED, Doubts
 from .marks import ADDRESS, is_after_blank, joins_in, may_be_mail
-from .sorts import AGAINST, DOUBTFUL, KEEPING, MAY_BE_MAIL, SAID, WITHIN
+from .sorts import AGAINST, DOUBTFUL, KEEPING, MAY_BE_MAIL, SAID
 from .starts import FIELD, end_of_row
 from .undated import Ending, ending_of, shape_of
 
@@ -74,7 +74,9 @@ class Look:
         piece = None
         for piece, plain in marked(self.mailbox.pieces(self.start)):
             if plain and piece.offset >= self.claimed and piece.offset > self.start:
-                self.plain(piece, plain)
+                # a plain message, but the first one
+                self.seen["dated"].count += 1
+                self.header(piece, plain.end + 1, plain.has_marks)
             elif piece.begins:
                 self.begin(piece)
             if piece.has_word or not plain:
@@ -90,16 +92,6 @@ class Look:
         self.doubts.end(have_dates, self.are_deleted())
         self.mailbox.check()
         self.is_whole = True
-
-    def plain(self, piece: Piece, plain: Plain) -> None:
-        """Looks at a plain message, but the first one."""
-        self.messages += 1
-        self.seen["dated"].count += 1
-        self.claimed, self.claimed_by, self.body, self.is_cut = 0, piece.offset, piece.offset + plain.end + 1, False
-        if plain.has_marks:
-            self.header(Header.of(piece), piece)
-        else:
-            self.without = True
 
     def text(self, piece: Piece) -> None:
         """Looks at lines of mail."""
@@ -133,25 +125,19 @@ class Look:
                 self.unescaped.add(self.claimed_by)
         else:
             sort = self.sort_of(piece, dated, has_header)
-        self.seen[sort].add(piece.offset, from_line, self.claimed_by if inside else None)
+        by, is_bare = self.claimed_by if inside else None, not dated and not has_header
+        self.seen[sort].add(piece.offset, from_line, by)
         self.doubts.take(sort, piece, may_hold_mail(from_line))
-        if piece.offset > self.start:
-            self.contradict(piece, sort, dated, has_header)
-        if not inside and sort != "text":
-            self.messages += 1
-            self.message(piece, from_line)
-
-    def contradict(self, piece: Piece, sort: str, dated: bool, has_header: bool) -> None:
-        """Notes which words a line `From ` after the first contradicts, among the words that say how a text was
-        written."""
-        inside, is_bare = sort in WITHIN, not dated and not has_header
+        # which words a line after the first contradicts, among those that say how a text was written
         for against, is_so in (
             ("against each line", inside or is_bare),
             ("against lengths", (has_header if dated else sort in MAY_BE_MAIL) if inside else is_bare),
             ("against dates", dated and not has_header),
         ):
-            if is_so:
-                self.seen[against].add(piece.offset, piece.from_line, self.claimed_by if inside else None)
+            if is_so and piece.offset > self.start:
+                self.seen[against].add(piece.offset, from_line, by)
+        if not inside and sort != "text":
+            self.message(piece, from_line)
 
     def sort_of(self, piece: Piece, dated: bool, has_header: bool) -> str:
         """What a line `From ` outside of right lengths looks like: a From_ line that is "dated" or "undated"; an "odd"
@@ -187,16 +173,19 @@ class Look:
             self.seen["git"].add(piece.offset)
         begin = piece.body
         end, body = header_of(piece.data, begin)
-        self.claimed, self.claimed_by, self.body, self.is_cut = 0, piece.offset, piece.offset + body, False
         lower = piece.data[begin:end].lower()
-        # most mail has nothing of it
-        if any(map(lower.__contains__, LOOKED_AT)):
-            self.header(Header.of(piece), piece)
-        else:
-            self.without = True
+        self.header(piece, body, any(map(lower.__contains__, LOOKED_AT)))
 
-    def header(self, header: Header, piece: Piece) -> None:
-        """Looks at what programs wrote into the header of a message, and at its length."""
+    def header(self, piece: Piece, body: int, has_marks: bool) -> None:
+        """Begins a message, whose body begins at a place of its piece. Looks at what programs wrote into its header, if
+        that has anything of it, and at its length."""
+        self.messages += 1
+        self.claimed, self.claimed_by, self.body, self.is_cut = 0, piece.offset, piece.offset + body, False
+        # most mail has nothing of it
+        if not has_marks:
+            self.without = True
+            return
+        header = Header.of(piece)
         if header[b"x-gm-thrid"]:
             self.seen["Gmail"].add(piece.offset)
         deleted = is_deleted(header.text)

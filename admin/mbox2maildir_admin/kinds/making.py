@@ -5,7 +5,7 @@ import re
 from collections.abc import Callable
 from typing import NamedTuple, Union
 
-from ..nexts import Answer, Command, Does, Next, Phrase, Task, Todo, User, line_of, task
+from ..nexts import Answer, Command, Does, Next, Phrase, Step, Task, Todo, User, line_of, task
 from ..terminal import text_of, word
 
 # the file that a command makes, in its new folder
@@ -110,20 +110,21 @@ class Where(NamedTuple):
 
     def next(self, recipe: Recipe, path: bytes) -> Next:
         """What is to be done with a file."""
-        steps = tuple(self.step(part, path) for part in recipe)
-        return steps + (task(Todo.NAME_PRINTED, text_of(path)) if any(map(self.only_prints, recipe)) else ())
+        steps: list[Step] = []
+        for part in recipe:
+            if isinstance(part, Task):
+                steps.append(part)
+            elif isinstance(part, Makes):
+                steps.append(self.made(part, path))
+            else:
+                steps.append(Answer(Command(shell=filled(part.shell, path), user=self.user), part.does))
+        if any(map(self.only_prints, recipe)):
+            steps += task(Todo.NAME_PRINTED, text_of(path))
+        return tuple(steps)
 
     def only_prints(self, part: Union[Makes, Looks, Task]) -> bool:
         """Whether the command of one part leaves a file where it is, and prints what may be migrated in its place."""
         return self.wants_file and isinstance(part, Makes) and part.is_folder
-
-    def step(self, part: Union[Makes, Looks, Task], path: bytes) -> Union[Answer, Task]:
-        """One part of what is to be done with a file."""
-        if isinstance(part, Task):
-            return part
-        if isinstance(part, Makes):
-            return self.made(part, path)
-        return Answer(Command(shell=filled(part.shell, path), user=self.user), part.does)
 
 
 def beside(path: bytes) -> Where:

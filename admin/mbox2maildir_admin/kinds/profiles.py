@@ -40,26 +40,16 @@ class Profile:
                 if {b"cur", b"tmp"} <= set(folders):
                     # each message has a file
                     folders.clear()
-                else:
-                    self.take(folder, names)
-
-    def take(self, folder: bytes, names: list[bytes]) -> None:
-        """Takes the files in a folder."""
-        for name in names:
-            path = os.path.join(folder, name)
-            account, below = self.parted(path)
-            if account and is_text(below) and head_of(path).startswith(FROM):
-                self.givers[folder_on_disk(below)].add(account)
+                    continue
+                for file in (os.path.join(folder, name) for name in names):
+                    account, below = self.parted(file)
+                    if account and is_text(below) and head_of(file).startswith(FROM):
+                        self.givers[folder_on_disk(below)].add(account)
 
     def parted(self, path: bytes) -> tuple[bytes, bytes]:
         """The account of a mailbox, by its path in the profile, and the path below that."""
         parts = os.path.relpath(path, self.path).split(b"/", 2)
         return (b"/".join(parts[:2]), parts[2]) if len(parts) == 3 and parts[0] in OF_ACCOUNTS else (b"", b"")
-
-    def has_mail(self, path: bytes) -> bool:
-        """Whether the account of a file has mail."""
-        account, _ = self.parted(path)
-        return any(account in givers for givers in self.givers.values())
 
     def place(self, path: bytes) -> Place:
         """The place of a mailbox."""
@@ -112,7 +102,8 @@ class Profiles:
         if not profile or head_of(path).startswith(FROM):
             return False
         is_beside = BESIDE.fullmatch(os.path.basename(path)) is not None
-        return is_beside or is_empty(path) and not profile.has_mail(os.path.abspath(path))
+        account, _ = profile.parted(os.path.abspath(path))
+        return is_beside or is_empty(path) and not any(account in givers for givers in profile.givers.values())
 
 
 def is_profile(path: bytes) -> bool:

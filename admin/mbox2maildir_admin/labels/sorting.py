@@ -75,7 +75,8 @@ class Sorting:
         """Raises LabelsLeft if a label gives no folder, or if a human must say whether it gives one."""
         users = [label for label in self.counts if label not in self.roles]
         for label in users:
-            why = why_no_label(label)
+            parts = (part if set(part) == {"."} else part.replace(".", "-") for part in label.split("/"))
+            why = why_no_folder("/".join(parts))
             if why:
                 says = self.choosing.with_given((label, NONE)), Does.LABEL_NONE
                 first = next(number for number, labels in enumerate(self.messages, 1) if label in labels)
@@ -121,9 +122,3 @@ class Sorting:
         for folder, label in several[:1] if self.choosing.word == ONE else several:
             found.setdefault(folder, []).append(label)
         return found or {on_disk(ARCHIVE): []}
-
-
-def why_no_label(label: str) -> str:
-    """Why a label of the user's gives no folder; empty if it gives one."""
-    parts = (part if set(part) == {"."} else part.replace(".", "-") for part in label.split("/"))
-    return why_no_folder("/".join(parts)) or ""

@@ -140,9 +140,18 @@ class Offer(NamedTuple):
 def offers_of(files: Iterable[File], path: str) -> list[Offer]:
     """What may stand for new messages of the mailbox at a path, in the order in which it is to be taken. A file may be
     offered for several reasons."""
-    several = [one for file in files for line in reversed(file.lines) for one in offers_by(file, line, path)]
+    offers: list[Offer] = []
+    for file, line in ((file, line) for file in files for line in reversed(file.lines)):
+        is_brought = line.state in BROUGHT
+        # what a killed run has only shared, it shared in that form
+        in_any_form = line.path == path and (is_brought or line.message.word != SHARED)
+        if is_brought and line.path != path:
+            offers.append(Offer(Why.GONE if file.is_gone else Why.SHARED, file, line))
+        if file.name and line.state is not State.HELD:
+            why = Why.BEGUN if in_any_form and line.state is State.OPEN else Why.ONCE
+            offers.append(Offer(why if line.path else Why.NOBODYS, file, line, in_any_form))
     return sorted(
-        several,
+        offers,
         key=lambda one: (
             one.why,
             one.file.is_renamed,
@@ -151,15 +160,3 @@ def offers_of(files: Iterable[File], path: str) -> list[Offer]:
             -one.file.takers,
         ),
     )
-
-
-def offers_by(file: File, line: Line, path: str) -> Iterator[Offer]:
-    """What a file may stand for by a line about it."""
-    is_brought = line.state in BROUGHT
-    # what a killed run has only shared, it shared in that form
-    in_any_form = line.path == path and (is_brought or line.message.word != SHARED)
-    if is_brought and line.path != path:
-        yield Offer(Why.GONE if file.is_gone else Why.SHARED, file, line)
-    if file.name and line.state is not State.HELD:
-        why = Why.BEGUN if in_any_form and line.state is State.OPEN else Why.ONCE
-        yield Offer(why if line.path else Why.NOBODYS, file, line, in_any_form)

@@ -212,14 +212,10 @@ class History:
     def found_of(self, path: bytes) -> list[bytes]:
         """The folders whose ledgers have a mailbox, if no other line names them. Raises OSError if the path can't be
         looked at."""
-        folders = self.folders_of(path)
-        found = [one for one in folders if any(self.noted_at(Note.FOUND, one, name) for name in names_of(path))]
+        names = names_of(path)
+        folders = self.folders_with(names)
+        found = [one for one in folders if any(note.path in names for note in self._notes.get((Note.FOUND, one), []))]
         return found if len(found) == len(folders) else []
-
-    def last_at(self, folder: bytes, path: bytes) -> Optional[Entry]:
-        """The last line with a step of a path, or of the path that it leads to, in a folder. Raises OSError if the path
-        can't be looked at."""
-        return self.last_of(folder, names_of(path))
 
     def last_of(self, folder: bytes, names: Container[str]) -> Optional[Entry]:
         """The last line with a step of one of some paths in a folder."""
@@ -273,15 +269,8 @@ class History:
 
     def noting(self, note: Note, folder: bytes, path: bytes) -> list[Entry]:
         """The lines that note this with a path, in their order."""
-        return self.noted_at(note, folder, spelled(path))
-
-    def noted_at(self, note: Note, folder: bytes, path: str) -> list[Entry]:
-        """The same for a path as lines have it."""
-        return [entry for entry in self._notes.get((note, folder), []) if entry.path == path]
-
-    def noted(self, note: Note, folder: bytes, path: bytes) -> set[Key]:
-        """The texts about which lines note this with a path."""
-        return {entry.key for entry in self.noting(note, folder, path)}
+        name = spelled(path)
+        return [entry for entry in self._notes.get((note, folder), []) if entry.path == name]
 
     def labelled(self) -> dict[str, Entry]:
         """The last lines that name the folders of mailboxes by their labels, by the paths of these mailboxes."""

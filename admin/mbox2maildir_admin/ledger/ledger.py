@@ -79,10 +79,6 @@ class Batch:
         self.cores += cores
         self.bares += bares
 
-    def clear(self) -> None:
-        """Forgets its digests, which its mailbox has now."""
-        self.cores, self.bares = bytearray(), bytearray()
-
 
 class Source:
     """What a mailbox has brought, and how it was when it was read last: the words of its reading, size and SHA-256."""
@@ -104,7 +100,8 @@ class Source:
         if not self.lost and LOST not in batch.letters:
             self.cores += batch.cores
             self.bares += batch.bares
-            batch.clear()
+            # the mailbox has them now
+            batch.cores, batch.bares = bytearray(), bytearray()
             return
         for at, letter in enumerate(batch.letters):
             core, bare = digest_at(batch.cores, at), digest_at(batch.bares, at)
@@ -135,7 +132,7 @@ class Source:
 
     def count(self) -> int:
         """How many messages it had when it was read last."""
-        return len(self.cores) // SHORT - sum(count for count in self.lost.values())
+        return len(self.cores) // SHORT - sum(self.lost.values())
 
 
 class Ledger:

@@ -257,11 +257,6 @@ def put(number: int, piece: bytes) -> None:
         written += os.write(number, piece[written:])
 
 
-def word_for_others(word: bytes) -> bytes:
-    """The word of a file, whose line has this word, in the line of another mailbox."""
-    return FOREIGN if word in NOBODYS else SHARED
-
-
 def digest_at(digests: Union[bytes, bytearray], at: int) -> bytes:
     """The digest at a place of a row."""
     return bytes(digests[at * SHORT : (at + 1) * SHORT])
@@ -327,10 +322,3 @@ def want_trusted(path: bytes, state: os.stat_result) -> None:
     if not stat.S_ISREG(state.st_mode) or not is_ours or state.st_mode & 0o022:
         says = "%s: it does not belong to you, or others may write to it: look at it, and move it away"
         raise PlaceFault(says % named(path), Reason.LEDGER)
-
-
-def number_in(folder: bytes) -> str:
-    """The number of the ledger in a folder; none if it has none. Raises Fault if others may have written to it."""
-    whole = (line for line in lines_in(folder) if not line.endswith(CUT) and b"\0" not in line)
-    found = HEAD.match(next(whole, b""))
-    return found[1].decode() if found else ""

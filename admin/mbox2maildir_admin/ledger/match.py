@@ -23,7 +23,7 @@ from ..mbox.core import SHORT
 from ..mbox.inventory import Inventory
 from ..units import Place, Say, silent
 from .assign import BROUGHT, File, Offer, Unnamed, Why, by_form, files_of, nobodys, offers_of
-from .lines import FOREIGN, NAMELESS, Brought, Line, State, counted_in, word_for_others
+from .lines import FOREIGN, NAMELESS, NOBODYS, SHARED, Brought, Line, State, counted_in
 from .ledger import Ledger
 
 # tells whether a file of this name, without its info, counts for nothing
@@ -196,7 +196,7 @@ class Match:
         self.take_mine()
         self.look()
         self.find_strangers()
-        self.serve(self.groups())
+        self.serve()
         self.drop()
         return self
 
@@ -217,8 +217,15 @@ class Match:
         """How many messages stand so."""
         return self.states.count(stand)
 
-    def serve(self, groups: dict[bytes, list[int]]) -> None:
-        """Finds what stands for new messages, whose places are given by their cores."""
+    def serve(self) -> None:
+        """Finds what stands for new messages."""
+        table, has_files = self.inventory.table, bool(self.files.counts or self.strangers or any(self.files.there))
+        # the places of those for which a file or a line may stand, by their cores
+        groups: collections.defaultdict[bytes, list[int]] = collections.defaultdict(list)
+        for place in self.need if self.lines or has_files else ():
+            core, bare = self.inventory.core(place), self.inventory.bare(place)
+            if core in self.lines or bare in self.strangers or self.files.has_digest(table.digest(place)):
+                groups[core].append(place)
         bares = set(map(self.inventory.bare, itertools.chain.from_iterable(groups.values())))
         most, had = self.ledger.most(self.path, bares), self.places(Stand.KNOWN, Stand.MINE) if bares else ()
         most.subtract(bare for bare in map(self.inventory.bare, had) if bare in bares)
@@ -284,7 +291,7 @@ class Match:
         """Notes that a file stands for a message. What this program has placed and no run has finished gets dates and
         flags too."""
         why, (path, state, its, *_), seen = offer.why, offer.line, self.seen
-        word = its.word if path == self.path else word_for_others(its.word)
+        word = its.word if path == self.path else FOREIGN if its.word in NOBODYS else SHARED
         self.found[place] = Brought(word, its.name, self.inventory.core(place), self.inventory.bare(place))
         is_there = its.name == offer.file.name and is_own(its.name)
         self.states[place] = Stand.FRESH if is_there and why in (Why.BEGUN, Why.NOBODYS) else Stand.FOUND
@@ -323,7 +330,8 @@ class Match:
             its += [nobodys(name, core, bare) for bare, name in unnamed.get(core, ())]
             offers = [Offer(Why.ANY, one, one.line_of(path) or one.lines[-1], True) for one in its if one.name]
             self.take(places, offers, set(), collections.Counter())
-        self.dropped = [one.message for one in self.own_lines() if one.state is State.HELD]
+        several = itertools.chain.from_iterable(self.lines.values())
+        self.dropped = [one.message for one in several if one[:2] == (path, State.HELD)]
         return self
 
     def compare(self) -> None:
@@ -383,24 +391,9 @@ class Match:
         mine = map(self.inventory.table.name, self.places(Stand.MINE))
         return {*mine, *(one.name for one in self.found.values())}
 
-    def own_lines(self) -> Iterator[Line]:
-        """The lines of this mailbox that were looked at."""
-        return (line for lines in self.lines.values() for line in lines if line.path == self.path)
-
     def names_of_lines(self) -> set[bytes]:
         """The names of the files in the lines that were looked at."""
         return {line.message.name for lines in self.lines.values() for line in lines} - {NAMELESS}
-
-    def groups(self) -> dict[bytes, list[int]]:
-        """The places of the new messages for which a file or a line may stand, by their cores."""
-        groups: collections.defaultdict[bytes, list[int]] = collections.defaultdict(list)
-        digest_at, files = self.inventory.table.digest, self.files
-        has_files = bool(files.counts or self.strangers or any(files.there))
-        for place in self.need if self.lines or has_files else ():
-            core, bare = self.inventory.core(place), self.inventory.bare(place)
-            if core in self.lines or bare in self.strangers or files.has_digest(digest_at(place)):
-                groups[core].append(place)
-        return groups
 
     def drop(self) -> None:
         """Finds the lines of what the mailbox no longer has: first forms that it has not, then files that are gone."""

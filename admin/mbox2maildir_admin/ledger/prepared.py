@@ -234,23 +234,19 @@ class Notes:
     def inventory(self, sizes: Sequence[int], end: int) -> Optional[Inventory]:
         """The messages of the text, which has this end, by the sizes of their files, without dates; None if not each
         file has its message, in the order of their bases."""
-        one = self.messages
-        if len(one.lines) != len(one.table) or not self.is_in_order():
+        one, table = self.messages, self.messages.table
+        if len(one.lines) != len(table):
             return None
-        one.sizes, one.dates = array.array("Q", sizes), array.array("q", [NO_DATE]) * len(one.lines)
-        one.offsets = array.array("Q", [*one.offsets[: len(one.lines)], end])
-        return one
-
-    def is_in_order(self) -> bool:
-        """Whether equal messages have the numbers that their order gives them. The table knows them as equal then."""
-        table = self.messages.table
         for place in (place for place, count in enumerate(table.counts) if count > 1):
             digest, count = table.digest(place), table.counts[place]
             first, before = table.place_of(digest + FIRST), table.place_of(digest + b".%d" % (count - 1))
             if first is None or before is None or before > place:
-                return False
+                return None
+            # the table knows them as equal then
             table.repeats[first] = count
-        return True
+        one.sizes, one.dates = array.array("Q", sizes), array.array("q", [NO_DATE]) * len(one.lines)
+        one.offsets = array.array("Q", [*one.offsets[: len(one.lines)], end])
+        return one
 
 
 # how a name of the list is found in its folder

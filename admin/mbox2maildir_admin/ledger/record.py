@@ -23,7 +23,7 @@ from ..terminal import named, spelled
 from ..units import Size
 from .history import TIME, Entry, History, Key, Note, Step, What
 from .ledger import Ledger, count_in
-from .lines import BY_ANOTHER, CUT, number_in
+from .lines import BY_ANOTHER, CUT, HEAD, lines_in
 
 MADE_MEANWHILE = "another migrate has made %s meanwhile: run the same command again"
 UNREAD = (
@@ -81,23 +81,18 @@ class Record(History):
     @contextlib.contextmanager
     def to_migrate(cls, maildir: bytes, dry: bool) -> Iterator["Record"]:
         """The same for a migration. A Maildir that is not there is made later, once a mailbox was read; a dry run makes
-        nothing."""
+        nothing. Raises Fault if a ledger cannot be read, and no line of the index names its folder."""
         is_open = has_begun(maildir) and not dry
         if is_open:
             make_alone(maildir)
         with cls.open(maildir, is_open) as record:
             record.is_dry = dry
-            record.want_known()
+            for path, why in record.unread.items():
+                # a mailbox that it has would come a second time, into another folder
+                if not record.index_of(name_of(maildir, os.path.dirname(path))) and may_be(is_there, path):
+                    fault = fault_of(why, path)
+                    raise PlaceFault(UNREAD % fault, Reason.LEDGER, fault.next)
             yield record
-
-    def want_known(self) -> None:
-        """Raises Fault if a ledger cannot be read, and no line of the index names its folder: a mailbox that it has
-        would come a second time, into another folder."""
-        for path, fault in self.unread.items():
-            folder = name_of(self.maildir, os.path.dirname(path))
-            if not self.index_of(folder) and may_be(is_there, path):
-                fault = fault_of(fault, path)
-                raise PlaceFault(UNREAD % fault, Reason.LEDGER, fault.next)
 
     @property
     def number(self) -> int:
@@ -113,14 +108,21 @@ class Record(History):
     def take_file(self, make: bool, sync: SyncNames = sync_folder) -> None:
         """Opens its file if it exists, and reads it. With `make` it also makes and locks it, and `sync` syncs its
         name."""
-        self._number = open_record(self.path, make)
+        flags = os.O_NOFOLLOW | os.O_NONBLOCK | os.O_NOCTTY | os.O_CLOEXEC
+        flags |= os.O_RDWR | os.O_APPEND | os.O_CREAT if make else os.O_RDONLY
+        try:
+            self._number = os.open(self.path, flags, 0o600)
+        except OSError as fault:
+            if make or fault.errno != errno.ENOENT:
+                why = "it is a symbolic link" if fault.errno == errno.ELOOP else fault.strerror
+                raise PlaceFault("%s: %s" % (named(self.path), why), Reason.RECORD) from fault
         self.look()
         if not self.is_open:
             return
         # a record that is only read may belong to the owner of the Maildir
         self.check({os.geteuid()} if make else {os.geteuid(), os.stat(self.maildir).st_uid})
         if make:
-            self.lock(self.maildir)
+            self.lock()
         self.read()
         if make and not self.size:
             # no line is written before the name of the file is on the disk, and a run may have been killed before that
@@ -136,7 +138,10 @@ class Record(History):
         try:
             with synced_once() as sync:
                 if not self.is_open:
-                    self.make_file(sync)
+                    make_alone(self.maildir, sync)
+                    self.take_file(True, sync)
+                    if self.size:
+                        raise PlaceFault(MADE_MEANWHILE % named(self.maildir), Reason.LOCKED)
                 for make in more:
                     make(sync)
         except BaseException:
@@ -146,13 +151,6 @@ class Record(History):
         waiting, self.waiting = self.waiting, []
         if waiting:
             self.store(*waiting)
-
-    def make_file(self, sync: SyncNames) -> None:
-        """Makes the Maildir and its file. Raises Fault if another `migrate` has made them meanwhile."""
-        make_alone(self.maildir, sync)
-        self.take_file(True, sync)
-        if self.size:
-            raise PlaceFault(MADE_MEANWHILE % named(self.maildir), Reason.LOCKED)
 
     def close(self) -> None:
         """Closes its file, if that is open."""
@@ -175,14 +173,14 @@ class Record(History):
                 "%s: it is too large for a record: look at it, and move it away" % named(self.path), Reason.RECORD
             )
 
-    def lock(self, maildir: bytes) -> None:
-        """Locks it, so that only one `migrate` is at work in a Maildir. Raises Fault if another one is."""
+    def lock(self) -> None:
+        """Locks it, so that only one `migrate` is at work in its Maildir. Raises Fault if another one is."""
         try:
             fcntl.flock(self.number, fcntl.LOCK_EX | fcntl.LOCK_NB)
         except BlockingIOError as fault:
             raise PlaceFault(
                 "another migrate is at work in %s, or a convert that an interrupted one left behind: "
-                "wait until it has ended" % named(maildir),
+                "wait until it has ended" % named(self.maildir),
                 Reason.LOCKED,
             ) from fault
         except OSError as fault:
@@ -220,8 +218,10 @@ class Record(History):
         self.numbers, self.unread = {}, {}
         for folder in folders_in(self.maildir):
             with self.noting_unread(folder):
-                number = number_in(folder)
-                self.numbers.update({name_of(self.maildir, folder): number} if number else {})
+                whole = (line for line in lines_in(folder) if not line.endswith(CUT) and b"\0" not in line)
+                head = HEAD.match(next(whole, b""))
+                if head:
+                    self.numbers[name_of(self.maildir, folder)] = head[1].decode()
         self.folders = {number: name for name, number in reversed([*self.numbers.items()])}
 
     @contextlib.contextmanager
@@ -290,7 +290,8 @@ class Record(History):
             self.take(entry)
 
     def store(self, *entries: Entry) -> None:
-        """Puts lines on the disk, once the file is there. Those of the index need no sync."""
+        """Puts lines on the disk, once the file is there. Those of the index need no sync. Raises Fault if not all of
+        them could be written."""
         if self.is_dry:
             return
         if not self.is_open:
@@ -299,35 +300,20 @@ class Record(History):
         try:
             # if a full disk cut the line before, that is ended first, so that it becomes no other one
             begin = (CUT + b"\n") * self.is_cut + (VERSION_LINE + b"\n") * (not self.has_head)
-            self.append(begin + b"".join(entry.line() for entry in entries))
+            piece = begin + b"".join(entry.line() for entry in entries)
+            if self.size + len(piece) > MOST:
+                raise OSError(errno.EFBIG, "it is full: move it away; the ledgers in the folders say what was brought")
+            self.is_cut = True
+            written = os.write(self.number, piece)
+            self.size += written
+            if written != len(piece):
+                raise OSError(errno.ENOSPC, os.strerror(errno.ENOSPC))
+            self.is_cut = False
             if any(entry.what not in INDEX for entry in entries):
                 os.fsync(self.number)
             self.has_head = True
         except OSError as fault:
             raise PlaceFault("%s: %s" % (named(self.path), fault.strerror), Reason.RECORD) from fault
-
-    def append(self, piece: bytes) -> None:
-        """Appends all of the bytes."""
-        if self.size + len(piece) > MOST:
-            raise OSError(errno.EFBIG, "it is full: move it away; the ledgers in the folders say what was brought")
-        self.is_cut = True
-        written = os.write(self.number, piece)
-        self.size += written
-        if written != len(piece):
-            raise OSError(errno.ENOSPC, os.strerror(errno.ENOSPC))
-        self.is_cut = False
-
-
-def open_record(path: bytes, make: bool) -> Optional[int]:
-    """Opens the file of a record, and makes it if `make` says so. Otherwise returns None if there is none."""
-    flags = os.O_NOFOLLOW | os.O_NONBLOCK | os.O_NOCTTY | os.O_CLOEXEC
-    try:
-        return os.open(path, flags | (os.O_RDWR | os.O_APPEND | os.O_CREAT if make else os.O_RDONLY), 0o600)
-    except OSError as fault:
-        if fault.errno == errno.ENOENT and not make:
-            return None
-        why = "it is a symbolic link" if fault.errno == errno.ELOOP else fault.strerror
-        raise PlaceFault("%s: %s" % (named(path), why), Reason.RECORD) from fault
 
 
 def unspelled(path: str) -> bytes:

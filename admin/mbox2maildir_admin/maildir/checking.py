@@ -7,7 +7,7 @@ import functools
 import itertools
 import os
 from collections.abc import Callable, Iterable, Iterator
-from typing import NamedTuple, NoReturn, Optional
+from typing import NamedTuple, Optional, Union
 
 from ..looks import is_there
 from ..mbox.bases import BASE, base_in, before_info, is_own
@@ -26,67 +26,8 @@ WORTHWHILE = 1 << 14
 Digested = tuple[Optional[bytes], Optional[int]]
 # a file: the place of the message to which its name belongs, if it belongs to one, its name and its path
 File = tuple[Optional[Place], bytes, bytes]
-# reads a file; and returns what was read so, or raises what that raised
-ReadFile = Callable[[File], Digested]
-Read = Callable[[], Digested]
-# a file, and what returns its digest
-Readable = tuple[File, Read]
-
-
-def threads_for(files: int, size: int) -> int:
-    """How many threads read this many files, which have this many bytes in all."""
-    return min(MOST_THREADS, os.cpu_count() or 1) if size >= WORTHWHILE * max(files, 1) else 1
-
-
-def readable(
-    files: Iterable[File], read: ReadFile, is_wanted: Callable[[File], bool], threads: int
-) -> Iterator[Readable]:
-    """Yields the files in their order. Several threads read ahead those that are wanted. Any other file is read when
-    its digest is asked for."""
-    if threads == 1:
-        yield from (later(file, read) for file in files)
-        return
-    from concurrent.futures import Future, ThreadPoolExecutor
-
-    ahead: "collections.deque[Future[list[Readable]]]" = collections.deque()
-    left = iter(files)
-    with ThreadPoolExecutor(threads) as pool:
-        try:
-            for batch in iter(lambda: list(itertools.islice(left, BATCH)), []):
-                ahead.append(pool.submit(read_some, batch, read, is_wanted))
-                if len(ahead) > 2 * threads:
-                    yield from ahead.popleft().result()
-            while ahead:
-                yield from ahead.popleft().result()
-        finally:
-            for batch_ahead in ahead:
-                batch_ahead.cancel()
-
-
-def read_some(files: list[File], read: ReadFile, is_wanted: Callable[[File], bool]) -> list[Readable]:
-    """Reads the files that are wanted, and leaves the others for later."""
-    return [now(file, read) if is_wanted(file) else later(file, read) for file in files]
-
-
-def later(file: File, read: ReadFile) -> Readable:
-    """A file that is read when its digest is asked for."""
-    return file, functools.partial(read, file)
-
-
-def now(file: File, read: ReadFile) -> Readable:
-    """A file that is read now."""
-    try:
-        digested = read(file)
-    except OSError as error:
-        return file, functools.partial(fail, error)
-    return file, lambda: digested
-
-
-def fail(error: OSError) -> NoReturn:
-    """Raises the error of a read."""
-    raise error
-
-
+# what was read of a file ahead: its digest and its owner, or the error of the read; None if it was not read
+Ahead = Union[Digested, OSError, None]
 # looks at the open file of a message, whose state this is, and gives its digest if that is known without hashing it
 LookFirst = Callable[[Place, int, os.stat_result], Optional[bytes]]
 
@@ -119,8 +60,9 @@ class Check:
         self.owner: Optional[int] = None
         # looks at the open file of a message first; None where each file is hashed
         self.look_first: Optional[LookFirst] = None
-        self.threads = threads_for(len(inventory), sum(inventory.sizes))
-        # by message: how it is found, and the path of its file if that has another name
+        is_worthwhile = sum(inventory.sizes) >= WORTHWHILE * max(len(inventory), 1)
+        self.threads = min(MOST_THREADS, os.cpu_count() or 1) if is_worthwhile else 1
+        # by message: how it is found, as a State, and the path of its file if that has another name
         self.states = bytearray(len(inventory))
         self.paths: dict[Place, bytes] = {}
         # files that have a message's bytes and another name: by the digest, and by the name before its colon; and the
@@ -136,14 +78,14 @@ class Check:
     def look(self, maildir: bytes) -> None:
         """Looks for the messages in the files of a Maildir, which other programs may have renamed."""
         self.owner = os.stat(maildir).st_uid
-        for again, paths in enumerate(listings_of(maildir)):
-            is_home = functools.partial(self.is_home, bool(again))
+        for listing, paths in enumerate(listings_of(maildir)):
+            again = listing > 0
             files = ((self.inventory.place(name), name, path) for name, path in paths)
-            for number, (file, read) in enumerate(readable(files, self.read, is_home, self.threads), 1):
+            for number, (file, ahead) in enumerate(self.read_ahead(files, again), 1):
                 # the number is news each time: a child that says nothing new is ended
                 self.say("verifying file %d" % number)
                 try:
-                    self.look_at(file, read, bool(again))
+                    self.look_at(file, ahead, again)
                 except FileNotFoundError:
                     # the file was renamed meanwhile
                     continue
@@ -154,11 +96,42 @@ class Check:
         for digest, places in self.others.digests.items():
             for place in places:
                 self.take_copy(place, digest)
-        for copies in self.copies.values():
-            for name, path in copies.items():
-                if not is_own(name) or self.others.doubles and base_in(name) in self.others.doubles:
-                    self.doubles.append(path)
         self.find_doubles(maildir)
+
+    def read_ahead(self, files: Iterable[File], again: bool) -> Iterator[tuple[File, Ahead]]:
+        """Yields the files in their order. Several threads read ahead those that are read as a message's."""
+        if self.threads == 1:
+            yield from ((file, None) for file in files)
+            return
+        from concurrent.futures import Future, ThreadPoolExecutor
+
+        ahead: "collections.deque[Future[list[tuple[File, Ahead]]]]" = collections.deque()
+        left = iter(files)
+        with ThreadPoolExecutor(self.threads) as pool:
+            try:
+                for batch in iter(lambda: list(itertools.islice(left, BATCH)), []):
+                    ahead.append(pool.submit(self.read_some, batch, again))
+                    if len(ahead) > 2 * self.threads:
+                        yield from ahead.popleft().result()
+                while ahead:
+                    yield from ahead.popleft().result()
+            finally:
+                for batch_ahead in ahead:
+                    batch_ahead.cancel()
+
+    def read_some(self, files: list[File], again: bool) -> list[tuple[File, Ahead]]:
+        """Reads those of some files that are read as a message's. The others are left for later."""
+        some: list[tuple[File, Ahead]] = []
+        for file in files:
+            place, _, path = file
+            ahead: Ahead = None
+            if place is not None and self.is_home(place, again):
+                try:
+                    ahead = self.read(place, path)
+                except OSError as error:
+                    ahead = error
+            some.append((file, ahead))
+        return some
 
     def take_copy(self, place: Place, digest: bytes) -> None:
         """Takes a file of another name with this digest for a message that is nowhere, if there is such a file."""
@@ -172,7 +145,11 @@ class Check:
         self.note_owner(path, os.lstat(path).st_uid)
 
     def find_doubles(self, maildir: bytes) -> None:
-        """Looks for files that have the same base."""
+        """Finds the files that hold a message once more: with its bytes and another name, or with the same base."""
+        for copies in self.copies.values():
+            for name, path in copies.items():
+                if not is_own(name) or self.others.doubles and base_in(name) in self.others.doubles:
+                    self.doubles.append(path)
         homes: collections.defaultdict[Place, list[bytes]] = collections.defaultdict(list)
         for name, path in paths_of(maildir) if self.met_again else ():
             place = self.inventory.place(name)
@@ -182,26 +159,33 @@ class Check:
             # a file that was moved is there only once
             self.doubles += list(filter(is_there, paths))[1:]
 
-    def is_home(self, again: bool, file: File) -> bool:
-        """Whether a file is read as a message's. In a listing after the first one, this holds only if the message has
-        no file so far."""
-        place = file[0]
-        return place is not None and (not again or self.states[place] == State.NOWHERE)
+    def is_home(self, place: Place, again: bool) -> bool:
+        """Whether a file is read as that of the message whose base it has. In a listing after the first one, this holds
+        only if the message has no file so far."""
+        return not again or self.states[place] == State.NOWHERE
 
-    def read(self, file: File) -> Digested:
-        """Reads a file, which is a message's if its name says so."""
-        place, _, path = file
-        if place is None or not self.look_first:
-            return digest_of(path)
-        return digest_of(path, look=functools.partial(self.look_first, place))
+    def read(self, place: Place, path: bytes) -> Digested:
+        """Reads the file of a message."""
+        return digest_of(path, look=functools.partial(self.look_first, place) if self.look_first else None)
 
-    def look_at(self, file: File, read: Read, again: bool) -> None:
+    def look_at(self, file: File, ahead: Ahead, again: bool) -> None:
         """Looks at a file that has a message's base, or at any other file, which may have a message's bytes."""
         place, name, path = file
         if place is None:
             self.look_at_other(name, path)
-        elif self.is_home(again, file):
-            self.look_at_home(place, path, bytes.fromhex(name[:64].decode()), read)
+            return
+        if not self.is_home(place, again):
+            return
+        if isinstance(ahead, OSError):
+            raise ahead
+        digest, owner = ahead or self.read(place, path)
+        if self.states[place]:
+            self.met_again.add(place)
+        if digest == bytes.fromhex(name[:64].decode()):
+            self.states[place] = State.THERE
+        elif self.states[place] != State.THERE:
+            self.paths[place], self.states[place] = path, State.OTHER
+        self.note_owner(path, owner)
 
     def look_at_other(self, name: bytes, path: bytes) -> None:
         """Looks at a file that has no message's base."""
@@ -222,17 +206,6 @@ class Check:
         """Whether a message may have a file of this digest."""
         return self.inventory.table.has(digest) or digest in self.others.digests
 
-    def look_at_home(self, place: Place, path: bytes, wanted: bytes, read: Read) -> None:
-        """Looks at the file that has a message's base."""
-        digest, owner = read()
-        if self.states[place]:
-            self.met_again.add(place)
-        if digest == wanted:
-            self.states[place] = State.THERE
-        elif self.states[place] != State.THERE:
-            self.paths[place], self.states[place] = path, State.OTHER
-        self.note_owner(path, owner)
-
     def note_owner(self, path: bytes, owner: Optional[int]) -> None:
         """Notes a file whose owner is not the Maildir's."""
         if owner is not None and owner != self.owner:
@@ -244,10 +217,6 @@ class Check:
             is_nowhere = self.states[place] == State.NOWHERE
             yield None if is_nowhere else self.renamed.get(place) or self.inventory.table.digest(place)
 
-    def count(self, state: State) -> int:
-        """How many messages are found in this state."""
-        return self.states.count(state)
-
     def found(self, state: State) -> Iterator[Found]:
         """The messages that are found in this state."""
         for place in map(Place, range(len(self.states))):
@@ -256,13 +225,13 @@ class Check:
 
     def is_right(self) -> bool:
         """Whether each message is there exactly once, in a file of its owner."""
-        is_wrong = self.count(State.NOWHERE) or self.count(State.OTHER)
+        is_wrong = self.states.count(State.NOWHERE) or self.states.count(State.OTHER)
         return not (is_wrong or self.doubles or self.strangers or self.doubts)
 
     def report(self) -> str:
         """What is said unless each message is there exactly once."""
         counts = "there %d, under another name %d, other bytes %d, nowhere %d" % tuple(
-            self.count(state) for state in (State.THERE, State.RENAMED, State.OTHER, State.NOWHERE)
+            self.states.count(state) for state in (State.THERE, State.RENAMED, State.OTHER, State.NOWHERE)
         )
         others = [found.path for found in self.found(State.OTHER)]
         strangers = list(self.strangers.values())

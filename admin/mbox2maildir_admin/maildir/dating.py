@@ -42,9 +42,14 @@ class Dating:
             self.one_date = self.from_line(Place(0))
         if by_header and self.one_date is not None:
             self.dates = array.array("q", [NO_DATE]) * self.messages
-        # how many messages have the date of their header
+        # how many messages have the date of their header, since their From_ lines have none
         self.by_header = 0
-        self.take_headers()
+        for place in map(Place, range(self.messages)):
+            if self.dates[place] == NO_DATE:
+                date = seconds_of_header(Header.at(mailbox, inventory.offset(place))[b"date"])
+                if date is not None:
+                    self.dates[place] = date
+                    self.by_header += 1
 
     @property
     def messages(self) -> int:
@@ -60,20 +65,19 @@ class Dating:
         """The From_ line of a message."""
         return self.mailbox.from_line_at(self.inventory.offset(place))
 
-    def take_headers(self) -> None:
-        """Takes the dates of the headers for those messages that have none."""
-        for place in map(Place, range(self.messages)):
-            if self.dates[place] == NO_DATE:
-                date = seconds_of_header(Header.at(self.mailbox, self.inventory.offset(place))[b"date"])
-                if date is not None:
-                    self.dates[place] = date
-                    self.by_header += 1
-
     def give(self, place: Place, number: int, state: os.stat_result) -> None:
-        """Gives the file of a message, which is open and has this state, its date."""
-        if self.dates[place] != NO_DATE:
-            is_held = set_date(number, state, self.dates[place])
-            self.states[place] = Dated.DONE if is_held else Dated.NOT_HELD
+        """Gives the file of a message, which is open and has this state, its date, if it has another one, as a new file
+        has. If it cannot have its date, the old times stay."""
+        date = self.dates[place]
+        if date == NO_DATE:
+            return
+        is_held = True
+        if state.st_mtime_ns != date * 10**9:
+            os.utime(number, (date, date))
+            is_held = date in HELD or os.fstat(number).st_mtime_ns == date * 10**9
+            if not is_held:
+                os.utime(number, ns=(state.st_atime_ns, state.st_mtime_ns))
+        self.states[place] = Dated.DONE if is_held else Dated.NOT_HELD
 
     def give_all(self, maildir: bytes) -> None:
         """Gives the files of a Maildir the dates of their messages."""
@@ -114,15 +118,3 @@ class Dating:
             else:
                 why = "not found in %s" % named(maildir)
             yield "message %d (line %d): %s" % (place + 1, self.inventory.lines[place], why)
-
-
-def set_date(number: int, state: os.stat_result, date: int) -> bool:
-    """Sets the times of an open file if they are others, as those of a new one are, and returns whether it has them
-    now. If it cannot, the old ones stay."""
-    if state.st_mtime_ns == date * 10**9:
-        return True
-    os.utime(number, (date, date))
-    if date in HELD or os.fstat(number).st_mtime_ns == date * 10**9:
-        return True
-    os.utime(number, ns=(state.st_atime_ns, state.st_mtime_ns))
-    return False

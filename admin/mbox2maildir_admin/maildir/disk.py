@@ -9,7 +9,7 @@ import functools
 import importlib
 import os
 import time
-from collections.abc import Callable, Collection, Iterable, Sequence
+from collections.abc import Callable, Collection, Sequence
 from typing import Generic, NamedTuple, Optional, TypeVar
 
 from .. import ADMIN
@@ -166,7 +166,6 @@ def why(fault: OSError, folder: bytes) -> str:
     return "no inodes are left" if disk.f_files and not disk.f_favail else fault.strerror
 
 
-MOUNTS = "/proc/self/mountinfo"
 # how Linux shows an overlayfs that leaves out all syncs: before version 6.6, and since then
 VOLATILE = frozenset([b"volatile", b"fsync=volatile"])
 # kinds that were not tried, and nor were those of FUSE that have a name after a dot
@@ -202,7 +201,7 @@ class Mount(NamedTuple):
         number = os.stat(folder).st_dev
         device = b"%d:%d" % (os.major(number), os.minor(number))
         try:
-            with open(MOUNTS, "rb") as file:
+            with open("/proc/self/mountinfo", "rb") as file:
                 return next((cls.parse(line) for line in file if line.split(b" ")[2] == device), None)
         except FileNotFoundError:
             return None
@@ -252,7 +251,7 @@ class Syncs(Generic[One]):
 
     def __init__(self, settle: Settle[One], sync_one: Optional[SyncOne] = None) -> None:
         """Takes what syncs the disk of a folder, if this process does not do that itself."""
-        self.settle, self.sync_one = settle, sync_one
+        self.settle, self.sync_one = settle, sync_one or sync_disk
         # what waits, each with its Maildir
         self.waiting: list[tuple[One, bytes]] = []
         self.latest = 0.0
@@ -280,29 +279,28 @@ class Syncs(Generic[One]):
         with INTERRUPTS.held():
             fault: Optional[OSError] = None
             try:
-                sync_disks((maildir for _, maildir in self.waiting if maildir), self.failed, self.sync_one)
+                self.sync_disks()
             except OSError as error:
                 fault = error
             waited, self.waiting = self.waiting, []
             self.settle([(one, fault if maildir else None) for one, maildir in waited])
 
-
-def sync_disks(maildirs: Iterable[bytes], failed: dict[int, OSError], sync_one: Optional[SyncOne] = None) -> None:
-    """Syncs the disks that Maildirs are on, each once. Raises OSError if a sync failed, now or before: a later one says
-    nothing of what was lost."""
-    folders: dict[int, bytes] = {}
-    for maildir in maildirs:
-        # symbolic links may put its mail on other disks
-        for path in (maildir, os.path.join(maildir, b"new"), os.path.join(maildir, b"cur")):
-            folders.setdefault(os.stat(path).st_dev, path)
-    for disk, path in folders.items():
-        if disk in failed:
-            raise failed[disk]
-        try:
-            (sync_one or sync_disk)(path)
-        except OSError as error:
-            failed[disk] = error
-            raise
+    def sync_disks(self) -> None:
+        """Syncs the disks of what waits, each once. Raises OSError if a sync failed, now or before: a later one says
+        nothing of what was lost."""
+        folders: dict[int, bytes] = {}
+        for maildir in (maildir for _, maildir in self.waiting if maildir):
+            # symbolic links may put its mail on other disks
+            for path in (maildir, os.path.join(maildir, b"new"), os.path.join(maildir, b"cur")):
+                folders.setdefault(os.stat(path).st_dev, path)
+        for disk, path in folders.items():
+            if disk in self.failed:
+                raise self.failed[disk]
+            try:
+                self.sync_one(path)
+            except OSError as error:
+                self.failed[disk] = error
+                raise
 
 
 def sync_disk(path: bytes) -> None:

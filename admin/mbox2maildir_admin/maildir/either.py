@@ -25,33 +25,20 @@ class Bare(NamedTuple):
     table: Table
     sizes: Sequence[int]
 
-    @classmethod
-    def read(cls, mailbox: Mailbox, start: Offset) -> "Bare":
-        """Reads the messages of a text that begins at an offset."""
-        table, sizes = Table(), array.array("Q")
-        for message in messages_of(mailbox, start, is_bare=True):
-            table.add(message.digest)
-            sizes.append(message.size)
-        mailbox.check()
-        return cls(table, sizes)
 
-
-class Present:
-    """Which messages of a text have a file under their base in a Maildir, which need not exist."""
-
-    def __init__(self, maildir: bytes, table: Table) -> None:
-        # by place: 1 if the message has such a file
-        self.there = bytearray(len(table))
-        # whether there are files of other names
-        self.has_others = False
-        with contextlib.suppress(FileNotFoundError):
-            for paths in listings_of(maildir):
-                for name, _ in paths:
-                    place = table.own_place(name)
-                    if place is None:
-                        self.has_others = True
-                    else:
-                        self.there[place] = 1
+def present_in(maildir: bytes, table: Table) -> tuple[bytearray, bool]:
+    """Which messages of a text have a file under their base in a Maildir, which need not exist: by place, 1 if so. And
+    whether there are files of other names."""
+    there, has_others = bytearray(len(table)), False
+    with contextlib.suppress(FileNotFoundError):
+        for paths in listings_of(maildir):
+            for name, _ in paths:
+                place = table.own_place(name)
+                if place is None:
+                    has_others = True
+                else:
+                    there[place] = 1
+    return there, has_others
 
 
 class Others(NamedTuple):
@@ -69,12 +56,10 @@ class Either:
     def __init__(self, inventory: Inventory, bare: Bare, full_there: bytearray, bare_there: bytearray) -> None:
         """Takes the messages of a text, those of its bare text, and which of them have files, by their places."""
         self.full, self.sizes, self.bare = inventory.table, inventory.sizes, bare
-        self.full_there, self.bare_there = full_there, bare_there
         # the bases of the messages that have others in the Maildir than in the text
         self.chosen: dict[Place, bytes] = {}
         self.doubles: set[bytes] = set()
-        for digest, places in self.groups().items():
-            self.choose(digest, places)
+        self.choose(full_there, bare_there)
         self.inventory = inventory
         if self.chosen:
             self.inventory = copy.copy(inventory)
@@ -87,12 +72,17 @@ class Either:
     @classmethod
     def of(cls, maildir: bytes, inventory: Inventory, mailbox: Mailbox, start: Offset) -> "Either":
         """Takes the messages of a text that begins at an offset, and the bases in a Maildir, which need not exist."""
-        full = Present(maildir, inventory.table)
+        full_there, has_others = present_in(maildir, inventory.table)
         # if exactly the files of all bytes are there, no file is that of a message without its fields
-        if all(full.there) and not full.has_others:
-            return cls(inventory, Bare(inventory.table, inventory.sizes), full.there, full.there)
-        bare = Bare.read(mailbox, start)
-        return cls(inventory, bare, full.there, Present(maildir, bare.table).there)
+        if all(full_there) and not has_others:
+            return cls(inventory, Bare(inventory.table, inventory.sizes), full_there, full_there)
+        table, sizes = Table(), array.array("Q")
+        for message in messages_of(mailbox, start, is_bare=True):
+            table.add(message.digest)
+            sizes.append(message.size)
+        mailbox.check()
+        bare_there, _ = present_in(maildir, table)
+        return cls(inventory, Bare(table, sizes), full_there, bare_there)
 
     def others_than_bare(self) -> Iterator[Place]:
         """The places of the messages that are other ones in the bare text."""
@@ -101,27 +91,24 @@ class Either:
                 if self.full.digest(place) != self.bare.table.digest(place):
                     yield place
 
-    def groups(self) -> dict[bytes, list[Place]]:
-        """The places of messages by their digests in the bare text, for digests of which one message has another in the
-        text."""
+    def choose(self, full_there: bytearray, bare_there: bytearray) -> None:
+        """Chooses the bases of the messages that have the same digest in the bare text, if one of them has another in
+        the text."""
         mixed = set(map(self.bare.table.digest, self.others_than_bare()))
         groups: collections.defaultdict[bytes, list[Place]] = collections.defaultdict(list)
         for place in map(Place, range(len(self.full))) if mixed else ():
             digest = self.bare.table.digest(place)
             if digest in mixed:
                 groups[digest].append(place)
-        return groups
-
-    def choose(self, digest: bytes, places: list[Place]) -> None:
-        """Chooses the bases of the messages that have this digest in the bare text."""
-        there = [self.bare.table.base(place) for place in places if self.bare_there[place]]
-        missing = [self.bare.table.base(place) for place in places if not self.bare_there[place]]
-        for place in places:
-            is_other = self.full.digest(place) != digest
-            if is_other and (self.full_there[place] or not there):
-                continue
-            self.chosen[place] = (there or missing).pop(0)
-        self.doubles.update(there)
+        for digest, places in groups.items():
+            there = [self.bare.table.base(place) for place in places if bare_there[place]]
+            missing = [self.bare.table.base(place) for place in places if not bare_there[place]]
+            for place in places:
+                is_other = self.full.digest(place) != digest
+                if is_other and (full_there[place] or not there):
+                    continue
+                self.chosen[place] = (there or missing).pop(0)
+            self.doubles.update(there)
 
     def are_bare(self, digests: Iterable[Optional[bytes]]) -> Iterator[bool]:
         """Whether each of these digests, one for the file of each message that has one, is that of the bare text of a

@@ -71,7 +71,21 @@ def digest_of(
     try:
         number = os.open(path, REGULAR | os.O_NOFOLLOW)
         try:
-            return digest_of_open(number, sizes, look)
+            state = os.fstat(number)
+            if not stat.S_ISREG(state.st_mode):
+                return None, None
+            found = look(number, state) if look else None
+            if found or sizes is not None and state.st_size not in sizes:
+                return found, state.st_uid
+            # allocating a whole block would take longer than reading most mail
+            count = min(BLOCK, state.st_size + 1)
+            block = os.read(number, count)
+            digest = hashlib.sha256(block)
+            # most mail has ended by then: it was asked for a byte more than it has
+            while block and (len(block) == count or len(block) < state.st_size):
+                block = os.read(number, count)
+                digest.update(block)
+            return digest.digest(), state.st_uid
         finally:
             os.close(number)
     except OSError as error:
@@ -79,27 +93,6 @@ def digest_of(
             return None, None
         # the error of a read does not name the file
         raise OSError(error.errno, error.strerror, path) from error
-
-
-def digest_of_open(
-    number: int, sizes: Optional[Container[int]], look: Optional[Look]
-) -> tuple[Optional[bytes], Optional[int]]:
-    """The same of an open file."""
-    state = os.fstat(number)
-    if not stat.S_ISREG(state.st_mode):
-        return None, None
-    found = look(number, state) if look else None
-    if found or sizes is not None and state.st_size not in sizes:
-        return found, state.st_uid
-    # allocating a whole block would take longer than reading most mail
-    count = min(BLOCK, state.st_size + 1)
-    block = os.read(number, count)
-    digest = hashlib.sha256(block)
-    # most mail has ended by then: it was asked for a byte more than it has
-    while block and (len(block) == count or len(block) < state.st_size):
-        block = os.read(number, count)
-        digest.update(block)
-    return digest.digest(), state.st_uid
 
 
 def forms_in(path: bytes) -> Optional[tuple[bytes, bytes]]:

@@ -91,32 +91,19 @@ def synced_once() -> Iterator[SyncNames]:
 def make_maildir(folder: bytes, is_root: bool, sync: SyncNames = sync_folder) -> None:
     """Makes a Maildir, or a folder of one with its mark, if it is missing. Its names are on the disk then, if `sync`
     does that."""
-    made = make(folder)
-    for sub in SUBFOLDERS:
-        made = make(os.path.join(folder, sub)) or made
+    made = False
+    for path in (folder, *(os.path.join(folder, sub) for sub in SUBFOLDERS)):
+        with contextlib.suppress(FileExistsError):
+            os.mkdir(path, 0o700)
+            made = True
     if not is_root:
         flags = os.O_WRONLY | os.O_CREAT | os.O_EXCL | os.O_NOFOLLOW | os.O_CLOEXEC
-        try:
+        with contextlib.suppress(FileExistsError):
             os.close(os.open(os.path.join(folder, MARK), flags, 0o600))
             made = True
-        except FileExistsError:
-            pass
     if made:
         sync(folder)
         sync(os.path.dirname(os.path.abspath(folder)))
-
-
-def make(folder: bytes) -> bool:
-    """Makes a folder, and returns whether it was missing."""
-    try:
-        os.mkdir(folder, 0o700)
-        return True
-    except FileExistsError:
-        return False
-
-
-REPLACED = "%s: %s could replace the Maildir by a symbolic link"
-OTHERS_WRITE = stat.S_IWGRP | stat.S_IWOTH
 
 
 def real_place(maildir: bytes) -> bytes:
@@ -134,7 +121,10 @@ def want_roots_alone(maildir: bytes) -> None:
     place = os.path.abspath(maildir)
     if real_path(place) != place:
         raise replaced(maildir, "others, who have put a link there,")
-    for folder, may_be_sticky in folders_of(place):
+    above = [place]
+    while above[-1] != os.path.dirname(above[-1]):
+        above.append(os.path.dirname(above[-1]))
+    for folder in [*reversed(above), *(os.path.join(place, sub) for sub in SUBFOLDERS)]:
         try:
             state = os.lstat(folder)
         except FileNotFoundError:
@@ -142,14 +132,16 @@ def want_roots_alone(maildir: bytes) -> None:
             continue
         if state.st_uid != 0:
             raise replaced(folder, "its owner, who is not root,")
-        if state.st_mode & OTHERS_WRITE and not (may_be_sticky and state.st_mode & stat.S_ISVTX):
+        is_enough = folder in above[1:] and state.st_mode & stat.S_ISVTX
+        if state.st_mode & (stat.S_IWGRP | stat.S_IWOTH) and not is_enough:
             if not stat.S_ISLNK(state.st_mode):
                 raise replaced(folder, "others, who may write there,")
 
 
 def replaced(folder: bytes, who: str) -> PlaceFault:
     """Why root does not write into a Maildir."""
-    return PlaceFault(REPLACED % (named(folder), who), Reason.NOT_OWN, task(Todo.OTHER_PLACE))
+    why = "%s: %s could replace the Maildir by a symbolic link" % (named(folder), who)
+    return PlaceFault(why, Reason.NOT_OWN, task(Todo.OTHER_PLACE))
 
 
 def make_alone(maildir: bytes, sync: SyncNames = sync_folder) -> None:
@@ -163,17 +155,6 @@ def make_alone(maildir: bytes, sync: SyncNames = sync_folder) -> None:
     if is_roots:
         # what others have made there first is not a folder of root's
         want_roots_alone(maildir)
-
-
-def folders_of(maildir: bytes) -> Iterator[tuple[bytes, bool]]:
-    """The folders from `/` to a Maildir and its own three, and for each whether it is enough if it is sticky."""
-    above = [maildir]
-    while above[-1] != os.path.dirname(above[-1]):
-        above.append(os.path.dirname(above[-1]))
-    for folder in reversed(above):
-        yield folder, folder != maildir
-    for sub in SUBFOLDERS:
-        yield os.path.join(maildir, sub), False
 
 
 def want_roots(path: bytes, words: Sequence[str]) -> None:

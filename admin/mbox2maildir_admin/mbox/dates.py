@@ -45,8 +45,6 @@ PARTS = ("year", "month", "day", "hour", "minute", "second")
 FORMS = [[form + part for part in (*PARTS, "zone")] for form in ("", "header_")]
 # what programs write if they know no date: midnight of this day
 UNKNOWN = (1970, 1, 1, 0, 0, 0)
-# year, month, day, hour, minute and second
-Moment = tuple[int, int, int, int, int, int]
 # from this time on a date in another form counts as none: January 1, 2100
 TOO_LATE = 4102444800
 
@@ -83,11 +81,16 @@ def seconds_of(text: bytes) -> Optional[int]:
     year, month, day, hour, minute, second, zone = found
     years = int(year) + (0 if len(year) > 2 else 2000 if year < "50" else 1900)
     moment = (years, MONTHS[month.lower()], int(day), int(hour), int(minute), int(second or 0))
+    east = east_of(zone) if zone else 0
+    if moment == UNKNOWN or east is None:
+        return None
     try:
-        seconds = seconds_at(moment, zone)
+        # raises ValueError if there is no such day
+        datetime.date(*moment[:3])
+        seconds = calendar.timegm((*moment, 0, 0, 0)) - east if zone else int(time.mktime((*moment, 0, 0, -1)))
     except (ValueError, OverflowError):
         return None
-    return None if moment == UNKNOWN or seconds == 0 else seconds
+    return seconds or None
 
 
 def seconds_of_plain(day: bytes, hour: bytes, minute: bytes, second: bytes, year: bytes) -> Optional[int]:
@@ -103,16 +106,6 @@ def midnight_by(_: tuple[str, str], day: bytes, year: bytes) -> Optional[int]:
     lines = [b" %s %s %s" % (day, clock, year) for clock in (b"00:00:00", b"23:59:59")]
     first, last = map(seconds_of, lines)
     return first if is_dated(lines[0]) and first and first > 0 and last == first + 86399 else None
-
-
-def seconds_at(moment: Moment, zone: str) -> Optional[int]:
-    """A moment in a zone, or else in that of TZ or of this machine, in seconds since 1970; None if the zone is not
-    known. Raises ValueError if there is no such day."""
-    datetime.date(*moment[:3])
-    if not zone:
-        return int(time.mktime((*moment, 0, 0, -1)))
-    east = east_of(zone)
-    return None if east is None else calendar.timegm((*moment, 0, 0, 0)) - east
 
 
 def seconds_of_header(text: bytes) -> Optional[int]:

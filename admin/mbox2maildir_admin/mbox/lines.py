@@ -47,10 +47,6 @@ class Reasons(NamedTuple):
     said: Sequence[Said] = ()
     total: int = 0
 
-    def lines(self) -> list[Line]:
-        """The first lines that are shown."""
-        return sorted({one.line for one in self.said if one.line})[:MOST_ASKED]
-
     def sentence(self) -> str:
         """What is said of the first one, and how many more there are."""
         if not self.said:
@@ -61,7 +57,8 @@ class Reasons(NamedTuple):
 def lines_around(mailbox: Mailbox, reasons: Reasons) -> list[Quote]:
     """The first lines because of which something is asked, and the lines around them. If what one is about stands
     behind its beginning, that is shown."""
-    asked = {one.line: one.text for one in reasons.said if one.line in reasons.lines()}
+    first = sorted({one.line for one in reasons.said if one.line})[:MOST_ASKED]
+    asked = {one.line: one.text for one in reasons.said if one.line in first}
     wanted = sorted({line for one in asked for line in range(one - AROUND, one + AROUND + 1)})
     shown_by = {line: cut(text) for line, text in texts_of(mailbox, wanted).items()}
     for line, text in asked.items():

@@ -60,20 +60,28 @@ def open_mailbox(
         raise
 
 
-def lock_quiet(mailbox: Mailbox, kind: Kind = READING) -> None:
-    """Locks a mailbox once it was left alone for a minute. Until then, deliveries find it unlocked."""
+def lock_quiet(mailbox: Mailbox, kind: Kind) -> None:
+    """Locks a mailbox once it was left alone for a minute. Until then, deliveries find it unlocked. Raises Left if that
+    has not happened after a while."""
     end = time.monotonic() + PATIENCE
     while True:
-        wait_for_quiet(mailbox, end)
-        lock(mailbox.number, kind)
         mailbox.take_state()
-        if seconds_to_wait(mailbox) <= 0:
-            return
-        # mail was delivered before the lock was taken
-        unlock(mailbox.number)
+        seconds = seconds_to_wait(mailbox)
+        if seconds <= 0:
+            lock(mailbox.number, kind)
+            mailbox.take_state()
+            if seconds_to_wait(mailbox) <= 0:
+                return
+            # mail was delivered before the lock was taken
+            unlock(mailbox.number)
+            continue
+        if time.monotonic() > end:
+            raise Left("it keeps changing: stop the program that writes to it, and run this again", Reason.CHANGED)
+        mailbox.say(WAITING + " %d seconds, because it changed a moment ago" % (seconds + 1))
+        time.sleep(min(1, seconds + 0.01))
 
 
-def lock(number: int, kind: Kind = READING) -> None:
+def lock(number: int, kind: Kind) -> None:
     """Locks a text by the locks that deliveries take for writing. Nothing is locked on a disk without locks. Raises
     Left if another program has it locked."""
     for take, its in ((lock_file, kind.file), (lock_record, kind.record)):
@@ -86,12 +94,12 @@ def lock(number: int, kind: Kind = READING) -> None:
                 raise
 
 
-def lock_file(number: int, kind: int = fcntl.LOCK_SH) -> None:
+def lock_file(number: int, kind: int) -> None:
     """Takes the lock of flock, for the whole file."""
     fcntl.flock(number, kind | fcntl.LOCK_NB)
 
 
-def lock_record(number: int, kind: int = fcntl.F_RDLCK) -> None:
+def lock_record(number: int, kind: int) -> None:
     """Takes the lock of fcntl, for all bytes, as that of an open file: closing another descriptor does not drop it, and
     a child inherits it."""
     fcntl.fcntl(number, fcntl.F_OFD_SETLK, struct.pack("hhqqi4x", kind, os.SEEK_SET, 0, 0, 0))
@@ -102,19 +110,6 @@ def unlock(number: int) -> None:
     for give, kind in ((lock_record, fcntl.F_UNLCK), (lock_file, fcntl.LOCK_UN)):
         with contextlib.suppress(OSError):
             give(number, kind)
-
-
-def wait_for_quiet(mailbox: Mailbox, end: float) -> None:
-    """Waits until a mailbox was left alone for a minute. Raises Left if that has not happened by `end`."""
-    while True:
-        mailbox.take_state()
-        seconds = seconds_to_wait(mailbox)
-        if seconds <= 0:
-            return
-        if time.monotonic() > end:
-            raise Left("it keeps changing: stop the program that writes to it, and run this again", Reason.CHANGED)
-        mailbox.say(WAITING + " %d seconds, because it changed a moment ago" % (seconds + 1))
-        time.sleep(min(1, seconds + 0.01))
 
 
 def seconds_to_wait(mailbox: Mailbox) -> float:

@@ -22,8 +22,17 @@ def snapshot(path: bytes, make: Callable[[int], IO[bytes]], say: Say = silent, f
     changed otherwise, each time."""
     for _ in range(TRIES):
         with open_soon(path, say, follow) as mailbox, make(mailbox.size) as file:
-            began, digest = time.monotonic(), Digest()
-            copy_into(file, mailbox, digest)
+            began, digest, reader, is_locked = time.monotonic(), Digest(), mailbox.again(), True
+            for block in reader.blocks():
+                file.write(block)
+                digest.update(block)
+                if is_locked and time.monotonic() > began + LONGEST_LOCK:
+                    unlock(mailbox.number)
+                    is_locked = False
+                if not is_locked:
+                    # who is told may sync a disk first, which takes its time
+                    mailbox.say("copying", reader.offset, mailbox.size)
+            file.flush()
             # if a message begins where it ended before, it has only grown
             if mailbox.has_changed() and os.pread(mailbox.number, len(FROM), mailbox.size) != FROM:
                 continue
@@ -32,21 +41,6 @@ def snapshot(path: bytes, make: Callable[[int], IO[bytes]], say: Say = silent, f
             copy.copied, copy.took = mailbox.state, time.monotonic() - began
             return copy
     raise Left(KEEPS_CHANGING, Reason.CHANGED)
-
-
-def copy_into(file: IO[bytes], mailbox: Mailbox, digest: Digest) -> None:
-    """Copies a mailbox up to where it ends now. A digest takes it too. It is unlocked once that has taken too long."""
-    end, reader, is_locked = time.monotonic() + LONGEST_LOCK, mailbox.again(), True
-    for block in reader.blocks():
-        file.write(block)
-        digest.update(block)
-        if is_locked and time.monotonic() > end:
-            unlock(mailbox.number)
-            is_locked = False
-        if not is_locked:
-            # who is told may sync a disk first, which takes its time
-            mailbox.say("copying", reader.offset, mailbox.size)
-    file.flush()
 
 
 def open_soon(path: bytes, say: Say, follow: bool) -> Mailbox:

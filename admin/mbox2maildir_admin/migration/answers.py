@@ -4,7 +4,7 @@ what contradicts that."""
 import bisect
 import collections
 from collections.abc import Iterable
-from typing import NamedTuple, Optional, Union
+from typing import NamedTuple, Optional
 
 from ..faults import Fault, Left, Reason
 from ..ledger.ledger import Batch, Ledger, Source
@@ -26,7 +26,7 @@ from ..units import Line, counted
 from .known import Known
 from .known import Opened
 from .options import Options
-from .steps import Contents, remarks_on_lost, remarks_on_none
+from .steps import Contents, remarks_on_lost
 
 AS_ANSWERED = Remark("as-answered", "as it was answered before")
 
@@ -34,7 +34,11 @@ AS_ANSWERED = Remark("as-answered", "as it was answered before")
 def note_empty(record: Record, opened: Opened, ledger: Ledger, path: str) -> list[Remark]:
     """Notes that a mailbox has no mail, and, if it has no byte, that it has its folder. Returns what is to be said of
     what it had."""
-    name, mailbox, said = opened.name, opened.mailbox, list(remarks_on_none(ledger, path))
+    name, mailbox, said = opened.name, opened.mailbox, list[Remark]()
+    if ledger.pending(path) is not None:
+        # a run was killed that had begun with it
+        nothing = Files(ledger.folder, Inventory())
+        said += remarks_on_lost(Match.of(ledger, path, nothing, lambda place: False))
     ledger.note_empty(path, mailbox.key())
     if not mailbox.size:
         record.add(Note.EMPTY, Key(name, *mailbox.key()), 0, mailbox.path)
@@ -85,7 +89,7 @@ def note_no_mail(record: Record, mailbox: Mailbox) -> None:
 
 def is_passed_over(record: History, mailbox: Mailbox) -> bool:
     """Whether it is noted that a file holds no mail, as long as it has its path and its bytes."""
-    keys = record.noted(Note.NO_MAIL, INBOX, mailbox.path)
+    keys = {entry.key for entry in record.noting(Note.NO_MAIL, INBOX, mailbox.path)}
     return bool(keys) and Key(INBOX, *mailbox.key()) in keys
 
 
@@ -173,7 +177,12 @@ class Before(NamedTuple):
 
     def had(self, is_by_word: bool = False) -> collections.Counter[bytes]:
         """How often it has brought each bare form, or each core, or was going to."""
-        return brought_by(self.source, is_by_word) | brought_by(self.batch, is_by_word)
+        brought = collections.Counter[bytes]()
+        if self.source:
+            brought |= counted_in(self.source.bares if is_by_word else self.source.cores)
+        if self.batch:
+            brought |= counted_in(self.batch.bares if is_by_word else self.batch.cores)
+        return brought
 
 
 def want_same_reading(how: Options, known: Known, choice: Choice, contents: Contents) -> None:
@@ -234,13 +243,6 @@ def is_enough(text: Mailbox, decision: Reading, disk: bytes) -> bool:
         return False
 
 
-def brought_by(one: Union[Source, Batch, None], is_by_word: bool) -> collections.Counter[bytes]:
-    """How often a mailbox has brought each bare form, or each core, or was going to."""
-    if one is None:
-        return collections.Counter()
-    return counted_in(one.bares if is_by_word else one.cores)
-
-
 AS_BROUGHT = Remark("as-brought", "as the messages show that it brought")
 # how often a mailbox has brought each core
 Had = collections.Counter[bytes]
@@ -263,41 +265,34 @@ def answer_shown(how: Options, known: Known, question: Question) -> Optional[Rea
         return None
     with content_of(known.opened.mailbox, disk_of(known.record.maildir, how.dry)) as text:
         by = [how._replace(decision=answer.decision) for answer in question.answers]
-        given = [given_by(one, known, text, question.doubtful) for one in by]
+        given = [given_by(one, known, text, had, question.doubtful) for one in by]
     most = max((one.brought for one in given), default=0)
     best = [one for one in given if one.is_shown or one.brought == most]
     return best[0].decision if len(best) == 1 and best[0].is_shown else None
 
 
-def given_by(how: Options, known: Known, text: Mailbox, lines: Iterable[Line]) -> Given:
-    """What the answer gives by which this mailbox would be migrated."""
-    choice, had = Choice(text, plan_of(text, decision=how.decision)), Before.of(known, how.decision).had()
+def given_by(how: Options, known: Known, text: Mailbox, had: Had, lines: Iterable[Line]) -> Given:
+    """What the answer gives by which this mailbox would be migrated, of what it has brought."""
+    choice = Choice(text, plan_of(text, decision=how.decision))
     with choice.text(disk_of(known.record.maildir, how.dry)) as whole:
         part = whole.begun_by(how.extra.start_of)
         contents = Contents(part.mailbox, whole.start, part.messages(), choice.plan.bared(how.extra.IS_BARE).reading)
-        is_shown = are_brought(had, contents.inventory, lines) and goes_on(how, known, choice, contents)
+        is_shown = are_brought(had, contents.inventory, lines)
+        if is_shown:
+            # a mailbox that is read so also goes on as it was read before
+            try:
+                want_same_reading(how, known, choice, contents)
+            except Left:
+                is_shown = False
     return Given(how.decision, sum((had & cores_of(contents.inventory)).values()), is_shown)
 
 
 def are_brought(had: Had, inventory: Inventory, lines: Iterable[Line]) -> bool:
     """Whether each of these lines is in a message of a text that was brought, or between two of them. Of several with a
     core, nobody knows which were brought, unless all were."""
-    has = cores_of(inventory)
-    cores = [inventory.core(place) if place >= 0 else b"" for line in lines for place in places_at(inventory, line)]
+    has, cores = cores_of(inventory), list[bytes]()
+    for line in lines:
+        # a line that begins messages is also in the message above it, of which there is none before the first one
+        first, last = (find(inventory.lines, line) - 1 for find in (bisect.bisect_left, bisect.bisect_right))
+        cores += (inventory.core(place) if place >= 0 else b"" for place in range(first, last + 1))
     return all(0 < has[core] <= had[core] for core in cores)
-
-
-def places_at(inventory: Inventory, line: Line) -> range:
-    """The places of the messages that a line of a text is in; of one that begins messages, also of the message above.
-    The place before the first message is that of no message."""
-    first, last = (find(inventory.lines, line) - 1 for find in (bisect.bisect_left, bisect.bisect_right))
-    return range(first, last + 1)
-
-
-def goes_on(how: Options, known: Known, choice: Choice, contents: Contents) -> bool:
-    """Whether a mailbox that is read so goes on as it was read before."""
-    try:
-        want_same_reading(how, known, choice, contents)
-    except Left:
-        return False
-    return True

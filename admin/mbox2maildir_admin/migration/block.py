@@ -24,7 +24,6 @@ MIGRATE = (ADMIN, "migrate")
 ON_LINES = Does.BEGINS, Does.BELONGS, Does.BEGINS_DROP, Does.BELONGS_DROP
 FOLDERS = Does.OWN_FOLDER, Does.JOINS_INBOX, Does.LABEL_NONE, Does.LABEL_FOLDER, Does.LABEL_READ, Does.ALL, Does.ONE
 WITHIN = "  "
-EACH_USER = "each user"
 
 
 class Typed(NamedTuple):
@@ -103,7 +102,11 @@ class Group:
         """The lines of its own mailboxes: of a single one with the lines of mail that it is about, of several only
         where a human asks for that. Where a human is asked, each answer has its letter."""
         at_once = list(self.at_once(typed)) if typed and len(self.rows) > 1 else []
-        steps = at_once or list(self.steps(is_asked)) or list(self.by_hand())
+        steps, why = at_once or list(self.steps(is_asked)), self.rows[0].left_for
+        by_hand = to_do(why) if why and not steps else ""
+        if by_hand and not by_hand.startswith(ITS_COMMAND):
+            # a human does it about all rows, and no row says it
+            steps = [BELOW + by_hand]
         is_cut = not self.answers and (at_once or not any(line.startswith(COMMAND) for line in steps))
         named_here = self.rows[: SHOWN if is_cut else None]
         width = min(40, max(len(name_of(one)) for one in named_here))
@@ -131,12 +134,6 @@ class Group:
             return "%s: %s (%s): does a mail begin at the line that is shown?" % (row.word, several, row.kind)
         return "%s: %s: %s" % (row.word, several, row.left_for.says)
 
-    def is_below(self, before: "Group") -> bool:
-        """Whether it stands below the title of the group before it: it has the same reason, and neither is asked
-        about."""
-        why = self.rows[0].left_for
-        return why is not None and why is before.rows[0].left_for and not self.answers and not before.answers
-
     def at_once(self, typed: Typed) -> Iterator[str]:
         """What is to be done about all rows by one command, or by one for each answer; nothing if there is none."""
         if self.rows[0].reason is Reason.NOT_KNOWN and Task(Todo.PASS_OVER) in self.rows[0].next:
@@ -157,13 +154,6 @@ class Group:
         for path, is_own in dict.fromkeys((one.path, one.user is None) for one in self.rows):
             yield from option("--no-mail", path if is_own else glob.escape(path))
 
-    def by_hand(self) -> Iterator[str]:
-        """What a human does about all rows, if no row says it."""
-        why = self.rows[0].left_for
-        says = to_do(why) if why else ""
-        if says and not says.startswith(ITS_COMMAND):
-            yield BELOW + says
-
     def steps(self, is_asked: bool) -> Iterator[str]:
         """What is to be done, step by step: each sentence once, with the command of each row."""
         for letter, several in zip(LETTERS, zip(*(one.next for one in self.rows))):
@@ -174,7 +164,7 @@ class Group:
             else:
                 tasks = [one for one in several if isinstance(one, Task)]
                 if len({one.user for one in tasks}) > 1:
-                    tasks = [one._replace(user=EACH_USER) for one in tasks]
+                    tasks = [one._replace(user="each user") for one in tasks]
                 yield from dict.fromkeys(BELOW + one.sentence() for one in tasks)
             yield from dict.fromkeys(COMMAND + one.command.line() for one in answers)
 
@@ -204,7 +194,9 @@ def groups_of(rows: Iterable[Row]) -> list[Group]:
         most = MOST_ALIKE if answers_of(several[0]) else len(several)
         for at in range(0, len(several), most):
             group = Group(several[at : at + most])
-            if below and group.is_below(below[-1]):
+            why = group.rows[0].left_for
+            if below and why and why is below[-1].rows[0].left_for and not (group.answers or below[-1].answers):
+                # one title says why for both, since nothing is asked about them
                 below[-1:] = [Group(below[-1].rows, (*below[-1].others, group))]
             else:
                 below.append(group)

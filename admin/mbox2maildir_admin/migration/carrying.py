@@ -157,15 +157,18 @@ def explained(failed: Failed, steps: Steps, batch: int) -> Left:
     folder, whole = steps.opened.folder, steps.placing.whole()
     there = Files(folder, whole, steps.opened.mailbox.say).there
     nowhere = [place for place in steps.placing.need if not there[place]]
-    found = FOLDER_CALL.search(str(failed))
+    says, found = str(failed), FOLDER_CALL.search(str(failed))
     call = int(found.group(1)) if found else 0
     unlisted = why_not_listed(folder) if call in SYNCED else None
     if call > len(LISTINGS) and not nowhere or call in SYNCED and not unlisted:
         return sync_failed(folder, batch)
     size = steps.contents.inventory.sizes[nowhere[0]] if nowhere else 0
-    cause = unlisted or what_fails(folder, size) or (ONCE if WITHOUT_CAUSE.search(str(failed)) else None)
-    says = [with_call(str(failed)), cause, "%d of %d messages are there" % (sum(there), len(whole))]
-    return Left("; ".join(filter(None, says)), Reason.CONVERT_FAILED)
+    cause = unlisted or what_fails(folder, size) or (ONCE if WITHOUT_CAUSE.search(says) else None)
+    if found:
+        does = dict(enumerate(LISTINGS, 1)).get(call, LATER)
+        says = "%s, which %s%s" % (says[: found.end()], does, says[found.end() :])
+    counts = "%d of %d messages are there" % (sum(there), len(whole))
+    return Left("; ".join(filter(None, [says, cause, counts])), Reason.CONVERT_FAILED)
 
 
 def finish(one: Steps) -> list[Remark]:
@@ -299,12 +302,3 @@ def leaving(rows: list[Row], *places: int) -> Iterator[None]:
         for place in places:
             fault = fault_of(error, rows[place].path)
             rows[place] = rows[place]._replace(fate=Fate.LEFT, why=str(fault), reason=fault.reason, remarks=())
-
-
-def with_call(says: str) -> str:
-    """What the program says, and what the call does that failed."""
-    call = FOLDER_CALL.search(says)
-    if not call:
-        return says
-    does = dict(enumerate(LISTINGS, 1)).get(int(call.group(1)), LATER)
-    return "%s, which %s%s" % (says[: call.end()], does, says[call.end() :])

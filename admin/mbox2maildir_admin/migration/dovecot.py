@@ -8,7 +8,7 @@ import functools
 import hashlib
 import os
 import stat
-from collections.abc import Callable, Iterator
+from collections.abc import Callable
 from typing import Optional
 
 from ..faults import Left, PlaceFault, Reason
@@ -85,7 +85,11 @@ class Dovecot(Extra):
                 remove_lists(self.record, one.opened)
             self.write(one, reading)
         elif one.contents.is_bare:
-            give_flags(one)
+            # the folder keeps its numbers, and its new messages get those flags of their headers that their files lack
+            marks = [marks_of(fields_of(one.contents.header(Place(place))), {}) for place in one.places]
+            letters = [info_of(its, "") for its in marks]
+            listed = {Place(place) for place, its in enumerate(marks) if is_listed(its)}
+            add_flags(one.opened.folder, one.files, letters, one.is_unread, listed)
         if WHAT_IS_NEW in says:
             self.raise_next(one)
         return says
@@ -96,7 +100,7 @@ class Dovecot(Extra):
         text = content_of(os.path.join(folder, LIST), LONGEST_LIST)
         new = raised(text, head.validity, head.last) if head and text else text
         if text is not None and new is not None and new != text:
-            if self.is_own(one.opened, LIST):
+            if self.is_own(one.opened.name, folder, LIST):
                 self.writer(one.opened.name)(LIST, len(new), hashlib.sha256(new).hexdigest())
             replace(os.path.join(folder, LIST), text, new)
 
@@ -150,7 +154,7 @@ class Dovecot(Extra):
         if numbered and one.is_grown and LIST in there:
             return [WHAT_IS_NEW]
         for name in there:
-            if not self.is_own(opened, name):
+            if not self.is_own(opened.name, opened.folder, name):
                 raise Left("%s is there: %s" % (named(name), NUMBERED_BY_DOVECOT), Reason.NUMBERED)
         if LIST in there:
             is_same = numbered is not None and numbered.key == Key(opened.name, *opened.mailbox.key())
@@ -158,12 +162,9 @@ class Dovecot(Extra):
             return None if is_same or one.is_begun else [WHAT_IS_NEW]
         return [DONE_WITHOUT] if one.is_grown else None
 
-    def is_own(self, opened: Opened, name: bytes) -> bool:
-        """Whether the record has a file of a folder as one that was written for a mailbox."""
-        return self.is_own_in(opened.name, opened.folder, name)
-
-    def is_own_in(self, folder: bytes, path: bytes, name: bytes) -> bool:
-        """The same for a folder of this name, at a path."""
+    def is_own(self, folder: bytes, path: bytes, name: bytes) -> bool:
+        """Whether the record has a file as one that was written for a mailbox of the folder of this name, which is at
+        this path."""
         path, most = os.path.join(path, name), self.record.longest_written(folder)
         text = content_of(path, most) if name in (KEYWORDS, LIST) else None
         return text is not None and self.record.has_written(folder, name, hashlib.sha256(text).hexdigest())
@@ -179,17 +180,9 @@ def remove_lists(record: Record, opened: Opened) -> None:
     numbered, own = record.numbered(opened.name), Dovecot(record)
     there = names_in(opened.folder)
     for name in (LIST, KEYWORDS):
-        if numbered and is_of(numbered, opened) and name in there and own.is_own(opened, name):
+        if numbered and is_of(numbered, opened) and name in there and own.is_own(opened.name, opened.folder, name):
             os.unlink(os.path.join(opened.folder, name))
     sync_folder(opened.folder)
-
-
-def give_flags(one: Steps) -> None:
-    """Gives the new messages those flags of their headers that their files lack, if the folder keeps its numbers."""
-    marks = [marks_of(fields_of(one.contents.header(Place(place))), {}) for place in one.places]
-    letters = [info_of(its, "") for its in marks]
-    listed = {Place(place) for place, its in enumerate(marks) if is_listed(its)}
-    add_flags(one.opened.folder, one.files, letters, one.is_unread, listed)
 
 
 def place_file(folder: bytes, name: bytes, text: bytes, note: NoteFile) -> None:
@@ -202,12 +195,17 @@ def place_file(folder: bytes, name: bytes, text: bytes, note: NoteFile) -> None:
             return
         raise Left("an earlier run left another %s" % named(name), Reason.NUMBERED, run_next("rm", operand(path)))
     note(path, len(text), hashlib.sha256(text).hexdigest())
-    with written(part, text):
+    with open(os.open(part, os.O_WRONLY | os.O_CREAT | os.O_EXCL | os.O_CLOEXEC, 0o600), "wb") as file:
         try:
+            file.write(text)
+            file.flush()
+            os.fsync(file.fileno())
             os.link(part, path)
         except FileExistsError as fault:
             says = "%s is there by now: %s: %s" % (named(name), NUMBERED_BY_DOVECOT, GOES_ON)
             raise Left(says, Reason.NUMBERED) from fault
+        finally:
+            os.unlink(part)
     sync_folder(folder)
 
 
@@ -220,19 +218,6 @@ def remove_part(folder: bytes, name: bytes) -> None:
     """Removes what a killed run may have left there, even if the file has got its name since."""
     with contextlib.suppress(FileNotFoundError):
         os.unlink(part_path(folder, name))
-
-
-@contextlib.contextmanager
-def written(path: bytes, text: bytes) -> Iterator[None]:
-    """Makes a new file with a text, on the disk. It is removed in the end."""
-    with open(os.open(path, os.O_WRONLY | os.O_CREAT | os.O_EXCL | os.O_CLOEXEC, 0o600), "wb") as file:
-        try:
-            file.write(text)
-            file.flush()
-            os.fsync(file.fileno())
-            yield
-        finally:
-            os.unlink(path)
 
 
 def content_of(path: bytes, most: int) -> Optional[bytes]:
@@ -257,20 +242,12 @@ def lines_of(path: bytes) -> tuple[list[bytes], bool]:
     return [line for line in ([] if has_tabs else [first]) + lines if line], has_tabs
 
 
-def subscriptions_of(old: bytes) -> list[bytes]:
-    """The folders that a tree's `.subscriptions` names, under their new names, for each that a mailbox of the tree
-    becomes."""
-    lines, has_tabs = lines_of(os.path.join(old, OLD_SUBSCRIPTIONS))
-    return [
-        folder_of_place((line.replace(b"\t", b"/") if has_tabs else line).decode()).encode()
-        for line in lines
-        if is_text(line)
-    ]
-
-
-def subscribe(root: bytes, old: bytes, record: Record, dry: bool = False) -> list[bytes]:
-    """Writes the subscriptions of a tree once, in Dovecot's form. Returns the lines that a file there lacks."""
-    names, path = subscriptions_of(old), os.path.join(root, SUBSCRIPTIONS)
+def subscribe(root: bytes, old: bytes, record: Record, dry: bool) -> list[bytes]:
+    """Writes the subscriptions of a tree once, in Dovecot's form: the folders that its `.subscriptions` names, under
+    the names that they get. Returns the lines that a file there lacks."""
+    path, (found, has_tabs) = os.path.join(root, SUBSCRIPTIONS), lines_of(os.path.join(old, OLD_SUBSCRIPTIONS))
+    places = [line.replace(b"\t", b"/") if has_tabs else line for line in found if is_text(line)]
+    names = [folder_of_place(place.decode()).encode() for place in places]
     lines = [name.replace(b".", b"\t") for name in names]
     text = FORM + b"".join(line + b"\n" for line in lines)
     key = Key(INBOX, Size(len(text)), hashlib.sha256(text).hexdigest())

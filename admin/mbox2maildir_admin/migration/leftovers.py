@@ -18,7 +18,7 @@ from ..nexts import Does, Remark, Todo, run_next, task
 from ..terminal import operand, spelled, text_of
 from .outcomes import Row, row_left
 from .places import Planned
-from .preparing import Preparation, undone
+from .preparing import Preparation, tree_above, undone
 from .options import Options
 from .mailbox import TENTH
 
@@ -39,25 +39,19 @@ class Listed(NamedTuple):
         return os.path.join(tree, unspelled(self.path[len(self.tree) + 1 :]))
 
 
-def listed_in(root: bytes) -> list[Listed]:
-    """The folders of a Maildir that have a list of what is prepared."""
-    found = []
-    for folder in folders_in(root):
-        origin = origin_in(folder) if has_list(folder) else None
-        if origin:
-            found.append(Listed(name_of(root, folder), origin.path, origin.tree))
-    return found
-
-
 class Leftovers:
     """The folders that were prepared before a run, and what becomes of those into which no mailbox of it went. What was
     prepared from a tree is that tree's if one of its folders is: it may have another path by now."""
 
     def __init__(self, record: Record, root: bytes, names: Sequence[bytes], options: Options) -> None:
         """Takes the names that a run migrates. A first pass leaves nothing over."""
-        self.record, self.root, self.names, self.options = record, root, names, options
+        self.record, self.root, self.options = record, root, options
         self.trees = [real_path(name) for name in names if is_folder(name) and not options.prepare]
-        self.listed = [] if options.prepare else listed_in(root)
+        self.listed: list[Listed] = []
+        for folder in () if options.prepare else folders_in(root):
+            origin = origin_in(folder) if has_list(folder) else None
+            if origin:
+                self.listed.append(Listed(name_of(root, folder), origin.path, origin.tree))
         # the first pass may have been killed before the record had it
         record.has_prepared = record.has_prepared or any(map(has_list, folders_in(root)))
 
@@ -69,13 +63,15 @@ class Leftovers:
         left = []
         for one in self.listed:
             try:
-                left += [one] * (one.name not in went and self.is_open(one))
+                if one.name not in went:
+                    ledger = Ledger(folder_path(self.root, one.name))
+                    left += [one] * Preparation(self.record, one.name, ledger).is_open
             except (Fault, OSError) as fault:
                 yield row_left(unspelled(one.path), one.name, fault)
         now = {tree: unspelled(tree) for tree in map(spelled, self.trees)}
         met = {one.tree: real_path(went[one.name]) for one in self.listed if one.tree and one.name in went}
         for tree, path in met.items():
-            now[tree] = next((one for one in self.trees if path.startswith(one.rstrip(b"/") + b"/")), b"")
+            now[tree] = tree_above(path, self.trees)
         absent = [one for one in left if now.get(one.tree) and not is_there(one.path_in(now[one.tree]))]
         many, all_of = (collections.Counter(one.tree for one in several) for several in (absent, self.listed))
         for one in left:
@@ -116,7 +112,3 @@ class Leftovers:
                 # what cannot be read stays
                 if name not in went and has_list(folder) and not origin_in(folder):
                     Preparation(self.record, name, Ledger(folder)).empty()
-
-    def is_open(self, one: Listed) -> bool:
-        """Whether a folder is only prepared still."""
-        return Preparation(self.record, one.name, Ledger(folder_path(self.root, one.name))).is_open

@@ -9,7 +9,7 @@ import contextlib
 import functools
 import time
 from collections.abc import Callable, Iterator
-from typing import IO, TYPE_CHECKING, Any, Optional
+from typing import IO, Any, Optional
 
 from ..faults import Fault, Left, Reason
 from ..kinds.named import is_no_mail
@@ -32,7 +32,7 @@ from ..readings.plans import NoMail, NotKnown, OtherKind, Question, read_begun
 from ..readings.reading import UNDECIDED
 from ..readings.texts import Choice, choice_at_once, choice_of, disk_of, read_messages
 from ..readings.unnamed import unnamed
-from ..terminal import named
+from ..terminal import first_of, named
 from ..units import Say, counted, silent
 from .answers import (
     AS_ANSWERED,
@@ -71,12 +71,9 @@ from .steps import (
     Steps,
     remarks_on,
     remarks_on_dropped,
-    remarks_on_joined,
     remarks_on_lost,
 )
 
-if TYPE_CHECKING:
-    from .workers import Work
 
 WITH_LABELS = "it was migrated with --labels, so its mail is in the folders of its labels"
 # how many bytes a line of the ledger may have that names a file of this program
@@ -94,7 +91,7 @@ OLDER = "the ledger of its folder is older than its record, and lacks %s of it: 
 class Migration:
     """Migrates mailboxes into the folders of a Maildir. One is done once the disk of its folder was synced as well."""
 
-    def __init__(self, program: Program, root: bytes, record: Record, how: Options = Options()) -> None:
+    def __init__(self, program: Program, root: bytes, record: Record, how: Options) -> None:
         self.program, self.root, self.record, self.how = program, root, record, how
         # raises Left if the disk has no space for a mailbox; others at work may count on the same space
         self.want_room: Callable[[Need], None] = want_room
@@ -107,13 +104,6 @@ class Migration:
     def disk(self) -> bytes:
         """A folder on the disk where copies are made."""
         return disk_of(self.root, self.how.dry)
-
-    def work_for(self, work: "Work") -> None:
-        """Makes this the migration of a worker. Its parent writes the record, and knows the space that all workers
-        need."""
-        self.want_room, self.program.alive = work.want_room, work.alive
-        if not self.how.dry:
-            self.record.write = work.write
 
     def run(
         self, path: bytes, name: bytes, say: Say = silent, follow: bool = False, why: Optional[Fault] = None
@@ -193,8 +183,8 @@ class Transfer:
         migration: Migration,
         opened: Opened,
         ledger: Ledger,
-        preparation: Optional[Preparation] = None,
-        part: Optional[Part] = None,
+        preparation: Optional[Preparation],
+        part: Optional[Part],
     ) -> None:
         """Takes what is only prepared in the folder, if mail is not placed there for good at once; and what goes there,
         if that is not all of the mailbox."""
@@ -402,7 +392,12 @@ class Transfer:
             hindrance = how.extra.hindrance(steps)
             if hindrance:
                 raise Left(str(hindrance), hindrance.reason, self.command(Does.RUN, again=how.again, dovecot=False))
-        self.want_room_for(steps)
+        need, sizes = steps.placing.need, contents.inventory.sizes
+        wanted = [*(sizes[place] for place in need), LONGEST_LINE * steps.placing.count_of_lines()]
+        # what no message wants is removed first
+        freed = prepared.sizes_unwanted() if prepared and not how.again else ()
+        if len(need):
+            self.want_room(Need.of(self.opened.folder, wanted, freed=freed))
         return steps if how.prepare else self.said_of(steps)
 
     def said_of(self, steps: Steps) -> Steps:
@@ -415,21 +410,15 @@ class Transfer:
             says = "%s of it went into %s too" % (counted(line.messages, "message"), folder_shown(line.key.folder))
             says += "" if line.path in known.names else ", from %s" % named(unspelled(line.path))
             remarks.append(Remark("elsewhere", says))
-        remarks += [*back_in(self.ledger), *remarks_on_joined(known.joined(how.names))]
+        remarks += back_in(self.ledger)
+        joined = known.joined(how.names)
+        if joined:
+            remarks.append(Remark("joined", "its folder has mail of %s too" % first_of(joined, most=1)))
         then = self.command(Does.BRINGS_BACK, again=True) if sum(steps.match.seen.gone.values()) else NOTHING
         for there in (self.opened._replace(name=line.key.folder) for line, is_moved in elsewhere if is_moved):
             then += (Answer(how.undo_command(self.root, there), Does.UNDO_THERE),)
         may_be_cut = names_that_may_be_cut(known, steps.match)
         return steps._replace(may_be_cut=may_be_cut, remarks=tuple(remarks), next=then)
-
-    def want_room_for(self, steps: Steps) -> None:
-        """Raises Left if there is no space for what is to be placed, and for the lines of the ledger, once what no
-        message wants is removed."""
-        sizes, need = steps.contents.inventory.sizes, steps.placing.need
-        wanted = [*(sizes[place] for place in need), LONGEST_LINE * steps.placing.count_of_lines()]
-        freed = self.prepared.sizes_unwanted() if self.prepared and not self.how.again else ()
-        if len(need):
-            self.want_room(Need.of(self.opened.folder, wanted, freed=freed))
 
     def row(self, part: Part, then: Next = NOTHING) -> Row:
         """The row of a mailbox that is done or prepared, or would be."""

@@ -250,13 +250,6 @@ def path_of(path: bytes) -> dict[str, Any]:
     return {"path": text_of(path)} if is_text(path) else {"path": shown(path), "path_hex": path.hex()}
 
 
-def with_name(row: Row, before: str) -> Row:
-    """Adds to a row the name that the folder had in Dovecot, if mail programs will show another one."""
-    if not before or not row.folder or row.fate == Fate.BEFORE:
-        return row
-    return row._replace(remarks=(*row.remarks, Remark("name-before", "its name was %s" % named(before))))
-
-
 def row_left(
     path: bytes, name: bytes, error: Union[Fault, OSError], plan: Optional[Plan] = None, size: Optional[int] = None
 ) -> Row:

@@ -9,7 +9,7 @@ from typing import NamedTuple, Optional
 from .. import ADMIN
 from ..faults import Fault, Left, Reason, fault_of
 from ..kinds.named import is_no_mail, name_of_folder
-from ..ledger.history import History, Step
+from ..ledger.history import History, Step, names_of
 from ..ledger.record import Record, unspelled
 from ..looks import is_file
 from ..maildir.files import mail_in
@@ -92,10 +92,7 @@ def as_named(one: Planned, record: Record, options: Options) -> Planned:
 
 
 def with_own_folders(
-    mailboxes: Iterable[Planned],
-    taken: Container[bytes] = (),
-    has_no_mail: Callable[[Planned], bool] = lambda one: False,
-    words: Sequence[str] = (),
+    mailboxes: Iterable[Planned], taken: Container[bytes], has_no_mail: Callable[[Planned], bool], words: Sequence[str]
 ) -> list[Planned]:
     """Mailboxes with their folders. Those that would go into the same folder, or into one that is taken, go nowhere;
     files without mail do not count. The commands for them have these words."""
@@ -112,14 +109,6 @@ def with_own_folders(
         why = "another mailbox goes into %s too" % folder_shown(folder)
         several += [one if is_free and one in mail else one.left_to_human(why, words) for one in found]
     return several
-
-
-def beside(path: bytes) -> list[bytes]:
-    """The files beside one that may be its copies, or that it may be a copy of, by their names; those that are known to
-    hold no mail are neither."""
-    names = [path + ending for ending in ENDINGS]
-    names += [path[: -len(ending)] for ending in ENDINGS if path.endswith(ending)]
-    return [name for name in names if is_file(name) and not is_no_mail(name)]
 
 
 def has_record(plan: Iterable[Planned], record: Record) -> bool:
@@ -140,8 +129,11 @@ class Pairs(NamedTuple):
     own: Optional[Container[bytes]] = None
 
     def beside(self, path: bytes) -> list[bytes]:
-        """The files beside one that count."""
-        there = beside(path)
+        """The files beside one that count, and may be its copies, or that it may be a copy of, by their names; those
+        that are known to hold no mail are neither."""
+        names = [path + ending for ending in ENDINGS]
+        names += [path[: -len(ending)] for ending in ENDINGS if path.endswith(ending)]
+        there = [name for name in names if is_file(name) and not is_no_mail(name)]
         own = there if self.own is None else self.own
         return [other for other in there if other in own]
 
@@ -170,14 +162,16 @@ class Pairs(NamedTuple):
     def done_in(self, path: bytes, folder: bytes = b"") -> Optional[bytes]:
         """The folder, this one or one of the record, into which all of a file went, even if programs have written into
         it since."""
-        for name in dict.fromkeys([folder, *self.record.folders_of(path)]):
-            last = self.record.last_at(name, path)
+        names = names_of(path)
+        for name in dict.fromkeys([folder, *self.record.folders_with(names)]):
+            last = self.record.last_of(name, names)
             if last and last.what is Step.DONE:
                 return name
         return None
 
     def judged(self, one: Planned) -> Planned:
-        """A mailbox as it was planned; or left, since another is beside it and it is not done."""
+        """A mailbox as it was planned; or left, since another is beside it and it is not done. Unless it may be a copy
+        itself, the command that migrates it all the same is told."""
         try:
             others = self.beside(one.path)
             if one.why or not others or self.done_in(one.path, one.folder) is not None:
@@ -187,11 +181,8 @@ class Pairs(NamedTuple):
             others = [other for other in others if other not in compressed or self.done_in(other) is None]
         except (Fault, OSError) as fault:
             return one.left(fault_of(fault, one.path))
-        return self.left(one, others) if others else one
-
-    def left(self, one: Planned, others: list[bytes]) -> Planned:
-        """The mailbox, which is left. Unless it may be a copy itself, the command that migrates it all the same is
-        told."""
+        if not others:
+            return one
         then = task(Todo.COPY_AWAY)
         if all(other.startswith(one.path) for other in others):
             folder = words_of(one.folder) if one.folder else ["--folder", "NAME"]

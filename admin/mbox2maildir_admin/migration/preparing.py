@@ -30,7 +30,7 @@ import enum
 import functools
 import os
 import time
-from collections.abc import Container, Sequence
+from collections.abc import Container, Iterable
 from typing import Optional
 
 from ..faults import Left, Reason
@@ -147,7 +147,7 @@ class Preparation:
             self.take_begun()
             self.give_names_back()
             for file in names_in(folder):
-                if Dovecot(self.record).is_own_in(self.name, folder, file):
+                if Dovecot(self.record).is_own(self.name, folder, file):
                     os.unlink(os.path.join(folder, file))
             for file in (KEYWORDS, LIST):
                 remove_part(folder, file)
@@ -174,14 +174,24 @@ class Preparation:
                     os.rename(path, target)
 
     def empty(self) -> None:
-        """Removes everything that was prepared, and the folder itself if it was made for that and no mailbox has
-        brought anything."""
+        """Removes everything that was prepared, and the folder itself if it was made for that, holds nothing else, and
+        no mailbox has brought anything."""
         self.prepared.remove()
-        aside = aside_of(self.folder)
-        is_unused = self.name != INBOX and not self.ledger.paths() and clear_folder(self.prepared)
+        folder, aside, is_unused = self.folder, aside_of(self.folder), False
+        if self.name != INBOX and not self.ledger.paths():
+            others = set(os.listdir(folder)) - {*SUBFOLDERS, MARK, LEDGER, PREPARED, NEXT_LIST}
+            subs = (os.path.join(folder, sub) for sub in SUBFOLDERS)
+            is_unused = self.prepared.is_made and not others and not any(map(names_in, subs))
         if is_unused:
+            # the list stays until the folder is put aside, so that another run can go on
+            for sub in SUBFOLDERS:
+                with contextlib.suppress(FileNotFoundError):
+                    os.rmdir(os.path.join(folder, sub))
+            for name in (MARK, LEDGER):
+                with contextlib.suppress(FileNotFoundError):
+                    os.unlink(os.path.join(folder, name))
             remove_aside(aside)
-            os.rename(self.folder, aside)
+            os.rename(folder, aside)
             sync_folder(os.path.dirname(aside))
         self.forget()
         if is_unused:
@@ -268,7 +278,7 @@ def reader_in(record: Record, name: bytes, prepared: Prepared) -> Optional[bytes
     has begun to finish it, files that were prepared may have flags."""
     folder = prepared.folder
     for file in names_in(folder):
-        is_ours = prepared.batch and Dovecot(record).is_own_in(name, folder, file)
+        is_ours = prepared.batch and Dovecot(record).is_own(name, folder, file)
         if file.startswith(b"dovecot") and not is_ours:
             return os.path.join(folder, file)
     for file, path in mail_in(folder):
@@ -288,8 +298,9 @@ def with_list(steps: Steps, how: Options, choice: Choice, took: int) -> Steps:
     and how many milliseconds the mailbox took to read."""
     known, contents, mailbox, plan = steps.known, steps.contents, steps.opened.mailbox, choice.plan
     if steps.prepared and (how.prepare or not steps.prepared.origin):
-        state, tree = signs_of(mailbox.copied or mailbox.state), tree_above(mailbox.path, how.names)
-        its = len(contents.inventory), contents.words, tree, known.path
+        state = signs_of(mailbox.copied or mailbox.state)
+        tree = tree_above(real_path(mailbox.path), map(real_path, how.names))
+        its = len(contents.inventory), contents.words, spelled(tree) if tree else "", known.path
         steps = steps._replace(origin=Origin(mailbox.key(), state, *its))
     if not how.prepare:
         return steps
@@ -306,13 +317,9 @@ def signs_of(state: os.stat_result) -> tuple[int, ...]:
     return state.st_ino, state.st_size, max(0, state.st_mtime_ns), max(0, state.st_ctime_ns)
 
 
-def tree_above(path: bytes, names: Sequence[bytes]) -> str:
-    """The tree among these names that a mailbox is in, as lines spell it; empty if it is in none."""
-    real = real_path(path)
-    for tree in (real_path(name) for name in names):
-        if real.startswith(tree.rstrip(b"/") + b"/"):
-            return spelled(tree)
-    return ""
+def tree_above(path: bytes, trees: Iterable[bytes]) -> bytes:
+    """The tree among these that a path is in; empty if it is in none. None of them leads over a symbolic link."""
+    return next((tree for tree in trees if path.startswith(tree.rstrip(b"/") + b"/")), b"")
 
 
 def take_prepared(match: Match, prepared: Prepared) -> None:
@@ -364,22 +371,6 @@ def undone(record: Record, path: bytes, name: bytes, dry: bool, say: Say = silen
         remarks.append(Remark("kept-edited", "%s %s that somebody edited" % (keeps, edited)))
     messages = prepared.origin.messages if prepared.origin else None
     return Row(path, name, "", messages, fate, remarks=tuple(remarks))
-
-
-def clear_folder(prepared: Prepared) -> bool:
-    """Removes what makes a folder one of a Maildir, and its ledger, if it was made for this and holds nothing else.
-    Returns whether it did. The list is still there, so that another run can go on."""
-    folder = prepared.folder
-    others = set(os.listdir(folder)) - {*SUBFOLDERS, MARK, LEDGER, PREPARED, NEXT_LIST}
-    if not prepared.is_made or others or any(names_in(os.path.join(folder, sub)) for sub in SUBFOLDERS):
-        return False
-    for sub in SUBFOLDERS:
-        with contextlib.suppress(FileNotFoundError):
-            os.rmdir(os.path.join(folder, sub))
-    for name in (MARK, LEDGER):
-        with contextlib.suppress(FileNotFoundError):
-            os.unlink(os.path.join(folder, name))
-    return True
 
 
 def same_as_prepared(prepared: Prepared, how: Options, opened: Opened) -> Optional[Part]:

@@ -98,8 +98,10 @@ class Reporter(Observer):
 
     def progress(self, who: str, doing: str, place: Optional[int] = None, size: Optional[int] = None) -> None:
         """Says how far one is."""
-        if not self.line.is_terminal:
-            self.say_wait(who, doing)
+        if not self.line.is_terminal and doing.startswith(WAITING) and who not in self.waiting:
+            # without a terminal it is said once that one waits, and for how long
+            self.waiting.add(who)
+            complain("%s: %s" % (who, doing))
         number = self.steps.get(doing.split(" ", 1)[0])
         step = "step %d of %d" % (number, max(self.steps.values())) if number else ""
         self.at_work.tell(who, doing, place, size)
@@ -111,12 +113,6 @@ class Reporter(Observer):
         """Notes that one is no longer at work."""
         self.at_work.end(who)
         self.line.end(who)
-
-    def say_wait(self, who: str, doing: str) -> None:
-        """Says once that one waits, and for how long, if no terminal shows it."""
-        if doing.startswith(WAITING) and who not in self.waiting:
-            self.waiting.add(who)
-            complain("%s: %s" % (who, doing))
 
     def row(self, row: Row) -> None:
         """Counts what became of a mailbox, and prints it."""

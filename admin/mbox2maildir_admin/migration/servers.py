@@ -48,7 +48,8 @@ def locations() -> Optional[list[str]]:
     if doveconf is None:
         return None
     # of these names, each version knows its own
-    general = settings_in(printed_by(doveconf, OLD, DRIVER, PATH, INBOX))
+    named_so = filter(None, map(SETS.fullmatch, printed_by(doveconf, OLD, DRIVER, PATH, INBOX)))
+    general = {found[1]: found[2] for found in named_so}
     others = printed_by(doveconf, "-n")
     if OLD in general:
         found = filter(None, map(SETS.fullmatch, others))
@@ -61,11 +62,6 @@ def printed_by(*words: str) -> list[str]:
     """The lines that a command prints; none if it fails."""
     ran = subprocess.run(words, stdout=subprocess.PIPE, stderr=subprocess.DEVNULL, check=False)
     return [] if ran.returncode else ran.stdout.decode("utf-8", "replace").splitlines()
-
-
-def settings_in(lines: Iterable[str]) -> dict[str, str]:
-    """What settings these lines have."""
-    return {found[1]: found[2] for found in map(SETS.fullmatch, lines) if found}
 
 
 def places_in(settings: Mapping[str, str]) -> Iterator[str]:

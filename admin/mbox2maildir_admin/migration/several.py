@@ -17,7 +17,7 @@ from ..maildir.folders import INBOX, folder_of, on_disk
 from ..maildir.making import real_place, want_maildir, want_own, want_roots, want_roots_alone
 from ..maildir.disk import Syncs
 from ..mbox.files import is_empty
-from ..nexts import NOTHING, Todo, in_shell, line_of, run_next, task
+from ..nexts import NOTHING, Remark, Todo, in_shell, line_of, run_next, task
 from ..program import Program, find_program
 from ..progress import Beat
 from ..terminal import named, operand, text_of, word
@@ -25,12 +25,12 @@ from .dovecot import OLD_SUBSCRIPTIONS, SUBSCRIPTIONS, Dovecot, subscribe
 from .leftovers import Leftovers
 from .carrying import settled
 from .mailbox import Migration
-from .outcomes import Fate, Observer, Outcome, Row, row_left, seen, with_name
+from .outcomes import Fate, Observer, Outcome, Row, row_left, seen
 from .places import Pairs, Planned, UserHome, as_named, has_record, into_inbox, recorded
 from .servers import Place, locations, want_unread
 from .options import Options
 from .steps import Extra
-from .trees import NamesMet, Tree, also_named, identity, link_left, other_names
+from .trees import NamesMet, Tree, identity, link_left, other_names
 
 if TYPE_CHECKING:
     from .workers import Work
@@ -129,7 +129,11 @@ class Several:
     def migrate(self, folder: Optional[str]) -> Sequence[Planned]:
         """Migrates each mailbox; those that are files go into this folder. Returns which hold mail."""
         how, plan = self.migration.how, list(self.plan(folder))
-        plan = plan if folder else self.pairs.without_folders_in_inbox(plan, self.files_given())
+        if not folder:
+            # the mailbox of a spool is its user's inbox, whatever its name is; an exported mailbox counts as its file
+            files = [one for one in self.names if is_file(one) and (not self.own or is_below(one, how.home))]
+            exports = [tree.export for tree in self.trees.values() if tree.export]
+            plan = self.pairs.without_folders_in_inbox(plan, files + exports)
         self.observer.total += len(plan)
         # a symbolic link may give a folder two names, and it has one ledger
         folders = [one.folder and real_path(one.folder_in(self.migration.root)) for one in plan if how.jobs != 1]
@@ -171,9 +175,12 @@ class Several:
             report()
 
     def work(self, plan: Sequence[Planned], work: "Work") -> None:
-        """Does the work of a worker. Its parent syncs and reports."""
-        self.syncs, self.tell = Syncs(self.settle), work.progress
-        self.migration.work_for(work)
+        """Does the work of a worker. Its parent syncs, writes the record and reports, and knows the space that all
+        workers need."""
+        migration, self.syncs, self.tell = self.migration, Syncs(self.settle), work.progress
+        migration.want_room, migration.program.alive = work.want_room, work.alive
+        if not migration.how.dry:
+            migration.record.write = work.write
         for places in work.groups():
             for place in places:
                 work.begin()
@@ -204,13 +211,6 @@ class Several:
         """Whether a name is that of a folder of mailboxes. A symbolic link is not one if none is followed."""
         return is_folder(name) and not (self.own and is_link(name))
 
-    def files_given(self) -> list[bytes]:
-        """The names that are files, or mailboxes that were exported. The mailbox of a spool is its user's inbox,
-        whatever its name is."""
-        home, exports = self.migration.how.home, [tree.export for tree in self.trees.values() if tree.export]
-        files = [one for one in self.names if is_file(one) and (not self.own or is_below(one, home))]
-        return files + exports
-
     def plan(self, folder: Optional[str]) -> Iterator[Planned]:
         """The mailboxes in their order, with their folders. Reports the rows of what is not migrated."""
         names = list({os.path.abspath(name): name for name in reversed(self.names)}.values())[::-1]
@@ -226,7 +226,12 @@ class Several:
         self.others = other_names(self.met)
         for name in names:
             if name in self.trees:
-                yield from self.plan_of_tree(self.trees[name])
+                tree = self.trees[name]
+                placed = tree.placed(record, root, self.taken, self.is_no_mail)
+                maildirs = [maildir.row(root, self.taken) for maildir in tree.maildirs]
+                for row in [*tree.rows, *maildirs]:
+                    self.report(Outcome(row))
+                yield from placed
             elif self.own and is_link(name):
                 self.observer.row(row_left(name, b"", link_left(name)))
             else:
@@ -238,14 +243,6 @@ class Several:
                 self.taken.add(one.folder)
                 yield one
 
-    def plan_of_tree(self, tree: Tree) -> list[Planned]:
-        """The mailboxes of a tree. Reports the rows of what else is in it."""
-        plan = tree.placed(self.migration.record, self.migration.root, self.taken, self.is_no_mail)
-        maildirs = [maildir.row(self.migration.root, self.taken) for maildir in tree.maildirs]
-        for row in [*tree.rows, *maildirs]:
-            self.report(Outcome(row))
-        return plan
-
     def is_no_mail(self, one: Planned) -> bool:
         """Whether a file that would go into the folder of another one holds no mail."""
         looked_at = functools.partial(self.migration.run, one.path, one.folder, why=Left("it is only looked at"))
@@ -254,10 +251,15 @@ class Several:
     def run_named(self, one: Planned) -> Outcome:
         """Migrates a mailbox. Its row says which other name its folder had, and which other names the file has."""
         ended, others = self.run_one(one), self.others.get(one.path)
-        row = with_name(ended.row, one.before)
+        row = ended.row
+        if one.before and row.folder and row.fate != Fate.BEFORE:
+            # mail programs will show another name than Dovecot did
+            row = row._replace(remarks=(*row.remarks, Remark("name-before", "its name was %s" % named(one.before))))
         if one.is_inbox and row.folder != INBOX and row.fate in (Fate.DONE, Fate.WOULD):
             row = row._replace(next=(*row.next, *into_inbox(one, ended, self.migration.how, self.pairs.root)))
-        row = row._replace(remarks=(*row.remarks, also_named(others))) if others and row.is_said() else row
+        if others and row.is_said():
+            says = "also named %s" % " and ".join(map(named, others))
+            row = row._replace(remarks=(*row.remarks, Remark("also-named", says)))
         return ended._replace(row=row)
 
     def run_one(self, one: Planned) -> Outcome:

@@ -15,9 +15,9 @@ from ..flags.dovecot_headers import flags_in
 from ..flags.renaming import add_flags, lacking_flags
 from ..ledger.gone import left_by_killed
 from ..ledger.history import Entry
-from ..ledger.ledger import Ledger
+
 from ..ledger.lines import LOST, PLACED, Brought
-from ..ledger.match import Files, Match, Stand
+from ..ledger.match import Match, Stand
 from ..ledger.prepared import Origin, Prepared, ReadText
 from ..ledger.record import unspelled
 from ..maildir.folders import INBOX
@@ -161,14 +161,11 @@ class Steps(NamedTuple):
         """What was found of its messages."""
         return self.placing.match
 
-    def is_placed(self, place: Place) -> bool:
-        """Whether this run places one of its messages."""
-        return self.match.states[self.places[place]] == Stand.NOWHERE
-
     def is_unread(self, place: Place) -> bool:
-        """Whether nobody but this program has given the file of a message its name."""
-        at = self.place_prepared(place)
-        return self.is_placed(place) or self.prepared is not None and at is not None and bool(self.prepared.files[at])
+        """Whether nobody but this program has given the file of a message its name: this run places it, or it was
+        prepared."""
+        at, is_placed = self.place_prepared(place), self.match.states[self.places[place]] == Stand.NOWHERE
+        return is_placed or self.prepared is not None and at is not None and bool(self.prepared.files[at])
 
     def place_prepared(self, place: Place) -> Optional[int]:
         """The place of the file of a message among those that were prepared; None if it was not."""
@@ -193,21 +190,18 @@ class Placing:
         # program gets
         self.names: dict[int, bytes] = {}
         self.more: collections.Counter[int] = collections.Counter()
-        self.rest = self.tail()
+        rest = len(self.inventory)
+        for place in reversed(self.need):
+            if place != rest - 1:
+                break
+            rest = place
+        # from here on all messages are nowhere
+        self.rest = Place(rest)
         for digest, places in self.special().items():
             taken = set(match.files.counts_of(digest))
             self.give_names(digest, places, taken)
             if places[-1] >= self.rest and (taken or places[0] < self.rest):
                 self.rest = Place(len(self.inventory))
-
-    def tail(self) -> Place:
-        """The place from which on all messages are nowhere."""
-        place = len(self.inventory)
-        for one in reversed(self.need):
-            if one != place - 1:
-                break
-            place = one
-        return Place(place)
 
     def special(self) -> dict[bytes, list[int]]:
         """The places of the messages that equal others, or files, by their digests."""
@@ -358,10 +352,19 @@ def remarks_on(one: Steps, dry: bool) -> Iterator[Remark]:
         placed = counted(match.count(Stand.NOWHERE), "message")
         yield Remark("placed", "would place %s" % placed if dry else "placed %s" % placed)
     elif match.path in ledger.sources:
-        yield from remarks_on_new(match)
+        new = match.count_new()
+        if new:
+            yield Remark("grew", "it grew by %s" % counted(new, "message"))
+        yield from remarks_on_lost(match)
+        regained = match.seen.regained
+        if regained:
+            yield Remark("regained", "%s in it again that had been gone from it" % counted(regained, "message"))
     else:
         yield from remarks_on_lost(match)
-        yield from remarks_on_inbox(ledger) if one.opened.name == INBOX and not match.seen.shared else ()
+        if one.opened.name == INBOX and not match.seen.shared:
+            others = [unspelled(path) for path, source in ledger.sources.items() if source.count()]
+            if others:
+                yield Remark("joins", "INBOX has the mail of %s too" % first_of(others, most=1))
     yield from remarks_on_shared(match)
     for word, count, says in (
         ("other-form", match.seen.other_form, "%s there in another form, by another mailbox"),
@@ -387,16 +390,6 @@ def remarks_on_flags_that_differ(one: Steps) -> Iterator[Remark]:
         yield Remark("flags-differ", says % counted(count, "message"))
 
 
-def remarks_on_new(match: Match) -> Iterator[Remark]:
-    """What is to be said of a mailbox that has brought messages before."""
-    new = match.count_new()
-    if new:
-        yield Remark("grew", "it grew by %s" % counted(new, "message"))
-    yield from remarks_on_lost(match)
-    if match.seen.regained:
-        yield Remark("regained", "%s in it again that had been gone from it" % counted(match.seen.regained, "message"))
-
-
 def remarks_on_lost(match: Match) -> Iterator[Remark]:
     """What is to be said of messages that the mailbox no longer has, and that it brought, also in runs that were
     killed."""
@@ -405,12 +398,6 @@ def remarks_on_lost(match: Match) -> Iterator[Remark]:
         yield Remark("unlabelled", UNLABELLED % counted(unlabelled, "message"))
     if lost:
         yield Remark(NO_LONGER, GONE % counted(lost, "message"))
-
-
-def remarks_on_none(ledger: Ledger, path: str) -> Iterator[Remark]:
-    """What is to be said of a mailbox without mail, if a run was killed that had begun with it."""
-    if ledger.pending(path) is not None:
-        yield from remarks_on_lost(Match.of(ledger, path, Files(ledger.folder, Inventory()), lambda place: False))
 
 
 def remarks_on_shared(match: Match) -> Iterator[Remark]:
@@ -422,18 +409,6 @@ def remarks_on_shared(match: Match) -> Iterator[Remark]:
     for path, count in match.seen.gone.items():
         if count:
             yield Remark("gone-elsewhere", "%d that %s brought are gone" % (count, named(unspelled(path))))
-
-
-def remarks_on_joined(others: Sequence[bytes]) -> list[Remark]:
-    """What is to be said of a mailbox whose folder has the mail of others."""
-    return [Remark("joined", "its folder has mail of %s too" % first_of(others, most=1))] if others else []
-
-
-def remarks_on_inbox(ledger: Ledger) -> Iterator[Remark]:
-    """What is to be said of a mailbox that comes to INBOX beside others, with which it shares no message."""
-    others = [unspelled(path) for path, source in ledger.sources.items() if source.count()]
-    if others:
-        yield Remark("joins", "INBOX has the mail of %s too" % first_of(others, most=1))
 
 
 def remarks_on_dropped(words: Optional[str]) -> list[Remark]:

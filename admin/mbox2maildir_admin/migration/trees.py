@@ -1,7 +1,7 @@
 """The names below a folder of mailboxes, and the mailboxes among them."""
 import os
 import stat
-from collections.abc import Callable, Container, Sequence
+from collections.abc import Callable, Container
 from typing import NamedTuple, Optional, Union
 
 from ..faults import Fault, Left, Reason
@@ -128,7 +128,15 @@ class Tree:
         MH."""
         if has_maildir(entries):
             entries = [entry for entry in entries if not is_of_maildir(entry)]
-            self.maildirs.append(Maildir(folder, self.folder_of_maildir(folder), bool(entries)))
+            above = next((one for one in self.maildirs if one.path == os.path.dirname(folder)), None)
+            name = os.path.basename(folder)
+            if above and above.folder and name.startswith(b"."):
+                # a Maildir names its folders itself
+                place = name if above.folder == INBOX else above.folder + name
+            else:
+                below = os.path.relpath(folder, self.top)
+                place = folder_on_disk(below) if folder != self.old and is_text(below) else b""
+            self.maildirs.append(Maildir(folder, place, bool(entries)))
         mails = messages_of_mh(entries)
         if not mails:
             return entries
@@ -136,16 +144,6 @@ class Tree:
         self.rows.append(Row(folder, b"", MH, len(mails), Fate.LEFT, "", Reason.MH, next=then))
         names = {SEQUENCES, *(mail.name for mail in mails)}
         return [entry for entry in entries if entry.name not in names]
-
-    def folder_of_maildir(self, path: bytes) -> bytes:
-        """The name on the disk of the folder that a Maildir would be; for one that is in a Maildir, as that names its
-        folders."""
-        above = next((one for one in self.maildirs if one.path == os.path.dirname(path)), None)
-        name = os.path.basename(path)
-        if above and above.folder and name.startswith(b"."):
-            return name if above.folder == INBOX else above.folder + name
-        below = os.path.relpath(path, self.top)
-        return folder_on_disk(below) if path != self.old and is_text(below) else b""
 
     def take(self, entry: Entry) -> bool:
         """Takes a name, and returns whether it is a folder to be entered."""
@@ -255,11 +253,6 @@ class Tree:
         plan = sorted([*stay, *moving, *links], key=lambda one: one.path)
         taken.update(one.folder for one in plan if not one.why)
         return plan
-
-
-def also_named(others: Sequence[bytes]) -> Remark:
-    """What is said of a file with other names."""
-    return Remark("also-named", "also named %s" % " and ".join(map(named, others)))
 
 
 def other_names(met: NamesMet) -> dict[bytes, list[bytes]]:

@@ -142,17 +142,13 @@ class Workers(Crew):
         enough."""
         for worker in self.children.values():
             need = worker.wants
-            if need and self.has_room(need):
-                worker.has, worker.wants = need, None
-                worker.answer()
-
-    def has_room(self, need: Need) -> bool:
-        """Whether a worker need not wait for others."""
-        others = [one.has for one in self.children.values() if one.has and one.has.disk == need.disk]
-        size, inodes = (
-            sum(counts) for counts in zip((need.size, need.inodes), *((one.size, one.inodes) for one in others))
-        )
-        return not others or not need._replace(size=size, inodes=inodes).shortage()
+            if need:
+                others = [one.has for one in self.children.values() if one.has and one.has.disk == need.disk]
+                size = need.size + sum(one.size for one in others)
+                inodes = need.inodes + sum(one.inodes for one in others)
+                if not others or not need._replace(size=size, inodes=inodes).shortage():
+                    worker.has, worker.wants = need, None
+                    worker.answer()
 
     def rest(self, worker: Worker) -> None:
         """Notes that a worker has done a mailbox, or has ended."""

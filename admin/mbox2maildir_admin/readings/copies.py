@@ -63,8 +63,8 @@ class Copy:
             return os.fstat(self.file.fileno()).st_size, from_lines_of(Reader(self.file.fileno()).read)
 
     def place(self, state: os.stat_result) -> None:
-        """Gives the copy its name, and the owner and the mode of the mailbox; if that is not possible, only its maker
-        may read it."""
+        """Gives the copy its name, which must be free, and the owner and the mode of the mailbox; if that is not
+        possible, only its maker may read it."""
         with naming(self.path):
             with contextlib.suppress(OSError):
                 os.fchown(self.file.fileno(), state.st_uid, state.st_gid)
@@ -72,21 +72,16 @@ class Copy:
             os.fsync(self.file.fileno())
             folder = os.open(self.folder, os.O_RDONLY | os.O_DIRECTORY)
             try:
-                self.link(folder)
+                if self.part:
+                    os.link(self.part, self.path)
+                else:
+                    # since a folder is given, os.link follows the link in /proc
+                    os.link("/proc/self/fd/%d" % self.file.fileno(), self.path, src_dir_fd=folder)
                 os.fsync(folder)
+            except FileExistsError as error:
+                raise Fault("%s already exists" % named(self.path), then=task(Todo.OTHER_NAME)) from error
             finally:
                 os.close(folder)
-
-    def link(self, folder: int) -> None:
-        """Gives the copy its name, unless something has that name. Since a folder is given, os.link follows the link in
-        /proc."""
-        try:
-            if self.part:
-                os.link(self.part, self.path)
-            else:
-                os.link("/proc/self/fd/%d" % self.file.fileno(), self.path, src_dir_fd=folder)
-        except FileExistsError as error:
-            raise Fault("%s already exists" % named(self.path), then=task(Todo.OTHER_NAME)) from error
 
     def __exit__(self, *_: object) -> None:
         if self.part:

@@ -166,17 +166,12 @@ def with_noted(verdict: Verdict, noted: Reading) -> Verdict:
         word = noted.word if noted.word in BY_LENGTHS else verdict.reading.word
         return verdict._replace(reading=verdict.reading._replace(word=word))
     if count and noted.word and verdict.is_on_lines and 0 < len(new) <= Lines.MANY:
-        raise question_of_new(verdict, noted, new)
+        said = [Said(line, NEW_LINE, cut(verdict.mailbox.from_line_at(offset))) for line, offset in new[:NAMED]]
+        before = renumbered(noted.decided, {Line(number): line for number, line in enumerate(verdict.doubtful(), 1)})
+        lines = frozenset(line for line, _ in new)
+        answers = before._replace(text=before.text | lines), before._replace(begin=before.begin | lines)
+        raise question(verdict, Reasons(said, len(new)), answers)
     return verdict._replace(reading=None)
-
-
-def question_of_new(verdict: Verdict, noted: Reading, new: Sequence[tuple[Line, Offset]]) -> Question:
-    """What is asked about lines that came since a human decided about the others."""
-    said = [Said(line, NEW_LINE, cut(verdict.mailbox.from_line_at(offset))) for line, offset in new[:NAMED]]
-    before = renumbered(noted.decided, {Line(number): line for number, line in enumerate(verdict.doubtful(), 1)})
-    lines = frozenset(line for line, _ in new)
-    answers = before._replace(text=before.text | lines), before._replace(begin=before.begin | lines)
-    return question(verdict, Reasons(said, len(new)), answers)
 
 
 def want_tied(verdict: Verdict, decision: Reading) -> None:

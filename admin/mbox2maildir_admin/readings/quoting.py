@@ -121,19 +121,15 @@ class Quoter:
             # no piece ends between CR and LF
             self.left_out += data.count(b"\r\n")
             data = data.replace(b"\r\n", b"\n")
-        if piece.has_quote:
-            data = self.requoted(data, piece.offset < self.end)
+        word = self.how.word
+        if piece.has_quote and word in (MBOXO, MBOXCL2, UNQUOTED):
+            # each line of `>` and `From ` that keeps all of its `>` gets one more
+            every = word == UNQUOTED or word == MBOXCL2 and piece.offset < self.end
+            data, count = (QUOTES if every else ABOVE_MBOXO).subn(b"\n>", b"\n" + data)
+            data = data[1:]
+            self.quoted += count
         self.quoted += is_quoted
         return b">" + data if is_quoted else data
-
-    def requoted(self, data: bytes, inside: bool) -> bytes:
-        """Lines in which each line of `>` and `From ` that keeps all of its `>` has one more."""
-        every = self.how.word == UNQUOTED or self.how.word == MBOXCL2 and inside
-        if not every and self.how.word not in (MBOXO, MBOXCL2):
-            return data
-        data, count = (QUOTES if every else ABOVE_MBOXO).subn(b"\n>", b"\n" + data)
-        self.quoted += count
-        return data[1:]
 
     def begins(self, line: Line, piece: Piece) -> bool:
         """Whether a line `From ` begins a message."""

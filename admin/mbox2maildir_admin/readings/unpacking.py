@@ -15,7 +15,7 @@ from ..mbox.files import BLOCK, Reader
 from ..mbox.lines import Said
 from ..mbox.mailbox import Mailbox
 from ..signals import INTERRUPTS, running, status_of
-from ..units import Line, Offset, Size
+from ..units import Line, Offset
 from .plans import OtherKind
 from .streams import FORMATS, streams_in
 from .unnamed import copy_of
@@ -70,8 +70,8 @@ def given_by(name: str, mailbox: Mailbox) -> Iterator[bytes]:
         raise Left("it is damaged or incomplete: `%s -dc` ended with status %d" % (name, status), Reason.PACKED)
 
 
-def size_of(mailbox: Mailbox, form: Form, folder: bytes) -> Size:
-    """How many bytes a mailbox holds. Raises Left if the disk of a folder has no space for them."""
+def unpacked(mailbox: Mailbox, form: Form, folder: bytes) -> Mailbox:
+    """What a mailbox holds, as a text on the disk of a folder. Raises Left if that has no space for all of it."""
     room, most, size = room_on(disk_of(folder)), max(LARGE, TIMES * mailbox.size), 0
     mailbox.file.seek(Offset(0))
     for piece in unpack(mailbox, mailbox.file, form):
@@ -83,12 +83,6 @@ def size_of(mailbox: Mailbox, form: Form, folder: bytes) -> Size:
         if size > room:
             says = "unpacked it has more than the %s that are free" % amount(room)
             raise Left(not_enough(folder, says), Reason.NO_ROOM)
-    return Size(size)
-
-
-def unpacked(mailbox: Mailbox, form: Form, folder: bytes) -> Mailbox:
-    """What a mailbox holds, as a text on the disk of a folder."""
-    size = size_of(mailbox, form, folder)
     text = copy_of(mailbox, unpack(mailbox, mailbox.again(), form), folder)
     if text.size != size:
         raise Left("%s of its %s bytes were unpacked" % (text.size, size), Reason.PACKED)

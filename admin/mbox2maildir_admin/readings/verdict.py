@@ -94,12 +94,21 @@ class Verdict(NamedTuple):
         return [Remark("after-nulls", says)] * self.look.after_nulls + [NO_END] * self.look.count("no end")
 
     def remarks_on_quotes(self) -> list[Remark]:
-        """What is to be said of a mailbox that is read without a decision: how many lines lose a `>` of the mail's own
-        if this is mboxo, if messages end by their lengths, and if git wrote patches without quoting, as it does by
-        default."""
+        """What is to be said of a mailbox that is read without a decision. If messages end by their lengths: how many
+        lines these decide about, if not each message has one; and how many keep a `>`. Otherwise how many lines lose a
+        `>` of the mail's own if this is mboxo, if it is mboxcl2, and if git wrote patches without quoting, as it does
+        by default."""
         count = self.look.count
         if self.look.ends_by_lengths():
-            return self.remarks_on_lengths(self.look)
+            # a rule decides what a human would be asked about otherwise
+            inside = count("inside") if self.reading and self.answers else 0
+            # when mutt and Dovecot copy mail out of a spool, they keep the `>` that its delivery added, and give the
+            # length of that
+            is_mboxcl2 = self.reading is not None and self.reading.word == MBOXCL2
+            kept = count("quoted, by length", "quoted twice") if is_mboxcl2 else 0
+            by = "`From ` is text in %s, by lengths (--as mboxrd begins mail there)" % counted(inside, "line")
+            says = "`>From ` keeps its `>` in %s (--as mboxcl takes it away)" % counted(kept, "line")
+            return [Remark("by-lengths", by)] * bool(inside) + [Remark("keeps-quote", says)] * bool(kept)
         return [
             Remark("loses-quote", "`%s ` loses a `>` in %s (--as %s keeps it)" % (line, counted(number, "line"), its))
             for number, line, its in (
@@ -109,17 +118,6 @@ class Verdict(NamedTuple):
             )
             if number
         ]
-
-    def remarks_on_lengths(self, look: Look) -> list[Remark]:
-        """What is to be said if messages end by their lengths: how many lines these decide about, if not each message
-        has one; and how many keep a `>`. When mutt and Dovecot copy mail out of a spool, they keep the `>` that its
-        delivery added, and give the length of that."""
-        # a rule decides what a human would be asked about otherwise
-        inside = look.count("inside") if self.reading and self.answers else 0
-        kept = look.count("quoted, by length", "quoted twice") if self.reading and self.reading.word == MBOXCL2 else 0
-        by = "`From ` is text in %s, by lengths (--as mboxrd begins mail there)" % counted(inside, "line")
-        says = "`>From ` keeps its `>` in %s (--as mboxcl takes it away)" % counted(kept, "line")
-        return [Remark("by-lengths", by)] * bool(inside) + [Remark("keeps-quote", says)] * bool(kept)
 
 
 def look_at(mailbox: Mailbox, read: Read = Look.read) -> Verdict:
@@ -187,8 +185,11 @@ def answers_of(look: Look) -> tuple[Reading, ...]:
 
 def doubts_of(look: Look) -> tuple[Reading, ...]:
     """What may be decided about lines: nothing if nothing is doubtful, as when all lengths are right."""
-    count = look.count
-    mail, messages = as_mail(look), as_messages(look)
+    count, mail = look.count, as_mail(look)
+    messages, begin = by_lines(look, "inside", "text"), look.numbers("joined")
+    if begin and messages.word != UNQUOTED:
+        # all lines that may begin messages do
+        messages = messages._replace(begin=frozenset(begin))
     if count(*DOUBTS, "joined"):
         return (mail, messages) if mail != messages else (mail,)
     if count(*MAY_BE_MAIL):
@@ -250,12 +251,6 @@ def as_mail(look: Look) -> Reading:
         if everything or not count("quoted", "quoted twice"):
             return Reading(UNQUOTED)
     return by_lines(look, *WITHIN, "text", *DOUBTS)
-
-
-def as_messages(look: Look) -> Reading:
-    """The decision that lines which may begin messages do."""
-    text, joined = by_lines(look, "inside", "text"), look.numbers("joined")
-    return text._replace(begin=frozenset(joined)) if joined and text.word != UNQUOTED else text
 
 
 def by_lines(look: Look, *sorts: str) -> Reading:

@@ -46,7 +46,10 @@ class TakeoutUndo(Undo):
             with open_mailbox(path, say=say, follow=True, quiet=not self.options.now) as mailbox:
                 line, is_left, count = line_of(self.record, mailbox), False, 0
                 for opened in self.folders_of(Opened(mailbox, b"", b""), line):
-                    row = self.row_of(opened)
+                    try:
+                        row = self.undo(opened)
+                    except (Fault, OSError) as fault:
+                        row = row_left(path, opened.name, fault)
                     is_left, count = is_left or row.fate == Fate.LEFT, count + 1
                     yield row
                 if line and not is_left and not self.options.dry:
@@ -67,13 +70,6 @@ class TakeoutUndo(Undo):
             ledger = Ledger(folder_path(self.root, folder))
             if last or ledger.damage or paths & set(ledger.paths()):
                 yield Opened.into(self.root, folder, opened.mailbox)
-
-    def row_of(self, opened: Opened) -> Row:
-        """Undoes one folder, and returns its row."""
-        try:
-            return self.undo(opened)
-        except (Fault, OSError) as fault:
-            return row_left(opened.mailbox.path, opened.name, fault)
 
     def cores_now(self, opened: Opened, ledger: Ledger, path: str) -> "collections.Counter[bytes]":
         """How often the Takeout has each core now, which is counted once."""

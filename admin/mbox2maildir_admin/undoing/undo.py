@@ -32,11 +32,10 @@ from ..mbox.bases import DIGEST, base_in, before_info, is_own
 from ..mbox.locks import WITHOUT_LOCKS, open_mailbox
 from ..mbox.mailbox import Mailbox
 from ..migration.dovecot import Dovecot, remove_lists
-from ..migration.known import Known
+from ..migration.known import Known, Opened
 from ..migration.outcomes import Fate, Observer, Row, row_left
 from ..migration.preparing import undone
 from ..migration.several import refuse
-from ..migration.known import Opened
 from ..migration.options import Options
 from ..migration.steps import Extra
 from ..nexts import Remark, Todo, task
@@ -134,7 +133,11 @@ class Undo:
         path = self.path_in(ledger, opened)
         if not path:
             raise Left(NOT_RECORDED, Reason.UNDO)
-        want_whole(Known(self.record, ledger, opened))
+        known = Known(self.record, ledger, opened)
+        lost = known.lost or next((one for one in known.unknown if one.what is not Step.UNDONE), None)
+        if lost:
+            # the ledger lacks what the index has of the mailbox, or of another one of its folder
+            raise Left(OLDER % named(unspelled(lost.path)), Reason.UNDO)
         plan = plan_of(ledger, path, self.cores_now(opened, ledger, path))
         # without lines of its files, the ledger is older than its folder: another mailbox may have what would go
         names = without_line(self.root, opened.folder) if any(one.why is Why.REMOVED for one in plan) else ()
@@ -205,13 +208,6 @@ def undo_own(root: bytes, path: bytes, options: Options, observer: Observer) -> 
         say = functools.partial(observer.progress, named(path))
         row = undo_prepared(root, record, path, folder_in(options), options.dry, say)
         observer.row(row or Undo(root, record, options).run(path, say))
-
-
-def want_whole(known: Known) -> None:
-    """Raises Left if the ledger lacks what the index has of a mailbox, or of another one of its folder."""
-    lines = [known.lost] if known.lost else [one for one in known.unknown if one.what is not Step.UNDONE]
-    if lines:
-        raise Left(OLDER % named(unspelled(lines[0].path)), Reason.UNDO)
 
 
 def plan_of(ledger: Ledger, path: str, has: Cores) -> list[Planned]:

@@ -37,7 +37,12 @@ class Accounts:
     a user's."""
 
     def __init__(self) -> None:
-        self.first = first_uid()
+        try:
+            with open("/etc/login.defs", encoding="utf-8", errors="replace") as file:
+                found = re.search(r"(?m)^\s*UID_MIN\s+(\d+)", file.read(LONGEST_SETTINGS))
+        except OSError:
+            found = None
+        self.first = int(found.group(1)) if found else FIRST_UID
         self.by_name: dict[bytes, Account] = {}
         self.by_number: dict[int, Account] = {}
 
@@ -66,16 +71,6 @@ class Accounts:
     def is_users(self, account: Account) -> bool:
         """Whether an account is a user's."""
         return account.uid >= self.first and account.uid not in NOBODY
-
-
-def first_uid() -> int:
-    """The number of the first account that does not belong to the system."""
-    try:
-        with open("/etc/login.defs", encoding="utf-8", errors="replace") as file:
-            found = re.search(r"(?m)^\s*UID_MIN\s+(\d+)", file.read(LONGEST_SETTINGS))
-    except OSError:
-        found = None
-    return int(found.group(1)) if found else FIRST_UID
 
 
 def name_of(uid: int) -> str:
@@ -112,8 +107,6 @@ def why_no_home(account: Account) -> Optional[Left]:
         return Left("the home of its user is missing: %s" % home, Reason.HOME)
     except OSError as error:
         return Left("could not enter the home of its user: %s: %s" % (home, error.strerror), Reason.HOME)
-    return (
-        None
-        if owner == account.uid
-        else Left("the home of its user belongs to %s: %s" % (name_of(owner), home), Reason.HOME)
-    )
+    if owner == account.uid:
+        return None
+    return Left("the home of its user belongs to %s: %s" % (name_of(owner), home), Reason.HOME)

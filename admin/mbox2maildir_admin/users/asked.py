@@ -5,12 +5,7 @@ from typing import Optional
 from ..faults import PlaceFault, naming
 from ..terminal import INPUT, named
 
-COMMAND_LINE, STANDARD_INPUT, SPOOL, ACCOUNTS = (
-    "from the command line",
-    "from standard input",
-    "from the spool",
-    "from the accounts",
-)
+COMMAND_LINE, SPOOL, ACCOUNTS = "from the command line", "from the spool", "from the accounts"
 # as the name of a list: standard input
 DASH = b"-"
 # how long a list of names may be, in bytes
@@ -23,33 +18,23 @@ ENDS = frozenset(b"\t\n")
 Sources = dict[bytes, str]
 
 
-def source_of(path: bytes) -> str:
-    """Where the names of a list come from."""
-    return STANDARD_INPUT if path == DASH else "from %s" % named(path)
-
-
 def asked_for(names: Sequence[bytes], path: Optional[bytes]) -> Optional[Sources]:
-    """The users that the command line and a list name; None if neither names any."""
-    if not names and path is None:
-        return None
+    """The users that the command line and a list name; None if neither names any. The list has one name per line, each
+    up to a tab. Raises Fault if it has none, since that would have meant all users."""
     asked = dict.fromkeys(names, COMMAND_LINE)
-    for name in names_in(path) if path is not None else []:
-        asked.setdefault(name, source_of(path or DASH))
-    return asked
-
-
-def names_in(path: bytes) -> list[bytes]:
-    """The names of a list, one per line, each up to a tab. Raises Fault if the list has none, since that would have
-    meant all users."""
+    if path is None:
+        return asked or None
     place = "standard input" if path == DASH else named(path)
     with naming(path), open(INPUT if path == DASH else path, "rb", closefd=path != DASH) as file:
         text = file.read(LONGEST_LIST + 1)
     if len(text) > LONGEST_LIST:
         raise PlaceFault("%s: it is longer than 16 MB, so it is not a list of names" % place)
-    names = list(filter(None, (line.partition(b"\t")[0] for line in text.split(b"\n"))))
-    if not names:
+    listed = list(filter(None, (line.partition(b"\t")[0] for line in text.split(b"\n"))))
+    if not listed:
         raise PlaceFault("%s: it contains no name" % place)
-    return names
+    for name in listed:
+        asked.setdefault(name, "from %s" % place)
+    return asked
 
 
 class Tally:

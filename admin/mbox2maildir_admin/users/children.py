@@ -97,14 +97,6 @@ class UsersChild(Child):
             self.kill("its process reported nothing for %d minutes" % (SILENCE // 60))
         return None
 
-    def wrong_end(self, status: int) -> str:
-        """What is wrong with an end that has this status; empty if it ended well."""
-        if self.why or status or self.rows_told < 0:
-            return self.why or self.why_ended(status)
-        if self.rows_told != self.rows:
-            return "its process reported %d rows, but %d arrived" % (self.rows_told, self.rows)
-        return ""
-
 
 class Children(Crew):
     """The children of several users that are at work at the same time."""
@@ -193,7 +185,11 @@ class Children(Crew):
         super().end(child, status)
         if child.clerk:
             child.clerk.end()
-        why = child.wrong_end(status)
+        why = ""
+        if child.why or status or child.rows_told < 0:
+            why = child.why or child.why_ended(status)
+        elif child.rows_told != child.rows:
+            why = "its process reported %d rows, but %d arrived" % (child.rows_told, child.rows)
         if why and not (self.is_over and os.WIFEXITED(status)):
             self.leave(child, Left(why, Reason.PROCESS))
         self.reporter.rest(named(child.whose.name))

@@ -1,7 +1,6 @@
 """The disks of users' mail: root syncs each once for all children who wait for it."""
 import errno
 import os
-from collections.abc import Callable
 
 from ..faults import Left, Reason
 from ..jobs.crew import Child, Parent
@@ -10,7 +9,6 @@ from ..maildir.disk import call_of_system
 # the word by which a child asks for a sync of the disk of a folder that it has open
 SYNC = "sync"
 FOLDER = os.O_RDONLY | os.O_DIRECTORY | os.O_CLOEXEC
-UNSEEN = Left("root cannot open it", Reason.ERROR)
 
 
 class Disks:
@@ -29,7 +27,7 @@ class Disks:
             folder = os.open("/proc/%d/fd/%d" % (child.pid, number), FOLDER)
         except OSError:
             # as in a file system of the user's own: the child syncs it
-            child.refuse(UNSEEN)
+            child.refuse(Left("root cannot open it", Reason.ERROR))
             return
         disk = os.fstat(folder).st_dev
         if disk in self.waiting:
@@ -55,18 +53,14 @@ class Disks:
                     child.answer()
 
 
-def synced_by_root(parent: Parent) -> Callable[[bytes], None]:
-    """The function by which a child has root sync the disk of a folder. It raises OSError if that failed."""
-
-    def sync(path: bytes) -> None:
-        number = os.open(path, FOLDER)
-        try:
-            why, reason = parent.refusal(SYNC, number) or ("", None)
-            if reason is Reason.SYNC_FAILED:
-                raise OSError(errno.EIO, why)
-            if reason:
-                call_of_system()(number)
-        finally:
-            os.close(number)
-
-    return sync
+def sync_by_root(parent: Parent, path: bytes) -> None:
+    """Has root sync the disk of a folder for a child. Raises OSError if that failed."""
+    number = os.open(path, FOLDER)
+    try:
+        why, reason = parent.refusal(SYNC, number) or ("", None)
+        if reason is Reason.SYNC_FAILED:
+            raise OSError(errno.EIO, why)
+        if reason:
+            call_of_system()(number)
+    finally:
+        os.close(number)

@@ -1,4 +1,5 @@
 """The mailboxes of one user, migrated with that user's rights into the user's home."""
+import functools
 import marshal
 import os
 import stat
@@ -22,7 +23,7 @@ from ..migration.telling import Whose, told
 from ..program import Program
 from ..terminal import named, shown, text_of
 from .accounts import Account, why_no_home
-from .disks import synced_by_root
+from .disks import sync_by_root
 from .inboxes import InboxClerk, Inboxes
 
 
@@ -106,26 +107,21 @@ class Migrant:
         yield from self.names_of_home(relay)
 
     def names_of_home(self, relay: "Relay") -> Iterator[bytes]:
-        """The same for what is in the home."""
-        if self.tree:
-            try:
-                if self.has_tree(self.tree):
-                    yield self.tree
-            except (Fault, OSError) as fault:
-                relay.leave(self.tree, fault)
-
-    def has_tree(self, tree: bytes) -> bool:
-        """Whether the home has a folder of mailboxes. Raises Left if a symbolic link leads to it; none is followed."""
+        """The same for what is in the home: its folder of mailboxes, if it has one. It is left if a symbolic link leads
+        to it, since none is followed."""
+        if not self.tree:
+            return
         path = self.account.home
-        for part in os.path.relpath(tree, path).split(b"/"):
-            path = os.path.join(path, part)
-            try:
-                is_link = stat.S_ISLNK(os.lstat(path).st_mode)
-            except FileNotFoundError:
-                return False
-            if is_link and path != tree:
-                raise Left("%s is a symbolic link, which is not followed" % named(path), Reason.LINK)
-        return True
+        try:
+            for part in os.path.relpath(self.tree, path).split(b"/"):
+                path = os.path.join(path, part)
+                if stat.S_ISLNK(os.lstat(path).st_mode) and path != self.tree:
+                    raise Left("%s is a symbolic link, which is not followed" % named(path), Reason.LINK)
+            yield self.tree
+        except FileNotFoundError:
+            pass
+        except (Fault, OSError) as fault:
+            relay.leave(self.tree, fault)
 
     def work_on(self, names: list[bytes], relay: "Relay", program: Program) -> None:
         """Does the work for the mailboxes at these paths. If that cannot go on, those that have no row yet are left."""
@@ -152,7 +148,7 @@ class Migrant:
     def run(self, names: list[bytes], relay: "Relay", program: Program) -> None:
         """Migrates the mailboxes at these paths into the Maildir."""
         has_inbox = bool(self.mailbox) or self.user.is_left
-        home = UserHome(self.account.home, has_inbox, synced_by_root(relay.parent))
+        home = UserHome(self.account.home, has_inbox, functools.partial(sync_by_root, relay.parent))
         run_all(self.options, self.root, names, relay, program, home)
 
 

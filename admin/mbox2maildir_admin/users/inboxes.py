@@ -15,9 +15,8 @@ from .accounts import Account
 
 # what a child asks for
 MAKE, TAKE, RELEASE = "make", "lock", "unlock"
-# how a mailbox is made, and the mode that one gets if all others have it, for deliveries with the rights of its group
+# the mode of a new mailbox, and the one that it gets if all others have it, for deliveries with the rights of its group
 OWN, SHARED = 0o600, 0o660
-MADE = os.O_WRONLY | os.O_CREAT | os.O_EXCL
 
 
 class Inboxes:
@@ -56,7 +55,7 @@ class Inboxes:
         if not spot.state():
             with contextlib.suppress(FileNotFoundError):
                 beside.unlink()
-            number = beside.open(MADE, OWN)
+            number = beside.open(os.O_WRONLY | os.O_CREAT | os.O_EXCL, OWN)
             try:
                 os.fchown(number, account.uid, os.fstat(self.number).st_gid)
                 os.fchmod(number, mode)

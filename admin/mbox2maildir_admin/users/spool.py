@@ -5,7 +5,7 @@ from collections.abc import Iterable, Iterator
 from typing import AbstractSet, Optional, Union
 
 from ..faults import Fault, Left, PlaceFault, Reason
-from ..jobs.count import MOST, jobs_of, share_of
+from ..jobs.count import MOST, jobs_of
 from ..jobs.order import size_of
 from ..kinds.named import is_auxiliary, is_no_mail
 from ..looks import is_surely, is_there, may_be
@@ -49,8 +49,9 @@ def migrate_users(
         with Children(at_once, reporter) as children:
             for place, one in enumerate(several):
                 reporter.begin()
-                # if there are fewer users than jobs, several folders of a user are at work
-                options = options._replace(jobs=share_of(jobs, at_once, place))
+                # if there are fewer users than jobs, several folders of a user are at work; what is left over goes to
+                # the first ones, which are the largest
+                options = options._replace(jobs=jobs // at_once + (place < jobs % at_once))
                 children.add(kind(one, spool, options, program))
             children.wait()
 
@@ -133,8 +134,21 @@ def want_entered(spool: bytes) -> None:
 
 
 def mailboxes_among(names: Iterable[bytes], spool: Spool) -> AbstractSet[bytes]:
-    """The names of a spool that may be mailboxes, or copies of one."""
-    return frozenset(name for name in names if not is_passed(spool.path, name))
+    """The names of a spool that may be mailboxes, or copies of one, as locks and empty hidden files are not."""
+    passed = set()
+    # of other names, no file is looked at: there may be many
+    for name in filter(is_auxiliary, names):
+        try:
+            is_passed = is_no_mail(os.path.join(spool.path, name))
+        except FileNotFoundError:
+            # a lock that was let go of meanwhile
+            is_passed = name.endswith(b".lock")
+        except (Fault, OSError):
+            # if it is there, it is left for that reason later
+            is_passed = False
+        if is_passed:
+            passed.add(name)
+    return frozenset(names) - passed
 
 
 def sources_of(spool: Spool, names: AbstractSet[bytes], accounts: Accounts) -> Sources:
@@ -208,7 +222,9 @@ class Users:
         key, place = (account.uid, account.home), os.path.join(self.spool.path, name)
         user = Found(name, account, place, None)
         try:
-            user = user._replace(size=self.size_at(place, account))
+            user = user._replace(size=size_of_mailbox(place, account))
+            if user.size is None and not self.spool.is_of_homes:
+                raise Left("no mailbox of that name in %s" % named(self.spool.path), Reason.NO_MAILBOX)
         except (Left, OSError) as fault:
             self.leave(name, fault)
             user = user._replace(is_left=True)
@@ -250,14 +266,6 @@ class Users:
         for other in self.copies.get(name, ()):
             self.leave(other, Left("it may be a copy of %s, which is left" % named(name), Reason.COPY))
 
-    def size_at(self, place: bytes, account: Account) -> Optional[int]:
-        """How many bytes the mailbox has that the spool has at a place; None if only the home is looked at. Raises Left
-        if it can't be migrated."""
-        size = size_of_mailbox(place, account)
-        if size is None and not self.spool.is_of_homes:
-            raise Left("no mailbox of that name in %s" % named(self.spool.path), Reason.NO_MAILBOX)
-        return size
-
     def why_not(self, account: Account, other: bytes, mailbox: bytes) -> Left:
         """Why the mailbox of a further name of an account is left, and the command that migrates it, or checks it."""
         root, words = os.path.join(account.home, self.spool.maildir), self.spool.words()
@@ -278,18 +286,3 @@ class Users:
                 return own.name
         taken = self.found.get(key)
         return taken.name if taken and taken.size is not None else None
-
-
-def is_passed(spool: bytes, name: bytes) -> bool:
-    """Whether a name of a spool is no mailbox, such as a lock or an empty hidden file."""
-    # of other names, no file is looked at: there may be many
-    if not is_auxiliary(name):
-        return False
-    try:
-        return is_no_mail(os.path.join(spool, name))
-    except FileNotFoundError:
-        # a lock that was let go of meanwhile
-        return name.endswith(b".lock")
-    except (Fault, OSError):
-        # if it is there, it is left for that reason later
-        return False
