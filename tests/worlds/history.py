@@ -210,11 +210,11 @@ class History:
         # a mailbox may go on in another folder, which people have given another name
         for box in boxes:
             row = rows.get(box.path)
-            if row and row["folder"] and row["folder"] != self.target(box):
+            if not row or not row["folder"]:
+                continue
+            if row["folder"] != self.target(box):
                 self.oracle.see(box.number, row["folder"], self.ways(box))
-            # or begin anew in another one; the old one keeps what it has of it
-            if row and "elsewhere" in row.remarks:
-                self.oracle.all.foreign += self.oracle.all.had[box.number]
+            self.oracle.goes(box.number, row, self.ways(box))
         self.stage.told(ran, *words, kill=kill)
         if ran.is_killed:
             wait_for_lock(self.maildir)

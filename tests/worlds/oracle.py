@@ -161,6 +161,8 @@ class Oracle:
         self.bytes: set[bytes] = set()
         # what runs that were killed have done, and nobody has said yet, by folders
         self.owed: collections.defaultdict[str, typing.Counter[str]] = collections.defaultdict(Counter)
+        # the folder of each mailbox in its last row
+        self.went: dict[int, str] = {}
         # how many messages of a mailbox in a folder no mailbox had brought, as rows have said
         self.nobodys: typing.Counter[str] = Counter()
         # what was there when a wrong answer was given, by which the same mail is read in another way
@@ -254,6 +256,15 @@ class Oracle:
             self.bytes |= one.bytes
             self.shelves[folder].had[mailbox] |= one.contents
             self.all.had[mailbox] |= one.ids
+
+    def goes(self, mailbox: int, row: Row, several: Iterable[Reading]) -> None:
+        """A row says into which folder a mailbox goes. It begins anew there, and the old folder keeps what it has of
+        it, if the row says so, or if nobody knows it: it has another name now, and lacks a message that it had."""
+        is_elsewhere = row["folder"] != self.went.get(mailbox, row["folder"])
+        is_unknown = is_elsewhere and all(self.all.had[mailbox] - one.ids for one in several)
+        if is_unknown or "elsewhere" in row.remarks:
+            self.all.foreign += self.all.had[mailbox]
+        self.went[mailbox] = row["folder"]
 
     def brings(self, mailbox: int, folder: str, contents: Counts) -> None:
         """A mailbox has brought this into a folder."""
