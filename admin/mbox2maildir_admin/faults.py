@@ -6,7 +6,7 @@ from collections.abc import Iterable, Iterator, Sequence
 from typing import Optional, Union
 
 from .looks import ABSENT, is_folder, may_be
-from .nexts import NOTHING, Next, Phrase, Quote, by_word, lines_below, run_next
+from .nexts import NOTHING, Next, Phrase, Quote, Runs, by_word, lines_below, run_next
 from .terminal import complain, named, operand
 
 
@@ -114,17 +114,18 @@ class Status:
 
 class Fault(Exception):
     """Why something could not be done with a file, as a sentence and as a word for programs; what is to be done next;
-    and the lines of mail that are shown for it."""
+    and the lines of mail that are shown for it. If the fault is in another place, the sentence begins with that."""
 
     def __init__(
-        self, why: str, reason: Phrase = Reason.OTHER, then: Next = NOTHING, quotes: Sequence[Quote] = ()
+        self,
+        why: str,
+        reason: Phrase = Reason.OTHER,
+        then: Next = NOTHING,
+        quotes: Sequence[Quote] = (),
+        place: Optional[bytes] = None,
     ) -> None:
-        super().__init__(why)
-        self.reason, self.next, self.quotes = reason, then, tuple(quotes)
-
-
-class PlaceFault(Fault):
-    """The same, where the fault is in another place, which the line names."""
+        super().__init__(why if place is None else "%s: %s" % (named(place), why))
+        self.reason, self.next, self.quotes, self.place = reason, then, tuple(quotes), place
 
 
 class Left(Fault):
@@ -135,11 +136,6 @@ class Left(Fault):
     messages: Optional[int] = None
     most: Optional[int] = None
 
-    def known(self, kind: str, messages: Optional[int], most: Optional[int]) -> "Left":
-        """The same, with what is known of the mailbox."""
-        self.kind, self.messages, self.most = kind, messages, most
-        return self
-
 
 def fault_of(error: Union[Fault, OSError], path: bytes) -> Fault:
     """The fault that came up with the file at a path. An error of the system names its own place, if that is another
@@ -149,30 +145,30 @@ def fault_of(error: Union[Fault, OSError], path: bytes) -> Fault:
     place = path if error.filename is None else os.fsencode(error.filename)
     why, is_absent, then = error.strerror or str(error), error.errno in ABSENT, NOTHING
     if error.errno == errno.EACCES:
-        then = run_next("ls", "-ld", operand(place))
+        then = run_next(Runs.LIST_ITSELF, operand(place))
     elif is_absent:
         # the folder above shows what is there
         above = place
         while above and not may_be(is_folder, above):
             above = os.path.dirname(above)
-        then = run_next("ls", operand(above or b"."))
+        then = run_next(Runs.LIST, operand(above or b"."))
     if place != path:
-        return PlaceFault("%s: %s" % (named(place), why), Reason.ERROR, then)
+        return Fault(why, Reason.ERROR, then, place=place)
     return Left(why, Reason.MISSING if is_absent else Reason.ERROR, then)
 
 
 def complain_of(error: Union[Fault, OSError], path: bytes = b"") -> None:
     """Prints what is wrong with a file, and what to do next."""
     fault = fault_of(error, path)
-    says = "%s: %s" % (named(path), fault) if path and not isinstance(fault, PlaceFault) else str(fault)
+    says = "%s: %s" % (named(path), fault) if path and fault.place is None else str(fault)
     complain(says, lines_below(fault.quotes, fault.next))
 
 
 @contextlib.contextmanager
-def naming(path: bytes) -> Iterator[None]:
-    """Turns an error in here into a fault that names this file or folder."""
+def naming(path: bytes, reason: Phrase = Reason.ERROR) -> Iterator[None]:
+    """Turns an error in here into a fault that names this file or folder, for a reason."""
     try:
         yield
     except OSError as error:
-        then = fault_of(error, path).next
-        raise PlaceFault("%s: %s" % (named(path), error.strerror), Reason.ERROR, then) from error
+        then = fault_of(error, path).next if reason is Reason.ERROR else NOTHING
+        raise Fault(error.strerror, reason, then, place=path) from error

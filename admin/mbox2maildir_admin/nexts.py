@@ -1,19 +1,26 @@
 """What is to be done next, as a value: commands with what each is an answer to, and tasks for a human. It is printed in
-lines of its own, and as JSON. Nobody reads a sentence back."""
+lines of its own, and as JSON. Nobody reads a sentence back. A command is told as words of a table and names, from which
+whoever prints it makes its line."""
 import functools
 import os
 import pwd
+import re
 from collections.abc import Iterable, Iterator, Sequence
 from typing import Any, NamedTuple, Optional, Union
 
-from .terminal import is_text, named, quoted
+from . import ADMIN
+from .patterns import pattern
+from .terminal import is_text, named, quoted, shown
 from .units import counted
 
-# the command by which root runs another one with the rights of an account, and with those of a number without one
-AS_USER, AS_NUMBER = ("runuser", "-u"), ("setpriv", "--clear-groups", "--reuid")
+# the program by which root runs another one with the rights of an account
+RUNUSER = "runuser"
 ROOT = "root"
 # how far what stands below a row is indented, and a command
 BELOW, COMMAND = "    ", "        "
+# in a text for a shell: the first name, all others, all names, and the file that a command makes in its new folder
+PLACES = pattern(r"\{(?:rest|all|copy)?\}")
+COPY = '"$d/copy"'
 
 # an account by its name, or the number of one that has no name; None for whoever runs this
 User = Union[None, str, int]
@@ -29,6 +36,44 @@ class Phrase:
 def by_word(phrases: type) -> dict[str, Phrase]:
     """The phrases of a class by their words."""
     return {one.word: one for one in vars(phrases).values() if isinstance(one, Phrase)}
+
+
+class Template:
+    """A command without its names, by a word for it: words, which names follow, or a text for a shell with places for
+    them. Debian's package is named if it has another name than the program."""
+
+    # all of them, by their words
+    all: "dict[str, Template]" = {}
+
+    def __init__(self, word: str, text: str, package: str = "") -> None:
+        self.word, self.text, self.package = word, text, package
+        # a word for two commands would be read as the other one
+        assert self.all.setdefault(word, self).text == text, word
+
+
+class Runs:
+    """What is run."""
+
+    MIGRATE = Template("migrate", ADMIN + " migrate")
+    VERIFY = Template("verify", ADMIN + " verify")
+    BACK = Template("back", ADMIN + " back")
+    KIND = Template("kind", ADMIN + " kind")
+    QUOTE = Template("quote", ADMIN + " quote")
+    LIST = Template("list", "ls")
+    LIST_ITSELF = Template("list-itself", "ls -ld")
+    MAKE_FOLDERS = Template("make-folders", "mkdir -p")
+    LET_ENTER = Template("let-enter", "chmod 711")
+    MOVE = Template("move", "mv -nT")
+    REMOVE = Template("remove", "rm")
+    BUILD = Template("build", "make -C")
+    DOVECONF = Template("doveconf", "doveconf -n")
+    UPDATE_MAILBOX = Template("update-mailbox", "doveadm mailbox update")
+    ADD_FLAGS = Template("add-flags", "doveadm flags add")
+    # by these root runs the other names with the rights of an account, and with those of a number without one
+    AS_USER = Template("as-user", RUNUSER + " -u {} -- {rest}")
+    AS_NUMBER = Template("as-number", "setpriv --clear-groups --reuid {} {rest}")
+    # the other names are the lines that are added to a file
+    ADD_LINES = Template("add-lines", "printf '%b\\n' {rest} >>{}")
 
 
 class Does:
@@ -76,6 +121,10 @@ class Does:
     MAKE_ELSEWHERE = Phrase("make-elsewhere", "run this next")
 
 
+class OfFiles(Phrase):
+    """What is done with files, in whose folders their owner could lead root elsewhere."""
+
+
 class Todo:
     """What a human does. `{}` stands for a name."""
 
@@ -87,20 +136,19 @@ class Todo:
     DOVEADM = Phrase(
         "doveadm", "copy the account by `doveadm backup`, or over IMAP, because this is one file of several"
     )
-    FOLLOW = Phrase("migrate-target", "migrate what it points to, unless that is migrated anyway")
-    FOLLOW_INTO = Phrase(
+    FOLLOW = OfFiles("migrate-target", "migrate what it points to, unless that is migrated anyway")
+    FOLLOW_INTO = OfFiles(
         "migrate-target-into", "migrate what it points to, with --folder NAME, unless that is migrated anyway"
     )
-    REMOVE = Phrase("remove", "remove it")
-    MOVE_TO = Phrase("move-to", "move it to {}")
-    MOVE_FILES = Phrase("move-files", "move the files in its new and cur into those of {}")
-    MOVE_OTHERS = Phrase("move-others", "move out of it what is not part of a Maildir, and run this again")
-    MOVE_AWAY = Phrase("move-away", "then move {} out of here")
+    REMOVE = OfFiles("remove", "remove it")
+    MOVE_TO = OfFiles("move-to", "move it to {}")
+    MOVE_FILES = OfFiles("move-files", "move the files in its new and cur into those of {}")
+    MOVE_OTHERS = OfFiles("move-others", "move out of it what is not part of a Maildir, and run this again")
+    MOVE_AWAY = OfFiles("move-away", "then move {} out of here")
     BRING_BACK = Phrase("bring-back", "mount or bring back {}, and run this again")
-    COPY_AWAY = Phrase("move-copy", "if one is a copy, move it out of here")
+    COPY_AWAY = OfFiles("move-copy", "if one is a copy, move it out of here")
     NAME_FOLDER = Phrase("name-folder", "run this again with --folder NAME")
     NAME_PRINTED = Phrase("name-printed", "then run this again, with the mailboxes that it printed last in place of {}")
-    MIGRATE_REST = Phrase("migrate-rest", "migrate the rest, then undo all of it")
     AS_OWNER = Phrase("as-owner", "run this as that user")
     OTHER_PLACE = Phrase(
         "other-place", "name a Maildir below folders that belong to root and in which only root may write"
@@ -118,47 +166,72 @@ class Todo:
 
 
 DOES, TODOS = by_word(Does), by_word(Todo)
-# what is done with files, in whose folders their owner could lead root elsewhere
-WITH_FILES = frozenset(
-    [
-        Todo.FOLLOW,
-        Todo.FOLLOW_INTO,
-        Todo.REMOVE,
-        Todo.MOVE_TO,
-        Todo.MOVE_FILES,
-        Todo.MOVE_OTHERS,
-        Todo.MOVE_AWAY,
-        Todo.COPY_AWAY,
-    ]
-)
+
+
+class Part(NamedTuple):
+    """A part of a command: which one of the table it is, and the names in it."""
+
+    template: Template
+    names: tuple[str, ...] = ()
+
+    @property
+    def words(self) -> tuple[str, ...]:
+        """Its words; none if only a shell can read it."""
+        text = self.template.text
+        return () if PLACES.search(text) else (*text.split(" "), *self.names)
+
+    def line(self) -> str:
+        """The part as a shell reads it. Raises IndexError if it lacks a name."""
+        return line_of(self.words) if self.words else PLACES.sub(self.filled, self.template.text)
+
+    def filled(self, place: "re.Match[str]") -> str:
+        """What stands in a place of its text."""
+        if place[0] == "{copy}":
+            return COPY
+        if place[0] == "{}":
+            return quoted(self.names[0])
+        return line_of(self.names[1:] if place[0] == "{rest}" else self.names)
 
 
 class Command(NamedTuple):
-    """A command: its words or, if it needs a shell, a text for one; and whose rights it needs."""
+    """A command: its parts, of which each runs once the one before it has done its work; and whose rights it needs."""
 
-    words: tuple[str, ...] = ()
-    shell: str = ""
+    parts: tuple[Part, ...]
     user: User = None
 
     @classmethod
-    def of(cls, *words: str, user: User = None) -> "Command":
-        """The command of these words."""
-        return cls(words, user=user)
+    def of(cls, template: Template, *names: str, user: User = None) -> "Command":
+        """The command of one part."""
+        return cls((Part(template, names),), user)
+
+    def names_for(self, template: Template) -> Sequence[str]:
+        """Its names, if it has only one part, which is this one of the table; otherwise none."""
+        return self.parts[0].names if [one.template for one in self.parts] == [template] else ()
+
+    @property
+    def words(self) -> tuple[str, ...]:
+        """Its words; none if only a shell can read it."""
+        return self.parts[0].words if len(self.parts) == 1 else ()
+
+    def text(self) -> str:
+        """What a shell of its user reads."""
+        packages = [" # package " + one.template.package for one in self.parts if one.template.package]
+        return "".join([" && ".join(one.line() for one in self.parts), *packages])
+
+    def by_root(self) -> Part:
+        """A part of a command of root's, which runs it with the rights of its user."""
+        words = self.words or ("sh", "-c", self.text())
+        return Part(Runs.AS_NUMBER if isinstance(self.user, int) else Runs.AS_USER, (str(self.user), *words))
 
     def line(self) -> str:
         """The command as it is typed. For another user's rights, root types it."""
-        if self.user is None:
-            return self.shell or line_of(self.words)
-        words = ("sh", "-c", self.shell) if self.shell else self.words
-        if isinstance(self.user, int):
-            return line_of((*AS_NUMBER, str(self.user), *words))
-        return line_of((*AS_USER, self.user, "--", *words))
+        return self.text() if self.user is None else self.by_root().line()
 
     def fields(self) -> dict[str, Any]:
         """The command without its user, for JSON: its words if each is a text, otherwise what a shell reads."""
         if self.words and all(map(is_text, self.words)):
             return {"argv": list(self.words)}
-        return {"shell": self.shell or line_of(self.words)}
+        return {"shell": self.text()}
 
 
 # what is said in place of a format if the command names lines
@@ -174,8 +247,9 @@ class Answer(NamedTuple):
 
     def sentence(self) -> str:
         """What a reader gets before the command."""
-        given = dict(zip(self.command.words, self.command.words[1:]))
-        says = self.does.says.format(given.get("--as", ""))
+        names = self.command.parts[0].names
+        given = dict(zip(names, names[1:]))
+        says = self.does.says.format(shown(given.get("--as", "")))
         if self.does is Does.READ_AS and {"--text", "--begin"} & given.keys():
             says = BY_LINES
         return says + ("" if self.messages is None else ": " + counted(self.messages, "message"))
@@ -224,14 +298,9 @@ def line_of(words: Iterable[str]) -> str:
     return " ".join(map(quoted, words))
 
 
-def run_next(*words: str, does: Phrase = Does.RUN) -> Next:
-    """The command of these words, and nothing else."""
-    return (Answer(Command(words), does),)
-
-
-def in_shell(text: str, does: Phrase = Does.RUN) -> Next:
-    """A text for a shell, and nothing else."""
-    return (Answer(Command(shell=text), does),)
+def run_next(template: Template, *names: str, does: Phrase = Does.RUN) -> Next:
+    """The command with these names, and nothing else."""
+    return (Answer(Command.of(template, *names), does),)
 
 
 def task(todo: Phrase, *names: str) -> Next:
@@ -246,7 +315,7 @@ def user_of_runuser() -> Optional[str]:
     above = "/proc/%d" % os.getppid()
     try:
         with open(above + "/comm", "rb") as file:
-            is_there = file.read() == AS_USER[0].encode() + b"\n" and os.stat(above).st_uid == 0
+            is_there = file.read() == RUNUSER.encode() + b"\n" and os.stat(above).st_uid == 0
         return pwd.getpwuid(os.geteuid()).pw_name if is_there and os.geteuid() else None
     except (OSError, KeyError):
         return None
@@ -258,7 +327,7 @@ def typed(step: Step) -> Step:
     if user is None:
         return step
     if isinstance(step, Task):
-        return step._replace(user=step.user or user) if step.todo in WITH_FILES else step
+        return step._replace(user=step.user or user) if isinstance(step.todo, OfFiles) else step
     return step._replace(command=step.command._replace(user=step.command.user or user))
 
 

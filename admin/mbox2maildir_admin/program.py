@@ -11,9 +11,9 @@ from collections.abc import Callable, Iterator
 from typing import Any, IO, NamedTuple, Optional
 
 from . import PROGRAM
-from .faults import Fault, Left, PlaceFault, Reason
+from .faults import Fault, Left, Reason
 from .looks import is_file, is_folder, real_path
-from .nexts import Todo, run_next, task
+from .nexts import Runs, Todo, run_next, task
 from .signals import INTERRUPTS, Process, running, status_of
 from .terminal import named
 from .units import Offset
@@ -53,8 +53,8 @@ def find_program() -> bytes:
     for program in places_of_program(here, clone):
         if is_file(program):
             return os.fsencode(program)
-    then = run_next("make", "-C", clone) if clone else task(Todo.INSTALL)
-    raise PlaceFault("could not find %s in %s or in PATH" % (PROGRAM, named(here)), Reason.CONVERT_FAILED, then)
+    then = run_next(Runs.BUILD, clone) if clone else task(Todo.INSTALL)
+    raise Fault("could not find %s in %s or in PATH" % (PROGRAM, named(here)), Reason.CONVERT_FAILED, then)
 
 
 class Program:

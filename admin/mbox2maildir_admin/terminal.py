@@ -75,11 +75,6 @@ def option(name: str, value: bytes) -> list[str]:
     return ["%s=%s" % (name, text_of(value))] if value.startswith(b"-") else [name, text_of(value)]
 
 
-def word(name: bytes) -> str:
-    """Returns a name as a shell reads it as one word that is never an option."""
-    return quoted(operand(name))
-
-
 def quoted(name: str) -> str:
     """Returns a word of a command as a shell reads it as one word."""
     if name.isprintable():

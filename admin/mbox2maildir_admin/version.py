@@ -1,7 +1,7 @@
 """The version of the package."""
 import os
 
-from .faults import PlaceFault
+from .faults import Fault
 
 NAME = "VERSION"
 
@@ -15,4 +15,4 @@ def version() -> str:
                 return file.read().strip()
         except FileNotFoundError:
             continue
-    raise PlaceFault("%s: it is missing: install the package anew" % os.path.join(beside, NAME))
+    raise Fault("it is missing: install the package anew", place=os.fsencode(os.path.join(beside, NAME)))

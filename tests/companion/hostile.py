@@ -6,6 +6,7 @@ import json
 import os
 import pwd
 import resource
+import shlex
 import subprocess
 import time
 from collections.abc import Iterator
@@ -64,9 +65,9 @@ def row(**others: object) -> list[object]:
     return ["row", {**FIELDS, **others}]
 
 
-def answer(does: str, words: object, shell: str = "", messages: Optional[int] = None) -> list[object]:
-    """A command that is next, which is said to be root's."""
-    return [[words, shell, "root"], does, messages]
+def answer(does: str, *parts: object, messages: Optional[int] = None) -> list[object]:
+    """A command that is next, which is said to be root's: its parts, each a word of a table with names."""
+    return [[parts, "root"], does, messages]
 
 
 def a_task(todo: str, *names: str) -> list[object]:
@@ -74,7 +75,7 @@ def a_task(todo: str, *names: str) -> list[object]:
     return [todo, names, "root"]
 
 
-DONE = row(fate="done")
+DONE, REMOVE = row(fate="done"), ["remove", ["a b"]]
 # lines that no process of this program tells: each counts as a row that could not be read
 NONSENSE = [
     b"",
@@ -126,13 +127,20 @@ NONSENSE = [
     *(
         row(next=steps)
         for steps in (
-            [answer("run", [])],
-            [answer("run", ["rm"], "rm")],
-            [answer("no word", ["rm"])],
-            [answer("run", ["rm"], messages=-1)],
-            [answer("run", [7])],
-            [answer("run", ["a\0b"])],
-            [answer("run", ["\ud800"])],
+            [answer("run")],
+            # it tells a command: words of its own, and a text for a shell
+            [answer("run", ["rm", ["a"]])],
+            [answer("run", ["rm a", []])],
+            [answer("run", ["", ["rm", "a"]])],
+            [[[[], "rm a", "root"], "run", None]],
+            [answer("no word", REMOVE)],
+            [answer("run", REMOVE, messages=-1)],
+            [answer("run", "remove")],
+            [answer("run", ["add-lines", []])],
+            [answer("run", ["remove", 7])],
+            [answer("run", ["remove", [7]])],
+            [answer("run", ["remove", ["a\0b"]])],
+            [answer("run", ["remove", ["\ud800"]])],
             [a_task("no word")],
             [a_task("move-to")],
             [[7, "run", None]],
@@ -143,9 +151,10 @@ NONSENSE = [
 
 
 BELL, ESCAPED = "\x1b]0;x\x07", r"\x1b]0;x\x07"
-MAKE = answer("make-elsewhere", [], "make")
+MAKE = answer("make-elsewhere", ["print-mailboxes", []])
 RUN, COMMAND = "    run this next:", f"        runuser -u {NAME} -- "
-THEN = ["then", [answer("run", ["mv", "a", "b"])]]
+MAKES = COMMAND + "sh -c " + shlex.quote("find \"$d/copy\" -name '*mbox' -type f")
+THEN = ["then", [answer("run", ["move", ["a", "b"]])]]
 
 
 def left(path: str, *steps: object) -> list[object]:
@@ -175,9 +184,10 @@ PRINTED = [
     (
         left(
             "mail/x",
-            answer("run", ["rm", "a b"]),
-            answer("stores-rest", ["rm", "x"], messages=3),
-            answer("run", [], "rm a && rm 'b c'"),
+            answer("run", REMOVE),
+            answer("stores-rest", ["remove", ["x"]], messages=3),
+            answer("run", ["remove", ["a"]], ["remove", ["b c"]]),
+            answer("read-as", ["migrate", ["--as", BELL, "; rm x"]]),
             a_task("move-to", "x: y"),
         ),
         [
@@ -185,6 +195,8 @@ PRINTED = [
             *(RUN, f"{COMMAND}rm 'a b'"),
             *("    this stores the messages that are nowhere: 3 messages:", f"{COMMAND}rm x"),
             *(RUN, f"{COMMAND}sh -c 'rm a && rm '\"'\"'b c'\"'\"''"),
+            f"    it was written as {ESCAPED}:",
+            f"{COMMAND}mbox2maildir-admin migrate --as $'{ESCAPED}' '; rm x'",
             f"    as {NAME}, move it to 'x: y'",
         ],
     ),
@@ -200,9 +212,9 @@ PRINTED = [
         [INBOX, f"    as {NAME}, migrate what it points to, unless that is migrated anyway"],
     ),
     (left("mail/x", a_task("pass-over")), [LINE, "    if it holds no mail, pass over it by --no-mail"]),
-    (left("", MAKE), [INBOX, RUN, f"{COMMAND}sh -c make && ASIDE"]),
-    (left("mail/x", MAKE), [LINE, RUN, f"{COMMAND}sh -c make"]),
-    (left("/etc/passwd", MAKE), [LINE.replace("mail/x", "/etc/passwd"), RUN, f"{COMMAND}sh -c make"]),
+    (left("", MAKE), [INBOX, RUN, f"{MAKES} && ASIDE"]),
+    (left("mail/x", MAKE), [LINE, RUN, MAKES]),
+    (left("/etc/passwd", MAKE), [LINE.replace("mail/x", "/etc/passwd"), RUN, MAKES]),
     (DONE, [f"{NAME} mail/a -> a: messages 1: done"]),
 ]
 
@@ -296,7 +308,9 @@ def printed(home: Path) -> None:
         wanted = [line.replace("ASIDE", aside) for _, lines in PRINTED for line in lines]
         equal("rows", got[: len(wanted)], wanted)
         # what is next for the user is said once, below the sums
-        equal("what is next", got[len(wanted) + 1 :], ["    run this next:", f"        runuser -u {NAME} -- mv a b"])
+        equal(
+            "what is next", got[len(wanted) + 1 :], ["    run this next:", f"        runuser -u {NAME} -- mv -nT a b"]
+        )
         equal("standard error", err, "")
 
 

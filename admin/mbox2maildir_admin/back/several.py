@@ -4,7 +4,7 @@ import os
 from collections.abc import Iterator, Sequence
 from typing import Optional, Union
 
-from ..faults import Fault, Left, PlaceFault, Reason
+from ..faults import Fault, Left, Reason
 from ..ledger.history import names_of
 from ..ledger.ledger import Ledger
 from ..ledger.record import Record, unspelled
@@ -14,7 +14,7 @@ from ..maildir.making import GOES_BACK, RECORD, real_place, want_roots_alone
 from ..mbox.files import is_empty
 from ..migration.outcomes import Fate, Observer, Row, row_left
 from ..migration.options import Options
-from ..nexts import NOTHING, Next, Remark, run_next
+from ..nexts import NOTHING, Next, Remark, Runs, run_next
 from ..program import Program, find_program
 from ..terminal import first_of, named, operand
 from ..units import counted
@@ -24,7 +24,7 @@ from .mails import Sorted, Target, sorted_mail
 from .places import Keeper, Names, Places
 from .subscriptions import rows_of
 
-NO_RECORD = "%s: it has no record, so nothing shows which mail came from the old mailboxes"
+NO_RECORD = "it has no record, so nothing shows which mail came from the old mailboxes"
 TORN = "the message that begins in line %d is cut: a run was killed there, and another program has written after it"
 NOT_READ_BACK = "what would be appended to it would not be read back as it is"
 DISK_FULL = "no room is left on its disk, or on that of the Maildir"
@@ -52,7 +52,7 @@ def bring_back(root: bytes, names: Sequence[bytes], how: Options, observer: Obse
 def want_migrated(root: bytes) -> None:
     """Raises Fault if nothing was migrated into a Maildir."""
     if not is_there(os.path.join(root, RECORD)):
-        raise PlaceFault(NO_RECORD % named(root), Reason.NO_MAILDIR)
+        raise Fault(NO_RECORD, Reason.NO_MAILDIR, place=root)
 
 
 def bring_all(program: Program, root: bytes, names: Names, how: Options, keeper: Keeper, observer: Observer) -> Next:
@@ -95,7 +95,7 @@ class Folders:
         ends = b"", *(b"-%d" % number for number in range(2, 100))
         names = (root.rstrip(b"/") + ASIDE + end for end in ends)
         name = next((name for name in names if not may_be(is_there, name)), None)
-        return run_next("mv", "-nT", operand(root), operand(name)) if name else NOTHING
+        return run_next(Runs.MOVE, operand(root), operand(name)) if name else NOTHING
 
     def tell(self, row: Row) -> None:
         """Tells a row."""

@@ -5,7 +5,6 @@ import os
 from collections.abc import Callable, Iterable, Iterator
 from typing import Optional, Union
 
-from .. import ADMIN
 from ..faults import Fault, Reason, complain_of
 from ..kinds.folders import is_maildir
 from ..kinds.others import Holds
@@ -18,7 +17,7 @@ from ..migration.answers import is_passed_over
 from ..migration.outcomes import BY_RECORD, Fate, Observer, Row
 from ..migration.places import Planned, recorded
 from ..migration.trees import Tree
-from ..nexts import Task, Todo, run_next
+from ..nexts import Runs, Task, Todo, run_next
 from ..progress import say_of
 from ..readings.texts import content_of, disk_of
 from ..readings.verdict import look_at
@@ -129,7 +128,7 @@ def of_folder(folder: bytes, maildir: bytes, path: bytes) -> Iterator[None]:
     except FileNotFoundError as fault:
         if not type_at(path) or is_folder(os.path.join(folder, b"new")):
             raise
-        then = run_next(ADMIN, "migrate", operand(maildir), operand(path))
+        then = run_next(Runs.MIGRATE, operand(maildir), operand(path))
         raise Fault("it was not migrated: %s is no Maildir" % named(folder), Reason.NO_MAILDIR, then) from fault
 
 

@@ -1,5 +1,6 @@
 """The command `kind`: what a file is, and what to do first."""
 import contextlib
+import functools
 import grp
 import os
 import pwd
@@ -7,7 +8,6 @@ import stat
 from collections.abc import Sequence
 from typing import Optional
 
-from .. import ADMIN
 from ..faults import Left, Status
 from ..kinds.folders import is_maildir
 from ..kinds.making import Where
@@ -19,12 +19,12 @@ from ..mbox.mailbox import Mailbox
 from ..migration.outcomes import Detail, Fate, Observer, Row
 from ..migration.rows import Shows
 from ..migration.trees import Tree
-from ..nexts import Answer, Command, Next, Quote, Todo, User, task
+from ..nexts import Answer, Command, Next, Quote, Runs, Todo, User, task
 from ..progress import say_of
-from ..readings.plans import OtherKind, Question, answers_to, question_of
+from ..readings.plans import OtherKind, Question, question_of
 from ..readings.reading import UNDECIDED, Reading
 from ..readings.texts import choice_of, form_of
-from ..readings.verdict import Verdict, look_at
+from ..readings.verdict import TAKEOUT, Verdict, look_at
 from ..terminal import operand
 from .files import each, read_tree, say_left_out, without_mail
 from .options import Given
@@ -82,20 +82,14 @@ def say_kind_in(mailbox: Mailbox, verdict: Verdict, tell: Observer, top: bytes) 
     try:
         with choice_of(mailbox, trial_folder()) as choice:
             plan = choice.plan
-            tell.row(row_found(path, plan.kind, as_it_is(path, top))._replace(messages=plan.messages))
-    except Question as question:
-        asked = answers_to(question.answers, lambda decision: migrate(path, decision))
-        tell.row(left_as(question, path, question.kind)._replace(next=asked))
+            tell.row(row_found(path, plan.kind, as_it_is(path, plan.kind, top))._replace(messages=plan.messages))
     except Left as left:
-        if isinstance(left, OtherKind):
+        if isinstance(left, Question):
+            left.put(functools.partial(migrate, path, left.kind))
+        elif isinstance(left, OtherKind):
             left.put(where(path, top))
-        tell.row(left_as(left, path, left.kind or verdict.kind))
-
-
-def left_as(left: Left, path: bytes, kind: str) -> Row:
-    """What a file is that would be left."""
-    row = row_found(path, kind, left.next)._replace(messages=left.messages, most=left.most)
-    return row._replace(why=str(left), quotes=left.quotes)
+        row = row_found(path, left.kind or verdict.kind, left.next)._replace(messages=left.messages, most=left.most)
+        tell.row(row._replace(why=str(left), quotes=left.quotes))
 
 
 def next_of(mailbox: Mailbox, verdict: Verdict, top: bytes) -> tuple[Next, Sequence[Quote]]:
@@ -104,19 +98,21 @@ def next_of(mailbox: Mailbox, verdict: Verdict, top: bytes) -> tuple[Next, Seque
     if verdict.recipe:
         return where(path, top).next(verdict.recipe, path), ()
     if verdict.is_as_it_is or verdict.reading:
-        return as_it_is(path, top), ()
+        return as_it_is(path, verdict.kind, top), ()
     question = question_of(verdict)
-    return answers_to(question.answers, lambda decision: migrate(path, decision)), question.quotes
+    question.put(functools.partial(migrate, path, verdict.kind))
+    return question.next, question.quotes
 
 
-def as_it_is(path: bytes, top: bytes) -> Next:
+def as_it_is(path: bytes, kind: str, top: bytes) -> Next:
     """What to do next with a file that needs no answer. One command for a whole folder of mailboxes follows later."""
-    return () if top else (Answer(migrate(path)),)
+    return () if top else (Answer(migrate(path, kind)),)
 
 
-def migrate(path: bytes, decision: Reading = UNDECIDED) -> Command:
-    """The command that migrates a mailbox as it was decided."""
-    return Command.of(ADMIN, "migrate", *decision.options(), "MAILDIR", operand(path))
+def migrate(path: bytes, kind: str = "", decision: Reading = UNDECIDED) -> Command:
+    """The command that migrates a mailbox as it was decided, and a Takeout into the folders of its labels."""
+    labels = ["--labels"] * kind.startswith(TAKEOUT)
+    return Command.of(Runs.MIGRATE, *labels, *decision.options(), "MAILDIR", operand(path))
 
 
 def where(path: bytes, top: bytes) -> Where:
@@ -134,7 +130,7 @@ def where(path: bytes, top: bytes) -> Where:
     found = Where.of(path, top, os.fsencode(home), lambda folder: may_write(folder, owner))._replace(user=user)
     if may_write(os.path.dirname(path) or b".", owner):
         return found
-    return found._replace(migrate=(ADMIN, "migrate", "MAILDIR"))
+    return found._replace(migrate=("MAILDIR",))
 
 
 def may_write(folder: bytes, owner: int) -> bool:

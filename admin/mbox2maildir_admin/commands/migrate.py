@@ -2,7 +2,6 @@
 import os
 from collections.abc import Iterator, Sequence
 
-from .. import ADMIN
 from ..faults import Left, Reason, Status
 from ..looks import is_folder, is_surely, is_there
 from ..maildir.folders import why_no_folder
@@ -10,7 +9,7 @@ from ..migration.block import Typed
 from ..migration.outcomes import Row, row_left
 from ..migration.rows import Reporter, Shows
 from ..migration.options import Options
-from ..nexts import run_next
+from ..nexts import Runs, run_next
 from ..readings.reading import UNDECIDED
 from ..terminal import complain, has_terminal, named, operand
 from ..users.asked import Tally
@@ -72,7 +71,7 @@ def task_of(given: Given) -> Telling:
 def leave_unquoted(words: Sequence[bytes], options: Options, reporter: Reporter) -> bool:
     """Leaves each path that was given as several words, because it was not quoted. Returns whether there is one."""
     paths = list(joined(words))
-    then = run_next(ADMIN, "migrate", *options.words(), *(operand(path) for path, _ in paths))
+    then = run_next(Runs.MIGRATE, *options.words(), *(operand(path) for path, _ in paths))
     for path, count in paths:
         if count > 1:
             reporter.total += 1

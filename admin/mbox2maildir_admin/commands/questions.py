@@ -10,10 +10,10 @@ from typing import Optional
 from ..faults import Fault, complain_of
 from ..mbox.lines import AROUND, cut, texts_of
 from ..mbox.mailbox import Mailbox
-from ..migration.block import LETTERS, MIGRATE, Group, answers_of, groups_of
+from ..migration.block import LETTERS, Group, answers_of, groups_of
 from ..migration.outcomes import Row
 from ..migration.rows import Reporter, Run, Shows
-from ..nexts import BELOW, Answer, Quote
+from ..nexts import BELOW, Answer, Quote, Runs
 from ..progress import say_of
 from ..readings.texts import content_of, disk_of
 from ..terminal import INPUT, bytes_of, complain, flush, has_terminal, put, write
@@ -76,7 +76,7 @@ class Asker(Reporter):
         """Runs the command of an answer. If it can't even begin, the mailbox has the row that it had."""
         self.begun, self.total, self.answered = self.begun - 1, self.total - 1, row.path
         try:
-            run([os.fsdecode(bytes_of(word)) for word in answer.command.words[len(MIGRATE) :]])
+            run([os.fsdecode(bytes_of(word)) for word in answer.command.names_for(Runs.MIGRATE)])
         except (Fault, OSError) as fault:
             complain_of(fault)
             super().row(row)
@@ -120,7 +120,7 @@ def letter_for(group: Group, title: str, names: Sequence[bytes]) -> str:
 def lines_of(row: Row, around: int, names: Sequence[bytes]) -> tuple[Quote, ...]:
     """The lines that a question is about, with more lines around them. The mailbox may be another one by now, which its
     answer finds out; in a tree it may be a symbolic link, and none is followed there."""
-    maildir, path = map(bytes_of, answers_of(row)[0].command.words[-2:])
+    maildir, path = map(bytes_of, answers_of(row)[0].command.names_for(Runs.MIGRATE)[-2:])
     asked = {quote.line: quote for quote in row.quotes if not quote.is_around}
     wanted = sorted({line for one in asked for line in range(one - around, one + around + 1)})
     try:

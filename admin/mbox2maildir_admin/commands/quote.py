@@ -1,14 +1,13 @@
 """The command `quote`: a copy of a mailbox for `mbox2maildir convert`."""
 import os
 
-from .. import ADMIN
-from ..faults import Fault, Status
+from ..faults import Status
 from ..flags.dovecot_headers import internal_head
 from ..mbox.mailbox import Mailbox
-from ..nexts import Command
+from ..nexts import Command, Runs
 from ..progress import say_of
 from ..readings.copies import Copy
-from ..readings.plans import Plan, Question, answers_to, plan_of
+from ..readings.plans import Plan, Question, plan_of
 from ..readings.quoting import Quoter, write_copy, written
 from ..readings.reading import PLAIN, Reading
 from ..terminal import named, operand, put, write
@@ -57,9 +56,6 @@ def plan_to_quote(mailbox: Mailbox, decision: Reading, output: bytes, is_bare: b
         return plan_of(mailbox, decision=decision)
     except Question as question:
         names = "-" if output == STANDARD_OUTPUT else operand(output), operand(mailbox.path)
-
-        def command(decision: Reading) -> Command:
-            return Command.of(ADMIN, "quote", *["--dovecot"] * is_bare, *decision.options(), "-o", *names)
-
-        then = answers_to(question.answers, command)
-        raise Fault(str(question), question.reason, then, question.quotes) from question
+        bare = ["--dovecot"] * is_bare
+        question.put(lambda decision: Command.of(Runs.QUOTE, *bare, *decision.options(), "-o", *names))
+        raise

@@ -9,6 +9,7 @@ from ..migration.places import Pairs, Planned, recorded
 from ..migration.rows import Reporter
 from ..migration.options import Options
 from ..migration.trees import Tree, link_left
+from ..nexts import Runs
 from ..program import Program
 from ..users.asked import Tally
 from ..users.homes import Migrant, Relay
@@ -33,7 +34,7 @@ def verifying_users(given: Given) -> Telling:
 class Verifier(Migrant):
     """A user whose mailboxes are compared with the Maildir in the home."""
 
-    command = "verify"
+    command = Runs.VERIFY
 
     def has_more(self) -> bool:
         """There is nothing else to compare."""

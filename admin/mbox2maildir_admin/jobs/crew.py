@@ -9,7 +9,7 @@ from collections.abc import Callable
 from typing import Any, NoReturn, Optional, TypeVar, Union
 
 from ..faults import REASONS, Fault
-from ..nexts import Phrase
+from ..nexts import Phrase, Template
 from ..signals import INTERRUPTS, blocked
 from ..terminal import shown, text_of
 
@@ -33,7 +33,9 @@ def spelled(words: Any) -> bytes:
 
 def plain(value: Any) -> Any:
     """What JSON has no form for: a name, and the word of a table."""
-    return text_of(value) if isinstance(value, bytes) else value.word if isinstance(value, Phrase) else value.value
+    if isinstance(value, bytes):
+        return text_of(value)
+    return value.word if isinstance(value, (Phrase, Template)) else value.value
 
 
 class Parent:

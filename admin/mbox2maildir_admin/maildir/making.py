@@ -7,10 +7,9 @@ import pwd
 import stat
 from collections.abc import Callable, Iterator, Sequence
 
-from .. import ADMIN
-from ..faults import PlaceFault, Reason
+from ..faults import Fault, Reason
 from ..looks import is_folder, is_there, real_path, way_to
-from ..nexts import Answer, Command, Todo, run_next, task
+from ..nexts import Answer, Command, Runs, Todo, run_next, task
 from ..terminal import named, operand, text_of
 
 SUBFOLDERS = b"tmp", b"new", b"cur"
@@ -27,6 +26,8 @@ PREPARED = b"mbox2maildir-prepared"
 # and what is going to be appended to its mailbox
 GOES_BACK = b"mbox2maildir-back"
 
+NO_PLACE = "the folder that it is to be made in is not there"
+
 # syncs the names in a folder to the disk, or sees to it that somebody does
 SyncNames = Callable[[bytes], object]
 
@@ -38,12 +39,12 @@ def want_maildir(maildir: bytes) -> None:
     except FileNotFoundError:
         above = os.path.dirname(os.path.abspath(maildir))
         if not is_folder(above):
-            why = "%s: the folder that it is to be made in is not there" % named(maildir)
-            raise PlaceFault(why, Reason.NO_MAILDIR, run_next("mkdir", "-p", operand(above))) from None
+            then = run_next(Runs.MAKE_FOLDERS, operand(above))
+            raise Fault(NO_PLACE, Reason.NO_MAILDIR, then, place=maildir) from None
         return
     if names and not names & {*SUBFOLDERS, RECORD}:
-        why = "%s: it is neither a Maildir nor empty" % named(maildir)
-        raise PlaceFault(why, Reason.NO_MAILDIR, task(Todo.OTHER_MAILDIR, text_of(os.path.join(maildir, b"Maildir"))))
+        then = task(Todo.OTHER_MAILDIR, text_of(os.path.join(maildir, b"Maildir")))
+        raise Fault("it is neither a Maildir nor empty", Reason.NO_MAILDIR, then, place=maildir)
 
 
 def has_begun(maildir: bytes) -> bool:
@@ -67,7 +68,7 @@ def want_own(folder: bytes) -> None:
         elif state.st_uid != os.geteuid():
             why = "it belongs to another user"
         if why:
-            raise PlaceFault("%s: %s" % (named(path), why), Reason.NOT_OWN)
+            raise Fault(why, Reason.NOT_OWN, place=path)
 
 
 def sync_folder(path: bytes) -> None:
@@ -138,10 +139,10 @@ def want_roots_alone(maildir: bytes) -> None:
                 raise replaced(folder, "others, who may write there,")
 
 
-def replaced(folder: bytes, who: str) -> PlaceFault:
+def replaced(folder: bytes, who: str) -> Fault:
     """Why root does not write into a Maildir."""
-    why = "%s: %s could replace the Maildir by a symbolic link" % (named(folder), who)
-    return PlaceFault(why, Reason.NOT_OWN, task(Todo.OTHER_PLACE))
+    why = "%s could replace the Maildir by a symbolic link" % who
+    return Fault(why, Reason.NOT_OWN, task(Todo.OTHER_PLACE), place=folder)
 
 
 def make_alone(maildir: bytes, sync: SyncNames = sync_folder) -> None:
@@ -167,8 +168,7 @@ def want_roots(path: bytes, words: Sequence[str]) -> None:
     try:
         user = pwd.getpwuid(owner).pw_name
     except KeyError:
-        raise PlaceFault(
-            "%s: it belongs to user %d" % (named(path), owner), Reason.OTHER_OWNER, task(Todo.AS_OWNER)
-        ) from None
-    then = (Answer(Command.of(ADMIN, "migrate", *words, user=user)),)
-    raise PlaceFault("%s: it belongs to %s" % (named(path), named(user)), Reason.OTHER_OWNER, then)
+        why = "it belongs to user %d" % owner
+        raise Fault(why, Reason.OTHER_OWNER, task(Todo.AS_OWNER), place=path) from None
+    then = (Answer(Command.of(Runs.MIGRATE, *words, user=user)),)
+    raise Fault("it belongs to %s" % named(user), Reason.OTHER_OWNER, then, place=path)

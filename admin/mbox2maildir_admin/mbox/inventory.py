@@ -7,9 +7,9 @@ import re
 from collections.abc import Callable, Iterable, Iterator
 from typing import NamedTuple, Optional
 
-from .. import ADMIN, PROGRAM
+from .. import PROGRAM
 from ..faults import Fault, Reason
-from ..nexts import Does, run_next
+from ..nexts import Does, Runs, run_next
 from ..program import Listing
 from ..terminal import operand
 from ..units import Offset, Place
@@ -107,7 +107,7 @@ def messages_in(path: bytes, pieces: Iterable[Marked], with_cores: bool = False)
         if piece.begins:
             begun = Begun(piece, with_cores)
         elif not begun:
-            then = run_next(ADMIN, "kind", operand(path), does=Does.FIND_OUT)
+            then = run_next(Runs.KIND, operand(path), does=Does.FIND_OUT)
             raise Fault("no From line at the start", Reason.NOT_KNOWN, then)
         begun.take(piece)
         if piece.ends:

@@ -10,8 +10,9 @@ from .digest import Digest
 from .files import BLOCK, LONG, Reader, open_file, open_plain
 from .pieces import Piece, pieces_of
 
-# the facts that show that a file has changed
+# the facts that show that a file has changed, and that it is no other one
 SIGNS = "st_size", "st_mtime_ns", "st_ctime_ns"
+SIGNS_OF_FILE = "st_dev", "st_ino", *SIGNS
 CHANGED = "it changed while it was read: stop the program that writes to it, and run this again"
 
 
@@ -22,7 +23,7 @@ def is_still(path: bytes, state: os.stat_result) -> bool:
             now = os.fstat(file.fileno())
     except (FileNotFoundError, Fault):
         return False
-    return all(getattr(now, sign) == getattr(state, sign) for sign in ("st_dev", "st_ino", *SIGNS))
+    return all(getattr(now, sign) == getattr(state, sign) for sign in SIGNS_OF_FILE)
 
 
 def lines_at(reader: Reader, offsets: Iterable[int]) -> Iterator[Line]:

@@ -119,7 +119,7 @@ def as_before(opened: Opened, ledger: Ledger, path: str, by: By) -> Optional[tup
             return None
         contents = Contents(then.mailbox, then.start, then.messages(), reading, then)
         match = Match(ledger, path, Files(ledger.folder, contents.inventory), contents.is_deleted)
-        match.compare()
+        match.find_known()
         return None if match.count_new() else (contents.words, list(remarks_on_lost(match)))
 
 

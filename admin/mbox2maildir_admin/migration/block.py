@@ -3,12 +3,11 @@ import glob
 from collections.abc import Iterable, Iterator, Sequence
 from typing import NamedTuple, Optional
 
-from .. import ADMIN
 from ..faults import REASONS, Reason
 from ..maildir.folders import folder_shown
 from ..mbox.lines import AROUND
 from ..meanings import ITS_COMMAND, REMARKS, remark_of, to_do
-from ..nexts import BELOW, COMMAND, Answer, Command, Does, Quote, Task, Todo, lines_below
+from ..nexts import BELOW, COMMAND, Answer, Command, Does, Quote, Runs, Task, Todo, lines_below
 from ..terminal import named, operand, option
 from .outcomes import Fate, Row
 
@@ -18,8 +17,6 @@ MOST_ALIKE = 20
 SHOWN, SHOWN_LINES = 20, 2
 # the letters by which answers are chosen on a terminal
 LETTERS = "abcdefghijk"
-# the words with which the command of an answer begins
-MIGRATE = (ADMIN, "migrate")
 # answers that are about lines, and those that are about folders and not about what a text is
 ON_LINES = Does.BEGINS, Does.BELONGS, Does.BEGINS_DROP, Does.BELONGS_DROP
 FOLDERS = Does.OWN_FOLDER, Does.JOINS_INBOX, Does.LABEL_NONE, Does.LABEL_FOLDER, Does.LABEL_READ, Does.ALL, Does.ONE
@@ -37,7 +34,7 @@ class Typed(NamedTuple):
     def command(self, options: Iterable[str], users: Iterable[str] = ()) -> Command:
         """The same command with more options, for some users."""
         names = dict.fromkeys(users) if self.takes_users else ()
-        return Command.of(*MIGRATE, *options, *self.options, *map(operand, self.operands), *names)
+        return Command.of(Runs.MIGRATE, *options, *self.options, *map(operand, self.operands), *names)
 
 
 def name_of(row: Row) -> str:
@@ -51,7 +48,7 @@ def name_of(row: Row) -> str:
 
 def answers_of(row: Row) -> list[Answer]:
     """The answers to what is asked about a mailbox. There are none if nothing is asked about it."""
-    steps = (one for one in row.next if isinstance(one, Answer) and one.command.words[:2] == MIGRATE)
+    steps = (one for one in row.next if isinstance(one, Answer) and one.command.names_for(Runs.MIGRATE))
     return [one for one in steps if row.reason is Reason.UNCLEAR or one.does in FOLDERS]
 
 
@@ -77,7 +74,7 @@ def detail_of(row: Row) -> str:
 def decided(answer: Answer) -> tuple[str, bool, str]:
     """What an answer decides that serves other mailboxes too: the format, whether deleted mail is left out, and its
     tie. It is nothing if the answer names lines."""
-    words = answer.command.words
+    words = answer.command.names_for(Runs.MIGRATE)
     if {"--text", "--begin"} & set(words):
         return "", False, ""
     word, tie = (words[words.index(name) + 1] if name in words else "" for name in ("--as", "--of"))

@@ -6,7 +6,6 @@ import os
 from collections.abc import Container, Iterable, Iterator, Sequence
 from typing import NamedTuple
 
-from .. import ADMIN
 from ..faults import Fault, Left, Reason
 from ..ledger.ledger import Ledger
 from ..ledger.prepared import ASIDE, has_list, origin_in, remove_aside
@@ -14,11 +13,11 @@ from ..ledger.record import Record, unspelled
 from ..looks import is_folder, is_there, may_be, real_path
 from ..maildir.files import names_in
 from ..maildir.folders import INBOX, folder_path, folders_in, name_of, words_of
-from ..nexts import Does, Remark, Todo, run_next, task
+from ..nexts import Does, Remark, Runs, Todo, run_next, task
 from ..terminal import operand, spelled, text_of
 from .outcomes import Row, row_left
 from .places import Planned
-from .preparing import Preparation, tree_above, undone
+from .preparing import Preparation, remove_prepared, tree_above
 from .options import Options
 from .mailbox import TENTH
 
@@ -78,7 +77,7 @@ class Leftovers:
             if one not in absent:
                 yield self.left(one, NOT_MET, unspelled(one.path))
             elif many[one.tree] * TENTH <= all_of[one.tree]:
-                row = undone(self.record, unspelled(one.path), one.name, self.options.dry)
+                row = remove_prepared(self.record, unspelled(one.path), one.name, self.options.dry)
                 if row:
                     yield row._replace(remarks=(Remark("mailbox-gone", MAILBOX_GONE), *row.remarks))
             else:
@@ -91,9 +90,9 @@ class Leftovers:
         folder = [*([] if one.name == INBOX else words_of(one.name)), operand(self.root)]
         then = task(Todo.BRING_BACK, text_of(place))
         if may_be(is_there, place):
-            then = run_next(ADMIN, "migrate", *options.words(), *folder, operand(place))
+            then = run_next(Runs.MIGRATE, *options.words(), *folder, operand(place))
         undo = [*Options(dry=options.dry, now=options.now, undo=True).words(), *folder, operand(path)]
-        then += run_next(ADMIN, "migrate", *undo, does=Does.UNDO_PREPARED)
+        then += run_next(Runs.MIGRATE, *undo, does=Does.UNDO_PREPARED)
         return row_left(path, one.name, Left(why, Reason.PREPARED, then))
 
     def clear_unused(self, went: Container[bytes]) -> None:

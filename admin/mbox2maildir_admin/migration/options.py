@@ -3,13 +3,11 @@ import os
 from collections.abc import Callable, Sequence
 from typing import Any, NamedTuple, Optional
 
-from .. import ADMIN
-from ..faults import Left
 from ..kinds.making import Where, is_below
 from ..labels.choosing import Choosing
 from ..maildir.folders import INBOX, words_of
-from ..nexts import Command
-from ..readings.plans import Question, answers_to
+from ..nexts import Command, Runs
+from ..readings.plans import Question
 from ..readings.reading import UNDECIDED, Reading
 from ..terminal import operand, option
 from .known import Opened
@@ -86,8 +84,8 @@ class Options(NamedTuple):
         # what a symbolic link leads to is outside of what was named
         if (top or path in self.names) and may_write(os.path.dirname(path) or b"."):
             return where
-        words = self.command(root, opened, decision=UNDECIDED).words[:-1]
-        return where._replace(migrate=words, is_dry=self.dry)
+        names = self.command(root, opened, decision=UNDECIDED).parts[0].names[:-1]
+        return where._replace(migrate=names, is_dry=self.dry)
 
     def command(self, root: bytes, opened: Opened, path: bytes = b"", **changes: Any) -> Command:
         """The command for a mailbox of a folder of this Maildir, or for the one at a path, with the options that were
@@ -97,13 +95,11 @@ class Options(NamedTuple):
         # with labels, a mailbox has all of its folders
         folder = [] if self.is_labelled or opened.name == INBOX else words_of(opened.name)
         paths = operand(root), operand(path or opened.mailbox.path)
-        return Command.of(ADMIN, "migrate", *options.words(), *folder, *paths)
+        return Command.of(Runs.MIGRATE, *options.words(), *folder, *paths)
 
-    def asked(self, root: bytes, opened: Opened, question: Question) -> Left:
-        """What is left for a human to decide, with the commands that do so."""
-        then = answers_to(question.answers, lambda decision: self.command(root, opened, decision=decision))
-        left = Left(str(question), question.reason, then, question.quotes)
-        return left.known(question.kind, question.messages, question.most)
+    def put_commands(self, root: bytes, opened: Opened, question: Question) -> None:
+        """Sets the commands of the answers to what a human must decide."""
+        question.put(lambda decision: self.command(root, opened, decision=decision))
 
     def undo_command(self, root: bytes, opened: Opened, path: bytes = b"") -> Command:
         """The command that undoes a mailbox, or the one at a path."""

@@ -6,9 +6,9 @@ import subprocess
 from collections.abc import Iterable, Iterator, Mapping, Sequence
 from typing import NamedTuple, Optional
 
-from ..faults import Fault, PlaceFault, Reason
+from ..faults import Fault, Reason
 from ..mbox.files import open_file, read_up_to
-from ..nexts import run_next
+from ..nexts import Runs, run_next
 from ..terminal import named
 
 DOVECONF = "doveconf"
@@ -89,11 +89,11 @@ def want_unread(place: Place, several: Optional[Sequence[str]], is_said: bool) -
     """Raises Fault if a server would find a Maildir by these settings, or if there are none and nobody has said that it
     is unread; or if mail is delivered there."""
     if several is None and not is_said:
-        raise PlaceFault(NO_DOVECONF, Reason.PREPARED)
+        raise Fault(NO_DOVECONF, Reason.PREPARED)
     for location in several or ():
         why = why_found(place, location)
         if why:
-            raise PlaceFault(why, Reason.PREPARED, run_next(DOVECONF, "-n"))
+            raise Fault(why, Reason.PREPARED, run_next(Runs.DOVECONF))
     want_not_delivered(place)
 
 
@@ -133,4 +133,4 @@ def want_not_delivered(place: Place) -> None:
         except (Fault, OSError):
             continue
         if pattern.search(text):
-            raise PlaceFault(DELIVERS % named(path), Reason.PREPARED)
+            raise Fault(DELIVERS % named(path), Reason.PREPARED)

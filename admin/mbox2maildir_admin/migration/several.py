@@ -4,8 +4,7 @@ import os
 from collections.abc import Callable, Iterator, Sequence
 from typing import TYPE_CHECKING, Optional
 
-from .. import ADMIN
-from ..faults import Fault, Left, PlaceFault, Reason
+from ..faults import Fault, Left, Reason
 from ..jobs.count import Places, groups_of, jobs_of
 from ..jobs.order import InOrder, largest_first
 from ..kinds.folders import is_maildir
@@ -17,16 +16,16 @@ from ..maildir.folders import INBOX, folder_of, on_disk
 from ..maildir.making import real_place, want_maildir, want_own, want_roots, want_roots_alone
 from ..maildir.disk import Syncs
 from ..mbox.files import is_empty
-from ..nexts import NOTHING, Remark, Todo, in_shell, line_of, run_next, task
+from ..nexts import NOTHING, Remark, Runs, Todo, run_next, task
 from ..program import Program, find_program
 from ..progress import Beat
-from ..terminal import named, operand, text_of, word
+from ..terminal import named, operand, text_of
 from .dovecot import OLD_SUBSCRIPTIONS, SUBSCRIPTIONS, Dovecot, subscribe
 from .leftovers import Leftovers
 from .carrying import settled
 from .mailbox import Migration
 from .outcomes import Fate, Observer, Outcome, Row, row_left, seen
-from .places import Pairs, Planned, UserHome, as_named, has_record, into_inbox, recorded
+from .places import Pairs, Planned, UserHome, as_inbox, as_named, has_record, into_inbox, recorded
 from .servers import Place, locations, want_unread
 from .options import Options
 from .steps import Extra
@@ -73,14 +72,14 @@ def refuse(root: bytes, names: Sequence[bytes], options: Options = Options()) ->
         want_roots_alone(root)
 
 
-def not_in_order(why: str, first: bytes, names: Sequence[bytes], options: Options) -> PlaceFault:
+def not_in_order(why: str, first: bytes, names: Sequence[bytes], options: Options) -> Fault:
     """Why names are refused, and the command that names the Maildir first, unless one is there already; if no name is
     the Maildir's, a human names it."""
     then = task(Todo.OTHER_MAILDIR, os.path.join(os.path.dirname(text_of(names[0])), "Maildir"))
     if first != names[0]:
         rest = [operand(name) for name in names if name != first]
-        then = run_next(ADMIN, "migrate", *options.words(), operand(first), *rest)
-    return PlaceFault(why + ": the Maildir comes first", Reason.MAILDIR, NOTHING if is_maildir(names[0]) else then)
+        then = run_next(Runs.MIGRATE, *options.words(), operand(first), *rest)
+    return Fault(why + ": the Maildir comes first", Reason.MAILDIR, NOTHING if is_maildir(names[0]) else then)
 
 
 def run_all(
@@ -241,7 +240,7 @@ class Several:
                 else:
                     one = as_named(one, self.migration.record, self.migration.how.of_next())
                 self.taken.add(one.folder)
-                yield one
+                yield as_inbox(one)
 
     def is_no_mail(self, one: Planned) -> bool:
         """Whether a file that would go into the folder of another one holds no mail."""
@@ -255,12 +254,17 @@ class Several:
         if one.before and row.folder and row.fate != Fate.BEFORE:
             # mail programs will show another name than Dovecot did
             row = row._replace(remarks=(*row.remarks, Remark("name-before", "its name was %s" % named(one.before))))
-        if one.is_inbox and row.folder != INBOX and row.fate in (Fate.DONE, Fate.WOULD):
-            row = row._replace(next=(*row.next, *into_inbox(one, ended, self.migration.how, self.pairs.root)))
         if others and row.is_said():
             says = "also named %s" % " and ".join(map(named, others))
             row = row._replace(remarks=(*row.remarks, Remark("also-named", says)))
+        if one.is_inbox and row.fate in (Fate.DONE, Fate.BEFORE, Fate.WOULD) and self.is_inbox_free():
+            then = into_inbox(one, row.folder, self.migration.how, self.migration.record)
+            row = row._replace(next=(*row.next, *then))
         return ended._replace(row=row)
+
+    def is_inbox_free(self) -> bool:
+        """Whether no mailbox has INBOX, or gets it."""
+        return INBOX not in self.taken and not self.migration.record.last_steps(INBOX)
 
     def run_one(self, one: Planned) -> Outcome:
         """Migrates a mailbox, unless it may not go into its folder."""
@@ -298,6 +302,6 @@ class Several:
         lines = subscribe(root, tree, migration.record, migration.how.dry or not migration.record.is_open)
         file = os.path.join(root, SUBSCRIPTIONS)
         if lines:
-            words = line_of(text_of(line.replace(b"\\", b"\\\\").replace(b"\t", b"\\t")) for line in lines)
-            then = in_shell("printf '%%b\\n' %s >>%s" % (words, word(file)))
+            escaped = [text_of(line.replace(b"\\", b"\\\\").replace(b"\t", b"\\t")) for line in lines]
+            then = run_next(Runs.ADD_LINES, operand(file), *escaped)
             raise Left("%s already exists" % named(file), Reason.SUBSCRIPTIONS, then)

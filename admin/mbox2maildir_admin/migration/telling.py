@@ -6,7 +6,7 @@ from ..faults import REASONS
 from ..jobs.crew import spelled
 from ..kinds.making import with_aside
 from ..meanings import REMARKS
-from ..nexts import DOES, TODOS, WITH_FILES, Answer, Command, Does, Next, Phrase, Task, Todo, task
+from ..nexts import DOES, TODOS, Answer, Command, Does, Next, OfFiles, Part, Phrase, Task, Template, Todo, task
 from ..terminal import bytes_of, shown
 from .outcomes import FATES, Row
 
@@ -82,21 +82,28 @@ def step_of(words: Sequence[Any], path: bytes, whose: Optional[Whose]) -> Union[
     if isinstance(what, str):
         names, user = rest
         return task_of(TODOS[what], names, user, path, whose)
-    (argv, shell, user), (word, messages) = what, rest
+    (parts, user), (word, messages) = what, rest
     does, count = DOES[word], value_of(Optional[int], messages)
-    if bool(argv) == bool(shell):
+    if not parts:
         raise ValueError("no command")
-    command = Command(tuple(map(name_in, argv)), name_in(shell), whose.user if whose else user)
+    command = Command(tuple(part_of(*one) for one in parts), whose.user if whose else user)
     mailbox = whose.mailboxes.get(path) if whose and does is Does.MAKE_ELSEWHERE else None
     return Answer(with_aside(command, mailbox) if mailbox else command, does, count)
+
+
+def part_of(word: str, names: Sequence[str]) -> Part:
+    """Reads a part of a command. Raises an error if the table has none of this word, or names are missing in it."""
+    part = Part(Template.all[word], tuple(map(name_in, names)))
+    assert part.line()
+    return part
 
 
 def task_of(todo: Phrase, names: list[str], user: Optional[str], path: bytes, whose: Optional[Whose]) -> Task:
     """Reads a task for a path that a process told. What is done with files of a user is done as that user, but only
     root can move what is in the spool."""
     if whose:
-        is_roots = todo not in WITH_FILES or todo is Todo.COPY_AWAY and path in whose.mailboxes
-        user = None if is_roots else whose.user
+        is_roots = todo is Todo.COPY_AWAY and path in whose.mailboxes
+        user = whose.user if isinstance(todo, OfFiles) and not is_roots else None
     found = Task(todo, tuple(map(name_in, names)), user)
     # a sentence has as many places as there are names
     assert found.sentence()

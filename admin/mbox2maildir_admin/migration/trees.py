@@ -23,7 +23,7 @@ from ..kinds.profiles import Profiles
 from ..ledger.history import History, names_of
 from ..looks import is_folder, is_surely, is_there, may_be, real_path, state_at, type_at
 from ..maildir.folders import INBOX, LONGEST, folder_on_disk, folder_path, name_before
-from ..nexts import Remark, Todo, run_next, task
+from ..nexts import Remark, Runs, Todo, run_next, task
 from ..readings.copies import UNFINISHED
 from ..terminal import is_text, named, operand, text_of
 from .outcomes import Fate, Row, row_left
@@ -57,7 +57,7 @@ class Maildir(NamedTuple):
         elif self.has_more:
             then = task(Todo.MOVE_OTHERS)
         else:
-            then = run_next("mv", "-nT", operand(self.path), operand(place))
+            then = run_next(Runs.MOVE, operand(self.path), operand(place))
         return row_left(self.path, b"", Left(MAILDIR, Reason.MAILDIR, then))
 
 

@@ -5,7 +5,7 @@ import os
 from collections.abc import Callable, Iterator, Mapping, Sequence
 from typing import Any, NamedTuple, Optional
 
-from ..faults import Left, PlaceFault, Reason
+from ..faults import Fault, Left, Reason
 from ..jobs.count import Places
 from ..jobs.crew import Child, Crew, Parent
 from ..ledger.history import BY_WORD, Entry, Key
@@ -35,7 +35,7 @@ class Work(Parent):
         for entry in entries:
             refusal = self.refusal("line", *entry)
             if refusal:
-                raise PlaceFault(*refusal)
+                raise Fault(*refusal)
 
     def want_room(self, need: Need) -> None:
         """Waits until nobody else at work counts on the same space on a disk. Raises Left if the disk lacks space
@@ -116,7 +116,7 @@ class Workers(Crew):
             word, (folder, *text), *others = words
             try:
                 self.orders.record.add_entry(Entry(BY_WORD[word], Key(bytes_of(folder), *text), *others))
-            except PlaceFault as fault:
+            except Fault as fault:
                 child.refuse(fault)
             else:
                 child.answer()
@@ -131,8 +131,8 @@ class Workers(Crew):
     def take_row(self, child: Worker, place: int, row: Mapping[str, Any], *told: Any) -> None:
         """Takes what became of a mailbox."""
         child.places.remove(place)
-        folder, batch, which, words, path, state = told
-        its = words, bytes_of(path), state and os.stat_result(*state)
+        folder, batch, which, path, state = told
+        its = bytes_of(path), state and os.stat_result(*state)
         self.ended[place] = Outcome(row_of(row), bytes_of(folder), batch, Pass(which), *its)
         self.rest(child)
 

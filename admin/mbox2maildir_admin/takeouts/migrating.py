@@ -148,7 +148,8 @@ class Takeouts(Migration):
             left.next = tuple(Answer(command(labels=choosing), does) for choosing, does in left.says)
             raise
         except Question as question:
-            raise self.how.asked(self.root, opened, question) from question
+            self.how.put_commands(self.root, opened, question)
+            raise
 
     def want_none_prepared(self, opened: Opened) -> None:
         """Raises Left if a folder is only prepared, with the command that removes what is there."""

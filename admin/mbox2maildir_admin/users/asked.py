@@ -2,7 +2,7 @@
 from collections.abc import Sequence
 from typing import Optional
 
-from ..faults import PlaceFault, naming
+from ..faults import Fault, naming
 from ..terminal import INPUT, named
 
 COMMAND_LINE, SPOOL, ACCOUNTS = "from the command line", "from the spool", "from the accounts"
@@ -28,10 +28,10 @@ def asked_for(names: Sequence[bytes], path: Optional[bytes]) -> Optional[Sources
     with naming(path), open(INPUT if path == DASH else path, "rb", closefd=path != DASH) as file:
         text = file.read(LONGEST_LIST + 1)
     if len(text) > LONGEST_LIST:
-        raise PlaceFault("%s: it is longer than 16 MB, so it is not a list of names" % place)
+        raise Fault("%s: it is longer than 16 MB, so it is not a list of names" % place)
     listed = list(filter(None, (line.partition(b"\t")[0] for line in text.split(b"\n"))))
     if not listed:
-        raise PlaceFault("%s: it contains no name" % place)
+        raise Fault("%s: it contains no name" % place)
     for name in listed:
         asked.setdefault(name, "from %s" % place)
     return asked

@@ -7,7 +7,7 @@ import signal
 import time
 from typing import Any, Optional
 
-from ..faults import Left, Reason
+from ..faults import Fault, Left, Reason
 from ..jobs.crew import BROKEN, Child, Crew, Parent
 from ..maildir.folders import folder_of
 from ..maildir.disk import call_of_system
@@ -162,8 +162,8 @@ class Children(Crew):
             raise ValueError("nothing to ask for")
         try:
             child.clerk.serve(what, *words)
-        except Left as left:
-            child.refuse(left)
+        except Fault as why:
+            child.refuse(why)
         else:
             child.answer()
 

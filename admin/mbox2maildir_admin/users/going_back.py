@@ -18,6 +18,7 @@ from ..mbox.mailbox import Mailbox
 from ..migration.outcomes import Fate, Observer
 from ..migration.options import Options
 from ..migration.trees import Tree
+from ..nexts import Runs
 from ..program import Program
 from .asked import Sources, Tally
 from .homes import Migrant, Relay, Spool, is_recorded
@@ -32,7 +33,7 @@ NO_INBOX = "the mailbox of the spool is left"
 class Returner(Migrant):
     """A user whose mail goes back."""
 
-    command, is_back = "back", True
+    command, is_back = Runs.BACK, True
 
     @property
     def boxes(self) -> tuple[bytes, ...]:

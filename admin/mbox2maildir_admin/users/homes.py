@@ -6,7 +6,6 @@ import stat
 from collections.abc import Iterator, Sequence
 from typing import Any, NamedTuple, Optional, Union
 
-from .. import ADMIN
 from ..faults import Fault, Left, Reason
 from ..jobs.crew import Parent
 from ..ledger.prepared import has_list
@@ -20,6 +19,7 @@ from ..migration.servers import Place, want_unread
 from ..migration.several import refuse, run_all
 from ..migration.options import Options
 from ..migration.telling import Whose, told
+from ..nexts import Runs
 from ..program import Program
 from ..terminal import named, shown, text_of
 from .accounts import Account, why_no_home
@@ -62,7 +62,7 @@ class Migrant:
 
     # the command that does this, and whether mail is on the way back: then each home is looked at, even if the spool
     # has nothing of its user
-    command, is_back = "migrate", False
+    command, is_back = Runs.MIGRATE, False
 
     def __init__(self, user: Found, spool: "Spool", options: Options, program: bytes) -> None:
         self.user, self.spool, self.options, self.program = user, spool, options, program
@@ -172,8 +172,8 @@ class Spool(NamedTuple):
         return self.kind.is_back or bool(self.tree)
 
     def words(self) -> list[str]:
-        """The command that does this for one user, with the options of the next one."""
-        return [ADMIN, self.kind.command, *self.options.of_next().words()]
+        """The options of the command that does this for one user."""
+        return self.options.of_next().words()
 
 
 def is_recorded(maildir: bytes, mailbox: bytes) -> bool:

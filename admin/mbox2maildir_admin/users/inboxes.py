@@ -7,10 +7,9 @@ import os
 import stat
 from collections.abc import Sequence
 
-from ..faults import Left, Reason
+from ..faults import naming
 from ..mbox.lock_file import LOCK, Spot, drop_lock, release_lock, taken
 from ..migration.telling import number_of
-from ..terminal import named
 from .accounts import Account
 
 # what a child asks for
@@ -78,18 +77,15 @@ class InboxClerk:
         self.held: dict[Spot, int] = {}
 
     def serve(self, what: str, number: object) -> None:
-        """Does what the child asks for. Raises Left if that fails, and an error of Python's if it may not ask for
+        """Does what the child asks for. Raises Fault if that fails, and an error of Python's if it may not ask for
         it."""
         name = self.names[number_of(number)]
         inbox, lock = Spot(name, self.inboxes.number), Spot(name + LOCK, self.inboxes.number)
-        try:
+        with naming(os.path.join(self.inboxes.path, name)):
             if what == MAKE:
                 self.inboxes.make(inbox, self.account)
             else:
                 {TAKE: self.take, RELEASE: self.release}[what](lock)
-        except OSError as error:
-            path = os.path.join(self.inboxes.path, name)
-            raise Left("%s: %s" % (named(path), error.strerror), Reason.ERROR) from error
 
     def take(self, lock: Spot) -> None:
         """Takes the lock of an inbox. Where root may make none either, the other locks must do. Raises Left if it is

@@ -4,7 +4,7 @@ import os
 from collections.abc import Iterable, Iterator
 from typing import AbstractSet, Optional, Union
 
-from ..faults import Fault, Left, PlaceFault, Reason
+from ..faults import Fault, Left, Reason
 from ..jobs.count import MOST, jobs_of
 from ..jobs.order import size_of
 from ..kinds.named import is_auxiliary, is_no_mail
@@ -13,7 +13,7 @@ from ..maildir.folders import folder_path, on_disk
 from ..migration.outcomes import Fate, Observer, Row, row_left
 from ..migration.servers import locations
 from ..migration.options import Options
-from ..nexts import Answer, Command, run_next
+from ..nexts import Answer, Command, Runs, run_next
 from ..program import find_program
 from ..readings.copies import stem_of
 from ..terminal import complain, named, operand, put, shown, text_of
@@ -126,8 +126,8 @@ def want_entered(spool: bytes) -> None:
     here = spool
     while True:
         if not os.stat(here).st_mode & 0o001:
-            then = run_next("chmod", "711", operand(here))
-            raise PlaceFault("users may not enter %s" % named(here), Reason.NOT_OWN, then)
+            then = run_next(Runs.LET_ENTER, operand(here))
+            raise Fault("users may not enter %s" % named(here), Reason.NOT_OWN, then)
         if here == b"/":
             return
         here = os.path.dirname(here)
@@ -180,17 +180,17 @@ def user_of(name: bytes, accounts: Accounts, is_named: bool, spool: Spool) -> Ac
     account = accounts.of_name(name)
     if accounts.is_users(account) or is_named and account.uid not in (0, *NOBODY):
         return account
-    words, says = spool.words(), "a system account"
+    command, words, says = spool.kind.command, spool.words(), "a system account"
     mailbox = operand(os.path.join(spool.path, account.name))
     if account.uid == 0:
-        then = run_next(*words, operand(os.path.join(account.home, b"Maildir")), mailbox)
+        then = run_next(command, *words, operand(os.path.join(account.home, b"Maildir")), mailbox)
     elif account.uid not in NOBODY and not why_no_home(account):
         says += ", which must be named"
-        then = run_next(*words[:2], "--users", *words[2:], operand(spool.path), operand(account.name))
+        then = run_next(command, "--users", *words, operand(spool.path), operand(account.name))
     else:
         # whatever is at that place, it is no place for mail
         says += " without a home of its own"
-        then = (Answer(Command.of(*words, "MAILDIR", mailbox, user=text_of(account.name))),)
+        then = (Answer(Command.of(command, *words, "MAILDIR", mailbox, user=text_of(account.name))),)
     raise Left(says, Reason.SYSTEM_ACCOUNT, then)
 
 
@@ -268,13 +268,12 @@ class Users:
 
     def why_not(self, account: Account, other: bytes, mailbox: bytes) -> Left:
         """Why the mailbox of a further name of an account is left, and the command that migrates it, or checks it."""
-        root, words = os.path.join(account.home, self.spool.maildir), self.spool.words()
-        if self.spool.kind.command == "verify":
-            words = [*words[:2], operand(folder_path(root, on_disk("NAME")))]
-        else:
-            words += ["--folder", "NAME", operand(root)]
+        root, command = os.path.join(account.home, self.spool.maildir), self.spool.kind.command
+        words = [*self.spool.words(), "--folder", "NAME", operand(root)]
+        if command is Runs.VERIFY:
+            words = [operand(folder_path(root, on_disk("NAME")))]
         says = "%s is the same user, and its mailbox goes into INBOX" % named(other)
-        return Left(says, Reason.SAME_USER, run_next(*words, operand(mailbox)))
+        return Left(says, Reason.SAME_USER, run_next(command, *words, operand(mailbox)))
 
     def other_name(self, name: bytes, key: Key) -> Optional[bytes]:
         """The other name of an account whose mailbox goes into its Maildir: the one that the system gives its number,

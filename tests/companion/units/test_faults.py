@@ -4,7 +4,7 @@ import os
 import unittest
 from typing import Union
 
-from mbox2maildir_admin.faults import REASONS, Fault, Left, PlaceFault, Reason, fault_of
+from mbox2maildir_admin.faults import REASONS, Fault, Left, Reason, fault_of
 from mbox2maildir_admin.nexts import Phrase
 
 OF_BOX = FileNotFoundError(2, "No such file or directory", b"box")
@@ -12,7 +12,7 @@ OF_BOX = FileNotFoundError(2, "No such file or directory", b"box")
 FAULTS: list[tuple[Union[Fault, OSError], Phrase, str]] = [
     (Left("why"), Reason.OTHER, "why"),
     (Fault("why", Reason.NO_FILE), Reason.NO_FILE, "why"),
-    (PlaceFault("other: full", Reason.NOT_OWN), Reason.NOT_OWN, "other: full"),
+    (Fault("full", Reason.NOT_OWN, place=b"a: b"), Reason.NOT_OWN, "'a: b': full"),
     (OF_BOX, Reason.MISSING, "No such file or directory"),
     (FileNotFoundError(2, "gone"), Reason.MISSING, "gone"),
     (NotADirectoryError(20, "no folder", "box"), Reason.MISSING, "no folder"),

@@ -4,7 +4,7 @@ import subprocess
 import unittest
 from typing import Union
 
-from mbox2maildir_admin.terminal import is_text, operand, option, shown, text_of, word
+from mbox2maildir_admin.terminal import is_text, operand, option, quoted, shown, text_of
 
 SHOWN: list[tuple[Union[bytes, str], str]] = [
     (b"mail/inbox", "mail/inbox"),
@@ -51,12 +51,12 @@ class TerminalTest(unittest.TestCase):
 
     def test_words_and_operands(self) -> None:
         for name, wanted in WORDS:
-            self.assertEqual(word(name), wanted)
+            self.assertEqual(quoted(operand(name)), wanted)
         for name, its, options in OPERANDS:
             self.assertEqual((operand(name), option("--folder", name)), (its, options))
 
     def test_a_shell_reads_the_name_again(self) -> None:
-        script = "printf '%s\\0' " + " ".join(map(word, NAMES))
+        script = "printf '%s\\0' " + " ".join(quoted(operand(name)) for name in NAMES)
         found = subprocess.run(["bash", "-c", os.fsencode(script)], stdout=subprocess.PIPE, check=True).stdout
         self.assertEqual((found.split(b"\0")[:-1], script.isprintable()), (NAMES, True))
 
