@@ -25,6 +25,7 @@ TEXTS = {
     "of another shape": (b"From a@b\nS: x\n\nhello\n\nFrom here on it gets better:\nNote: x\n\n", (1, 2)),
     "doubtful": (A + b"\nhello\n\nFrom Alice\nNote: x\n\n" + B + b"\n", (2, 3)),
     "odd": (A + b"\nsee\nFrom x Mon Mar  3 09:12:44 2025\nwhere it ends\n\n", (1, 2)),
+    "odd beside text": (A + b"\n>From y\n\nFrom me\n\nsee\nFrom x Mon Mar  3 09:12:44 2025\nwhere it ends\n\n", (1, 2)),
     "nulls": (A + b"\nhello\n\n\0\0\0" + B + b"\nyes\n\n", (1, 2)),
     "joined": (A + b"\nhello" + B + b"\nyes\n\n", (1, 2)),
     "mail in a From_ line": (A + b"\n\nFrom x\ry Mon Mar  3 09:12:44 2025\n\n", (2, 1)),

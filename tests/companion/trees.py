@@ -1,6 +1,7 @@
 """mbox2maildir-admin migrate of folders of mailboxes: which folder each mailbox becomes, what of a tree is left, what
 stays in the folder that the record has, and what is passed over, then and later."""
 import os
+import re
 import shutil
 from pathlib import Path
 
@@ -266,14 +267,29 @@ def profile(home: Path) -> None:
     # the Inbox of one account is INBOX if no other one has mail in its Inbox
     mailbox(home / top / "ImapMail/imap.example.net/INBOX", b"")
     equal("the only Inbox", by_json(["migrate", "--dry-run", "P", top], home).of(inbox)["folder"], "INBOX")
-    # what was said about deleted mail is said again, dry or not
-    for account in ("imap.example.org", "imap.example.net"):
-        mailbox(home / top / "ImapMail" / account / "INBOX", marked(b"1", ONE) + b"\n" + marked(b"9", TWO))
-    for options in ("--dry-run --drop-deleted", "--drop-deleted"):
-        command = by_json(["migrate", *options.split(), "D", top], home).of(inbox).command
-        equal(f"{options}: {command}", command.count("--drop-deleted --folder INBOX"), 1)
+
+
+def several_inboxes(home: Path) -> None:
+    """The command that puts one of several Inboxes into INBOX has what was answered about deleted mail, of all or of
+    one, dry or not. It is printed until INBOX has a mailbox, also for one that is named with the folder of its
+    account."""
+    top, accounts = "thunderbird/abcd1234.default-release", ("imap.example.org", "imap.example.net")
+    make_profile(home / top)
+    inbox, other = (f"{top}/ImapMail/{account}/INBOX" for account in accounts)
+    for path in (inbox, other):
+        mailbox(home / path, marked(b"1", ONE) + b"\n" + marked(b"9", TWO))
+    answer = by_json(["migrate", "N", top], home).of(inbox).commands[0]
+    tie = re.findall(" --of ([0-9a-f]+) ", answer)[0]
+    for words in ("--dry-run --drop-deleted M", "--drop-deleted M", f"--drop-deleted --of {tie} O", "O"):
+        command = by_json(["migrate", *words.split(), top], home).of(inbox).command
+        equal(f"{words}: {command}", command.count("--drop-deleted --folder INBOX"), 1)
     equal("its command", run_printed(command, home).status, 0)
-    equal("without deleted mail", subjects(home / "D"), ["one"])
+    equal("without deleted mail", [subjects(home / "O"), subjects(home / "O/.imap-example-org.INBOX")], [["one"], []])
+    equal("the other one", by_json(["migrate", "O", top], home).of(other)["next"], [])
+    command = run_printed(answer, home, "--json").row.command
+    equal(f"{answer}: {command}", command.count("--drop-deleted --folder INBOX"), 1)
+    named = by_json(["migrate", "--drop-deleted", "--folder", "Work", "N", other], home).row
+    equal("a folder of another name", (named["verdict"], named["next"]), ("done", []))
 
 
 def what_cannot_be_read(home: Path) -> None:
@@ -493,6 +509,7 @@ if __name__ == "__main__":
         commands_of_rehearsals,
         nothing_outside,
         profile,
+        several_inboxes,
         what_cannot_be_read,
         profile_of_one_account,
     )

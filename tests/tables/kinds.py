@@ -205,6 +205,9 @@ LIE = with_length(A, B + b"\nyes\n") + b"\n" + C
 # what is said of an answer to another question, and where nothing is asked
 ANOTHER = "what is asked about it has changed since this was answered"
 NOTHING = f"{ANOTHER}\n    run this next: ...:\n        mbox2maildir-admin quote -o copy 'a b'"
+# what is said of one to this question that lacks its lines, or has others
+LACKS = "the answer with this --of also names lines, by --text or --begin"
+OTHER = "the answer with this --of names other lines, or none"
 # a line that is shown with those around it, and two answers
 ASKED = "\n..." * 11
 X = (1 << 20) - len(A) - 2
@@ -255,12 +258,19 @@ COPIES = [
     (A + b"Content-Length: x\x1b[2J\n\n", "", A + b"Content-Length: x\x1b[2J\n\n"),
     (BARE, "--as mboxo --text 6 --of {of}", A + b"\nx\n>From a\n>From b\n>>>From c\n\n" + B),
     (BARE, "--as unquoted", A + b"\nx\n>From a\n>>From b\n>>>From c\n\n" + B),
+    (
+        A + b"\n>From a\n\nFrom b\n" + B.replace(b"From:", b"see"),
+        "--as unquoted --text 8 --of {of}",
+        A + b"\n>>From a\n\n>From b\n>" + B.replace(b"From:", b"see"),
+    ),
     (BARE, "--as mboxrd", BARE),
     (
         BARE,
         "--as mboxo --text 6 --of 0123456789abcdef",
         f"{ANOTHER}: line 6: a line `From ` without a date at its end{ASKED}",
     ),
+    (BARE, "--as unquoted --of {of}", f"{LACKS}: line 6: a line `From ` without a date at its end{ASKED}"),
+    (BARE, "--as mboxo --text 5 --of {of}", f"{OTHER}: line 6: a line `From ` without a date at its end{ASKED}"),
     (A + b"\n\nFrom b@c\nSubject: x\n\n", "--as unquoted", A + b"\n\n>From b@c\nSubject: x\n\n"),
     (
         b"From a\nS: x\n\n\nFrom b c\nS: y\n\n",

@@ -7,12 +7,12 @@ from ..mbox.files import LONG
 from ..mbox.lines import Said, cut
 from ..mbox.mailbox import Mailbox
 from ..mbox.pieces import pieces_of
-from ..nexts import Does, Task, Todo
+from ..nexts import Does, Task, Template, Todo
 from ..patterns import pattern
 from ..terminal import shown
 from ..units import Line, Offset
 from .look import Look, signs_of
-from .making import Looks, Makes, Recipe
+from .making import Makes, Recipe
 from .named import index_of
 from .others import FROM_LINE, ONE_MAIL, Holds, other_of
 from .starts import HEAD, end_of_row, is_from_line
@@ -28,13 +28,19 @@ BLANKS = b"\0 \t\r\n\v\f"
 BEGINS = "the mbox text begins here, at byte %d"
 NO_FROM_LINE = "a line `From ` without a date at its end and without a header after it"
 WITH_FROM_LINE = "(" + FROM_LINE + " && %s) >{copy}"
-WITH_DATE = Makes("sed '1s/$/ Thu Jan  1 00:00:00 1970/' {} >{copy}", Does.FIRST_BEGINS)
-ASK_LINE: Recipe = (WITH_DATE, Makes(WITH_FROM_LINE % "sed '1s/^/>/' {}", Does.FIRST_IS_TEXT))
-NOT_KNOWN: Recipe = (Looks("file {}"), Task(Todo.PASS_OVER))
+WITH_DATE = Makes(Template("date-line-1", "sed '1s/$/ Thu Jan  1 00:00:00 1970/' {} >{copy}"), Does.FIRST_BEGINS)
+QUOTE_LINE = Makes(Template("quote-line-1", WITH_FROM_LINE % "sed '1s/^/>/' {}"), Does.FIRST_IS_TEXT)
+ASK_LINE: Recipe = (WITH_DATE, QUOTE_LINE)
+BEGIN_ALL = Template("begin-all", WITH_FROM_LINE % "cat {}")
+BEGIN_AT = Template("begin-at", WITH_FROM_LINE % "tail -c +{rest} {}")
+CUT = Template("cut", "tail -c +{rest} {} >{copy}")
+WHOLE = Template("whole", ONE_MAIL)
+FILE = Template("file", "file {}")
+NOT_KNOWN: Recipe = (FILE, Task(Todo.PASS_OVER))
 # something in it looks like mail, so nobody passes over it together with others
 ALONE = Task(Todo.PASS_OVER_ALONE)
 ASK_FILE: Recipe = (WITH_DATE, ALONE)
-LIKE_MAIL: Recipe = (Looks("file {}"), ALONE)
+LIKE_MAIL: Recipe = (FILE, ALONE)
 LEAVE: Recipe = (Task(Todo.LEAVE),)
 # a line of this form may be one of mail
 LINE_OF_MAIL = pattern(rb"(?m)^(?:>*From |(?i:From|Received|Date|Message-ID|Subject|Return-Path|MIME-Version)[ \t]*:)")
@@ -71,15 +77,15 @@ def finding_of(look: Look) -> Finding:
         # only blank bytes come before it
         first = Said(line_of(blanks), BEGINS % (blanks + 1), line)
         found = [first, *(found if begins and begins.offset != blanks else [])]
-        return Finding("damaged", (Makes("tail -c +%d {} >{copy}" % (blanks + 1)),), Holds.MAIL, found)
+        return Finding("damaged", (Makes(CUT, more=(str(blanks + 1),)),), Holds.MAIL, found)
     if not begins and begins_with_mail(head):
-        return Finding("one mail without a From_ line", (Makes(ONE_MAIL),), Holds.MAIL)
+        return Finding("one mail without a From_ line", (Makes(WHOLE),), Holds.MAIL)
     if is_rest_of_from_line(text):
         found.insert(0, Said(Line(1), "this may be the rest of a From_ line", line))
     if not found:
         return unknown(mailbox, cut(head.split(b"\n")[0]))
-    rest = "tail -c +%d {}" % (blanks + 1) if blanks else "cat {}"
-    return Finding("damaged", (Makes(WITH_FROM_LINE % rest),), Holds.MAIL, found)
+    makes = Makes(BEGIN_AT, more=(str(blanks + 1),)) if blanks else Makes(BEGIN_ALL)
+    return Finding("damaged", (makes,), Holds.MAIL, found)
 
 
 def unknown(mailbox: Mailbox, line: str) -> Finding:

@@ -8,10 +8,9 @@ from ..looks import type_at
 from ..maildir.making import ENVELOPES, LEDGER, RECORD, SUBFOLDERS
 from ..mbox.files import open_file
 from ..mbox.pieces import FROM
-from ..nexts import Next, Todo, in_shell, task
+from ..nexts import Next, Template, Todo, run_next, task
 from ..patterns import pattern
-from ..terminal import text_of, word
-from .making import filled
+from ..terminal import operand, text_of
 from .others import FROM_LINE, QUOTED
 from .starts import FIELD
 
@@ -30,10 +29,11 @@ MBOX = b"mbox"
 NUMBER, SEQUENCES = pattern(rb"[0-9]+"), b".mh_sequences"
 # how many bytes of a message show how it begins
 BEGINNING = 1 << 9
-# makes a mailbox of the messages in a folder of MH; {} stands for the folder, and {copy} for the mailbox
-FROM_MH = (
+# makes a mailbox of the messages in a folder of MH
+FROM_MH = Template(
+    "from-mh",
     "(cd {} && for n in $(ls | grep -xE '[0-9]+' | sort -n); do "
-    "head -c 5 $n | grep -q '^From ' || { %s; %s $n; echo; }; done) >{copy}" % (FROM_LINE, QUOTED)
+    "head -c 5 $n | grep -q '^From ' || { %s; %s $n; echo; }; done) >{rest}" % (FROM_LINE, QUOTED),
 )
 
 
@@ -82,4 +82,4 @@ def head_of(path: bytes) -> bytes:
 
 def next_of_mh(path: bytes, copy: bytes) -> Next:
     """The command that makes a mailbox of a folder of MH."""
-    return in_shell(filled(FROM_MH, path, word(copy))) + task(Todo.MOVE_AWAY, text_of(path))
+    return run_next(FROM_MH, operand(path), operand(copy)) + task(Todo.MOVE_AWAY, text_of(path))

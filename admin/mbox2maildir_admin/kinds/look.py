@@ -50,8 +50,8 @@ class Look:
         # the lines, by their sorts
         self.seen: collections.defaultdict[str, Lines] = collections.defaultdict(Lines)
         # the offset of the message that ends by its length, and that at which it ends; the offset at which the body of
-        # the last message begins; and whether a message has no length
-        self.claimed_by, self.claimed, self.body, self.without = 0, 0, 0, False
+        # the last message begins, and whether a program has added CRs to it; and whether a message has no length
+        self.claimed_by, self.claimed, self.body, self.is_crlf, self.without = 0, 0, 0, False, False
         # whether the first message is the one by which Dovecot keeps an empty mailbox
         self.internal = bool(internal_head(mailbox, start)[0])
         self.doubts = Doubts(mailbox)
@@ -97,7 +97,7 @@ class Look:
         """Looks at lines of mail."""
         data = piece.data
         # the search for a single byte is the faster one by far
-        if b"\r" in data and not self.count("CR in text"):
+        if b"\r" in data and not self.is_crlf and not self.count("CR in text"):
             place = data.find(b"\r\n", piece.body)
             if place >= 0:
                 self.seen["CR in text"].add(piece.offset + place)
@@ -175,12 +175,14 @@ class Look:
         end, body = header_of(piece.data, begin)
         lower = piece.data[begin:end].lower()
         self.header(piece, body, any(map(lower.__contains__, LOOKED_AT)))
+        self.is_crlf = from_line.endswith(b"\r")
 
     def header(self, piece: Piece, body: int, has_marks: bool) -> None:
         """Begins a message, whose body begins at a place of its piece. Looks at what programs wrote into its header, if
         that has anything of it, and at its length."""
         self.messages += 1
-        self.claimed, self.claimed_by, self.body, self.is_cut = 0, piece.offset, piece.offset + body, False
+        self.claimed, self.claimed_by, self.body = 0, piece.offset, piece.offset + body
+        self.is_cut = self.is_crlf = False
         # most mail has nothing of it
         if not has_marks:
             self.without = True

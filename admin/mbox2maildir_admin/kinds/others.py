@@ -5,7 +5,7 @@ from collections.abc import Callable
 from typing import NamedTuple, Optional
 
 from ..mbox.mailbox import Mailbox
-from ..nexts import Task, Todo
+from ..nexts import Task, Template, Todo
 from ..patterns import pattern
 from .making import Makes, Recipe
 from .shapes import is_emlx, is_filter_rules, is_mailbox_log, is_subscriptions, is_tar, is_uidvalidity
@@ -15,6 +15,7 @@ from .starts import HEAD
 FROM_LINE = "echo 'From MAILER-DAEMON Thu Jan  1 00:00:00 1970'"
 # quotes the lines of one message, exactly
 QUOTED = "sed 's/^>*From />&/'"
+TAR = "mkdir {copy} && tar %s-xC {copy} <{}"
 
 
 class Holds(enum.Enum):
@@ -40,8 +41,11 @@ class Form(enum.Enum):
 
     def __init__(self, kind: str, program: str, encoding: str = "") -> None:
         self.kind, self.program, self.encoding = kind, program, encoding
-        # the command by which a human unpacks it
-        self.by_hand = "iconv -f %s -t UTF-8" % encoding if encoding else "%s -dc" % program
+        # the commands by which a human unpacks it, finds out what it holds, and unpacks an archive that it holds
+        by_hand = "iconv -f %s -t UTF-8 <{}" % encoding if encoding else "%s -dc <{}" % program
+        self.unpacks = Template("unpack-" + (program or encoding), by_hand + " >{copy}")
+        self.looks = Template("look-into-" + (program or encoding), by_hand + " | file -")
+        self.unpacks_tar = Template("unpack-tar-" + program, TAR % "-I %s " % program) if program else None
 
 
 class Other(NamedTuple):
@@ -61,17 +65,17 @@ def other(
 ) -> Other:
     """A kind that may hold mail, with the command that makes a mailbox of it. Debian's package is named if it has
     another name than the program."""
-    return Other(pattern(start, re.DOTALL), kind, (Makes(then, package=package),), check=check)
+    return Other(pattern(start, re.DOTALL), kind, (Makes(Template(kind, then, package)),), check=check)
 
 
-def folder(start: bytes, kind: str, then: str, package: str = "", if_packed: str = "") -> Other:
-    """A kind that holds files, with the command that makes a folder of them, also if it is packed."""
-    return other(start, kind, "")._replace(recipe=(Makes(then, package=package, is_folder=True, if_packed=if_packed),))
+def folder(start: bytes, kind: str, then: str, package: str = "") -> Other:
+    """A kind that holds files, with the command that makes a folder of them."""
+    return Other(pattern(start, re.DOTALL), kind, (Makes(Template(kind, then, package), is_folder=True),))
 
 
 def packed(start: bytes, form: Form, package: str = "") -> Other:
     """A kind whose text is unpacked. The command unpacks it by hand."""
-    return other(start, form.kind, "%s <{} >{copy}" % form.by_hand, package)._replace(form=form)
+    return other(start, form.kind, form.unpacks.text, package)._replace(form=form)
 
 
 def no_mail(start: bytes, kind: str, check: Optional[Callable[[Mailbox], bool]] = None) -> Other:
@@ -96,7 +100,7 @@ MESSAGES = [
     other(rb"BABYL OPTIONS:", "Emacs's Babyl", BABYL),
     other(rb"\d{1,18}[ \t]*\n", "Apple Mail's emlx, of one message", EMLX, check=is_emlx),
     # Dovecot, dbox-file.c: the version of the format, the size of a message's header, and when the file was made
-    other(rb"[12] M[0-9a-f]+ C[0-9a-f]+\n", "Dovecot's dbox", "")._replace(recipe=(Task(Todo.DOVEADM),)),
+    Other(pattern(rb"[12] M[0-9a-f]+ C[0-9a-f]+\n", re.DOTALL), "Dovecot's dbox", (Task(Todo.DOVEADM),)),
     # [MS-PST] 2.2.2.6: dwMagic
     folder(rb"!BDN", "Outlook's pst", "mkdir {copy} && readpst -r -o {copy} {}", "pst-utils"),
     # libdbx: the magic number, and a class: a folder of messages, or the list of the folders
@@ -111,7 +115,8 @@ MESSAGES = [
     packed(rb"\xff\xfe\x00\x00|\x00\x00\xfe\xff", Form.UTF_32),
     packed(rb"\xff\xfe|\xfe\xff", Form.UTF_16),
 ]
-TAR = "mkdir {copy} && tar %s-xC {copy} <{}"
+# GNU tar fails if the program that unpacks fails
+ARCHIVE = folder(rb".{148}[ 0-7]", "an archive of tar", TAR % "")._replace(check=is_tar)
 PACKED = [
     packed(rb"\x1f\x8b", Form.GZIP),
     other(rb"\x1f[\x1e\x9d]", "compressed by compress or pack", "gzip -dc <{} >{copy}"),
@@ -135,8 +140,7 @@ PACKED = [
         "an archive of cpio",
         "mkdir {copy} && cpio -id --no-absolute-filenames -D {copy} <{}",
     ),
-    # GNU tar fails if the program that unpacks fails
-    folder(rb".{148}[ 0-7]", "an archive of tar", TAR % "", if_packed=TAR % "-I %s ")._replace(check=is_tar),
+    ARCHIVE,
     other(rb"-----BEGIN PGP (?:MESSAGE|SIGNED MESSAGE)", "encrypted or signed by OpenPGP", "gpg -d {} >{copy}"),
     # RFC 4880, 4.2 and 5.1, 5.3, 5.6: a key that is encrypted for a public key or by words, or compressed data
     other(

@@ -8,7 +8,7 @@ from ..kinds.making import Recipe, Where, beside
 from ..kinds.others import Holds
 from ..mbox.lines import Lines, Reasons, Said, cut, lines_around
 from ..mbox.mailbox import Mailbox
-from ..nexts import Answer, Command, Does, Next, Phrase, Quote, Remark
+from ..nexts import Answer, Command, Does, Phrase, Quote, Remark
 from ..terminal import NAMED
 from ..units import Line, Offset, counted
 from .quoting import Quoter, measured
@@ -18,6 +18,8 @@ from .verdict import DROP_DELETED, Verdict, counted_by, is_against_lengths, is_a
 # why a file is left that holds this
 REASONS = {Holds.MAIL: Reason.UNCLEAR, Holds.OTHER: Reason.OTHER_KIND, Holds.UNKNOWN: Reason.NOT_KNOWN}
 ANOTHER_QUESTION = "what is asked about it has changed since this was answered"
+LACKS_LINES = "the answer with this --of also names lines, by --text or --begin"
+OTHER_LINES = "the answer with this --of names other lines, or none"
 DELETED_KEPT = "no deleted mail was left out, because %d of %d messages have no X-Mozilla-Status"
 NEW_LINE = "it came since the others were decided, and may begin a message"
 # the words by which lines begin messages in different ways, each with those that do it alike
@@ -76,11 +78,6 @@ class Choosable(NamedTuple):
         return Choosable(self.decision, self.messages, does)
 
 
-def answers_to(answers: Sequence[Choosable], command: Callable[[Reading], Command]) -> Next:
-    """The answers to a question, each with what it says of the mail, and with the command that decides it."""
-    return tuple(Answer(command(one.decision), one.does, one.messages) for one in answers)
-
-
 class NoMail(Left):
     """A file that holds no mail."""
 
@@ -108,10 +105,14 @@ class Question(Left):
 
     def __init__(self, why: str, verdict: Verdict, quotes: list[Quote], answers: list[Choosable]) -> None:
         super().__init__(why, Reason.UNCLEAR, quotes=quotes)
-        self.known(verdict.kind, verdict.messages, verdict.most)
+        self.kind, self.messages, self.most = verdict.kind, verdict.messages, verdict.most
         self.answers, self.doubtful, self.is_on_lines = answers, verdict.doubtful(), verdict.is_on_lines
         # returns a decision that is tied to this question
         self.tied: Callable[[Reading], Reading] = lambda decision: decision
+
+    def put(self, command: Callable[[Reading], Command]) -> None:
+        """Sets what is next: each answer, with what it says of the mail, and with the command that decides it."""
+        self.next = tuple(Answer(command(one.decision), one.does, one.messages) for one in self.answers)
 
     def by_tie(self, answer: Reading) -> Optional[Reading]:
         """What an answer for several mailboxes decides about this question; None unless it has its tie."""
@@ -181,9 +182,12 @@ def want_tied(verdict: Verdict, decision: Reading) -> None:
     if lines <= doubtful and decision == verdict.tied(decision):
         return
     if verdict.answers:
+        messages, numbers, _ = verdict.look.doubts.ties(verdict.kind)
         # whoever adds lines to a printed command gets it with the tie that numbers of lines need
-        own = [decision] if lines and lines <= doubtful and decision.of == verdict.tied(UNDECIDED).of else []
-        raise question_of(verdict._replace(answers=(*verdict.answers, *own)), ANOTHER_QUESTION)
+        own = [decision] if lines and lines <= doubtful and decision.of == messages else []
+        has_changed = decision.of not in (messages, numbers)
+        says = ANOTHER_QUESTION if has_changed else OTHER_LINES if lines else LACKS_LINES
+        raise question_of(verdict._replace(answers=(*verdict.answers, *own)), says)
     raise Question(ANOTHER_QUESTION, verdict, [], [Choosable(UNDECIDED, verdict.messages or 0)])
 
 

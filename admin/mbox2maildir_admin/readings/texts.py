@@ -13,8 +13,8 @@ from ..faults import Fault, Left, Reason
 from ..flags.dovecot_headers import internal_head
 from ..kinds.damage import LIKE_MAIL, NOT_KNOWN
 from ..kinds.look import Look, Read
-from ..kinds.making import Looks, Makes, Recipe
-from ..kinds.others import Form, other_of
+from ..kinds.making import Makes, Recipe
+from ..kinds.others import ARCHIVE, Form, other_of
 from ..kinds.starts import text_start
 from ..looks import is_folder
 from ..maildir.files import paths_of
@@ -260,13 +260,12 @@ def plan_of_packed(text: Mailbox, form: Form, read: Read, decision: Reading) -> 
 def recipe_for(left: Left, form: Form) -> Recipe:
     """What is to be done with a packed file: what is to be done with its content, if that takes one command; else it is
     unpacked, or a human finds out first what it holds."""
-    by_hand, recipe = "%s <{}" % form.by_hand, left.recipe if isinstance(left, OtherKind) else ()
+    recipe = left.recipe if isinstance(left, OtherKind) else ()
     if recipe in (NOT_KNOWN, LIKE_MAIL):
-        return Looks(by_hand + " | file -"), *recipe[1:]
-    makes = recipe[0] if recipe else None
-    if isinstance(makes, Makes) and makes.if_packed and form.program:
-        return (makes._replace(shell=makes.if_packed % form.program),)
-    return (Makes(by_hand + " >{copy}"),)
+        return form.looks, *recipe[1:]
+    if recipe == ARCHIVE.recipe and form.unpacks_tar:
+        return (Makes(form.unpacks_tar, is_folder=True),)
+    return (Makes(form.unpacks),)
 
 
 def joined(kind: str, form: Form) -> str:

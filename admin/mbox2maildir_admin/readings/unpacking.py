@@ -78,8 +78,7 @@ def unpacked(mailbox: Mailbox, form: Form, folder: bytes) -> Mailbox:
         size += len(piece)
         if size > most:
             says = "unpacked it has more than %s, and more than %d times its size" % (amount(LARGE), TIMES)
-            recipe = (Makes("%s <{} >{copy}" % form.by_hand),)
-            raise OtherKind(mailbox.path, Said(Line(0), says), recipe, Reason.PACKED, form.kind)
+            raise OtherKind(mailbox.path, Said(Line(0), says), (Makes(form.unpacks),), Reason.PACKED, form.kind)
         if size > room:
             says = "unpacked it has more than the %s that are free" % amount(room)
             raise Left(not_enough(folder, says), Reason.NO_ROOM)

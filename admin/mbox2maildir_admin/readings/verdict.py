@@ -20,7 +20,7 @@ from .reading import BY_LENGTHS, CR, CRLF, MBOXCL2, MBOXO, MBOXRD, PLAIN, UNQUOT
 
 # lines of these sorts may be text, or may begin messages; the lines around the first ones show which
 DOUBTS = ("odd", "doubtful")
-NOT_QUOTED = "not quoted"
+NOT_QUOTED, TAKEOUT = "not quoted", "Gmail's Takeout"
 DROP_DELETED = Reading(drop=True)
 NO_END = remark_of("no-line-end")
 
@@ -158,13 +158,13 @@ def kind_of(look: Look) -> str:
         return MBOXCL2
     if count(*WITHIN) and not count("wrong", "text"):
         return "mboxcl2 in part"
-    if count(*WITHIN, "text") and not count("odd") and not (count("git") and not count("wrong")):
+    if count(*WITHIN, "text") and not (count("git") and not count("wrong")):
         return "mboxcl2, with wrong lengths" if count("wrong") else NOT_QUOTED
     if not look.messages:
         return "empty"
     if count("git"):
         return "git's patches"
-    for sort, kind in (("Gmail", "Gmail's Takeout"), ("Thunderbird", "Thunderbird's")):
+    for sort, kind in (("Gmail", TAKEOUT), ("Thunderbird", "Thunderbird's")):
         # a sender may have written the header of some of them
         if count(sort) == look.messages:
             return kind
@@ -186,10 +186,11 @@ def answers_of(look: Look) -> tuple[Reading, ...]:
 def doubts_of(look: Look) -> tuple[Reading, ...]:
     """What may be decided about lines: nothing if nothing is doubtful, as when all lengths are right."""
     count, mail = look.count, as_mail(look)
-    messages, begin = by_lines(look, "inside", "text"), look.numbers("joined")
-    if begin and messages.word != UNQUOTED:
-        # all lines that may begin messages do
-        messages = messages._replace(begin=frozenset(begin))
+    messages = by_lines(look, "inside", "text")
+    if mail.word == UNQUOTED and mail.text and not count("inside, like mail", "doubtful"):
+        # all lines that may begin messages do so by dates
+        messages = Reading(UNQUOTED)
+    messages = messages._replace(begin=frozenset(look.numbers("joined") or ()))
     if count(*DOUBTS, "joined"):
         return (mail, messages) if mail != messages else (mail,)
     if count(*MAY_BE_MAIL):
@@ -213,8 +214,9 @@ def counted_by(look: Look, decision: Reading) -> Optional[int]:
     if not is_by_marks or look.lines.get(look.start) in decision.text:
         return None
     if decision.word == UNQUOTED:
-        is_known = not decision.text and is_dated(look.mailbox.from_line_at(look.start))
-        return look.count("dated", "odd", "inside, dated") if is_known else None
+        named = look.numbers("odd", "inside, dated") or set()
+        is_known = decision.text <= named and is_dated(look.mailbox.from_line_at(look.start))
+        return look.count("dated", "odd", "inside, dated") - len(decision.text) if is_known else None
     is_known = decision.text <= (look.numbers(*WITHIN, "text", *DOUBTS) or set())
     return look.messages + look.count(*WITHIN, "text") - len(decision.text) if is_known else None
 
@@ -227,9 +229,10 @@ def is_answer(look: Look, word: str) -> bool:
         return True
     if word in BY_LENGTHS:
         return look.count(*WITHIN) > 0 and not look.count("text", *DOUBTS)
-    if word == UNQUOTED and kind_of(look) == NOT_QUOTED:
-        return True
-    return Reading(UNQUOTED if word == UNQUOTED else MBOXRD) in doubts
+    if word == UNQUOTED:
+        # a line with a date that may be text is asked about
+        return not look.count("odd") and (kind_of(look) == NOT_QUOTED or Reading(UNQUOTED) in doubts)
+    return PLAIN in doubts
 
 
 def is_against_lengths(look: Look, decision: Reading) -> bool:
@@ -242,14 +245,17 @@ def is_against_lengths(look: Look, decision: Reading) -> bool:
 
 
 def as_mail(look: Look) -> Reading:
-    """The decision that all lines which may be mail are mail: by their dates, or by their numbers."""
-    count = look.count
+    """The decision that all lines which may be mail are mail: by dates, but for lines with a date that have no header
+    after them, or all by their numbers."""
+    count, dated = look.count, look.numbers("odd")
     if not count(*WITHIN, "text", *DOUBTS):
         return PLAIN
     everything = count("inside", "inside, like mail", "wrong", "git", "text after a blank line")
-    if count("dated") and not count("undated", "odd", "inside, dated"):
-        if everything or not count("quoted", "quoted twice"):
-            return Reading(UNQUOTED)
+    is_unescaped = everything or not count("quoted", "quoted twice")
+    if is_unescaped and count("dated") and not count("undated", "inside, dated"):
+        # lines with dates alone do not show that others are not escaped
+        if dated is not None and (count("text") or not dated):
+            return Reading(UNQUOTED, frozenset(dated))
     return by_lines(look, *WITHIN, "text", *DOUBTS)
 
 
