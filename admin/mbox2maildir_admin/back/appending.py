@@ -31,7 +31,7 @@ from ..units import Say, Size, counted, silent
 from .beside import Beside, Draft
 from .dialect import Client, Appended, Letter, Style, are_at, forms_of_letter, reading_now, styles_of
 from .mails import Mail, Target
-from .numbers import Numbering, numbering_of
+from .numbers import Numbering, say_numbers
 from .places import Keeper, Places
 
 FILE_CHANGED = "%s was changed meanwhile: stop the program that did it, and run this again"
@@ -71,10 +71,11 @@ class Way(NamedTuple):
         """A folder on the disk where copies are made."""
         return disk_of(self.root, self.how.dry)
 
-    def known(self, target: Target, mailbox: Mailbox) -> tuple[Numbering, Known]:
-        """What an open mailbox says of UIDs from now on, and what is known of it."""
+    def say_numbers(self, target: Target, mailbox: Mailbox) -> tuple[Numbering, Known]:
+        """Has an open mailbox say which UIDs were given, before it gets mail: if that is interrupted, some are never
+        given. Returns what it says from now on, and what is known of it."""
         opened, name = Opened.into(self.root, target.folder, mailbox), self.places.name_of(target.path, target.folder)
-        numbering = numbering_of(opened, self.record, target, name, self.how)
+        numbering = say_numbers(opened, self.record, target, name, self.how)
         return numbering, Known(self.record, Ledger(opened.folder, dry=self.how.dry), opened)
 
     @contextlib.contextmanager
@@ -104,7 +105,7 @@ class Way(NamedTuple):
             if line_of(self.record, mailbox):
                 # a message without labels would keep all others from their folders
                 raise TakesNothing("it is a Takeout in the folders of its labels", Reason.OTHER_KIND)
-            numbering, known = self.known(target, mailbox)
+            numbering, known = self.say_numbers(target, mailbox)
             for style in styles_of(known, self.disk):
                 with contextlib.suppress(NotAsItIs):
                     return Appending(self, target, known, style, numbering).run()
@@ -117,7 +118,7 @@ class Way(NamedTuple):
         if not self.how.dovecot or not is_file(target.path):
             return row
         with self.opened(target.path, self.observer.say(target.path)) as mailbox:
-            numbering, known = self.known(target, mailbox)
+            numbering, known = self.say_numbers(target, mailbox)
             if numbering.is_incomplete:
                 # what cannot be read as it was is said once mail goes back
                 with contextlib.suppress(Left):
@@ -146,7 +147,7 @@ class Appending:
         self.way, self.target, self.known, self.style, self.numbering = way, target, known, style, numbering
         self.opened, self.mailbox, self.client = known.opened, known.opened.mailbox, Client()
         self.inventory = style.messages(self.mailbox, way.program, self.look)
-        known.take_place(self.inventory)
+        known.take_place_by_cores(self.inventory)
         if style.has_no_dates(self.mailbox, self.inventory):
             raise NotAsItIs(MISREAD, Reason.MISREAD)
 

@@ -8,8 +8,7 @@ import os
 from collections.abc import Iterable, Iterator, Sequence
 from typing import NamedTuple, TypeVar
 
-from .. import ADMIN
-from ..faults import Fault, PlaceFault, Reason
+from ..faults import Fault, Reason
 from ..ledger.assign import File, by_form, files_of
 from ..ledger.lines import RETURNED, Line, State
 from ..ledger.ledger import Ledger
@@ -21,8 +20,8 @@ from ..maildir.making import SUBFOLDERS
 from ..mbox.bases import BASE, before_info
 from ..mbox.core import forms_of
 from ..mbox.files import open_file
-from ..nexts import Remark, run_next
-from ..terminal import named, operand
+from ..nexts import Remark, Runs, run_next
+from ..terminal import operand
 from ..units import Say
 
 DAMAGED = "the ledger of %s is damaged in line %d, so nothing shows which mail came from the old mailboxes"
@@ -141,15 +140,15 @@ def lines_about(root: bytes) -> Iterator[tuple[bytes, list[Line]]]:
     for path in folders_in(root):
         folder, ledger = name_of(root, path), Ledger(path)
         if ledger.leaving:
-            raise PlaceFault(NOT_UNDONE % min(ledger.leaving), Reason.UNDO)
+            raise Fault(NOT_UNDONE % min(ledger.leaving), Reason.UNDO)
         if ledger.damage:
-            raise PlaceFault(DAMAGED % (folder_shown(folder), ledger.damage), Reason.LEDGER)
+            raise Fault(DAMAGED % (folder_shown(folder), ledger.damage), Reason.LEDGER)
         is_prepared = has_list(path)
         # what is only to go back has no file of its own
         begun = [one for one in ledger.paths() if is_begun(ledger, one)]
         if is_prepared or begun:
-            then = run_next(ADMIN, "migrate", operand(root), *begun[:1] or ["MAILBOX"])
-            raise PlaceFault(NOT_DONE % folder_shown(folder), Reason.PREPARED if is_prepared else Reason.OTHER, then)
+            then = run_next(Runs.MIGRATE, operand(root), *begun[:1] or ["MAILBOX"])
+            raise Fault(NOT_DONE % folder_shown(folder), Reason.PREPARED if is_prepared else Reason.OTHER, then)
         yield folder, [line for line in ledger.entries(None) if line.state is not State.UNDONE]
 
 
@@ -191,4 +190,4 @@ def sorted_mail(root: bytes, say: Say) -> Sorted:
     try:
         return Sorted.by(lines_about(root), mails_of(root, say))
     except OSError as error:
-        raise PlaceFault("%s: %s" % (named(error.filename or root), error.strerror), Reason.ERROR) from error
+        raise Fault(error.strerror, Reason.ERROR, place=error.filename or root) from error

@@ -43,7 +43,7 @@ from ..mbox.pieces import LONGEST_NAME
 from ..migration.dovecot import KEYWORDS, LIST
 from ..migration.options import Options
 from ..migration.known import Opened
-from ..nexts import NOTHING, Answer, Command, Does, Next, Remark, run_next
+from ..nexts import NOTHING, Does, Next, Remark, Runs, run_next
 from ..terminal import first_of, text_of
 from .mails import Mail, Target
 
@@ -204,7 +204,7 @@ class Numbering:
         self.inventory = Inventory()
         self.uids: Sequence[int] = ()
 
-    def prepare(self, mailbox: Mailbox, target: Target, is_dry: bool) -> None:
+    def say(self, mailbox: Mailbox, target: Target, is_dry: bool) -> None:
         """Has the mailbox say what it is to say of its UIDs and keywords, before mail is appended: if that is
         interrupted, some UIDs are never given."""
         base = Base.of(mailbox) if mailbox.size else None
@@ -256,7 +256,7 @@ class Numbering:
             more += ["--uid-validity", str(wanted.validity)]
         if more and not has_room:
             self.remarks = [Remark("uids-not-raised", NOT_RAISED)]
-            self.next = run_next("doveadm", "mailbox", "update", *of_this_user(), *more, self.name)
+            self.next = run_next(Runs.UPDATE_MAILBOX, *of_this_user(), *more, self.name)
 
     def know(self, names: Iterable[bytes]) -> None:
         """The mailbox names these keywords."""
@@ -316,7 +316,7 @@ class Numbering:
         for name in names if not is_dry else ():
             to = "mailbox", self.name, "uid", ranges_of(wanted[name])
             words = *of_this_user(), *["--"] * name.startswith(b"-"), text_of(name), *to
-            self.next += (Answer(Command.of("doveadm", "flags", "add", *words), Does.ADD_KEYWORDS),)
+            self.next += run_next(Runs.ADD_FLAGS, *words, does=Does.ADD_KEYWORDS)
 
 
 def of_this_user() -> list[str]:
@@ -338,9 +338,9 @@ def ranges_of(uids: Iterable[int]) -> str:
     return ",".join("%d" % low if low == high else "%d:%d" % (low, high) for low, high in ranges)
 
 
-def numbering_of(opened: Opened, record: Record, target: Target, name: str, how: Options) -> Numbering:
-    """The numbers of an open mailbox, which Dovecot knows by this name, and of its folder, whatever their names are
-    now. The mailbox says from now on what it is to say before its mail is appended."""
+def say_numbers(opened: Opened, record: Record, target: Target, name: str, how: Options) -> Numbering:
+    """Has an open mailbox, which Dovecot knows by this name, say what it is to say before its mail is appended. Returns
+    its numbers and those of its folder, whatever their names are now."""
     gone = filter(is_gone, Ledger(opened.folder).paths())
     is_numbered = record.has_numbered({*gone, *names_of(opened.mailbox.path)})
     if not how.dovecot:
@@ -348,5 +348,5 @@ def numbering_of(opened: Opened, record: Record, target: Target, name: str, how:
         numbering.remarks += [Remark("uids-not-raised", NO_DOVECOT)] * is_numbered
         return numbering
     numbering = Numbering(name, Listed.of(opened.folder), is_numbered)
-    numbering.prepare(opened.mailbox, target, how.dry)
+    numbering.say(opened.mailbox, target, how.dry)
     return numbering

@@ -106,14 +106,14 @@ def files_named(lines: list[Line], name: Optional[bytes]) -> Iterator[File]:
     if len(lines) == 1:
         yield File(lines, name)
         return
-    placed = sorted({line.number for line in lines if line.is_new})
+    placed = sorted({line.number for line in lines if line.was_nowhere})
     # each line of what a mailbox has is about another file, and without a name so is each of what it had once; of other
     # lines, each of the same run
     counted = BROUGHT if lines[0].message.name == NAMELESS else (State.HELD,)
     turns: collections.defaultdict[int, list[Line]] = collections.defaultdict(list)
     before: dict[tuple[str, int], int] = {}
-    for line in sorted(lines, key=lambda one: (one.number, one.is_new), reverse=True):
-        turn = (bisect.bisect_right if line.is_new else bisect.bisect_left)(placed, line.number)
+    for line in sorted(lines, key=lambda one: (one.number, one.was_nowhere), reverse=True):
+        turn = (bisect.bisect_right if line.was_nowhere else bisect.bisect_left)(placed, line.number)
         group = line.path, 0 if line.state in counted else line.number
         turn = before[group] = min(turn, before.get(group, turn + 1) - 1)
         turns[turn].append(line)

@@ -106,7 +106,7 @@ def left_by_killed(match: Match) -> int:
     ledger, path = match.ledger, match.path
     if ledger.pending(path) is None:
         return 0
-    placed = {one.name for one in ledger.intended(path, is_new=True)}
+    placed = {one.name for one in ledger.intended(path, was_nowhere=True)}
     placed.difference_update(match.taken(), ledger.names())
     return len(match.files.present(placed))
 
@@ -125,7 +125,7 @@ def gone_of(ledger: Ledger, number: int) -> collections.Counter[bytes]:
     """The cores of messages of a batch that was not ended, which have no file and may have had one: those that were
     there when it was begun, and those that it placed. If it placed all, all had one."""
     batch = ledger.open[number]
-    first = len(batch.letters) - (0 if batch.is_placed else batch.head.need)
+    first = len(batch.letters) - (0 if batch.is_placed else batch.head.nowhere)
     before, after = Table(), Table()
     places: tuple[list[int], list[int]] = ([], [])
     for at, (_, one) in enumerate(ledger.messages({number})):

@@ -52,7 +52,7 @@ from .lines import (
 
 
 # what a line that is not that of a message is, by its first sign
-SIGNS = {
+BY_SIGN = {
     **{b"m": HEAD, b"@": BATCH, b"+": ALL_PLACED, b"=": END},
     **{b">": MOVED, b"<": UNDOING, b"-": UNDONE, b"!": FAILED},
 }
@@ -181,7 +181,7 @@ class Ledger:
     def take(self, line: bytes) -> bool:
         """Takes a line that is not that of a message, and returns whether it is one."""
         sign = line[:1]
-        found = SIGNS[sign].match(line) if sign in SIGNS and b"\0" not in line and is_text(line) else None
+        found = BY_SIGN[sign].match(line) if sign in BY_SIGN and b"\0" not in line and is_text(line) else None
         words = [one.decode() for one in found.groups(default=b"")] if found else [""]
         if not found:
             return False
@@ -304,12 +304,12 @@ class Ledger:
                 yield number, several, first
                 first -= len(several.names)
 
-    def messages(self, numbers: Container[int], is_new: bool = False) -> Iterator[tuple[int, Brought]]:
+    def messages(self, numbers: Container[int], was_nowhere: bool = False) -> Iterator[tuple[int, Brought]]:
         """The lines of messages in batches with these numbers, with their numbers; or those of messages that were to be
         placed."""
         for number, several, first in self.pieces() if numbers else ():
             if number in numbers:
-                yield from ((number, one) for at, one in several.counted() if at >= first or not is_new)
+                yield from ((number, one) for at, one in several.counted() if at >= first or not was_nowhere)
 
     def entries(self, cores: Optional[Container[bytes]]) -> Iterator[Line]:
         """The lines of messages that have one of these cores; of all messages without them."""
@@ -334,12 +334,12 @@ class Ledger:
         """The number of the last batch of a mailbox that has ended; 0 if none has."""
         return max((number for number, its in self.ended.items() if its == path), default=0)
 
-    def intended(self, path: str, is_new: bool = False) -> Iterator[Brought]:
+    def intended(self, path: str, was_nowhere: bool = False) -> Iterator[Brought]:
         """The lines of a mailbox whose batches have not ended; or those of messages that were to be placed since its
         last one that has."""
-        after = self.last_end(path) if is_new else 0
+        after = self.last_end(path) if was_nowhere else 0
         numbers = {number for number, batch in self.open.items() if batch.path == path and number > after}
-        return (one for _, one in self.messages(numbers, is_new))
+        return (one for _, one in self.messages(numbers, was_nowhere))
 
     def names(self, *more: Iterable[int]) -> Iterator[bytes]:
         """The names of the files that mailboxes have placed, or share, in batches that have ended, and in more with

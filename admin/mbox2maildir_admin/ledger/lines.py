@@ -10,7 +10,7 @@ from collections.abc import Container, Iterable, Iterator, Sequence
 from enum import Enum
 from typing import NamedTuple, Optional, Union
 
-from ..faults import PlaceFault, Reason
+from ..faults import Fault, Reason, naming
 from ..maildir.making import LEDGER
 from ..mbox.core import SHORT
 from ..mbox.locks import WITHOUT_LOCKS
@@ -33,7 +33,7 @@ FIRST_LINE = b"mbox2maildir-prepared\t1"
 # the beginning of a ledger or a list of another version, perhaps behind lines that were cut
 OF_ANOTHER = pattern(rb"(?:.*\t\n)*(?!%s|%s\n)mbox2maildir(?:-prepared)?\t.*[^\t\n]\n" % (BEGINS, FIRST_LINE))
 BY_ANOTHER = (
-    "%s: this version did not write it: finish with the version that did, or move this file away and run migrate with "
+    "this version did not write it: finish with the version that did, or move this file away and run migrate with "
     "--again"
 )
 # `=` stands for the first digits of the name
@@ -58,6 +58,7 @@ END_LINE = b"=\t%d\n"
 CUT = b"\t"
 # how many bytes of lines are written at once, in whole lines: others append too
 PIECE = 1 << 16
+NOT_TRUSTED = "it does not belong to you, or others may write to it: look at it, and move it away"
 AT_WORK = "another migrate is at work in %s: wait until it has ended, and run this again"
 
 
@@ -123,7 +124,7 @@ class Line(NamedTuple):
     state: State
     message: Brought
     number: int = 0
-    is_new: bool = False
+    was_nowhere: bool = False
 
 
 class Lines:
@@ -153,7 +154,7 @@ class Head(NamedTuple):
     of its file, by which it is known after it was renamed, and when a migration began it, in seconds since 1970."""
 
     wanted: int
-    need: int
+    nowhere: int
     back: int
     times: tuple[int, ...]
     key: tuple[int, str]
@@ -165,16 +166,16 @@ class Head(NamedTuple):
     @classmethod
     def of(cls, found: re.Match[bytes]) -> "Head":
         """What a line says."""
-        wanted, need, back, begun, times, size, digest, inode, words, path = (
+        wanted, nowhere, back, begun, times, size, digest, inode, words, path = (
             one.decode() for one in found.groups(default=b"0")[1:]
         )
         changed, key = tuple(map(int, filter(None, times.split(",")))), (int(size), digest)
-        return cls(int(wanted), int(need), int(back), changed, key, words, path, int(inode), int(begun))
+        return cls(int(wanted), int(nowhere), int(back), changed, key, words, path, int(inode), int(begun))
 
     def line(self, number: int) -> bytes:
         """The same as a line."""
         times, key = ",".join(map(str, self.times)), "%d-%s" % self.key + ("-%d" % self.inode if self.inode else "")
-        words = ["@", number, self.wanted, self.need, self.back, self.begun, times, key, self.words, self.path]
+        words = ["@", number, self.wanted, self.nowhere, self.back, self.begun, times, key, self.words, self.path]
         return "\t".join(map(str, words)).encode()
 
 
@@ -186,7 +187,7 @@ def append(
     fails, or if another process has begun a batch since the ledger had a size."""
     path = os.path.join(folder, name)
     flags = os.O_RDWR | os.O_APPEND | os.O_CREAT | os.O_NOFOLLOW | os.O_NONBLOCK | os.O_CLOEXEC
-    try:
+    with naming(path, Reason.LEDGER):
         number = os.open(path, flags, 0o600)
         try:
             if since is not None:
@@ -194,8 +195,6 @@ def append(
             return append_to(number, path, lines, sync)
         finally:
             os.close(number)
-    except OSError as fault:
-        raise PlaceFault("%s: %s" % (named(path), fault.strerror), Reason.LEDGER) from fault
 
 
 def want_alone(number: int, folder: bytes, since: int) -> None:
@@ -208,7 +207,7 @@ def want_alone(number: int, folder: bytes, since: int) -> None:
             raise
     *lines, _ = os.pread(number, max(0, os.fstat(number).st_size - since), since).split(b"\n")
     if any(map(BATCH.match, lines)):
-        raise PlaceFault(AT_WORK % named(folder), Reason.LOCKED)
+        raise Fault(AT_WORK % named(folder), Reason.LOCKED)
 
 
 def append_to(number: int, path: bytes, lines: Iterable[bytes], sync: bool) -> int:
@@ -283,11 +282,11 @@ def texts_in(folder: bytes, name: bytes = LEDGER) -> Iterator[bytes]:
     except (FileNotFoundError, NotADirectoryError):
         return
     except OSError as error:
-        raise PlaceFault("%s: %s" % (named(path), error.strerror), Reason.LEDGER) from error
+        raise Fault(error.strerror, Reason.LEDGER, place=path) from error
     with file:
         want_trusted(path, os.fstat(file.fileno()))
         if OF_ANOTHER.match(file.peek(PIECE)):
-            raise PlaceFault(BY_ANOTHER % named(path), Reason.LEDGER)
+            raise Fault(BY_ANOTHER, Reason.LEDGER, place=path)
         for lines in iter(lambda: file.readlines(PIECE), []):
             yield b"".join(lines[:-1] if not lines[-1].endswith(b"\n") else lines)
 
@@ -320,5 +319,4 @@ def want_trusted(path: bytes, state: os.stat_result) -> None:
     others cannot write."""
     is_ours = state.st_uid in (os.geteuid(), os.stat(os.path.dirname(path)).st_uid) and state.st_nlink == 1
     if not stat.S_ISREG(state.st_mode) or not is_ours or state.st_mode & 0o022:
-        says = "%s: it does not belong to you, or others may write to it: look at it, and move it away"
-        raise PlaceFault(says % named(path), Reason.LEDGER)
+        raise Fault(NOT_TRUSTED, Reason.LEDGER, place=path)

@@ -140,9 +140,9 @@ IsDeleted = Callable[[Place], bool]
 
 
 class Stand(enum.IntEnum):
-    """How a message of a mailbox stands: no file holds it; the mailbox had it before; a killed run of the mailbox has
-    placed it under the base that it has in the text; a file stands for it; or the same, and this program has placed
-    that file, and no run has finished with it."""
+    """How a message of a mailbox stands: nothing was found that stands for it; the mailbox had it before; a killed run
+    of the mailbox has placed it under the base that it has in the text; a file stands for it; or the same, and this
+    program has placed that file, and no run has finished with it."""
 
     NOWHERE = 0
     KNOWN = 1
@@ -190,39 +190,119 @@ class Match:
 
     @classmethod
     def of(cls, ledger: Ledger, path: str, files: Files, is_deleted: IsDeleted) -> "Match":
-        """Looks for the messages of a mailbox."""
+        """Finds how each message of a mailbox stands, in the order of docs/LEDGER.md."""
         self = cls(ledger, path, files, is_deleted)
-        self.compare()
-        self.take_mine()
-        self.look()
+        # what the mailbox has brought before is known; all else is new
+        self.find_known()
+        # a file that a killed run has placed stands for what is new, by its name
+        self.find_mine()
+        # or else the first that lines of the ledger and files of nobody offer, in the order of `Why`
+        self.read_lines()
         self.find_strangers()
-        self.serve()
-        self.drop()
+        self.find_files()
+        # all that is nowhere then is placed, and what the mailbox no longer has is noted
+        self.find_dropped()
         return self
 
-    def places(self, *stands: Stand) -> Sequence[int]:
-        """The places of the messages that stand so."""
-        count = sum(map(self.states.count, stands))
-        if count == len(self.states):
-            return range(count)
-        are_wanted = self.states.translate(bytes(one in stands for one in range(256)))
-        return array.array("Q", itertools.compress(itertools.count(), are_wanted))
+    @classmethod
+    def again(cls, ledger: Ledger, path: str, files: Files, is_deleted: IsDeleted) -> "Match":
+        """Looks for what is nowhere, whoever had it before. A message is there if any file has its core. All lines of
+        the mailbox are written anew."""
+        self = cls(ledger, path, files, is_deleted)
+        if path in ledger.sources:
+            self.lost = ledger.sources[path].has()
+        self.read_lines()
+        unnamed = self.files.by_core(self.names_of_lines())
+        groups: collections.defaultdict[bytes, list[int]] = collections.defaultdict(list)
+        for place in range(len(self.inventory)):
+            groups[self.inventory.core(place)].append(place)
+        for core, places in groups.items():
+            its = sorted(files_of(self.lines.get(core, ()), self.present), key=lambda one: not one.line_of(path))
+            its += [nobodys(name, core, bare) for bare, name in unnamed.get(core, ())]
+            offers = [Offer(Why.ANY, one, one.line_of(path) or one.lines[-1], True) for one in its if one.name]
+            self.give(places, offers, set(), collections.Counter())
+        several = itertools.chain.from_iterable(self.lines.values())
+        self.dropped = [one.message for one in several if one[:2] == (path, State.HELD)]
+        return self
 
-    @property
-    def need(self) -> Sequence[int]:
-        """The places of what is nowhere."""
-        return self.places(Stand.NOWHERE)
+    def find_known(self) -> None:
+        """Finds what the mailbox did not have before, and what it no longer has. Messages in their old form come
+        first."""
+        source = self.ledger.sources.get(self.path)
+        if not source:
+            return
+        first = source.same_start(self.inventory.cores, self.inventory.bares)
+        cores, bares = source.has(first), counted_in(source.bares[first * SHORT :])
+        self.states[:first] = bytes([Stand.KNOWN]) * first
+        rest = array.array("Q")
+        for place in range(first, len(self.inventory)):
+            core, bare = self.inventory.core(place), self.inventory.bare(place)
+            if cores[core] > 0 and bares[bare] > 0:
+                cores[core] -= 1
+                bares[bare] -= 1
+                self.states[place] = Stand.KNOWN
+            else:
+                rest.append(place)
+        for place in rest:
+            core = self.inventory.core(place)
+            if cores[core] > 0:
+                cores[core] -= 1
+                self.states[place] = Stand.KNOWN
+        self.lost = +cores
 
-    def count(self, stand: Stand) -> int:
-        """How many messages stand so."""
-        return self.states.count(stand)
+    def find_mine(self) -> None:
+        """Finds what a run that was killed has placed under the bases of this text. Most of it needs no more
+        looking."""
+        table, there = self.inventory.table, self.files.there
+        for one in self.ledger.intended(self.path, was_nowhere=True):
+            place = table.own_place(one.name)
+            if place is not None and there[place] and self.states[place] == Stand.NOWHERE:
+                self.states[place] = Stand.MINE
 
-    def serve(self) -> None:
+    def is_mine(self, name: bytes) -> bool:
+        """Whether a run that was killed has placed a file of the mailbox under this name, which the text has."""
+        place = self.inventory.table.own_place(name)
+        return place is not None and self.states[place] == Stand.MINE
+
+    def read_lines(self) -> None:
+        """Looks into the ledger for what is new, and for what is lost."""
+        if self.ledger.last:
+            cores = {self.inventory.core(place) for place in self.nowhere}.union(self.lost)
+            for line in self.ledger.entries(cores):
+                if line.state is State.UNDONE:
+                    self.files.kept.add(line.message.name)
+                elif line.state in BROUGHT or line.message.word != FOREIGN:
+                    # a file of nobody that a killed run has found may be one of a mailbox that was renamed
+                    self.lines.setdefault(line.message.core, []).append(line)
+        names = self.names_of_lines()
+        self.present = self.files.present(names) if names else set()
+
+    def names_of_lines(self) -> set[bytes]:
+        """The names of the files in the lines that were looked at."""
+        return {line.message.name for lines in self.lines.values() for line in lines} - {NAMELESS}
+
+    def find_strangers(self) -> None:
+        """Finds the files that no line explains. At first sight, and after a killed run, they may be in another form,
+        and all lines count."""
+        ledger, path = self.ledger, self.path
+        # what a killed run has placed may have another name, and the text other bytes
+        is_first = path not in ledger.sources or ledger.pending(path) is not None
+        several = ledger.messages({*ledger.ended, *ledger.open} if is_first else ())
+        named = (one.name for number, one in several if number in ledger.ended or one.word != FOREIGN)
+        known = Hashes(itertools.chain(self.taken(), self.names_of_lines(), named))
+        self.strangers = self.files.foreign(self.nowhere, known, is_first)
+
+    def taken(self) -> set[bytes]:
+        """The names of what stands for new messages."""
+        mine = map(self.inventory.table.name, self.places(Stand.MINE))
+        return {*mine, *(one.name for one in self.found.values())}
+
+    def find_files(self) -> None:
         """Finds what stands for new messages."""
         table, has_files = self.inventory.table, bool(self.files.counts or self.strangers or any(self.files.there))
         # the places of those for which a file or a line may stand, by their cores
         groups: collections.defaultdict[bytes, list[int]] = collections.defaultdict(list)
-        for place in self.need if self.lines or has_files else ():
+        for place in self.nowhere if self.lines or has_files else ():
             core, bare = self.inventory.core(place), self.inventory.bare(place)
             if core in self.lines or bare in self.strangers or self.files.has_digest(table.digest(place)):
                 groups[core].append(place)
@@ -238,7 +318,7 @@ class Match:
                     file.find(unnamed, file.bare)
             files += [nobodys(name, core, bare) for bare, names in unnamed.items() for name in names]
             served = {one for one in files if self.is_mine(one.name or b"") or one.is_held_by(self.path)}
-            self.take(places, offers_of(files, self.path), served, most)
+            self.give(places, offers_of(files, self.path), served, most)
 
     def unnamed(self, files: Iterable[File], places: Iterable[int]) -> Unnamed:
         """The files that may hold messages at these places, and that no line about some files names."""
@@ -250,12 +330,12 @@ class Match:
             found.update(((bare, name), None) for name in several if name not in names and not self.is_mine(name))
         return by_form(found)
 
-    def take(
+    def give(
         self, places: Iterable[int], offers: Sequence[Offer], served: set[File], most: collections.Counter[bytes]
     ) -> None:
-        """Takes what is offered for new messages at these places, which have the same core: first for those in its
-        form. Some files stand for messages already, and other mailboxes brought at most so many more in each form,
-        which are counted down."""
+        """Gives new messages at these places, which have the same core, what is offered: first those in its form. Some
+        files stand for messages already, and other mailboxes brought at most so many more in each form, which are
+        counted down."""
         waiting: dict[bytes, list[int]] = {}
         refused: list[tuple[bytes, File]] = []
         for place in places:
@@ -302,117 +382,39 @@ class Match:
             seen.gone.update([path] if why is Why.GONE else ())
             seen.regained += why is Why.ONCE and (path, state) == (self.path, State.FORMER)
 
-    def find_strangers(self) -> None:
-        """Finds the files that no line explains. At first sight, and after a killed run, they may be in another form,
-        and all lines count."""
-        ledger, path = self.ledger, self.path
-        # what a killed run has placed may have another name, and the text other bytes
-        is_first = path not in ledger.sources or ledger.pending(path) is not None
-        several = ledger.messages({*ledger.ended, *ledger.open} if is_first else ())
-        named = (one.name for number, one in several if number in ledger.ended or one.word != FOREIGN)
-        known = Hashes(itertools.chain(self.taken(), self.names_of_lines(), named))
-        self.strangers = self.files.foreign(self.need, known, is_first)
-
-    @classmethod
-    def again(cls, ledger: Ledger, path: str, files: Files, is_deleted: IsDeleted) -> "Match":
-        """Looks for what is nowhere, whoever had it before. A message is there if any file has its core. All lines of
-        the mailbox are written anew."""
-        self = cls(ledger, path, files, is_deleted)
-        if path in ledger.sources:
-            self.lost = ledger.sources[path].has()
-        self.look()
-        unnamed = self.files.by_core(self.names_of_lines())
-        groups: collections.defaultdict[bytes, list[int]] = collections.defaultdict(list)
-        for place in range(len(self.inventory)):
-            groups[self.inventory.core(place)].append(place)
-        for core, places in groups.items():
-            its = sorted(files_of(self.lines.get(core, ()), self.present), key=lambda one: not one.line_of(path))
-            its += [nobodys(name, core, bare) for bare, name in unnamed.get(core, ())]
-            offers = [Offer(Why.ANY, one, one.line_of(path) or one.lines[-1], True) for one in its if one.name]
-            self.take(places, offers, set(), collections.Counter())
-        several = itertools.chain.from_iterable(self.lines.values())
-        self.dropped = [one.message for one in several if one[:2] == (path, State.HELD)]
-        return self
-
-    def compare(self) -> None:
-        """Finds what the mailbox did not have before, and what it no longer has. Messages in their old form come
-        first."""
-        source = self.ledger.sources.get(self.path)
-        if not source:
-            return
-        first = source.same_start(self.inventory.cores, self.inventory.bares)
-        cores, bares = source.has(first), counted_in(source.bares[first * SHORT :])
-        self.states[:first] = bytes([Stand.KNOWN]) * first
-        rest = array.array("Q")
-        for place in range(first, len(self.inventory)):
-            core, bare = self.inventory.core(place), self.inventory.bare(place)
-            if cores[core] > 0 and bares[bare] > 0:
-                cores[core] -= 1
-                bares[bare] -= 1
-                self.states[place] = Stand.KNOWN
-            else:
-                rest.append(place)
-        for place in rest:
-            core = self.inventory.core(place)
-            if cores[core] > 0:
-                cores[core] -= 1
-                self.states[place] = Stand.KNOWN
-        self.lost = +cores
-
-    def take_mine(self) -> None:
-        """Finds what a run that was killed has placed under the bases of this text. Most of it needs no more
-        looking."""
-        table, there = self.inventory.table, self.files.there
-        for one in self.ledger.intended(self.path, is_new=True):
-            place = table.own_place(one.name)
-            if place is not None and there[place] and self.states[place] == Stand.NOWHERE:
-                self.states[place] = Stand.MINE
-
-    def look(self) -> None:
-        """Looks into the ledger for what is new, and for what is lost."""
-        if self.ledger.last:
-            cores = {self.inventory.core(place) for place in self.need}.union(self.lost)
-            for line in self.ledger.entries(cores):
-                if line.state is State.UNDONE:
-                    self.files.kept.add(line.message.name)
-                elif line.state in BROUGHT or line.message.word != FOREIGN:
-                    # a file of nobody that a killed run has found may be one of a mailbox that was renamed
-                    self.lines.setdefault(line.message.core, []).append(line)
-        names = self.names_of_lines()
-        self.present = self.files.present(names) if names else set()
-
-    def is_mine(self, name: bytes) -> bool:
-        """Whether a run that was killed has placed a file of the mailbox under this name, which the text has."""
-        place = self.inventory.table.own_place(name)
-        return place is not None and self.states[place] == Stand.MINE
-
-    def taken(self) -> set[bytes]:
-        """The names of what stands for new messages."""
-        mine = map(self.inventory.table.name, self.places(Stand.MINE))
-        return {*mine, *(one.name for one in self.found.values())}
-
-    def names_of_lines(self) -> set[bytes]:
-        """The names of the files in the lines that were looked at."""
-        return {line.message.name for lines in self.lines.values() for line in lines} - {NAMELESS}
-
-    def drop(self) -> None:
+    def find_dropped(self) -> None:
         """Finds the lines of what the mailbox no longer has: first forms that it has not, then files that are gone."""
-        forms: set[bytes] = set()
-        for place in range(len(self.inventory)) if self.lost else ():
-            if self.inventory.core(place) in self.lost:
-                forms.add(self.inventory.bare(place))
+        places = range(len(self.inventory)) if self.lost else ()
+        forms = {self.inventory.bare(place) for place in places if self.inventory.core(place) in self.lost}
         for core, count in self.lost.items():
             lines = [one for one in self.lines.get(core, ()) if one.path == self.path and one.state is State.HELD]
             held = sorted((one.message for one in lines), key=lambda one: (one.bare in forms, one.name in self.present))
             self.dropped += held[:count]
 
+    def places(self, *stands: Stand) -> Sequence[int]:
+        """The places of the messages that stand so."""
+        count = sum(map(self.states.count, stands))
+        if count == len(self.states):
+            return range(count)
+        are_wanted = self.states.translate(bytes(one in stands for one in range(256)))
+        return array.array("Q", itertools.compress(itertools.count(), are_wanted))
+
+    @property
+    def nowhere(self) -> Sequence[int]:
+        """The places of what is nowhere: it is new, and nothing stands for it."""
+        return self.places(Stand.NOWHERE)
+
+    def count(self, stand: Stand) -> int:
+        """How many messages stand so."""
+        return self.states.count(stand)
+
+    def count_new(self) -> int:
+        """How many messages are new: the mailbox did not bring them before, whatever stands for them."""
+        return len(self.states) - self.count(Stand.KNOWN)
+
     def count_lost(self) -> int:
         """How many messages the mailbox no longer has that it brought."""
         return sum(self.lost.values()) - sum(self.unlabelled.values())
-
-    def count_new(self) -> int:
-        """How many messages the mailbox did not have before."""
-        return len(self.states) - self.count(Stand.KNOWN)
 
 
 def cores_of(inventory: Inventory) -> collections.Counter[bytes]:

@@ -14,7 +14,7 @@ import time
 from collections.abc import Iterable, Iterator, Sequence
 from typing import NamedTuple, Optional
 
-from ..faults import PlaceFault, Reason
+from ..faults import Fault, Reason
 from ..looks import is_there
 from ..maildir.files import CLOCK_TICK, digest_of, mail_in, names_in
 from ..maildir.making import PREPARED, sync_folder
@@ -23,7 +23,6 @@ from ..mbox.core import SHORT
 from ..mbox.inventory import NO_DATE, Inventory
 from ..nexts import Remark
 from ..patterns import pattern
-from ..terminal import named
 from ..units import Say, silent
 from .lines import CUT, FIRST_LINE, append, lines_in
 
@@ -252,7 +251,7 @@ class Notes:
 # how a name of the list is found in its folder
 MISSING, OURS = 0, 1
 MOST_INODE = (1 << 64) - 1
-LIST_DAMAGED = "%s: line %d of it is damaged: nothing shows what was prepared"
+LIST_DAMAGED = "line %d of it is damaged: nothing shows what was prepared"
 
 
 class Prepared:
@@ -286,7 +285,7 @@ class Prepared:
         self.is_there = has_list(folder)
         for number, line in enumerate(lines_in(folder, PREPARED), 1):
             if not self.take(line) and not line.endswith(CUT):
-                raise PlaceFault(LIST_DAMAGED % (named(os.path.join(folder, PREPARED)), number), Reason.LEDGER)
+                raise Fault(LIST_DAMAGED % number, Reason.LEDGER, place=os.path.join(folder, PREPARED))
         return self
 
     def take(self, line: bytes) -> bool:

@@ -15,7 +15,7 @@ import time
 from collections.abc import Callable, Container, Iterator
 from typing import Optional, Union
 
-from ..faults import Fault, PlaceFault, Reason, fault_of
+from ..faults import Fault, Reason, fault_of
 from ..looks import is_there, may_be
 from ..maildir.folders import folder_path, folders_in, name_of
 from ..maildir.making import LEDGER, RECORD, SyncNames, has_begun, make_alone, sync_folder, synced_once
@@ -23,7 +23,7 @@ from ..terminal import named, spelled
 from ..units import Size
 from .history import TIME, Entry, History, Key, Note, Step, What
 from .ledger import Ledger, count_in
-from .lines import BY_ANOTHER, CUT, HEAD, lines_in
+from .lines import BY_ANOTHER, CUT, HEAD, NOT_TRUSTED, lines_in
 
 MADE_MEANWHILE = "another migrate has made %s meanwhile: run the same command again"
 UNREAD = (
@@ -91,7 +91,7 @@ class Record(History):
                 # a mailbox that it has would come a second time, into another folder
                 if not record.index_of(name_of(maildir, os.path.dirname(path))) and may_be(is_there, path):
                     fault = fault_of(why, path)
-                    raise PlaceFault(UNREAD % fault, Reason.LEDGER, fault.next)
+                    raise Fault(UNREAD % fault, Reason.LEDGER, fault.next)
             yield record
 
     @property
@@ -115,7 +115,7 @@ class Record(History):
         except OSError as fault:
             if make or fault.errno != errno.ENOENT:
                 why = "it is a symbolic link" if fault.errno == errno.ELOOP else fault.strerror
-                raise PlaceFault("%s: %s" % (named(self.path), why), Reason.RECORD) from fault
+                raise Fault(why, Reason.RECORD, place=self.path) from fault
         self.look()
         if not self.is_open:
             return
@@ -141,7 +141,7 @@ class Record(History):
                     make_alone(self.maildir, sync)
                     self.take_file(True, sync)
                     if self.size:
-                        raise PlaceFault(MADE_MEANWHILE % named(self.maildir), Reason.LOCKED)
+                        raise Fault(MADE_MEANWHILE % named(self.maildir), Reason.LOCKED)
                 for make in more:
                     make(sync)
         except BaseException:
@@ -163,31 +163,23 @@ class Record(History):
         state = os.fstat(self.number)
         is_ours = state.st_uid in owners and not state.st_mode & 0o022 and state.st_nlink == 1
         if not stat.S_ISREG(state.st_mode) or not is_ours:
-            raise PlaceFault(
-                "%s: it does not belong to you, or others may write to it: look at it, and move "
-                "it away" % named(self.path),
-                Reason.RECORD,
-            )
+            raise Fault(NOT_TRUSTED, Reason.RECORD, place=self.path)
         if state.st_size > MOST:
-            raise PlaceFault(
-                "%s: it is too large for a record: look at it, and move it away" % named(self.path), Reason.RECORD
-            )
+            raise Fault("it is too large for a record: look at it, and move it away", Reason.RECORD, place=self.path)
 
     def lock(self) -> None:
         """Locks it, so that only one `migrate` is at work in its Maildir. Raises Fault if another one is."""
         try:
             fcntl.flock(self.number, fcntl.LOCK_EX | fcntl.LOCK_NB)
         except BlockingIOError as fault:
-            raise PlaceFault(
+            raise Fault(
                 "another migrate is at work in %s, or a convert that an interrupted one left behind: "
                 "wait until it has ended" % named(self.maildir),
                 Reason.LOCKED,
             ) from fault
         except OSError as fault:
             # where nothing is locked, two would place the same mail
-            raise PlaceFault(
-                "%s: it cannot be locked: %s" % (named(self.path), fault.strerror), Reason.RECORD
-            ) from fault
+            raise Fault("it cannot be locked: %s" % fault.strerror, Reason.RECORD, place=self.path) from fault
 
     def read(self) -> None:
         """Reads its lines. Lines that were cut do not count. Raises Fault if another version has written it."""
@@ -198,7 +190,7 @@ class Record(History):
         self.has_head = lines[:1] == [VERSION_LINE]
         # a power cut may have taken the first line
         if lines and not self.has_head and b"\0" not in several[0]:
-            raise PlaceFault(BY_ANOTHER % named(self.path), Reason.RECORD)
+            raise Fault(BY_ANOTHER, Reason.RECORD, place=self.path)
         for entry in filter(None, map(Entry.parse, lines)):
             self.take(entry)
 
@@ -313,7 +305,7 @@ class Record(History):
                 os.fsync(self.number)
             self.has_head = True
         except OSError as fault:
-            raise PlaceFault("%s: %s" % (named(self.path), fault.strerror), Reason.RECORD) from fault
+            raise Fault(fault.strerror, Reason.RECORD, place=self.path) from fault
 
 
 def unspelled(path: str) -> bytes:

@@ -19,7 +19,7 @@ from ..ledger.gone import BACK, times_of
 from ..ledger.history import Note
 from ..ledger.lines import PLACED, Head, note_all_placed, note_batch_failed, note_ends
 from ..ledger.match import Files, Match, Stand
-from ..ledger.prepared import drop_list, finish_list, note_failed
+from ..ledger.prepared import WHOLE, drop_list, finish_list, note_failed
 from ..ledger.record import unspelled
 from ..maildir.checking import Check
 from ..maildir.dating import Dating
@@ -30,7 +30,7 @@ from ..mbox.core import beginning_of
 from ..mbox.digest import Digest
 from ..mbox.files import BLOCK, Reader, open_file
 from ..mbox.mailbox import Mailbox, is_still
-from ..nexts import Remark, run_next
+from ..nexts import Remark, Runs, run_next
 from ..program import Converted, Failed, Program
 from ..readings.unnamed import copy_of_some
 from ..terminal import operand
@@ -64,28 +64,49 @@ UNFINISHED = re.compile(rb"(?:\n+(?:F(?:r(?:om?)?)?)?)?\Z")
 END = 64
 
 
-def carry_out(steps: Steps, program: Program) -> tuple[int, list[Remark]]:
-    """Does what was planned. Returns the number of its batch in the ledger, 0 if the mail stays only prepared, and what
-    else is to be said. Raises Left if something fails, or is not as it was any more."""
-    prepared, is_first, said = steps.prepared, steps.which is Pass.FIRST, list[Remark]()
+def carry_out(steps: Steps, program: Program) -> Outcome:
+    """Does what was planned, and returns what became of the mailbox. Raises Left if something fails, or is not as it
+    was any more."""
+    if steps.is_prepared_already:
+        note_state(steps)
+        return Outcome(steps.row)
+    prepared, opened, said = steps.prepared, steps.opened, list[Remark]()
     if prepared:
         edited = prepared.remove()
         said += [Remark("kept-edited", KEPT % counted(edited, "file"))] * bool(edited)
     batch = begin(steps)
+    said += [] if steps.is_known else complete(steps, program, batch)
+    row = steps.row._replace(remarks=(*steps.row.remarks, *said))
+    its = unspelled(steps.known.path), opened.mailbox.state
+    return Outcome(row, opened.folder, batch, steps.which, *its)
+
+
+def note_state(steps: Steps) -> None:
+    """Notes that the file of a mailbox has another state, and the bytes that were prepared, so that the next first pass
+    does not read it."""
+    prepared, now = steps.prepared, steps.origin
+    if prepared and prepared.origin and now and prepared.origin.state != now.state and prepared.notes.as_read:
+        prepared.append(now.line(), prepared.notes.as_read.line(), WHOLE + b"\n")
+
+
+def complete(steps: Steps, program: Program, batch: int) -> list[Remark]:
+    """Places what is nowhere, gives files their dates and flags, and verifies them. Returns what is to be said of
+    that."""
+    prepared, is_first = steps.prepared, steps.which is Pass.FIRST
     back = steps.back + (convert(steps, program, batch) if len(steps.places) else 0)
     if prepared and is_first:
         # flags are those of the last pass: a mail program may change them until then. A date changes a file's ctime
         Dating(steps.contents.text, steps.files).give_all(steps.opened.folder)
         prepared.note_facts()
     of_extra = [] if is_first else steps.extra.run(steps)
-    said += finish(steps) + of_extra
+    said = finish(steps) + of_extra
     want_none_cut(steps)
     if back:
         says = BACK % counted(min(back, len(steps.contents.inventory)), "message")
         said.append(Remark("came-back", says))
     if prepared and is_first and steps.origin:
         prepared.write_whole(steps.origin, steps.text, steps.took)
-    return batch, said
+    return said
 
 
 def begin(steps: Steps) -> int:
@@ -106,7 +127,7 @@ def begin(steps: Steps) -> int:
             record.add(Note.PREPARED, known.key, *words)
         return 0
     its = times_of(opened.folder), mailbox.key(), contents.words, known.path, mailbox.state.st_ino, int(time.time())
-    head = Head(steps.placing.count_of_lines(), len(steps.placing.need), steps.back, *its)
+    head = Head(steps.placing.count_of_lines(), len(steps.placing.nowhere), steps.back, *its)
     return ledger.begin(head, steps.placing.lines())
 
 
@@ -117,12 +138,12 @@ def convert(steps: Steps, program: Program, batch: int) -> int:
         ran = place_messages(steps, program)
     except Failed as failed:
         raise explained(failed, steps, batch) from failed
-    is_whole, need = ran.end == steps.contents.text.end, len(steps.placing.need)
-    if batch and is_whole and 0 < need <= ran.placed:
+    is_whole, wanted = ran.end == steps.contents.text.end, len(steps.placing.nowhere)
+    if batch and is_whole and 0 < wanted <= ran.placed:
         note_all_placed(steps.opened.folder, batch)
     if steps.opened.has_changed(steps.contents.text):
         raise Left(CHANGED_WHILE_CONVERTED, Reason.CHANGED)
-    return max(0, ran.placed - need) if is_whole else 0
+    return max(0, ran.placed - wanted) if is_whole else 0
 
 
 def place_messages(steps: Steps, program: Program) -> Converted:
@@ -156,7 +177,7 @@ def explained(failed: Failed, steps: Steps, batch: int) -> Left:
     """Why the program failed, in better words than its own. If a sync failed, the ledger notes that."""
     folder, whole = steps.opened.folder, steps.placing.whole()
     there = Files(folder, whole, steps.opened.mailbox.say).there
-    nowhere = [place for place in steps.placing.need if not there[place]]
+    nowhere = [place for place in steps.placing.nowhere if not there[place]]
     says, found = str(failed), FOLDER_CALL.search(str(failed))
     call = int(found.group(1)) if found else 0
     unlisted = why_not_listed(folder) if call in SYNCED else None
@@ -200,7 +221,7 @@ def names_that_may_be_cut(known: Known, match: Match) -> set[bytes]:
     """The names of files that may hold the beginning of a message: those that the mailbox placed last when it was read,
     and that stand for no message of it any more; and those that no line has. The mailbox was written to, so a run that
     was killed may have read more of it than the lines that it had begun have."""
-    ledger, path = known.ledger, known.path
+    ledger, path, begun_at = known.ledger, known.path, known.ledger.begun.get(known.path, 0)
     lost = {one.name for one in [*match.dropped, *ledger.intended(path)]}
     lost.difference_update(one.name for one in match.found.values())
     numbers = {number for number, its in ledger.ended.items() if its == path}
@@ -213,7 +234,7 @@ def names_that_may_be_cut(known: Known, match: Match) -> set[bytes]:
     for name, file in mail_in(ledger.folder) if known.is_begun else ():
         base = own_base_in(name)
         # files that were dated have the dates of their From_ lines
-        if base and match.inventory.table.place_of(base) is None and os.lstat(file).st_mtime >= (known.begun_at or 0):
+        if base and match.inventory.table.place_of(base) is None and os.lstat(file).st_mtime >= begun_at:
             names.add(before_info(name))
     if names:
         names.difference_update(one.name for _, one in ledger.messages({*ledger.ended, *ledger.open}))
@@ -235,7 +256,7 @@ def want_none_cut(one: Steps) -> None:
             digest.update(piece)
         for beginning in digest.beginnings.items():
             if beginning in paths:
-                raise Left(CUT, Reason.CUT, run_next("rm", operand(paths[beginning])))
+                raise Left(CUT, Reason.CUT, run_next(Runs.REMOVE, operand(paths[beginning])))
 
 
 def beginning_in(path: bytes) -> tuple[int, str]:

@@ -11,7 +11,7 @@ import stat
 from collections.abc import Callable
 from typing import Optional
 
-from ..faults import Left, PlaceFault, Reason
+from ..faults import Fault, Left, Reason
 from ..flags.dovecot_headers import LETTERS, Reading, fields_of, first_head, info_of, internal_head, is_listed, marks_of
 from ..flags.dovecot_list import list_of, name_by, raised, rename, replace
 from ..flags.renaming import add_flags
@@ -24,7 +24,7 @@ from ..maildir.making import sync_folder
 from ..mbox.fields import headers_at
 from ..mbox.files import WHOLE, open_file, read_up_to
 from ..mbox.mailbox import Mailbox
-from ..nexts import Remark, run_next
+from ..nexts import Remark, Runs, run_next
 from ..terminal import is_text, named, operand
 from ..units import Offset, Place, Size, counted
 from .known import Opened
@@ -193,7 +193,8 @@ def place_file(folder: bytes, name: bytes, text: bytes, note: NoteFile) -> None:
     if is_there(path):
         if content_of(path, len(text)) == text:
             return
-        raise Left("an earlier run left another %s" % named(name), Reason.NUMBERED, run_next("rm", operand(path)))
+        then = run_next(Runs.REMOVE, operand(path))
+        raise Left("an earlier run left another %s" % named(name), Reason.NUMBERED, then)
     note(path, len(text), hashlib.sha256(text).hexdigest())
     with open(os.open(part, os.O_WRONLY | os.O_CREAT | os.O_EXCL | os.O_CLOEXEC, 0o600), "wb") as file:
         try:
@@ -236,7 +237,7 @@ def lines_of(path: bytes) -> tuple[list[bytes], bool]:
     """The lines of a file of subscriptions, and whether tabs separate the parts of names, as in the newer form."""
     text = content_of(path, WHOLE) or b""
     if len(text) > WHOLE:
-        raise PlaceFault("%s: it is longer than 1 MB, so it is not a list of folders" % named(path))
+        raise Fault("it is longer than 1 MB, so it is not a list of folders", place=path)
     first, *lines = text.split(b"\n")
     has_tabs = first.startswith(b"V\t")
     return [line for line in ([] if has_tabs else [first]) + lines if line], has_tabs

@@ -49,13 +49,13 @@ class Known:
         self.names = names_of(opened.mailbox.path)
         # its path as the ledger spells it
         self.path = next((name for name in self.names if name in ledger.paths()), self.names[0])
-        # the lines of the index about mailboxes of which the ledger lacks something, and that about this one, which may
-        # have been moved
+        # the lines of the index about mailboxes of which the ledger lacks something; and that about this one, which may
+        # have been moved, if the ledger lacks something of it
         self.unknown = record.unknown_to(opened.name, ledger)
-        self.lost = next((one for one in self.unknown if one.path in self.names), None)
-        if not self.lost and self.path not in ledger.paths():
+        self.by_index = next((one for one in self.unknown if one.path in self.names), None)
+        if not self.by_index and self.path not in ledger.paths():
             moved = (one for one in self.unknown if self.has_bytes_of(one) and is_gone(one.path))
-            self.lost = next(moved, None)
+            self.by_index = next(moved, None)
         # no number is given again of a batch that the ledger has lost
         ledger.last = max(ledger.last, record.last_numbers.get(ledger.number, 0))
 
@@ -73,34 +73,22 @@ class Known:
     @property
     def is_cut(self) -> bool:
         """Whether the ledger is older than what the index has of the mailbox."""
-        return self.lost is not None and self.lost.ledger == self.ledger.number
+        return self.by_index is not None and self.by_index.ledger == self.ledger.number
 
     @property
     def is_begun(self) -> bool:
         """Whether a run was killed that may have placed something of the mailbox."""
         return self.ledger.pending(self.path) is not None
 
-    @property
-    def begun_at(self) -> Optional[int]:
-        """When it was begun first, in seconds since 1970; None if it was not begun."""
-        return self.ledger.begun.get(self.path)
-
     def done(self) -> Optional[Entry]:
-        """What is known of the mailbox if all of it is done, by its bytes; None if it is not. If it was moved from
-        another path, this is noted."""
-        ledger, mailbox = self.ledger, self.opened.mailbox
+        """What is known of the mailbox if all of it is done, by its bytes; None if it is not."""
+        mailbox = self.opened.mailbox
         if not mailbox.size:
-            source = ledger.sources.get(self.path)
+            source = self.ledger.sources.get(self.path)
             notes = self.record.noting(Note.EMPTY, self.opened.name, mailbox.path)
             return None if source and source.count() else next((one for one in notes if one.key == self.key), None)
-        if self.lost:
-            return self.lost if self.has_bytes_of(self.lost) and self.lost.what is Step.DONE else None
-        if self.path in ledger.paths():
-            return self.done_at(self.path)
-        moved = next((path for path in ledger.paths() if self.done_at(path) and is_gone(path)), None)
-        if moved is None:
-            return None
-        self.move(moved)
+        if self.by_index:
+            return self.by_index if self.has_bytes_of(self.by_index) and self.by_index.what is Step.DONE else None
         return self.done_at(self.path)
 
     def done_at(self, path: str) -> Optional[Entry]:
@@ -115,7 +103,7 @@ class Known:
         """Where all went, or began to go, before another folder was named for the mailbox; and that mailboxes had which
         are gone from their paths, if this one has it: it may be one of them, which was moved. Another one may have the
         path by now of one with the same bytes. A run that was killed could not say this."""
-        if self.lost or self.path in self.ledger.sources:
+        if self.by_index or self.path in self.ledger.sources:
             return []
         beside, cores, found, mailbox = os.path.dirname(self.names[0]), None, self.in_others(), self.opened.mailbox
         same = self.record.lines_of(*mailbox.key()) if mailbox.size in self.record.sizes else []
@@ -146,15 +134,25 @@ class Known:
         """The paths of the mailboxes whose mail the folder has, and that are not gone, if a mailbox of a tree gets its
         place beside them: one command for all would have left it. Whoever gives its path chooses the folder. What
         INBOX has of others is said of each that comes to it."""
-        is_known = self.lost or self.path in self.ledger.paths()
+        is_known = self.by_index or self.path in self.ledger.paths()
         if is_known or self.opened.name == INBOX or self.opened.mailbox.path in given:
             return []
         others = (unspelled(path) for path in self.ledger.paths() if path != self.path)
         return list(filter(is_there, others))
 
-    def take_place(self, inventory: Inventory) -> None:
+    def take_place_by_bytes(self) -> None:
+        """Takes the place of a mailbox of the folder that is done and gone from its path, if this one has its bytes: it
+        was moved."""
+        paths = self.ledger.paths()
+        if not self.opened.mailbox.size or self.by_index or self.path in paths:
+            return
+        moved = next((path for path in paths if self.done_at(path) and is_gone(path)), None)
+        if moved is not None:
+            self.move(moved)
+
+    def take_place_by_cores(self, inventory: Inventory) -> None:
         """Takes the place of a mailbox of the folder that is gone from its path, if this one is the same file, or has
-        its bytes, and has all that it had: it was moved."""
+        its bytes, and has all that it had."""
         ledger = self.ledger
         if self.path in ledger.paths():
             return

@@ -1,14 +1,15 @@
 """The way of a mailbox into a folder of a Maildir: it is opened and read, its messages are matched with what is there,
 and what is to be done is planned. That is carried out, unless this is a rehearsal.
 
-The way is the same where mail is only prepared. Each pass removes what was prepared and no message wants any more.
-Files have the digests of messages as names, so one is right or not wanted, whatever the mailbox was when it was read.
+The way is the same where mail is only prepared; what differs is asked of the `Pass`. Each pass removes what was
+prepared and no message wants any more. Files have the digests of messages as names, so one is right or not wanted,
+whatever the mailbox was when it was read.
 """
 import collections
 import contextlib
 import functools
 import time
-from collections.abc import Callable, Iterator
+from collections.abc import Callable, Iterator, Sequence
 from typing import IO, Any, Optional
 
 from ..faults import Fault, Left, Reason
@@ -29,7 +30,7 @@ from ..nexts import NOTHING, Answer, Does, Next, Phrase, Remark
 from ..program import Program
 from ..progress import Spent
 from ..readings.plans import NoMail, NotKnown, OtherKind, Question, read_begun
-from ..readings.reading import UNDECIDED
+from ..readings.reading import UNDECIDED, Reading
 from ..readings.texts import Choice, choice_at_once, choice_of, disk_of, read_messages
 from ..readings.unnamed import unnamed
 from ..terminal import first_of, named
@@ -48,21 +49,21 @@ from .answers import (
     noted_last,
     want_same_reading,
 )
-from .carrying import CHANGED_MEANWHILE, SYNC_FAILED, begin, carry_out, names_that_may_be_cut
-from .known import Known, Opened
+from .carrying import CHANGED_MEANWHILE, SYNC_FAILED, carry_out, names_that_may_be_cut
+from .known import Elsewhere, Known, Opened
 from .options import Options
 from .outcomes import BY_NO_MAIL, BY_RECORD, Fate, Outcome, Pass, Row, row_left
 from .preparing import (
     Preparation,
-    is_prepared_already,
-    mended,
+    mend,
+    origin_now,
     remarks_on_prepared,
     row_unchanged,
     same_as_prepared,
     take_prepared,
+    text_to_list,
     want_free,
     want_usable,
-    with_list,
 )
 from .steps import (
     Contents,
@@ -82,7 +83,7 @@ LONGEST_LINE = 140
 TENTH, FEW = 10, 3
 EDITED = "%s that it brought are gone from it, and as many are new: it was edited as a whole, or it is another mailbox"
 PARTLY_THERE = "%d of its messages are there, and no ledger says why: the ledger is older than its folder, or was lost"
-LOST = "the ledger of its folder is %s, so nothing shows which of its messages were placed"
+NOT_SHOWN = "the ledger of its folder is %s, so nothing shows which of its messages were placed"
 FOLDER_GONE = Remark("folder-gone", "its folder is gone")
 LEDGER_GONE = Remark("ledger-gone", "the ledger of its folder is gone")
 OLDER = "the ledger of its folder is older than its record, and lacks %s of it: mail may be missing there"
@@ -166,7 +167,7 @@ class Migration:
         verified, ledger, self.kept = self.verified[opened.name], self.kept, None
         if not ledger or ledger.folder != opened.folder:
             ledger = Ledger(opened.folder, verified, self.how.dry)
-        preparation = None if part else mended(self.record, self.how, opened, ledger, verified)
+        preparation = None if part else mend(self.record, self.how, opened, ledger, verified)
         ended = Transfer(self, opened, ledger, preparation, part).run()
         if ended.batch:
             verified.add(ended.batch)
@@ -192,20 +193,15 @@ class Transfer:
         self.how, self.want_room, self.disk = migration.how, migration.want_room, migration.disk
         self.opened, self.ledger, self.part = opened, ledger, part
         self.preparation, self.prepared = preparation, preparation.prepared if preparation else None
-        # a first pass writes nothing into the ledger
-        ledger.is_dry = ledger.is_dry or self.how.prepare
+        ledger.is_dry = ledger.is_dry or self.which is Pass.FIRST
         # when this began; and whether a last pass would have it to do again, since the mailbox may change again
         self.began, self.is_changed = time.monotonic(), self.prepared is not None and self.prepared.is_whole
         self.known = Known(self.record, ledger, opened)
-        # what is to be said of it
+        self.path = self.known.path
+        # what is to be said of it, whatever it brings
         self.remarks: list[Remark] = [*opened.mailbox.remarks, *(part.remarks if part else ())]
         if part:
             self.how = self.how._replace(extra=Extra(part.kept))
-
-    @property
-    def path(self) -> str:
-        """Its path as the ledger spells it."""
-        return self.known.path
 
     @property
     def which(self) -> Pass:
@@ -216,12 +212,16 @@ class Transfer:
 
     def run(self) -> Outcome:
         """Does what is left to do, and returns what became of the mailbox."""
+        if not self.how.again:
+            self.known.take_place_by_bytes()
         line = None if self.how.again else self.known.done()
-        if line and (not self.part or self.part.is_in(line)):
-            more, then = ([], NOTHING) if self.how.prepare else contradicted(self.how, self.root, self.opened, line)
+        is_first = self.which is Pass.FIRST
+        # a line may be about other messages of a Takeout
+        if line and (not self.part or Reading.of_words(line.plan).part == self.part.plan.reading.part):
+            more, then = ([], NOTHING) if is_first else contradicted(self.how, self.root, self.opened, line)
             return Outcome(self.row_before(line.plan, line.messages, more)._replace(next=then))
         try:
-            if self.preparation and self.how.prepare:
+            if self.preparation and is_first:
                 is_another = self.ledger.sources and self.path not in self.ledger.paths()
                 if is_another and not self.opened.mailbox.size:
                     # a program that delivers makes such a file once the old one was moved away
@@ -229,23 +229,24 @@ class Transfer:
                         return Outcome(self.row(part))
                 want_free(self.preparation, self.known)
             with self.chosen() as part:
-                return self.bring(part)
+                return self.try_to_bring(part)
         except Question as question:
             ended = self.answered(question)
-            if not ended:
-                raise self.how.asked(self.root, self.opened, question) from question
-            return ended
+            if ended:
+                return ended
+            self.how.put_commands(self.root, self.opened, question)
+            raise
 
-    def row_before(self, words: Optional[str], messages: Optional[int], more: list[Remark]) -> Row:
+    def row_before(self, words: Optional[str], messages: Optional[int], more: Sequence[Remark]) -> Row:
         """The row of a mailbox of so many messages that was done before by the words of a plan; what else is said."""
         mailbox, name = self.opened.mailbox, self.opened.name
         of_uids = self.how.extra.remarks_on_done(name) if mailbox.size else []
         of_folder = back_in(self.ledger) + gone_from(self.ledger)
-        lost = self.known.lost
-        if lost and self.known.is_cut:
-            missing = max(0, lost.messages - count_in(self.ledger, self.path))
+        by_index = self.known.by_index
+        if by_index and self.known.is_cut:
+            missing = max(0, by_index.messages - count_in(self.ledger, self.path))
             of_folder = [Remark("ledger-older", OLDER % counted(missing, "message"))]
-        elif lost:
+        elif by_index:
             of_folder = [LEDGER_GONE if is_folder(self.opened.folder) else FOLDER_GONE]
         says = (*of_uids, *remarks_on_dropped(words), *of_folder, *more)
         return Row(mailbox.path, name, "", messages, Fate.BEFORE, size=mailbox.size, remarks=says)
@@ -285,83 +286,74 @@ class Transfer:
             self.remarks += [AS_ANSWERED] * (decision.noted and choice.plan.answer is not None)
             yield Part(choice, functools.partial(self.read, choice), mailbox.size)
 
-    def bring(self, part: Part) -> Outcome:
-        """Brings what is new, once it is chosen which text stands for the mailbox. Everything that is nowhere is
-        brought of one that was rewritten, or whose sync failed, if that is wanted of such mailboxes alone."""
-        mailbox, before, again = self.opened.mailbox, self.remarks[:], self.how._replace(again=True)
+    def try_to_bring(self, part: Part) -> Outcome:
+        """Brings the mailbox, which is left if that fails. Everything that is nowhere is brought of one that was
+        rewritten, or whose sync failed, if that is wanted of such mailboxes alone."""
+        mailbox, again = self.opened.mailbox, self.how._replace(again=True)
         try:
             if self.how.again_rewritten and self.has_failed():
                 self.how = again
             try:
-                return self.bring_any(part)
+                return self.bring(part)
             except Left as left:
                 is_rewritten = left.reason in (Reason.REWRITTEN, Reason.LEDGER)
                 if not (is_rewritten and self.how.again_rewritten) or self.how.again:
                     raise
-            self.remarks, self.how = before, again
-            return self.bring_any(part)
+            self.how = again
+            return self.bring(part)
         except (Fault, OSError) as fault:
             return Outcome(row_left(mailbox.path, self.opened.name, fault, part.plan, mailbox.size))
 
-    def bring_any(self, part: Part) -> Outcome:
-        """The same, but raises what keeps the mailbox from being done. One without mail only gets its folder, from
-        which everything is removed that is prepared."""
+    def bring(self, part: Part) -> Outcome:
+        """Brings what is new, once it is chosen which text stands for the mailbox. Raises what keeps it from being
+        done. One without mail only gets its folder, from which everything is removed that is prepared."""
         if self.preparation and not self.how.again:
             want_usable(self.preparation, self.how, self.opened)
         if part.plan.is_empty:
             if self.preparation and not self.how.dry:
                 self.preparation.clear(self.how, self.opened.mailbox.say)
-            if not self.how.prepare:
-                self.record.make(self.opened.make_folder)
-                self.remarks += note_empty(self.record, self.opened, self.ledger, self.path)
-            return Outcome(self.row(part))
-        self.remarks += want_syncs(self.opened.folder, self.how.any_disk)
+            if self.which is Pass.FIRST:
+                return Outcome(self.row(part))
+            self.record.make(self.opened.make_folder)
+            return Outcome(self.row(part, note_empty(self.record, self.opened, self.ledger, self.path)))
+        said = want_syncs(self.opened.folder, self.how.any_disk)
         self.want_ended()
         with part.read() as contents:
-            if not self.how.prepare:
-                # a first pass goes by nothing in the ledger
+            if self.which is not Pass.FIRST:
                 self.go_by_ledger(contents)
                 want_same_reading(self.how, self.known, part.choice, contents)
                 if not self.how.again:
-                    self.known.take_place(contents.inventory)
+                    self.known.take_place_by_cores(contents.inventory)
             match = self.matched(part, contents)
-            self.want_sure(contents, match)
             if AS_BROUGHT not in self.remarks:
                 note_answer(self.record, self.opened, part.plan)
-            if not match.count_new() and self.path in self.ledger.sources and not self.how.prepare:
-                row = self.row_before(contents.words, len(contents.inventory), list(remarks_on_lost(match)))
-                # the ledger notes that it was read
-                return Outcome(row) if self.how.dry else self.outcome(row, begin(self.steps(contents, match)), contents)
-            return self.take_steps(part, self.planned(part, contents, match))
-
-    def take_steps(self, part: Part, steps: Steps) -> Outcome:
-        """Does what was planned, unless this is a rehearsal, and returns what became of the mailbox."""
-        self.remarks += steps.remarks
-        if self.how.dry:
-            self.remarks += [] if self.how.prepare else steps.extra.foresee(steps)
-            return Outcome(self.row(part, steps.next))
-        if is_prepared_already(steps):
-            self.is_changed = False
-            return Outcome(self.row(part))
-        batch, said = carry_out(steps, self.program)
-        self.remarks += said
-        return self.outcome(self.row(part, steps.next), batch, steps.contents)
+            steps = self.steps(part, contents, match, said)
+            if self.how.dry:
+                return Outcome(steps.row)
+            self.is_changed = self.is_changed and not steps.is_prepared_already
+            ended = carry_out(steps, self.program)
+            return ended._replace(row=ended.row._replace(spent=self.spent()))
 
     def matched(self, part: Part, contents: Contents) -> Match:
-        """The messages of the text, with what is there of them besides what was prepared. What only left the folder of
-        a label is not gone."""
-        say, hides = self.opened.mailbox.say, None
-        if self.how.again:
+        """The messages of the text, with what is there of them; what was prepared counts for those that nothing else
+        stands for. Raises Left if nobody knows what the files of the folder are, or whether it is the same mailbox."""
+        prepared, say, is_again = self.prepared, self.opened.mailbox.say, self.how.again
+        if is_again:
             match = self.matched_again(self.ledger, contents)
         else:
-            if self.prepared:
-                hides = self.prepared.hides
-                if not part.is_as_prepared:
-                    self.prepared.look(say)
-            files = Files(self.ledger.folder, contents.inventory, say, hides)
+            if prepared and not part.is_as_prepared:
+                prepared.look(say)
+            files = Files(self.ledger.folder, contents.inventory, say, prepared.hides if prepared else None)
             match = Match.of(self.ledger, self.path, files, contents.is_deleted)
         if part.cores:
+            # what only left the folder of a label is not gone
             match.unlabelled = match.lost & part.cores
+        if not is_again:
+            self.want_sure(contents, match)
+            if prepared:
+                take_prepared(match, prepared)
+        if part.is_as_prepared and match.count(Stand.NOWHERE):
+            raise Left(CHANGED_MEANWHILE, Reason.CHANGED)
         return match
 
     def matched_again(self, ledger: Ledger, contents: Contents) -> Match:
@@ -369,66 +361,74 @@ class Transfer:
         files = Files(ledger.folder, contents.inventory, self.opened.mailbox.say)
         return Match.again(ledger, self.path, files, contents.is_deleted)
 
-    def steps(self, contents: Contents, match: Match) -> Steps:
-        """What is to be done by what was found of the messages, as far as that alone decides it."""
-        steps = Steps.of(self.known, contents, match, self.which, self.how.extra)
-        # with --again, what was prepared stays as it is
-        return steps._replace(prepared=None if self.how.again else self.prepared)
-
-    def planned(self, part: Part, contents: Contents, match: Match) -> Steps:
-        """What is to be done. Raises Left if it cannot be, with the command that does what can."""
-        took, how, prepared = self.passed(), self.how, self.prepared
+    def steps(self, part: Part, contents: Contents, match: Match, said: Sequence[Remark]) -> Steps:
+        """What is to be done by what was found of the messages, and the row that says so. Raises Left if it cannot be
+        done, with the command that does what can."""
+        known, how, prepared, is_first = self.known, self.how, self.prepared, self.which is Pass.FIRST
+        steps = Steps.of(known, contents, match, self.which, how.extra)
+        if steps.is_known:
+            said = list(remarks_on_lost(match))
+            return steps._replace(row=self.row_before(contents.words, len(contents.inventory), said))
         if prepared:
-            if how.again:
-                prepared.look(self.opened.mailbox.say)
-            else:
-                take_prepared(match, prepared)
-            self.remarks += remarks_on_prepared(prepared, how)
-            if part.is_as_prepared and match.count(Stand.NOWHERE):
-                raise Left(CHANGED_MEANWHILE, Reason.CHANGED)
-        steps = with_list(self.steps(contents, match), how, part.choice, took)
-        if not how.prepare:
-            steps = steps._replace(back=self.may_come_back(match))
-            hindrance = how.extra.hindrance(steps)
-            if hindrance:
-                raise Left(str(hindrance), hindrance.reason, self.command(Does.RUN, again=how.again, dovecot=False))
-        need, sizes = steps.placing.need, contents.inventory.sizes
-        wanted = [*(sizes[place] for place in need), LONGEST_LINE * steps.placing.count_of_lines()]
-        # what no message wants is removed first
-        freed = prepared.sizes_unwanted() if prepared and not how.again else ()
-        if len(need):
-            self.want_room(Need.of(self.opened.folder, wanted, freed=freed))
-        return steps if how.prepare else self.said_of(steps)
-
-    def said_of(self, steps: Steps) -> Steps:
-        """The same, with what is said of mail that does not stay only prepared, and what is to be done next."""
-        known, how = self.known, self.how
+            said = [*said, *remarks_on_prepared(prepared, how, self.opened.mailbox.say)]
+        if prepared and not how.again:
+            steps = steps._replace(prepared=prepared)
+            if is_first or not prepared.origin:
+                steps = steps._replace(origin=origin_now(known, contents, how.names))
+        if is_first:
+            steps = steps._replace(text=text_to_list(part.choice, contents))
+            steps = steps._replace(took=in_milliseconds(self.opened.mailbox.took) if steps.text else self.passed())
+            self.want_room_for(steps)
+            return steps._replace(row=self.row(part, said))
+        steps = steps._replace(back=self.may_come_back(match))
+        hindrance = how.extra.hindrance(steps)
+        if hindrance:
+            raise Left(str(hindrance), hindrance.reason, self.command(Does.RUN, again=how.again, dovecot=False))
+        self.want_room_for(steps)
         # a message of a Takeout may be in many folders
-        elsewhere = [] if self.part else known.elsewhere(steps.contents.inventory)
-        remarks = list(remarks_on(steps, how.dry))
+        elsewhere = [] if self.part else known.elsewhere(contents.inventory)
+        said = [*said, *remarks_on(steps, how.dry), *self.remarks_on_others(elsewhere)]
+        then = self.command(Does.BRINGS_BACK, again=True) if sum(match.seen.gone.values()) else NOTHING
+        there = (self.opened._replace(name=line.key.folder) for line, is_moved in elsewhere if is_moved)
+        then += tuple(Answer(how.undo_command(self.root, one), Does.UNDO_THERE) for one in there)
+        steps = steps._replace(may_be_cut=names_that_may_be_cut(known, match))
+        said = [*said, *(how.extra.foresee(steps) if how.dry else ())]
+        return steps._replace(row=self.row(part, said, then))
+
+    def want_room_for(self, steps: Steps) -> None:
+        """Raises Left if the disk has no room for what is placed, and for the lines about it."""
+        nowhere, sizes, prepared = steps.placing.nowhere, steps.contents.inventory.sizes, steps.prepared
+        wanted = [*(sizes[place] for place in nowhere), LONGEST_LINE * steps.placing.count_of_lines()]
+        # what no message wants is removed first
+        freed = prepared.sizes_unwanted() if prepared else ()
+        if len(nowhere):
+            self.want_room(Need.of(self.opened.folder, wanted, freed=freed))
+
+    def remarks_on_others(self, elsewhere: Sequence[Elsewhere]) -> Iterator[Remark]:
+        """What is to be said of other folders, into which mail of the mailbox went, and of other mailboxes."""
         for line, _ in elsewhere:
             says = "%s of it went into %s too" % (counted(line.messages, "message"), folder_shown(line.key.folder))
-            says += "" if line.path in known.names else ", from %s" % named(unspelled(line.path))
-            remarks.append(Remark("elsewhere", says))
-        remarks += back_in(self.ledger)
-        joined = known.joined(how.names)
+            says += "" if line.path in self.known.names else ", from %s" % named(unspelled(line.path))
+            yield Remark("elsewhere", says)
+        yield from back_in(self.ledger)
+        joined = self.known.joined(self.how.names)
         if joined:
-            remarks.append(Remark("joined", "its folder has mail of %s too" % first_of(joined, most=1)))
-        then = self.command(Does.BRINGS_BACK, again=True) if sum(steps.match.seen.gone.values()) else NOTHING
-        for there in (self.opened._replace(name=line.key.folder) for line, is_moved in elsewhere if is_moved):
-            then += (Answer(how.undo_command(self.root, there), Does.UNDO_THERE),)
-        may_be_cut = names_that_may_be_cut(known, steps.match)
-        return steps._replace(may_be_cut=may_be_cut, remarks=tuple(remarks), next=then)
+            yield Remark("joined", "its folder has mail of %s too" % first_of(joined, most=1))
 
-    def row(self, part: Part, then: Next = NOTHING) -> Row:
-        """The row of a mailbox that is done or prepared, or would be."""
-        plan, how, spent = part.plan, self.how, None
-        done, would = (Fate.PREPARED, Fate.WOULD_PREPARE) if how.prepare else (Fate.DONE, Fate.WOULD)
-        if self.prepared and how.prepare and not how.dry:
-            spent = Spent(self.passed(), self.passed() if self.is_changed else self.prepared.notes.foreseen())
-        its = self.opened.name, plan.kind, plan.messages, would if how.dry else done
-        row = Row(self.opened.mailbox.path, *its, size=part.size, spent=spent)
-        return row._replace(remarks=(*plan.remarks, *self.remarks), next=then)
+    def row(self, part: Part, said: Sequence[Remark] = (), then: Next = NOTHING) -> Row:
+        """The row of a mailbox that is done or prepared, or would be; what else is said of it, and what is to be done
+        next."""
+        is_first, plan = self.which is Pass.FIRST, part.plan
+        done, would = (Fate.PREPARED, Fate.WOULD_PREPARE) if is_first else (Fate.DONE, Fate.WOULD)
+        its = self.opened.name, plan.kind, plan.messages, would if self.how.dry else done
+        row = Row(self.opened.mailbox.path, *its, size=part.size, spent=self.spent())
+        return row._replace(remarks=(*plan.remarks, *self.remarks, *said), next=then)
+
+    def spent(self) -> Optional[Spent]:
+        """What a first pass has spent on it so far, and what a last pass is going to spend."""
+        if not self.prepared or self.which is not Pass.FIRST or self.how.dry:
+            return None
+        return Spent(self.passed(), self.passed() if self.is_changed else self.prepared.notes.foreseen())
 
     def passed(self) -> int:
         """How many milliseconds were spent on it so far."""
@@ -442,9 +442,8 @@ class Transfer:
     def want_ended(self) -> None:
         """Raises Left if an undo was interrupted, or if a sync failed."""
         if self.path in self.ledger.leaving:
-            raise Left(
-                "its undo was interrupted", Reason.UNDO, (Answer(self.how.undo_command(self.root, self.opened)),)
-            )
+            undo = self.how.undo_command(self.root, self.opened)
+            raise Left("its undo was interrupted", Reason.UNDO, (Answer(undo),))
         if self.has_failed() and not self.how.again:
             raise Left(SYNC_FAILED, Reason.SYNC_FAILED)
 
@@ -457,21 +456,21 @@ class Transfer:
             if ledger.damage:
                 ledger.put_aside()
         elif ledger.damage:
-            rest = self.matched_again(ledger.without_lines(), contents)
-            raise self.left_to_store(LOST % ("damaged in line %d" % ledger.damage), Reason.LEDGER, contents, rest)
-        elif known.lost:
+            left = Left(NOT_SHOWN % ("damaged in line %d" % ledger.damage), Reason.LEDGER)
+            raise self.left_to_store(left, contents, self.matched_again(ledger.without_lines(), contents))
+        elif known.by_index:
             how, rest = "older than its record" if known.is_cut else "missing", self.matched_again(ledger, contents)
             # what is prepared is no mail yet
             if rest.count(Stand.NOWHERE) or self.prepared and self.prepared.is_there:
-                raise self.left_to_store(LOST % how, Reason.LEDGER, contents, rest)
+                raise self.left_to_store(Left(NOT_SHOWN % how, Reason.LEDGER), contents, rest)
             self.how = self.how._replace(again=True)
 
-    def left_to_store(self, why: str, reason: Phrase, contents: Contents, match: Match) -> Left:
+    def left_to_store(self, left: Left, contents: Contents, match: Match) -> Left:
         """Why it is left, with the command that stores what is nowhere: without what could not be done besides then."""
-        hindrance = self.how.extra.hindrance(self.steps(contents, match))
+        hindrance = self.how.extra.hindrance(Steps.of(self.known, contents, match, self.which, self.how.extra))
         stays = self.how.dovecot and not hindrance
         then = self.command(Does.DOUBLES, match.count(Stand.NOWHERE), again=True, dovecot=stays)
-        return Left("%s; %s" % (why, hindrance) if hindrance else why, reason, then)
+        return Left("%s; %s" % (left, hindrance) if hindrance else "%s" % left, left.reason, then)
 
     def command(self, does: Phrase, messages: Optional[int] = None, **changes: Any) -> Next:
         """The command that migrates this mailbox with these changes of the options, and how many messages it gives."""
@@ -490,23 +489,16 @@ class Transfer:
 
     def want_sure(self, contents: Contents, match: Match) -> None:
         """Raises Left if nobody knows what the files of the folder are, or whether it is the same mailbox."""
-        if self.how.again:
-            return
         strangers = unexplained(self.root, match) if match.count(Stand.NOWHERE) else []
-        if strangers and self.how.prepare:
-            raise Left(PARTLY_THERE % len(strangers), Reason.PARTLY_THERE)
         if strangers:
-            rest = self.matched_again(self.ledger, contents)
-            raise self.left_to_store(PARTLY_THERE % len(strangers), Reason.PARTLY_THERE, contents, rest)
+            left = Left(PARTLY_THERE % len(strangers), Reason.PARTLY_THERE)
+            if self.which is Pass.FIRST:
+                raise left
+            raise self.left_to_store(left, contents, self.matched_again(self.ledger, contents))
         source, lost = self.ledger.sources.get(self.path), match.count_lost()
         is_much = source is not None and lost > max(FEW, source.count() // TENTH)
         if is_much and match.count_new() >= lost:
             raise Left(EDITED % counted(lost, "message"), Reason.REWRITTEN, self.command(Does.STORES, again=True))
-
-    def outcome(self, row: Row, batch: int, contents: Contents) -> Outcome:
-        """The outcome of a mailbox all of whose messages are verified, in a batch or, if it is only prepared, none."""
-        path, state = unspelled(self.path), self.opened.mailbox.state
-        return Outcome(row, self.opened.folder, batch, self.which, contents.words, path, state)
 
     def may_come_back(self, match: Match) -> int:
         """How many messages that are nowhere may have been there before, and were deleted."""
@@ -517,7 +509,7 @@ class Transfer:
         back, ledger = min(others, match.count(Stand.NOWHERE)), self.ledger
         gone = gone_before(ledger)
         if gone:
-            back += sum((gone & collections.Counter(map(match.inventory.core, match.need))).values())
+            back += sum((gone & collections.Counter(map(match.inventory.core, match.nowhere))).values())
         number = ledger.pending(self.path)
         # what came back in runs that were killed too was not said yet
         return back if number is None else back + ledger.open[number].head.back

@@ -5,7 +5,7 @@ import os
 from collections.abc import Iterator
 from typing import Any
 
-from ..faults import REASONS, PlaceFault
+from ..faults import REASONS, Fault
 from ..maildir.making import sync_folder
 from ..nexts import Todo, objects_of, task
 from ..terminal import complain, flush, named, put
@@ -67,7 +67,7 @@ class Report(Objects):
         try:
             self.number = os.open(path, os.O_WRONLY | os.O_CREAT | os.O_EXCL | os.O_CLOEXEC, 0o600)
         except FileExistsError as error:
-            raise PlaceFault("%s already exists" % named(path), then=task(Todo.NEW_FILE)) from error
+            raise Fault("%s already exists" % named(path), then=task(Todo.NEW_FILE)) from error
 
     def print_object(self, fields: dict[str, Any]) -> None:
         """Writes an object. After one that was not written whole, none follows."""

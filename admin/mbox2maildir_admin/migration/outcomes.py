@@ -180,7 +180,7 @@ class Row(NamedTuple):
         """Whether the row is printed, and not only counted in the sum."""
         if self.fate == Fate.NO_MAIL:
             return BY_NO_MAIL in self.remarks
-        return self.is_changed() or bool(self.says)
+        return self.is_changed() or bool(self.says or self.next)
 
     def is_changed(self) -> bool:
         """Whether the run did something, or would do it."""
@@ -189,7 +189,8 @@ class Row(NamedTuple):
 
 class Pass(enum.IntEnum):
     """How a run brings mail: it is mail at once, and with --again all that is nowhere is placed. Or first passes only
-    prepare it, until a last pass makes mail of that."""
+    prepare it, and go by nothing in the ledger, until a last pass makes mail of that. Once mail was prepared in a
+    Maildir, a run into any folder without mail is a last pass: if it is killed, a first pass may follow."""
 
     AT_ONCE = 0
     AGAIN = 1
@@ -206,8 +207,7 @@ class Outcome(NamedTuple):
     folder: bytes = b""
     batch: int = 0
     which: Pass = Pass.AT_ONCE
-    # how the mailbox was read, its path, and the state of its file: it is closed, so others may write to it
-    words: str = ""
+    # the path of the mailbox, and the state of its file: it is closed, so others may write to it
     path: bytes = b""
     state: Optional[os.stat_result] = None
 

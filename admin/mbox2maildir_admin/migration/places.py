@@ -6,21 +6,20 @@ import os
 from collections.abc import Callable, Container, Iterable, Sequence
 from typing import NamedTuple, Optional
 
-from .. import ADMIN
 from ..faults import Fault, Left, Reason, fault_of
 from ..kinds.named import is_no_mail, name_of_folder
-from ..ledger.history import History, Step, names_of
+from ..kinds.profiles import Profiles
+from ..ledger.history import History, Note, Step, names_of
 from ..ledger.record import Record, unspelled
 from ..looks import is_file
 from ..maildir.files import mail_in
-from ..maildir.folders import COPY, INBOX, folder_path, folder_shown, words_of
+from ..maildir.folders import COPY, INBOX, folder_on_disk, folder_path, folder_shown, words_of
 from ..maildir.disk import SyncOne
-from ..nexts import Answer, Command, Does, Next, Phrase, Todo, in_shell, line_of, run_next, task
+from ..nexts import Answer, Command, Does, Next, Part, Phrase, Runs, Todo, run_next, task
 from ..readings.copies import COMPRESSED
 from ..readings.reading import UNDECIDED, Reading
 from ..readings.texts import is_mbox
-from ..terminal import named, operand, option
-from .outcomes import Outcome
+from ..terminal import is_text, named, operand, option
 from .options import Options
 
 ENDINGS = (COPY, *COMPRESSED)
@@ -64,7 +63,7 @@ class Planned(NamedTuple):
 
     def left_to_human(self, why: str, words: Sequence[str]) -> "Planned":
         """The same mailbox, for which a human must find a folder. The command has these words before its path."""
-        return self.left(Left(why, Reason.NO_FOLDER, run_next(ADMIN, "migrate", *words, operand(self.path))))
+        return self.left(Left(why, Reason.NO_FOLDER, run_next(Runs.MIGRATE, *words, operand(self.path))))
 
 
 def recorded(one: Planned, record: History) -> Planned:
@@ -155,7 +154,7 @@ class Pairs(NamedTuple):
             return one
         words, paths = self.options.words(), [operand(self.root), operand(one.path)]
         folders = (option("--folder", its.encode()) for its in (name, "INBOX"))
-        folder, inbox = (Command.of(ADMIN, "migrate", *words, *its, *paths) for its in folders)
+        folder, inbox = (Command.of(Runs.MIGRATE, *words, *its, *paths) for its in folders)
         then = Answer(folder, Does.OWN_FOLDER), Answer(inbox, Does.JOINS_INBOX)
         return one.left(Left(NAMED_AS_FOLDER % named(name), Reason.NO_FOLDER, then))
 
@@ -187,17 +186,28 @@ class Pairs(NamedTuple):
         if all(other.startswith(one.path) for other in others):
             folder = words_of(one.folder) if one.folder else ["--folder", "NAME"]
             words = [*self.options.words(), *folder, operand(self.root), operand(one.path)]
-            then += run_next(ADMIN, "migrate", *words, does=Does.KEEP_BOTH)
+            then += run_next(Runs.MIGRATE, *words, does=Does.KEEP_BOTH)
         names = " and ".join(map(named, others)) + (" stands" if len(others) == 1 else " stand")
         return one.left(Left("%s beside it" % names, Reason.COPY, then))
 
 
-def into_inbox(one: Planned, ended: Outcome, how: Options, root: bytes) -> Next:
-    """The command that puts a mailbox, one of several Inboxes, into INBOX instead, and reads it in the same way."""
-    # a word decides nothing about one of several that contradicts it, but all about one that is named
-    decision, read = how.decision, Reading.of_words(ended.words) if ended.words else how.decision
-    decision = decision if decision.word in ("", read.word) else UNDECIDED._replace(drop=decision.drop)
-    options, paths = how.of_next()._replace(decision=decision), [operand(root), operand(one.path)]
-    into = line_of([ADMIN, "migrate", *options.words(), "--folder", "INBOX", *paths])
-    undo = [ADMIN, "migrate", "--undo", *Options(now=options.now).words(), *words_of(ended.row.folder), *paths]
-    return in_shell(into if options.dry else "%s && %s" % (line_of(undo), into), Does.INTO_INBOX)
+def as_inbox(one: Planned) -> Planned:
+    """A mailbox that was named; one of several Inboxes of its profile, if it goes into the folder of its account."""
+    if one.folder in (INBOX, b"") or not is_text(one.path):
+        return one
+    place = Profiles(one.path).place(one.path, os.path.dirname(one.path))
+    return one._replace(is_inbox=place.is_inbox and one.folder == folder_on_disk(place.account + place.name))
+
+
+def into_inbox(one: Planned, folder: bytes, how: Options, record: Record) -> Next:
+    """The command that puts one of several Inboxes, which has this folder, into INBOX instead, as it was answered."""
+    noted = record.noting(Note.ANSWERED, folder, one.path)
+    answer = Reading.of_words(noted[-1].plan).decided if noted else UNDECIDED
+    # the record does not have the numbers of lines, about which a human is asked again
+    decision = UNDECIDED if answer.text or answer.begin else answer
+    options, paths = how.of_next()._replace(decision=decision), [operand(record.maildir), operand(one.path)]
+    into = Command.of(Runs.MIGRATE, *options.words(), "--folder", "INBOX", *paths)
+    undo = "--undo", *Options(now=options.now).words(), *words_of(folder), *paths
+    if not options.dry:
+        into = into._replace(parts=(Part(Runs.MIGRATE, undo), *into.parts))
+    return (Answer(into, Does.INTO_INBOX),)

@@ -42,7 +42,6 @@ from ..ledger.lines import PLACED, Brought
 from ..ledger.match import Match, Stand
 from ..ledger.prepared import (
     NEXT_LIST,
-    WHOLE,
     AsRead,
     Origin,
     Prepared,
@@ -50,7 +49,6 @@ from ..ledger.prepared import (
     aside_of,
     has_list,
     home_of,
-    in_milliseconds,
     milliseconds_since,
     remove_aside,
     remove_list,
@@ -74,14 +72,14 @@ from .carrying import KEPT, PREPARED_SYNC_FAILED, SYNC_FAILED
 from .dovecot import KEYWORDS, LIST, Dovecot, remove_part
 from .known import Known, Opened
 from .options import Options
-from .outcomes import Fate, Pass, Row
-from .steps import Contents, Part, Placing, Steps, remarks_on_dropped
+from .outcomes import Fate, Row
+from .steps import Contents, Part, Placing, remarks_on_dropped
 
 NOT_FREE = "mail of a mailbox is in its folder already, and migrate brings the rest"
 READ = "somebody reads in its folder already: %s"
 ANOTHER = "%s is prepared in its folder, and only one mailbox can be"
 OTHERWISE = "it was prepared %s --dovecot"
-LIST_LOST = "the list of what was prepared in its folder is gone, so nothing shows which files are only copies"
+LIST_GONE = "the list of what was prepared in its folder is gone, so nothing shows which files are only copies"
 STAYS = "%d prepared before stay, whatever the mailbox has now"
 
 
@@ -99,7 +97,7 @@ class Stage(enum.Enum):
     # the same, and a last pass has begun
     BEGUN = enum.auto()
     # it is only prepared, and its list is gone
-    LOST = enum.auto()
+    LIST_GONE = enum.auto()
 
 
 class Preparation:
@@ -118,7 +116,7 @@ class Preparation:
             is_over = ledger.sources or any(one.what is Step.DONE for one in unknown)
             return Stage.OVER if is_over else Stage.BEGUN if prepared.batch else Stage.PREPARED
         if self.record.prepared(self.name) and not ledger.sources:
-            return Stage.LOST
+            return Stage.LIST_GONE
         return Stage.MAIL if ledger.paths() or unknown else Stage.FREE
 
     @property
@@ -219,7 +217,7 @@ class Preparation:
             remove_list(self.folder)
 
 
-def mended(
+def mend(
     record: Record, how: Options, opened: Opened, ledger: Ledger, verified: Container[int]
 ) -> Optional[Preparation]:
     """Removes a list that is over from the folder of a mailbox, and takes back what a killed last pass did there.
@@ -234,7 +232,7 @@ def mended(
         one.prepared = Prepared(opened.folder)
     elif stage is Stage.BEGUN and not (how.again or ledger.damage or has_failed(ledger) or one.reader()):
         one.take_back()
-    if how.prepare or stage in (Stage.PREPARED, Stage.BEGUN, Stage.LOST):
+    if how.prepare or stage in (Stage.PREPARED, Stage.BEGUN, Stage.LIST_GONE):
         return one
     # once something was prepared in the Maildir, a run that is killed may be followed by a first pass, or by other
     # mailboxes
@@ -260,8 +258,8 @@ def want_usable(one: Preparation, how: Options, opened: Opened) -> None:
     if stage is Stage.FREE and not how.prepare:
         return
     then = () if how.prepare else (Answer(command(again=True), Does.STORES),)
-    if stage is Stage.LOST and is_there(one.folder):
-        raise Left(LIST_LOST, Reason.LEDGER, then)
+    if stage is Stage.LIST_GONE and is_there(one.folder):
+        raise Left(LIST_GONE, Reason.LEDGER, then)
     if one.prepared.has_failed or has_failed(one.ledger):
         raise Left(PREPARED_SYNC_FAILED if one.prepared.has_failed else SYNC_FAILED, Reason.SYNC_FAILED)
     reader = one.reader()
@@ -293,23 +291,21 @@ def reader_in(record: Record, name: bytes, prepared: Prepared) -> Optional[bytes
     return None
 
 
-def with_list(steps: Steps, how: Options, choice: Choice, took: int) -> Steps:
-    """The same steps, with what the list is to have: what is read, and after a first pass, what need not be read again,
-    and how many milliseconds the mailbox took to read."""
-    known, contents, mailbox, plan = steps.known, steps.contents, steps.opened.mailbox, choice.plan
-    if steps.prepared and (how.prepare or not steps.prepared.origin):
-        state = signs_of(mailbox.copied or mailbox.state)
-        tree = tree_above(real_path(mailbox.path), map(real_path, how.names))
-        its = len(contents.inventory), contents.words, spelled(tree) if tree else "", known.path
-        steps = steps._replace(origin=Origin(mailbox.key(), state, *its))
-    if not how.prepare:
-        return steps
-    # what was unpacked or quoted is read again
+def origin_now(known: Known, contents: Contents, names: Iterable[bytes]) -> Origin:
+    """What is read of a mailbox now, for the list. It may be in a tree of one of these names."""
+    mailbox = known.opened.mailbox
+    tree = tree_above(real_path(mailbox.path), map(real_path, names))
+    its = len(contents.inventory), contents.words, spelled(tree) if tree else "", known.path
+    return Origin(mailbox.key(), signs_of(mailbox.copied or mailbox.state), *its)
+
+
+def text_to_list(choice: Choice, contents: Contents) -> Optional[ReadText]:
+    """What the list is to have of a text, which is not read again then; None if it was unpacked or quoted."""
+    plan = choice.plan
     if choice.is_packed or plan.is_copied or not is_by_word(plan.reading):
-        return steps._replace(took=took)
+        return None
     as_read = AsRead(plan.start, plan.messages, plan.kind, plan.remarks)
-    text = ReadText(as_read, contents.inventory, contents.full.offsets)
-    return steps._replace(text=text, took=in_milliseconds(mailbox.took))
+    return ReadText(as_read, contents.inventory, contents.full.offsets)
 
 
 def signs_of(state: os.stat_result) -> tuple[int, ...]:
@@ -326,7 +322,7 @@ def take_prepared(match: Match, prepared: Prepared) -> None:
     """Takes the files that were prepared for those messages that are to be placed under their names. Then no message
     wants the others."""
     inventory, placing = match.inventory, Placing(match)
-    for place in placing.need:
+    for place in placing.nowhere:
         at = prepared.note(placing.base(place))
         prepared.wanted[at] = 1
         if prepared.files[at]:
@@ -337,9 +333,10 @@ def take_prepared(match: Match, prepared: Prepared) -> None:
                 match.found[place] = Brought(PLACED, name, inventory.core(place), inventory.bare(place))
 
 
-def remarks_on_prepared(prepared: Prepared, how: Options) -> list[Remark]:
-    """What is to be said of what was prepared. With --again, it stays as it is."""
+def remarks_on_prepared(prepared: Prepared, how: Options, say: Say) -> list[Remark]:
+    """What is to be said of what was prepared. With --again, it stays as it is, and is only looked at here."""
     if how.again:
+        prepared.look(say)
         stays = sum(prepared.files) + len(prepared.edited)
         return [Remark("prepared-before", STAYS % stays)] * bool(stays)
     gone, remarks = prepared.unwanted(), []
@@ -351,9 +348,9 @@ def remarks_on_prepared(prepared: Prepared, how: Options) -> list[Remark]:
     return remarks
 
 
-def undone(record: Record, path: bytes, name: bytes, dry: bool, say: Say = silent) -> Optional[Row]:
-    """The row of a mailbox from which a folder was prepared, once everything is removed that is prepared there, and
-    that a `migrate` that was killed has done; None if nothing is prepared there. A dry run only counts."""
+def remove_prepared(record: Record, path: bytes, name: bytes, dry: bool, say: Say = silent) -> Optional[Row]:
+    """Removes everything that is prepared in a folder, and that a `migrate` that was killed has done there. Returns the
+    row of its mailbox; None if nothing is prepared there. A dry run only counts."""
     one = Preparation(record, name, Ledger(folder_path(record.maildir, name), dry=dry))
     if not one.is_open:
         return None
@@ -400,19 +397,6 @@ def same_as_prepared(prepared: Prepared, how: Options, opened: Opened) -> Option
 def is_by_word(reading: Reading) -> bool:
     """Whether nothing but a word says how a text is read, so that it may be converted as it is, or as bare text."""
     return bool(reading.word) and reading == Reading(reading.word, bare=reading.bare)
-
-
-def is_prepared_already(steps: Steps) -> bool:
-    """Whether a first pass finds everything as the last one has left it. Notes that the file of the mailbox has another
-    state, and the same bytes, so that the next first pass does not read it."""
-    prepared, now = steps.prepared, steps.origin
-    if steps.which is not Pass.FIRST or not prepared or not now or not prepared.origin:
-        return False
-    is_all = prepared.is_whole and not steps.placing.need and prepared.count() == len(prepared.table)
-    is_same = is_all and prepared.origin.key == now.key
-    if is_same and prepared.origin.state != now.state and prepared.notes.as_read:
-        prepared.append(now.line(), prepared.notes.as_read.line(), WHOLE + b"\n")
-    return is_same
 
 
 def row_unchanged(record: Record, how: Options, path: bytes, name: bytes, folder: bytes, say: Say) -> Optional[Row]:

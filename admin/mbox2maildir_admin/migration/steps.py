@@ -14,8 +14,6 @@ from ..flags.clients import GMAIL, Kept, kept_in, letters_of_evolution
 from ..flags.dovecot_headers import flags_in
 from ..flags.renaming import add_flags, lacking_flags
 from ..ledger.gone import left_by_killed
-from ..ledger.history import Entry
-
 from ..ledger.lines import LOST, PLACED, Brought
 from ..ledger.match import Match, Stand
 from ..ledger.prepared import Origin, Prepared, ReadText
@@ -25,14 +23,14 @@ from ..mbox.bases import BASE, FIRST, Table, base_in
 from ..mbox.fields import Header
 from ..mbox.inventory import Inventory
 from ..mbox.mailbox import Mailbox
-from ..nexts import NOTHING, Next, Remark
+from ..nexts import Remark
 from ..readings.plans import Plan, left_out
 from ..readings.reading import PLAIN, Reading
 from ..readings.texts import Choice, Text
 from ..terminal import first_of, named
 from ..units import Offset, Place, counted
 from .known import Known, Opened
-from .outcomes import Pass
+from .outcomes import Fate, Pass, Row
 
 # the words for messages that no mailbox brought, and for those that a mailbox no longer has, with what is said of them
 THERE, NO_LONGER = "there-already", "lost"
@@ -104,10 +102,6 @@ class Part(NamedTuple):
         """What the text is, and how it is read."""
         return self.choice.plan
 
-    def is_in(self, line: Entry) -> bool:
-        """Whether a line about the mailbox is one about these messages."""
-        return Reading.of_words(line.plan).part == self.plan.reading.part
-
 
 class Steps(NamedTuple):
     """What a run does with a mailbox and its folder. What was only prepared there, and no message wants, is removed.
@@ -124,10 +118,11 @@ class Steps(NamedTuple):
     # the bases of their files
     places: Sequence[int]
     files: Inventory
-    # whether a run was killed that had begun with this; whether the mailbox has brought other messages before; and when
-    # it was begun first, in seconds since 1970
+    # whether a run was killed that had begun with this; whether the mailbox has brought other messages before, and has
+    # no new one, so that it is only noted that it was read; and when it was begun first, in seconds since 1970
     is_begun: bool
     is_grown: bool
+    is_known: bool
     begun_at: int
     # what was only prepared in the folder, unless it stays as it is; what is read, if its list does not have that; and
     # after a first pass, what the list notes of the text, and how many milliseconds it took to read
@@ -138,17 +133,17 @@ class Steps(NamedTuple):
     # how many messages may come back that were deleted, and the names of files that may hold the beginning of one
     back: int = 0
     may_be_cut: Container[bytes] = ()
-    # what is said of it, and what is to be done next
-    remarks: tuple[Remark, ...] = ()
-    next: Next = NOTHING
+    # the row of the mailbox, if all of this succeeds; more may be said of it by then
+    row: Row = Row(b"", b"", "", None, Fate.LEFT)
 
     @classmethod
     def of(cls, known: Known, contents: Contents, match: Match, which: Pass, extra: "Extra") -> "Steps":
         """What is to be done by what was found of the messages."""
         placing, places = Placing(match), match.places(Stand.NOWHERE, Stand.MINE, Stand.FRESH)
-        is_grown, begun_at = known.path in known.ledger.sources, known.begun_at
+        is_grown, begun_at = known.path in known.ledger.sources, known.ledger.begun.get(known.path)
+        is_known = which is not Pass.FIRST and is_grown and not match.count_new()
         begun_at = int(time.time()) if begun_at is None else begun_at
-        its = placing.files(places), known.is_begun, is_grown, begun_at
+        its = placing.files(places), known.is_begun, is_grown, is_known, begun_at
         return cls(known, contents, placing, which, extra, places, *its)
 
     @property
@@ -160,6 +155,15 @@ class Steps(NamedTuple):
     def match(self) -> Match:
         """What was found of its messages."""
         return self.placing.match
+
+    @property
+    def is_prepared_already(self) -> bool:
+        """Whether a first pass finds everything as the last one has left it."""
+        prepared, now = self.prepared, self.origin
+        if self.which is not Pass.FIRST or not prepared or not now or not prepared.origin:
+            return False
+        is_all = prepared.is_whole and not self.placing.nowhere and prepared.count() == len(prepared.table)
+        return is_all and prepared.origin.key == now.key
 
     def is_unread(self, place: Place) -> bool:
         """Whether nobody but this program has given the file of a message its name: this run places it, or it was
@@ -185,13 +189,13 @@ class Placing:
     messages first, then the text itself from a place on."""
 
     def __init__(self, match: Match) -> None:
-        self.match, self.inventory, self.need = match, match.inventory, match.need
+        self.match, self.inventory, self.nowhere = match, match.inventory, match.nowhere
         # the names that differ from those that the messages have in the text, and how many more copies of a message the
         # program gets
         self.names: dict[int, bytes] = {}
         self.more: collections.Counter[int] = collections.Counter()
         rest = len(self.inventory)
-        for place in reversed(self.need):
+        for place in reversed(self.nowhere):
             if place != rest - 1:
                 break
             rest = place
@@ -208,7 +212,7 @@ class Placing:
         found: collections.defaultdict[bytes, list[int]] = collections.defaultdict(list)
         table, files = self.inventory.table, self.match.files
         has_files = bool(files.counts) or any(files.there)
-        for place in self.need if has_files or table.repeats else ():
+        for place in self.nowhere if has_files or table.repeats else ():
             digest = table.digest(place)
             if table.place_of(digest + FIRST) in table.repeats or has_files and files.has_digest(digest):
                 found[digest].append(place)
@@ -235,7 +239,7 @@ class Placing:
 
     def copied(self) -> list[Place]:
         """The places of the messages of which the program gets copies first, as often as it gets them."""
-        return [Place(one) for one in self.need if one < self.rest for _ in range(1 + self.more[one])]
+        return [Place(one) for one in self.nowhere if one < self.rest for _ in range(1 + self.more[one])]
 
     def lines(self) -> Iterator[Brought]:
         """The lines of the batch, in the order in which messages are placed."""
@@ -243,15 +247,13 @@ class Placing:
         yield from (one._replace(word=LOST) for one in match.dropped)
         for place in sorted(match.found):
             yield match.found[place]
-        for place in match.places(Stand.MINE):
-            yield Brought(PLACED, inventory.table.name(place), inventory.core(place), inventory.bare(place))
-        for place in self.need:
+        for place in itertools.chain(match.places(Stand.MINE), self.nowhere):
             yield Brought(PLACED, self.name(place), inventory.core(place), inventory.bare(place))
 
     def count_of_lines(self) -> int:
         """How many lines these are."""
         match = self.match
-        return len(match.dropped) + len(match.found) + match.count(Stand.MINE) + len(self.need)
+        return len(match.dropped) + len(match.found) + match.count(Stand.MINE) + len(self.nowhere)
 
     def files(self, places: Sequence[int]) -> Inventory:
         """The messages at these places, with the bases of their files."""

@@ -14,7 +14,7 @@ import os
 from collections.abc import Container, Iterator, Mapping, Sequence
 from typing import NamedTuple, Optional
 
-from ..faults import Fault, Left, PlaceFault, Reason
+from ..faults import Fault, Left, Reason
 from ..flags.renaming import sync_names
 from ..ledger.assign import File, by_form, files_of
 from ..ledger.lines import END_LINE, LOST, NOBODYS, Brought, Head, Line, State
@@ -30,11 +30,11 @@ from ..maildir.folders import INBOX, folder_of, folder_shown, folders_in, name_o
 from ..maildir.making import RECORD, real_place
 from ..mbox.bases import DIGEST, base_in, before_info, is_own
 from ..mbox.locks import WITHOUT_LOCKS, open_mailbox
-from ..mbox.mailbox import Mailbox
+from ..mbox.mailbox import SIGNS_OF_FILE, Mailbox
 from ..migration.dovecot import Dovecot, remove_lists
 from ..migration.known import Known, Opened
 from ..migration.outcomes import Fate, Observer, Row, row_left
-from ..migration.preparing import undone
+from ..migration.preparing import remove_prepared
 from ..migration.several import refuse
 from ..migration.options import Options
 from ..migration.steps import Extra
@@ -61,8 +61,6 @@ NAMES_CHANGE = "names in its folder keep changing: stop mail programs, and run t
 CONVERTER = "another converter is at work in %s: wait until it has ended"
 # how often a folder is listed while names in it change
 PASSES = 20
-# the facts that show that a path still belongs to the file that was read
-SIGNS = "st_dev", "st_ino", "st_size", "st_mtime_ns", "st_ctime_ns"
 # the states of lines whose mailbox has the message, or may have it; and of those whose mailbox has it
 MAY_HAVE, HAVE = (State.HELD, State.OPEN), (State.HELD,)
 # how often there is each core
@@ -134,10 +132,10 @@ class Undo:
         if not path:
             raise Left(NOT_RECORDED, Reason.UNDO)
         known = Known(self.record, ledger, opened)
-        lost = known.lost or next((one for one in known.unknown if one.what is not Step.UNDONE), None)
-        if lost:
+        lacked = known.by_index or next((one for one in known.unknown if one.what is not Step.UNDONE), None)
+        if lacked:
             # the ledger lacks what the index has of the mailbox, or of another one of its folder
-            raise Left(OLDER % named(unspelled(lost.path)), Reason.UNDO)
+            raise Left(OLDER % named(unspelled(lacked.path)), Reason.UNDO)
         plan = plan_of(ledger, path, self.cores_now(opened, ledger, path))
         # without lines of its files, the ledger is older than its folder: another mailbox may have what would go
         names = without_line(self.root, opened.folder) if any(one.why is Why.REMOVED for one in plan) else ()
@@ -201,7 +199,7 @@ def undo_own(root: bytes, path: bytes, options: Options, observer: Observer) -> 
         root = real_place(root)
     refuse(root, [path], Options(options.dry, folder=options.folder, now=options.now, undo=True))
     if not is_there(os.path.join(root, RECORD)):
-        raise PlaceFault("%s: it has no record, so nothing was migrated into it" % named(root), Reason.UNDO)
+        raise Fault("it has no record, so nothing was migrated into it", Reason.UNDO, place=root)
     observer.total += 1
     with Record.open(root, not options.dry) as record:
         observer.begin()
@@ -328,7 +326,7 @@ def remove_file(mailbox: Mailbox, path: bytes, digest: bytes, dry: bool) -> Opti
     None if it is gone, or changes meanwhile. A symbolic link has no digest."""
     try:
         before, found, now = os.lstat(path), digest_of(path)[0], os.lstat(path)
-        if any(getattr(now, sign) != getattr(before, sign) for sign in SIGNS):
+        if any(getattr(now, sign) != getattr(before, sign) for sign in SIGNS_OF_FILE):
             return None
         if found == digest and not dry:
             want_same(mailbox)
@@ -373,7 +371,7 @@ def undo_prepared(
     row; None if nothing is prepared there, or a list that is there does not count."""
     try:
         name = folder if folder is not None else prepared_from(root, path)
-        return None if name is None else undone(record, path, name, dry, say)
+        return None if name is None else remove_prepared(record, path, name, dry, say)
     except (Fault, OSError) as fault:
         return row_left(path, folder or b"", fault)
 

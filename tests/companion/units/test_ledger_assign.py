@@ -11,9 +11,9 @@ C, D = b"c" * 16, b"d" * 16
 A, B = b"a", b"b"
 
 
-def line(name: bytes, number: int, path: str = BOX, is_new: bool = False, state: State = State.HELD) -> Line:
+def line(name: bytes, number: int, path: str = BOX, was_nowhere: bool = False, state: State = State.HELD) -> Line:
     """A line of a mailbox."""
-    return Line(path, state, Brought(PLACED if is_new else SHARED, name, C, C), number, is_new)
+    return Line(path, state, Brought(PLACED if was_nowhere else SHARED, name, C, C), number, was_nowhere)
 
 
 def seen(lines: Sequence[Line], *there: bytes) -> list[tuple[list[int], bool]]:
@@ -23,12 +23,12 @@ def seen(lines: Sequence[Line], *there: bytes) -> list[tuple[list[int], bool]]:
 
 class FilesTest(unittest.TestCase):
     def test_all_lines_with_a_name(self) -> None:
-        several = [line(A, 1, is_new=True), line(A, 2, OTHER), line(B, 3)]
+        several = [line(A, 1, was_nowhere=True), line(A, 2, OTHER), line(B, 3)]
         self.assertEqual(seen(several, A), [([2, 1], True), ([3], False)])
 
     def test_a_name_that_was_placed_again(self) -> None:
         """Lines between the two are about the first file, and later ones about the second one."""
-        several = [line(A, 1, is_new=True), line(A, 2, OTHER), line(A, 3, OTHER, True), line(A, 4, THIRD)]
+        several = [line(A, 1, was_nowhere=True), line(A, 2, OTHER), line(A, 3, OTHER, True), line(A, 4, THIRD)]
         self.assertEqual(seen(several, A), [([4, 3], True), ([2, 1], False)])
 
     def test_a_name_that_a_mailbox_has_several_times(self) -> None:
@@ -67,7 +67,7 @@ class OffersTest(unittest.TestCase):
             line(names[1], 2, state=State.FORMER),
             line(names[2], 3, OTHER),
             line(names[3], 4, OTHER, state=State.FORMER),
-            line(names[4], 5, is_new=True, state=State.OPEN),
+            line(names[4], 5, was_nowhere=True, state=State.OPEN),
             line(names[5], 6, OTHER, state=State.OPEN),
         ]
         files = [nobodys(names[6], C, C), *files_of(several, [*names[:2], *names[3:5]])]
