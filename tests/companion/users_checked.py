@@ -57,12 +57,13 @@ def spool_of_three(home: Path) -> None:
         theirs(mailbox(home / "spool" / name, (ONE, TWO, THREE)[number]), name)
     for name, text in (("lists/sheds", ONE + TWO), ("sent", ONE), (".subscriptions", b"sent\n"), ("empty", b"")):
         theirs(mailbox(home / "homes/m61two/mail" / name, text), "m61two")
-    equal("migrate", run("migrate --users --now --tree mail spool", home)[0], 0)
+    equal("migrate", run("migrate --users --now --dovecot --tree mail spool", home)[0], 0)
 
 
 def each_reason(home: Path) -> None:
-    """The last block names each mailbox that is not whole, and why. What has no mail has a line only with --all.
-    Objects and reports follow the schema."""
+    """The last block names each mailbox that is not whole, and why. The command for one that was not migrated has
+    --dovecot, as the others had. What has no mail has a line only with --all. Objects and reports follow the
+    schema."""
     want_users()
     with users(home):
         spool_of_three(home)
@@ -84,7 +85,10 @@ def each_reason(home: Path) -> None:
                 "m61two mail/lists/sheds -> lists/sheds": "other bytes 1; doubles 1",
             },
         }
-        equal("the groups", {one.word: one.rows for one in groups_in(out)}, wanted)
+        groups = {one.word: one for one in groups_in(out)}
+        equal("the groups", {word: one.rows for word, one in groups.items()}, wanted)
+        command = f"runuser -u m61two -- mbox2maildir-admin migrate --dovecot {two}/Maildir {two}/mail"
+        equal("what migrates the new one", groups["no-maildir"].commands, [command])
         counts = "1 double, 1 nowhere, 1 other-bytes, 1 other-owner"
         says = f"7 mailboxes: 2 whole, 3 not whole ({counts}), 2 left, of 3 users"
         equal("the sum", out.splitlines(True)[-1], sums % says)

@@ -19,6 +19,7 @@ from ..migration.places import Planned, recorded
 from ..migration.trees import Tree
 from ..nexts import Runs, Task, Todo, run_next
 from ..progress import say_of
+from ..readings.reading import Reading
 from ..readings.texts import content_of, disk_of
 from ..readings.verdict import look_at
 from ..terminal import complain, named, operand
@@ -89,7 +90,7 @@ def for_mailboxes(maildir: bytes, path: bytes, task: Callable[[bytes, bytes], bo
         # what was named may be a folder of a Maildir: then that is the one that has its mail
         is_root = root_of(maildir) == maildir
         folder = recorded(Planned(path, INBOX), record).folder_in(maildir) if is_root else maildir
-        with of_folder(folder, maildir, path):
+        with of_folder(folder, maildir, path, record):
             return task(folder, path)
     with Record.open(maildir, False) as record:
         tree, plan = read_tree(path, maildir, record)
@@ -113,7 +114,7 @@ def for_planned(
         left = left_out(file, maildir, record, tell)
         rows.extend([left] if left else [])
         folder = planned.folder_in(maildir)
-        with of_folder(folder, maildir, path):
+        with of_folder(folder, maildir, path, record):
             return bool(left) or task(folder, file)
 
     right = [each([one.target or one.path], functools.partial(do_task, one), tell) for one in plan]
@@ -121,14 +122,16 @@ def for_planned(
 
 
 @contextlib.contextmanager
-def of_folder(folder: bytes, maildir: bytes, path: bytes) -> Iterator[None]:
-    """If a folder of a Maildir is missed in here, raises Fault, with the command that migrates a path."""
+def of_folder(folder: bytes, maildir: bytes, path: bytes, record: History) -> Iterator[None]:
+    """If a folder of a Maildir is missed in here, raises Fault, with the command that migrates a path as the Maildir's
+    other mailboxes were: with --dovecot if one of them was."""
     try:
         yield
     except FileNotFoundError as fault:
         if not type_at(path) or is_folder(os.path.join(folder, b"new")):
             raise
-        then = run_next(Runs.MIGRATE, operand(maildir), operand(path))
+        is_bare = any(Reading.of_words(line.plan).bare for line in record.lines())
+        then = run_next(Runs.MIGRATE, *["--dovecot"] * is_bare, operand(maildir), operand(path))
         raise Fault("it was not migrated: %s is no Maildir" % named(folder), Reason.NO_MAILDIR, then) from fault
 
 
