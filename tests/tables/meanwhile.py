@@ -165,6 +165,17 @@ STORIES: dict[str, list[Step]] = {
         ("migrate M old", "old/a: done before...\nold/b: done: 2 messages of it went into a too, from old/a"),
         "= a/one a/three a/two b/one b/two",
     ],
+    # the folder that a human gave it holds for mail that comes later, even if it was removed, and for the way back
+    "an_empty_mailbox_was_given_a_folder": [
+        *(("old/a", b""), "migrate --folder X M old/a", ("migrate M old", "old/a: done before"), "!rm -r M/.X"),
+        *(("verify M old/a", "old/a: whole"), ("old/a", ONE), ("migrate M old", "old/a: done"), "= X/one"),
+        *("migrate --undo M old/a", "migrate M old/a", ("old/b", b""), "migrate --folder Y M old/b", "= one"),
+        *(
+            "!cp M/new/* M/.Y/new/1.host",
+            ("back M old/a old/b", "old/a: nothing new\nold/b: back"),
+            "!grep -q 'Subject: one' old/b",
+        ),
+    ],
     "a_human_chose_the_folder_of_another": [
         *(("old/a", ONE), ("old/a.mbox", TWO), "migrate --folder a M old/a.mbox"),
         ("migrate M old", "old/a.mbox: done before\nold/a: left (no-folder): another mailbox goes into a too"),

@@ -72,7 +72,7 @@ class Places:
             yield from Tree(name, self.root).read().placed(self.record, self.root, set())
             return
         one = recorded(Planned(name, INBOX), self.record)
-        is_known = bool(self.record.folders_of(name)) or not is_file(name)
+        is_known = bool(self.record.folders_given(name)) or not is_file(name)
         yield one if is_known else one._replace(folder=self.folder_of_moved(name))
 
     def folder_of_moved(self, path: bytes) -> bytes:

@@ -12,6 +12,7 @@ from ..ledger.history import History, Note
 from ..ledger.record import Record
 from ..looks import is_folder, type_at
 from ..maildir.folders import INBOX
+from ..mbox.files import is_empty
 from ..mbox.mailbox import Mailbox
 from ..migration.answers import is_passed_over
 from ..migration.outcomes import BY_RECORD, Fate, Observer, Row
@@ -87,8 +88,9 @@ def for_mailboxes(maildir: bytes, path: bytes, task: Callable[[bytes, bytes], bo
         left = left_out(path, maildir, record, tell) if record.noting(Note.NO_MAIL, INBOX, path) else None
         if left:
             return say_left_out([left], tell)
-        # what was named may be a folder of a Maildir: then that is the one that has its mail
-        is_root = root_of(maildir) == maildir
+        # what was named may be a folder of a Maildir: then that is the one that has its mail; an empty mailbox may have
+        # none any more
+        is_root = root_of(maildir) == maildir and not is_empty(path)
         folder = recorded(Planned(path, INBOX), record).folder_in(maildir) if is_root else maildir
         with of_folder(folder, maildir, path, record):
             return task(folder, path)

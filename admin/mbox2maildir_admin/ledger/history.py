@@ -133,6 +133,8 @@ class History:
         self._texts: collections.defaultdict[tuple[int, str], dict[tuple[bytes, str], Entry]] = collections.defaultdict(
             dict
         )
+        # the last folder that a path had with a mailbox of no byte, until that has a step
+        self._empty: dict[str, bytes] = {}
         # the mailbox that a folder was prepared from last, until something of the folder is done
         self._prepared: dict[bytes, Entry] = {}
         # whether anything was ever prepared
@@ -148,6 +150,7 @@ class History:
             self._index[folder].pop(entry.path, None)
             self._index[folder][entry.path] = entry
             self._folders[entry.path].pop(folder, None)
+            self._empty.pop(entry.path, None)
             self.forget_notes(folder, entry.path, Note.FOUND)
         if entry.what is Step.UNDONE:
             self.forget_notes(folder, entry.path, Note.NUMBERED, Note.ANSWERED)
@@ -160,6 +163,7 @@ class History:
             self.forget_notes(folder, entry.path, *([Note.EMPTY] if entry.messages else []))
         else:
             self._notes[entry.what, folder].append(entry)
+            self._empty.update({entry.path: folder} if entry.what is Note.EMPTY else {})
         if entry.what is Note.PREPARED:
             self._prepared[folder], self.has_prepared = entry, True
         elif entry.what in (Note.UNPREPARED, Step.DONE):
@@ -229,6 +233,13 @@ class History:
     def folders_with(self, names: Iterable[str]) -> list[bytes]:
         """The folders in which one of some paths has a step, the last one at the end."""
         return list(dict.fromkeys(folder for name in names for folder in self._folders.get(name, {})))
+
+    def folders_given(self, path: bytes) -> list[bytes]:
+        """The same or, if a mailbox has brought nothing, the folder that it was given last. INBOX is not given: a file
+        without a folder gets it."""
+        names = names_of(path)
+        given = [self._empty[name] for name in names if self._empty.get(name, INBOX) != INBOX]
+        return self.folders_with(names) or given[:1]
 
     def lines(self) -> Iterator[Entry]:
         """The lines about the mailboxes of all folders."""

@@ -69,7 +69,7 @@ class Planned(NamedTuple):
 def recorded(one: Planned, record: History) -> Planned:
     """A mailbox with the folder of a Maildir in which its record has it last; or why it goes nowhere."""
     try:
-        folders = record.folders_of(one.path)
+        folders = record.folders_given(one.path)
     except (Fault, OSError) as fault:
         return one.left(fault_of(fault, one.path))
     if not folders or folders[-1] == one.folder:
