@@ -17,7 +17,7 @@ BELOW = with_length(B.split(b"\n", 1)[0] + b"\n", b"yes\n>From y\n") + b"\n"
 LINES = A + b"\n>From x\nFrom the first\nhello\n\n" + B + b"\n"
 QUOTED = A + b"\n>>From x\n\n" + TWO
 OTHER_WORDS = "!sed -i 's/\\tmbox\\(rd\\|cl2\\)\\t/\\tnone\\1\\t/' M/mbox2maildir-messages"
-ASKED = "a: left (unclear): ..."
+ASKED, AGAIN = "a: left (unclear): ...", "as it was answered before"
 GREW = "a: done: as the messages show that it brought; it grew by 1 message"
 
 # what a mailbox has brought without a question, what it has then, and what its row says
@@ -40,7 +40,8 @@ BROUGHT = {
     "what_ends_and_begins_there_is_there": (BOTH + ABOVE + BELOW, BOTH + ABOVE + BELOW + NEW, "a: done: ..."),
     "what_ends_and_begins_there_is_gone": (BOTH + ABOVE + BELOW, BOTH + NEW, ASKED),
 }
-FIRST, NOTED = "migrate --prepare --unread M a", A + b"\nhello\n\nFrom here on.\n\n"
+FIRST_OF, NOTED = "migrate --prepare --unread", A + b"\nhello\n\nFrom here on.\n\n"
+FIRST, MORE = f"{FIRST_OF} M a", NOTED + ONE + NOTED.replace(b"here on", b"there")
 # the words of an answer in the record, of which `@` stands for the tie, and what the next pass says
 NOTES = {
     "unquoted of=@": "a: prepared: as it was answered before; 1 prepared before",
@@ -119,8 +120,22 @@ STORIES: dict[str, list[Step]] = {
         *killed("migrate --prepare --unread --as unquoted M b"),
         ("migrate --prepare --unread M b", "b: prepared: as it was answered before; 2 prepared before"),
     ],
+    # a word for several changes no answer about one of them until a line comes, and answers no later word
+    "an_answer_about_one_and_words_for_several": [
+        *(("old/a", NOTED), ("old/b", NOTED), f"{FIRST_OF} M old", (">", "old/a: prepared")),
+        (f"{FIRST_OF} --as mboxo M old", f"old/a: prepared: {AGAIN}; 1 ...\nold/b: left (unclear): ..."),
+        (f"{FIRST_OF} --as mboxrd --folder a M old/a", "old/a: prepared: 0 prepared before, 1 message removed..."),
+        ("old/a", NOTED + ONE),
+        (f"{FIRST_OF} --as unquoted M old", f"old/a: prepared: {AGAIN}; 2 ...\nold/b: prepared"),
+        (f"{FIRST_OF} --as mboxo M old", f"old/a: prepared: {AGAIN}; 3 ...\nold/b: left (unclear): ..."),
+        *(("old/a", MORE), ("migrate --as unquoted M old", "old/a: left (unclear): ...\nold/b: done: ...")),
+        *(("old/a", NOTED + TWO), ("migrate --as unquoted M old", f"old/a: done: {AGAIN}; ...\nold/b: done before")),
+        ("old/a", NOTED + TWO + ONE),
+        ("migrate --as unquoted M old", f"old/a: done: {AGAIN}; it grew by 1 ...\nold/b: done before"),
+        "= a/- a/one a/one a/two b/one",
+    ],
     "an_answer_and_another_line": [
-        *(("a", NOTED), "migrate --as unquoted M a", ("a", NOTED + ONE + NOTED.replace(b"here on", b"there"))),
+        *(("a", NOTED), "migrate --as unquoted M a", ("a", MORE)),
         ("migrate M a", ASKED),
     ],
 }

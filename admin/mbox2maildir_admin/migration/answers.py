@@ -49,8 +49,10 @@ def note_answer(record: Record, opened: Opened, plan: Plan) -> None:
     """Notes what was decided about a mailbox, with what it was given for, unless that is noted last of the mailbox
     anyhow."""
     name, mailbox = opened.name, opened.mailbox
-    before = [entry.plan for entry in record.noting(Note.ANSWERED, name, mailbox.path)]
-    if plan.answer and before[-1:] != [plan.answer.words()]:
+    before = record.noting(Note.ANSWERED, name, mailbox.path)
+    last = Reading.of_words(before[-1].plan) if before else UNDECIDED
+    # an answer for several mailboxes that says the same takes nothing away
+    if plan.answer and plan.answer not in (last, last._replace(alone=False)):
         record.add(Note.ANSWERED, Key(name, *mailbox.key()), plan.messages, mailbox.path, plan.answer.words())
 
 
@@ -61,11 +63,13 @@ def answers_for(record: Record, opened: Opened) -> list[Entry]:
     return [entry for one in paths for entry in record.noting(Note.ANSWERED, opened.name, one)]
 
 
-def noted_last(record: Record, opened: Opened) -> Reading:
-    """What was decided last about a mailbox, with its lines by their order among those that were doubtful."""
+def noted_last(record: Record, opened: Opened, given: Reading) -> Optional[Reading]:
+    """What was decided last about a mailbox, with its lines by their order among those that were doubtful. Beside what
+    is given now for several mailboxes, it counts if it was decided about this one, and otherwise."""
     several = answers_for(record, opened)
-    last = Reading.of_words(several[-1].plan).decided if several else UNDECIDED
-    return UNDECIDED if last == UNDECIDED else last._replace(noted=True)
+    last = Reading.of_words(several[-1].plan) if several else UNDECIDED
+    is_other = last.alone and last._replace(of=given.of, alone=False) != given
+    return last if last != UNDECIDED and (given == UNDECIDED or not given.alone and is_other) else None
 
 
 def answer_to(record: Record, opened: Opened, question: Question) -> Optional[Reading]:
@@ -75,7 +79,7 @@ def answer_to(record: Record, opened: Opened, question: Question) -> Optional[Re
     for entry in reversed(answers_for(record, opened)):
         answer = Reading.of_words(entry.plan)
         names = answer.text | answer.begin
-        is_whole = answer == answer.decided and (answer.word or answer.drop and not names)
+        is_whole = answer._replace(alone=True) == answer.decided and (answer.word or answer.drop and not names)
         if is_whole and answer.of == tie and names <= set(lines):
             return question.tied(renumbered(answer, lines))
     return None

@@ -259,10 +259,12 @@ class Transfer:
             if before:
                 words, more = before
                 return Outcome(self.row_before(words, count_in(self.ledger, self.path), more))
-        if self.how.decision != UNDECIDED:
-            return None
         given = question.by_tie(self.how.answer)
         answer = given or answer_to(self.record, self.opened, question)
+        # what is decided about several does not decide what was asked about one
+        is_kept = not self.how.decision.alone and answer is not None and answer.alone
+        if self.how.decision != UNDECIDED and not is_kept:
+            return None
         decision = answer or answer_shown(self.how, self.known, question)
         if not decision:
             return None
@@ -279,11 +281,10 @@ class Transfer:
         if part:
             yield part
             return
-        mailbox, is_bare, decision = self.opened.mailbox, self.how.extra.IS_BARE, self.how.decision
-        if decision == UNDECIDED:
-            decision = noted_last(self.record, self.opened)
+        mailbox, is_bare, given = self.opened.mailbox, self.how.extra.IS_BARE, self.how.decision
+        decision = given._replace(noted=noted_last(self.record, self.opened, given))
         with choice_at_once(self.program, mailbox, self.disk, decision, is_bare) as choice:
-            self.remarks += [AS_ANSWERED] * (decision.noted and choice.plan.answer is not None)
+            self.remarks += [AS_ANSWERED] * (given == UNDECIDED and choice.plan.answer is not None)
             yield Part(choice, functools.partial(self.read, choice), mailbox.size)
 
     def try_to_bring(self, part: Part) -> Outcome:

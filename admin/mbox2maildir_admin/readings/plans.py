@@ -139,17 +139,24 @@ def plan_of(mailbox: Mailbox, read: Read = Look.read, decision: Reading = UNDECI
     if verdict.recipe:
         left, first = NotKnown if verdict.holds == Holds.UNKNOWN else OtherKind, next(iter(verdict.remarks), None)
         raise left(mailbox.path, first, verdict.recipe, REASONS[verdict.holds], verdict.kind)
-    if decision.noted:
-        verdict = with_noted(verdict, decision)
-        decision = UNDECIDED if decision.of or verdict.answers or not decision.word else decision
+    noted, decision = decision.noted, decision._replace(noted=None)
+    if noted and (decision == UNDECIDED or is_about(verdict, noted)):
+        verdict = with_noted(verdict, noted)
+        decision = UNDECIDED if noted.of or verdict.answers or not noted.word else noted
     if decision.of:
         want_tied(verdict, decision)
     plan = planned(verdict, decision)
     if not verdict.answers or decision == UNDECIDED:
         return plan
     order = {line: Line(number) for number, line in enumerate(verdict.doubtful(), 1)}
-    answer = renumbered(decision.decided, order)._replace(of=verdict.tied(UNDECIDED).of)
+    answer = renumbered(decision.decided, order)._replace(of=verdict.tied(UNDECIDED).of, alone=decision.alone)
     return plan._replace(answer=answer)
+
+
+def is_about(verdict: Verdict, noted: Reading) -> bool:
+    """Whether something is asked, and what was decided before is about that, or about the first lines in question."""
+    ties = verdict.look.doubts.ties(verdict.kind)
+    return bool(verdict.answers) and noted.of in (ties.messages, *ties.first)
 
 
 def with_noted(verdict: Verdict, noted: Reading) -> Verdict:
@@ -250,7 +257,8 @@ def plan_by(verdict: Verdict, reading: Reading, decision: Reading, kind: str) ->
         reading = reading._replace(drop=True, dropped=counts.deleted)
     messages, is_copied = counts.messages - reading.dropped, wants_copy(reading, counts)
     # where no message has a mark, nothing is said of deleted mail
-    answer = Reading(decision.word, drop=decision.drop) if decision.word or counts.marked else None
+    is_said = decision.word or counts.marked
+    answer = Reading(decision.word, drop=decision.drop, alone=decision.alone) if is_said else None
     return Plan(kind, messages, verdict.start, reading, is_copied, tuple(says), answer)
 
 

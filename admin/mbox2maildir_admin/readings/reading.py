@@ -24,13 +24,16 @@ BY_LENGTHS = MBOXCL, MBOXCL2
 # line ends of CR LF, in the messages whose From_ line has them, and of CR alone in all of the text
 CRLF, CR = "crlf", "cr"
 DROP, BARE = "drop-deleted", "dovecot"
+# what is said in a record of an answer for several mailboxes
+SEVERAL = "several"
 
 
 class Reading(NamedTuple):
     """How a text is read. A human decides the first fields: the word, or none if it is certain; the lines that are text
     and those that begin messages; the tie to what this was decided about; and whether mail is left out that Thunderbird
     marked as deleted. That is everything about one mailbox that was named; of several mailboxes, it decides only about
-    those that do not contradict it. What an earlier run has noted decides nothing that is asked now.
+    those that do not contradict it. What an earlier run has noted decides nothing that is asked now; beside a decision
+    on several mailboxes, it counts for what was asked about one.
 
     The text shows its line ends, if they are not LF, and how many messages are left out. Besides, one of several
     folders may get a part of the messages, and header fields may be left out that mail programs wrote for themselves.
@@ -46,7 +49,7 @@ class Reading(NamedTuple):
     dropped: int = 0
     part: str = ""
     bare: bool = False
-    noted: bool = False
+    noted: Optional["Reading"] = None
 
     @property
     def decided(self) -> "Reading":
@@ -70,7 +73,8 @@ class Reading(NamedTuple):
         of_human = {"text": numbers(self.text), "begin": numbers(self.begin), "of": self.of}
         pairs = {**of_human, "dropped": str(self.dropped or ""), "labels": self.part}
         named = ("%s=%s" % pair for pair in pairs.items() if pair[1])
-        return " ".join(filter(None, [self.word, *named, self.ends, DROP * self.drop, BARE * self.bare]))
+        marks = DROP * self.drop, BARE * self.bare, SEVERAL * (not self.alone)
+        return " ".join(filter(None, [self.word, *named, self.ends, *marks]))
 
     @classmethod
     def of_words(cls, words: Optional[str]) -> "Reading":
@@ -84,7 +88,7 @@ class Reading(NamedTuple):
             return cls()
         word = several[0] if several[0] in WORDS else ""
         ends = next((one for one in (CRLF, CR) if one in named), "")
-        found = cls(word, text, begin, named.get("of", ""), DROP in named, True, ends, dropped)
+        found = cls(word, text, begin, named.get("of", ""), DROP in named, SEVERAL not in named, ends, dropped)
         found = found._replace(part=named.get("labels", ""), bare=BARE in named)
         return found if found.words() == words else cls()
 

@@ -234,7 +234,7 @@ def choice_at_once(
     """The same, with the messages if they can be read in the pass in which the text is looked at."""
     at_once = AtOnce(program)
     read: Read = at_once.read
-    if is_bare or decision.word:
+    if is_bare or decision.word or decision.noted:
         read = Look.read
     with choice_of(mailbox, folder, read, decision) as choice:
         yield choice._replace(plan=choice.plan.bared(is_bare), known=at_once.known)
