@@ -1,9 +1,11 @@
 #!/usr/bin/env -S python3 -B
 """mbox2maildir-admin back, in stories. Random histories are worlds of tests/companion/worlds.py."""
+import shutil
 from collections.abc import Callable
 
 from tests.support.archives import Home, letters, mail_of, number_of, run_rules
 from tests.support.cases import Failed
+from tests.support.checks import equal
 
 
 def goes_back(home: Home, why: str, *numbers: int) -> None:
@@ -73,7 +75,35 @@ def a_mailbox_that_has_more(home: Home) -> None:
         home.has(0, 1, 2)
 
 
-RULES = a_name_that_was_placed_again, names_that_no_line_can_have, a_mailbox_that_has_more
+def a_profile_of_thunderbird(home: Home) -> None:
+    """Mail of a new folder stays in the Maildir, since Thunderbird and `migrate` would not look for it in the profile.
+    Another folder gets it, wherever that is named."""
+    home.begin("--jobs", "1")
+    home.write("T/profiles.ini", b"")
+    home.write("T/x.default/prefs.js", b"")
+    home.write("T/x.default/Mail/Local Folders/Inbox", letters(0))
+    home.done("T")
+    for sub in ("tmp", "new", "cur"):
+        (home.folder("New") / sub).mkdir(parents=True)
+    home.place_file("17000.1.host:2,", mail_of(letters(1))[0], "New")
+    (home.path / "OLD").mkdir()
+    home.place.own(*home.path.rglob("*"))
+    for profile in ("T", "T/x.default", "T/x.default/Mail/Local Folders"):
+        ran = home.place.run(["back", "--json", "--now", "M", profile])
+        there = [row["reason"] for row in ran.rows], [*(home.path / "T").rglob("New")]
+        equal(f"{profile}: {ran.output}", (ran.status, *there), (1, [None, "no-mailbox"], []))
+    equal("with another", home.place.run(["back", "--json", "--now", "M", "T", "OLD"]).status, 0)
+    shutil.rmtree(home.maildir)
+    home.done("T", "OLD")
+    home.has(1, name="New")
+
+
+RULES = (
+    a_name_that_was_placed_again,
+    names_that_no_line_can_have,
+    a_mailbox_that_has_more,
+    a_profile_of_thunderbird,
+)
 
 if __name__ == "__main__":
     run_rules({rule.__name__: rule for rule in RULES})

@@ -307,7 +307,7 @@ def where_it_goes(home: Home) -> None:
     box.unlink()
     want_left(home, "a mailbox that is gone", "missing")
     for what, reason, names in (
-        ("no folder of mailboxes", "has no mailbox: name the folder of the old mailboxes too", ["mail/a"]),
+        ("no folder of mailboxes", "has no mailbox: name a folder for new mailboxes too", ["mail/a"]),
         ("no inbox", "INBOX has no mailbox: name the one of the inbox too", ["mail"]),
         ("no name", "no name is free for a new mailbox", ["mail", "spool"]),
     ):

@@ -254,6 +254,13 @@ def tree_elsewhere(home: Path) -> None:
         (own / "mail.old").rename(own / "mail")
         expect([*WORDS, "m61two"], home, 0, None)
         equal("the text", rest_of(b"", own / "mail/garden"), BACK)
+        deliver(home, "m61two", ".shed")
+        theirs(mailbox(own / "mail/prefs.js", b""), "m61two")
+        (own / "mail/Mail").mkdir()
+        out = run([*WORDS, "m61two"], home)[1]
+        equal(
+            f"in a profile of Thunderbird: {out}", "left (no-mailbox): shed has no mailbox: name a folder" in out, True
+        )
 
 
 def second_mailbox(home: Path) -> None:

@@ -3,7 +3,7 @@ else the one of the folder's name; else a new one. And who makes that, and FILE.
 import collections
 import contextlib
 import os
-from collections.abc import Iterable, Iterator, Sequence
+from collections.abc import Iterable, Sequence
 from contextlib import AbstractContextManager
 from typing import NamedTuple, Optional
 
@@ -30,7 +30,7 @@ from ..migration.trees import Tree
 from ..readings.copies import COMPRESSED
 from ..terminal import named, text_of
 
-NO_TREE = "%s has no mailbox: name the folder of the old mailboxes too, in which one is made for it"
+NO_TREE = "%s has no mailbox: name a folder for new mailboxes too, such as that of the old ones (not Thunderbird's)"
 TREE_GONE = "%s has no mailbox, and the folder of the others is not there: %s"
 NO_INBOX = "INBOX has no mailbox: name the one of the inbox too, such as /var/mail/NAME, even if it is not there"
 GONE = "its mailbox is gone: %s"
@@ -54,7 +54,9 @@ class Places:
 
     def __init__(self, root: bytes, record: Record, names: Names) -> None:
         self.root, self.record, self.names = root, record, names
-        self.trees = list(filter(is_folder, names.paths))
+        trees = {name: Tree(name, root).read() for name in filter(is_folder, names.paths)}
+        # in its own, Thunderbird alone knows where it would look for a new mailbox
+        self.trees = [name for name, tree in trees.items() if not tree.profiles.found]
         # none is made where folders came from mailboxes: it would be in the way of these, which are elsewhere
         has_folders = any(one.key.folder != INBOX for one in record.lines())
         if not self.trees and names.tree and not is_there(names.tree) and not has_folders:
@@ -62,18 +64,15 @@ class Places:
         # by folders, as they are named on the disk: the mailboxes, in the order of the names
         self.found: collections.defaultdict[bytes, list[bytes]] = collections.defaultdict(list)
         for name in names.paths:
-            for one in self.planned(name):
+            for one in trees[name].placed(record, root, set()) if name in trees else [self.planned(name)]:
                 if one.folder:
                     self.found[one.folder].append(one.target or one.path)
 
-    def planned(self, name: bytes) -> Iterator[Planned]:
-        """The mailboxes at a path, with their folders."""
-        if is_folder(name):
-            yield from Tree(name, self.root).read().placed(self.record, self.root, set())
-            return
+    def planned(self, name: bytes) -> Planned:
+        """A mailbox that was named, with its folder."""
         one = recorded(Planned(name, INBOX), self.record)
         is_known = bool(self.record.folders_given(name)) or not is_file(name)
-        yield one if is_known else one._replace(folder=self.folder_of_moved(name))
+        return one if is_known else one._replace(folder=self.folder_of_moved(name))
 
     def folder_of_moved(self, path: bytes) -> bytes:
         """The folder of a mailbox that the record does not know by its path: the one whose ledger shows that it is the
@@ -107,7 +106,7 @@ class Places:
 
     def new(self, folder: bytes, paths: Sequence[str]) -> bytes:
         """The new mailbox of a folder, in the first tree."""
-        if not self.trees and self.names.tree:
+        if not self.trees and self.names.tree and not is_there(self.names.tree):
             raise Left(TREE_GONE % (folder_shown(folder), named(self.names.tree)), Reason.MISSING)
         if not self.trees:
             raise Left(NO_TREE % folder_shown(folder), Reason.NO_MAILBOX)
