@@ -13,13 +13,12 @@ from pathlib import Path
 from typing import Any
 
 from tests.support.checks import LATER, equal
-from tests.support.copies import Copies
+from tests.support.copies import Copies, Meanwhile
 from tests.support.homes import by_json, check_all, expect, fake, mailbox, restore
 from tests.support.mail import A, B, ONE, TWO
 from tests.support.processes import wait_for
 from tests.support.running import BY_OTHERS, Row, Run
 
-WAITS = "waiting {} seconds, because it changed a moment ago"
 KEEPS_CHANGING = "it keeps changing: stop the program that writes to it, and run this again"
 LOCKED = "another program has locked it: wait, or stop that program"
 # what a disk says that has no locks, and why a mailbox is left for what another error says
@@ -29,6 +28,7 @@ OTHER_ERRORS = errno.EIO, errno.EINVAL, errno.ESTALE
 # if it keeps changing, and how long that takes: the last minute is a quiet one, and all of it is five minutes at most
 QUIET: list[tuple[float, Sequence[float], object, tuple[float, float]]] = [
     (60, [], 1, (0, 0)),
+    (59.5, [], 1, (0.5, 0.6)),
     (58, [], 1, (2, 3)),
     (-3600, [], 1, (0, 0)),
     (10, [20.5, 40.5], 3, (100.5, 102)),
@@ -152,7 +152,7 @@ def quiet(home: Path) -> None:
         else:
             equal(f"{age}: {ran.output}", (ran.status, row["reason"], row["says"]), (LATER, "changed", KEEPS_CHANGING))
         said = [line for line in ran.err.split("\n") if "waiting" in line]
-        equal(f"{age}: what is said once: {said}", len(said), 1 if slept and slept < 60 else len(said))
+        equal(f"{age}: what is said once: {said}", len(said), int(slept > 1) if slept < 60 else len(said))
 
 
 def errors(home: Path) -> None:
@@ -267,6 +267,18 @@ def rehearsed(home: Path) -> None:
         equal(words, row_of(by_json(f"back {words} M old", home))["reason"], "locked")
 
 
+def after_a_kill(home: Path) -> None:
+    """A mailbox that a killed `back` has written to a moment ago is waited for, and it is said once for how long."""
+    mailbox(home / "old/box", ONE)
+    expect("migrate --now M old", home, 0, None)
+    (home / "M/.box/new/1.h").write_bytes(b"Subject: new\n\nhello\n")
+    words = ["back", "--json", "M", "old"]
+    dies = Meanwhile(home, "os.remove", "mbox2maildir-back$", lambda _: os.kill(os.getpid(), signal.SIGKILL))
+    equal("it is killed", dies.run([*words, "--now"], BY_OTHERS).is_killed, True)
+    ran = Clocked(home, [], time.time()).run(words, BY_OTHERS)
+    equal(f"what is said: {ran.output}", (ran.status, ran.err.count("waiting")), (0, 1))
+
+
 def locks_of_back(home: Path) -> None:
     """A lock that another program takes away meanwhile, or makes its own, is not removed; where none can be made, and
     on a disk without locks, mail comes back too."""
@@ -305,5 +317,6 @@ if __name__ == "__main__":
         locked_for_ten_seconds,
         holes,
         rehearsed,
+        after_a_kill,
         locks_of_back,
     )

@@ -27,7 +27,7 @@ from ..program import Program
 from ..readings.texts import disk_of
 from ..readings.unnamed import copy_of, unnamed
 from ..terminal import first_of, named
-from ..units import Say, Size, counted, silent
+from ..units import Size, counted
 from .beside import Beside, Draft
 from .dialect import Client, Appended, Letter, Style, are_at, forms_of_letter, reading_now, styles_of
 from .mails import Mail, Target
@@ -79,29 +79,30 @@ class Way(NamedTuple):
         return numbering, Known(self.record, Ledger(opened.folder, dry=self.how.dry), opened)
 
     @contextlib.contextmanager
-    def opened(self, path: bytes, say: Say = silent) -> Iterator[Mailbox]:
+    def opened(self, path: bytes) -> Iterator[Mailbox]:
         """Opens a mailbox, and holds all of its locks."""
-        dry = self.how.dry
-        if dry and not is_there(path):
-            with Mailbox(path, os.open(os.devnull, os.O_RDONLY)) as mailbox:
-                yield mailbox
-            return
-        # root follows no symbolic link, which may lead anywhere
-        path = path if os.geteuid() == 0 else os.path.realpath(path)
-        with open_mailbox(path, say, False, not self.how.now, READING if dry else WRITING) as mailbox:
+        dry, say = self.how.dry, self.observer.say(path)
+        with contextlib.ExitStack() as stack:
+            stack.callback(self.observer.rest, named(path))
+            if dry and not is_there(path):
+                yield stack.enter_context(Mailbox(path, os.open(os.devnull, os.O_RDONLY)))
+                return
+            # root follows no symbolic link, which may lead anywhere
+            path = path if os.geteuid() == 0 else os.path.realpath(path)
+            kind = READING if dry else WRITING
+            mailbox = stack.enter_context(open_mailbox(path, say, False, not self.how.now, kind))
             if mailbox.state.st_uid != os.geteuid():
                 raise Left("it belongs to another user", Reason.OTHER_OWNER, task(Todo.AS_OWNER))
-            with contextlib.ExitStack() as stack:
-                if not dry:
-                    stack.enter_context(self.keeper.locked(mailbox, os.path.realpath(self.root)))
-                    mailbox.take_state()
-                if not os.path.samestat(os.stat(path), mailbox.state):
-                    raise Left(REPLACED, Reason.CHANGED)
-                yield mailbox
+            if not dry:
+                stack.enter_context(self.keeper.locked(mailbox, os.path.realpath(self.root)))
+                mailbox.take_state()
+            if not os.path.samestat(os.stat(path), mailbox.state):
+                raise Left(REPLACED, Reason.CHANGED)
+            yield mailbox
 
     def append(self, target: Target) -> Returned:
         """Appends to a mailbox what did not come from it. Raises TakesNothing if it takes none."""
-        with self.opened(target.path, self.observer.say(target.path)) as mailbox:
+        with self.opened(target.path) as mailbox:
             if line_of(self.record, mailbox):
                 # a message without labels would keep all others from their folders
                 raise TakesNothing("it is a Takeout in the folders of its labels", Reason.OTHER_KIND)
@@ -117,7 +118,7 @@ class Way(NamedTuple):
         row = nothing_new(target)
         if not self.how.dovecot or not is_file(target.path):
             return row
-        with self.opened(target.path, self.observer.say(target.path)) as mailbox:
+        with self.opened(target.path) as mailbox:
             numbering, known = self.say_numbers(target, mailbox)
             if numbering.is_incomplete:
                 # what cannot be read as it was is said once mail goes back

@@ -228,7 +228,6 @@ class Folders:
             # nobody else knows of a new one
             return way._replace(how=how._replace(now=how.now or is_missing)).append(target)
         except TakesNothing:
-            way.observer.rest(named(target.path))
             return None
         except (Fault, OSError) as fault:
             return left(target, fault), ()

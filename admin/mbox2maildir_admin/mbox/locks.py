@@ -77,7 +77,9 @@ def lock_quiet(mailbox: Mailbox, kind: Kind) -> None:
             continue
         if time.monotonic() > end:
             raise Left("it keeps changing: stop the program that writes to it, and run this again", Reason.CHANGED)
-        mailbox.say(WAITING + " %d seconds, because it changed a moment ago" % (seconds + 1))
+        if seconds > 1:
+            # a shorter wait is over before anybody has read of it
+            mailbox.say(WAITING + " %d seconds, because it changed a moment ago" % (seconds + 1))
         time.sleep(min(1, seconds + 0.01))
 
 
