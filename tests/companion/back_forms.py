@@ -309,19 +309,27 @@ def fields_of_programs(home: Home) -> None:
 
 
 def subscriptions(home: Home) -> None:
-    """The list of the tree gets those folders that have a mailbox there, and keeps what it had."""
-    house = House(home, {"spool": OLD, "mail/a": OLD, "mail/.subscriptions": b"a\nelsewhere\n"}, ["--dovecot"])
+    """The list of the tree gets those folders that have a mailbox there, and the mailboxes beside these. It keeps what
+    it had. It gets the same if a run was killed before it had all."""
+    boxes = {"spool": OLD, "mail/a": OLD, "mail/b": OLD, "mail/.subscriptions": b"a\nelsewhere\n"}
+    house = House(home, boxes, ["--dovecot"])
     for folder in (".new", ".lists.one"):
         house.deliver(PLAIN, folder)
+    for folder in ("", ".a", ".b"):
+        house.deliver([BLANK], folder)
     for folder in (".empty", ".stays"):
         house.deliver([], folder)
     house.deliver([JOINED], ".stays")
     with open(home.maildir / "subscriptions", "ab") as file:
         file.write(b"INBOX\nnew\nlists\tone\nempty\nstays\nnowhere\n")
-    ran = house.run("--dry-run"), house.run()
-    equal("the list", house.texts()["mail/.subscriptions"], b"a\nelsewhere\nINBOX\nnew\nlists/one\n")
+    ran = [house.run("--dry-run"), house.run()]
+    wanted = b"a\nelsewhere\nINBOX\nnew\nlists/one\ninbox-back\na-back\n"
+    equal("the list", house.texts()["mail/.subscriptions"], wanted)
+    home.write("mail/.subscriptions", b"a\nelsewhere\n")
+    ran.append(house.run())
+    equal("the list of another run", house.texts()["mail/.subscriptions"], wanted)
     says = [one.rows[-1]["remarks"][0]["says"] for one in ran]
-    equal("what is said", says, ["subscribed to 5 folders"] * 2)
+    equal("what is said", says, ["subscribed to 7 folders"] * 3)
 
 
 def numbered(keeper: Keeper, *numbers: int) -> bytes:

@@ -67,8 +67,8 @@ class Folders:
 
     def __init__(self, way: Way) -> None:
         self.way, self.places, self.is_dry = way, way.places, way.how.dry
-        # whether nothing is left, and the mailboxes to which mail would go back
-        self.is_right, self.would = True, set[bytes]()
+        # whether nothing is left, and the folders whose mail would go back, by the paths of their mailboxes
+        self.is_right, self.would = True, dict[bytes, bytes]()
 
     def run(self) -> Next:
         """Brings back the mail of each folder, and tells its row. Returns what moves the Maildir aside, once all of its
@@ -100,7 +100,7 @@ class Folders:
     def tell(self, row: Row) -> None:
         """Tells a row."""
         self.is_right = self.is_right and not row.left_for
-        self.would |= {row.path} if row.fate == Fate.WOULD_BACK else set()
+        self.would.update({row.path: row.folder} if row.fate == Fate.WOULD_BACK else {})
         self.way.observer.row(row)
 
     def drop_locks(self) -> None:

@@ -2,10 +2,12 @@
 import contextlib
 import os
 import stat
-from collections.abc import Container, Iterator
-from typing import Optional
+from collections.abc import Iterator, Mapping
 
 from ..faults import Fault, Left, Reason
+from ..ledger.history import names_of
+from ..ledger.ledger import Ledger
+from ..ledger.record import unspelled
 from ..looks import is_folder, is_there, state_at
 from ..maildir.folders import INBOX, folder_of_place, folder_path, on_disk
 from ..migration.dovecot import FORM, OLD_SUBSCRIPTIONS, SUBSCRIPTIONS, lines_of
@@ -23,35 +25,53 @@ Name = tuple[bytes, ...]
 
 
 class Lists:
-    """The two lists of names, the mailboxes by their folders, and the paths of those that a dry run would make."""
+    """The two lists of names, the mailboxes by their folders, and the folders whose mail would go back in a dry run, by
+    the paths of their mailboxes."""
 
-    def __init__(self, places: Places, would: Container[bytes]) -> None:
+    def __init__(self, places: Places, would: Mapping[bytes, bytes]) -> None:
         self.root, self.tree, self.places, self.would = places.root, places.trees[0], places, would
         self.old, self.has_tabs = names_in(os.path.join(self.tree, OLD_SUBSCRIPTIONS), b"/")
         self.new, _ = names_in(os.path.join(self.root, SUBSCRIPTIONS), b".")
 
     def names(self) -> list[Name]:
         """What the tree is to be subscribed to: the folders of the list of the Maildir that have a mailbox there, by
-        the name of that. If `migrate` wrote that list, what is missing there was unsubscribed, unless it is no folder.
-        What else the list of the tree has stays, as RFC 3501, 6.3.6 wants it, whether it is there or not."""
+        the name of that, and the mailboxes beside theirs and that of INBOX. If `migrate` wrote that list, what is
+        missing there was unsubscribed, unless it is no folder. What else the list of the tree has stays, as RFC 3501,
+        6.3.6 wants it, whether it is there or not."""
         old = {folder_of_old(name): name for name in reversed(self.old)}
         wanted = {folder_of(name): old.get(folder_of(name)) or self.name_of(name) for name in self.new}
         left = [name for name in self.old if folder_of_old(name) not in wanted]
         if self.places.record.has_subscriptions():
             left = [name for name in left if not is_folder(folder_path(self.root, folder_of_old(name)))]
         kept = [name for name in self.old if folder_of_old(name) in wanted or name in left]
-        return list(dict.fromkeys([*kept, *filter(None, wanted.values())]))
+        beside = [name for folder in dict.fromkeys([INBOX, *wanted]) for name in self.beside(folder)]
+        return list(dict.fromkeys([*kept, *filter(None, wanted.values()), *beside]))
 
-    def name_of(self, name: Name) -> Optional[Name]:
-        """The name of the mailbox for a folder; None if it has no mailbox in the tree. INBOX has one anywhere."""
+    def name_of(self, name: Name) -> Name:
+        """The name of the mailbox for a folder; empty if it has no mailbox in the tree. INBOX has one anywhere."""
         if folder_of(name) == INBOX:
             return name
         with contextlib.suppress(Left):
             path = self.places.of(folder_of(name))[0]
-            parts = os.path.relpath(path, self.tree).split(b"/")
-            if parts[0] != b".." and (path in self.would or is_there(path)):
-                return tuple(parts)
-        return None
+            if path in self.would or is_there(path):
+                return self.below(path)
+        return ()
+
+    def beside(self, folder: bytes) -> Iterator[Name]:
+        """The names of the mailboxes in the tree that got mail of a folder, and brought none. Without them, who is
+        subscribed to the folder would not see that mail."""
+        ledger = Ledger(folder_path(self.root, folder))
+        there = filter(is_there, map(unspelled, ledger.paths()))
+        for path in (*there, *(path for path, its in self.would.items() if its == folder)):
+            if self.below(path) and not any(name in ledger.begun for name in names_of(path)):
+                yield self.below(path)
+
+    def below(self, path: bytes) -> Name:
+        """The name of the mailbox at a path; empty if it has none in the tree."""
+        # a ledger has paths without symbolic links
+        trees = self.tree, os.path.realpath(self.tree)
+        names = (tuple(os.path.relpath(path, tree).split(b"/")) for tree in trees)
+        return next((name for name in names if name[0] != b".."), ())
 
     def text(self, names: list[Name]) -> bytes:
         """The list of the tree, in the form that it has, or in that of Dovecot."""
@@ -76,9 +96,9 @@ def folder_of_old(name: Name) -> bytes:
     return on_disk(folder_of_place(b"/".join(name).decode()))
 
 
-def rows_of(places: Places, is_dry: bool, would: Container[bytes]) -> Iterator[Row]:
-    """Writes the list of the first tree, and gives its row, if anything is to change in it. In a dry run, mail would go
-    back to the mailboxes at some paths."""
+def rows_of(places: Places, is_dry: bool, would: Mapping[bytes, bytes]) -> Iterator[Row]:
+    """Writes the list of the first tree, and gives its row, if anything is to change in it. In a dry run, mail of some
+    folders would go back to the mailboxes at these paths."""
     path = os.path.join(places.trees[0], OLD_SUBSCRIPTIONS)
     try:
         if not is_there(os.path.join(places.root, SUBSCRIPTIONS)):
