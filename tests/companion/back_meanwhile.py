@@ -8,7 +8,7 @@ from collections.abc import Callable
 from pathlib import Path
 from typing import NamedTuple, Optional
 
-from tests.support.archives import Home, letters, run_rules
+from tests.support.archives import Home, letter, letters, run_rules
 from tests.support.checks import LATER, equal
 from tests.support.homes import doing_first, fake
 from tests.support.running import BY_OTHERS, Run
@@ -87,10 +87,10 @@ MEANWHILE = {
 }  # fmt: skip
 
 
-def begun(home: Home, *mails: bytes) -> Path:
+def begun(home: Home, *mails: bytes, old: bytes = OLD) -> Path:
     """Migrates a mailbox, and lets mail come."""
     home.begin("--jobs", "1")
-    home.write("mail/a", OLD)
+    home.write("mail/a", old)
     home.done("mail")
     for number, mail in enumerate(mails):
         (home.folder("a") / f"new/{number}.M1.host").write_bytes(mail)
@@ -141,6 +141,7 @@ def unlinks(path, **where):
 os.unlink = unlinks
 """
 Edit = Callable[[bytes, bytes], bytes]
+BLOCK = 1 << 20
 FIRST_MAIL = b"From MAILER-DAEMON "
 # what a mailbox has then, by its old text and by what was appended, two messages; the line of a message that stays cut,
 # if one does; and whether all that follows the old text is taken back
@@ -164,19 +165,28 @@ LEFT: dict[str, tuple[Edit, Optional[int], bool]] = {
     "mail alone": (lambda old, new: old + OTHER, None, False),
     "mail after all of it": (lambda old, new: old + new + OTHER, None, False),
     "another end of a message": (lambda old, new: old + new.replace(b"\nmore\n", b"\nmire\n"), 12, False),
-    "bytes and NULs": (lambda old, new: old + new + b"\0x\0\n", None, False),
+    "a block of NULs, and bytes": (lambda old, new: old + new + bytes(BLOCK) + b"x\n", None, False),
+    "bytes, and a block of NULs": (lambda old, new: old + new + b"x\n" + bytes(BLOCK), None, False),
     "another beginning": (lambda old, new: old.replace(b"hello", b"hallo") + new[:-9], None, False),
     "less than before": (lambda old, new: old[:-3], None, False),
+}
+# the same of long mail, whose hole is in the first of several blocks
+LINES = b"%0511d\n" % 0 * (BLOCK >> 9)
+LEFT_LONG: dict[str, tuple[Edit, Optional[int], bool]] = {
+    "a hole in long mail": (lambda old, new: old + bytes(5) + new[5:], None, True),
+    "mail after a hole in long mail": (lambda old, new: old + bytes(5) + new[5:] + OTHER, 6 + (BLOCK >> 9), False),
 }
 
 
 def left(home: Home) -> None:
     """What it appended as a whole stays, and a part of it is taken back, unless others have written since."""
-    for what, (edit, line, is_ours) in LEFT.items():
-        box = begun(home, NEW, MORE)
+    for what, (edit, line, is_ours) in {**LEFT, **LEFT_LONG}.items():
+        lines = LINES * (what in LEFT_LONG)
+        old = letter(1, body=lines)
+        box = begun(home, NEW, MORE + lines, old=old)
         equal(f"{what}: it is killed", ran_first(home, KILLED).status, -signal.SIGKILL)
         text = box.read_bytes()
-        edited = edit(OLD, text[len(OLD) :])
+        edited = edit(old, text[len(old) :])
         box.write_bytes(edited)
         if what == "a part":
             home.place.run([*BACK, "--dry-run", "mail"])
@@ -188,7 +198,7 @@ def left(home: Home) -> None:
         now = box.read_bytes()
         equal(
             f"{what}: the status, and what stays: {ran.output}",
-            (ran.status, now.startswith(OLD if is_ours else edited)),
+            (ran.status, now.startswith(old if is_ours else edited)),
             (bool(wanted), True),
         )
         if not is_ours:
