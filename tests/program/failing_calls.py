@@ -19,7 +19,7 @@ from tests.support.preload import Ran, library, run
 # and a file that is another one on the server
 ERRORS = ["EINTR", "ENOENT", "EIO", "ENOMEM", "EACCES", "EXDEV", "EMFILE", "ENOSPC", "EROFS", "EDQUOT", "ESTALE"]
 # those with which only calls of one kind fail: a limit of the size of files, and what a file system does not have
-OF_KIND = {"EFBIG": "write", "EOPNOTSUPP": "sync", "ENOSYS": "sync"}
+OF_KIND = {"EFBIG": "write", "EINVAL": "sync", "EOPNOTSUPP": "sync", "ENOSYS": "sync"}
 # the SHA-256 of the only body
 BODY = b"abc"
 BASE = "ba7816bf8f01cfea414140de5dae2223b00361a396177a9cb410ff61f20015ad.1"
@@ -149,6 +149,7 @@ def row_by(error: str, row: Row, world: World) -> Row:
     if world.is_made and (error, row.call) in {
         # a parent that may not be opened, or whose file system has no sync, is not synced
         ("EACCES", "open maildir/.."),
+        ("EINVAL", "sync maildir/.."),
         ("EROFS", "sync maildir/.."),
         # the file that is to be removed is gone
         ("ENOENT", f"remove {IN_TMP}"),
