@@ -183,9 +183,7 @@ def new_inboxes(home: Path) -> None:
 def another_user(home: Path, name: str) -> Iterator[None]:
     """A user whose folder of mailboxes alone was migrated, since the spool had nothing, and who got mail since."""
     own = home / "homes" / name
-    with accounts.users({name: own}):
-        own.mkdir()
-        shutil.chown(own, name, name)
+    with accounts.users_at_home({name: own}):
         theirs(mailbox(own / "mail/sent", ONE), name)
         equal("migrate", run(["migrate", "--users", "--now", "--tree", "mail", "spool", name], home)[0], 0)
         deliver(home, name)
@@ -194,10 +192,7 @@ def another_user(home: Path, name: str) -> Iterator[None]:
 
 def without_mailboxes(home: Path) -> None:
     """Of a user who had no mailbox, all mail is new. Whoever has one that was never migrated is left."""
-    with migrated(home), accounts.users({name: home / "homes" / name for name in ("m61new", "m61wait")}):
-        for name in ("m61new", "m61wait"):
-            (home / "homes" / name).mkdir()
-            shutil.chown(home / "homes" / name, name, name)
+    with migrated(home), accounts.users_at_home({name: home / "homes" / name for name in ("m61new", "m61wait")}):
         expect([*WORDS, "m61new"], home, 1, "no mailboxes; 1 user: ...\n")
         deliver(home, "m61new")
         theirs(mailbox(home / "spool/m61wait", ONE), "m61wait")

@@ -12,6 +12,7 @@ import time
 from collections.abc import Sequence
 from pathlib import Path
 
+from tests.companion.spool import theirs
 from tests.support import accounts
 from tests.support.checks import LATER, equal, match_in, matches
 from tests.support.homes import (
@@ -346,13 +347,6 @@ def without_deleted_mail(home: Path) -> None:
         shutil.rmtree(home / "M")
 
 
-def theirs(path: Path, name: str) -> None:
-    """Gives a file to a user, and its folder."""
-    account = pwd.getpwnam(name)
-    for one in (path, path.parent):
-        os.chown(one, account.pw_uid, account.pw_gid)
-
-
 def lines(home: Path, words: Sequence[str]) -> list[str]:
     """The lines of the rows that a command prints, in their order by name."""
     return sorted(row.line for row in rows_in(run(words, home)[1]))
@@ -362,14 +356,10 @@ def of_users(home: Path) -> None:
     """Users whose mail is prepared while it is delivered, and is migrated once it stands elsewhere."""
     want_users()
     doveconf(home, NEW_MBOX)
-    with accounts.users({name: home / "homes" / name for name in USERS}):
+    with accounts.users_at_home({name: home / "homes" / name for name in USERS}):
         for name in USERS:
-            own = home / "homes" / name
-            (own / "mail").mkdir(parents=True)
-            shutil.chown(own, name, name)
-            theirs(mailbox(own / "mail/sent", TWO), name)
-            box = mailbox(home / "spool" / name, ONE)
-            os.chown(box, *pwd.getpwnam(name)[2:4])
+            theirs(mailbox(home / "homes" / name / "mail/sent", TWO), name)
+            theirs(mailbox(home / "spool" / name, ONE), name)
         (home / "spool").chmod(0o711)
         words = ["migrate", "--all", "--users", "--tree", "mail", "--jobs", "2", "--prepare", "spool"]
         kind = "mboxrd or mboxo, messages"

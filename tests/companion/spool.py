@@ -28,11 +28,7 @@ USERS = ["m61one", "m61two", "m61three"]
 @contextlib.contextmanager
 def users(home: Path) -> Iterator[None]:
     """Makes users for a while, with their homes."""
-    homes = {name: home / "homes" / name for name in USERS}
-    with accounts.users(homes):
-        for name, own in homes.items():
-            own.mkdir(parents=True)
-            shutil.chown(own, name, name)
+    with accounts.users_at_home({name: home / "homes" / name for name in USERS}):
         yield
 
 

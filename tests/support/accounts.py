@@ -4,6 +4,7 @@ so none of them meets a person who has an account here, and several tests make u
 import os
 import pwd
 import re
+import shutil
 import subprocess
 import tempfile
 from collections.abc import Iterator, Mapping
@@ -91,3 +92,13 @@ def users(homes: Mapping[str, Path], like: str = "") -> Iterator[None]:
     finally:
         for file, text in zip(files, before):
             file.write_bytes(text)
+
+
+@contextmanager
+def users_at_home(homes: Mapping[str, Path]) -> Iterator[None]:
+    """The same for users whose homes are made too, each with nothing in it."""
+    with users(homes):
+        for name, home in homes.items():
+            home.mkdir(parents=True)
+            shutil.chown(home, name, name)
+        yield

@@ -7,7 +7,7 @@ import shutil
 import subprocess
 import tarfile
 import zipfile
-from collections.abc import Callable
+from collections.abc import Callable, Mapping
 from functools import partial
 from pathlib import Path
 
@@ -23,6 +23,8 @@ LIST = b'<?xml version="1.0" encoding="UTF-8"?>\n<!DOCTYPE plist PUBLIC "-//Appl
 # names that a shell would take for something else
 NAMES = ("a b", "it's", 'say "x"', "-v", "$HOME", "c:d", "`id`")
 LONGEST = "n" * 255
+# two mailboxes, one of them in a folder
+OF_TWO = {"one": ONE, "lists/two": TWO}
 
 
 def piped(*words: str) -> Callable[[], bytes]:
@@ -30,23 +32,23 @@ def piped(*words: str) -> Callable[[], bytes]:
     return lambda: subprocess.run(words, input=ONE, stdout=subprocess.PIPE, check=True).stdout
 
 
-def tar_of_two() -> bytes:
-    """An archive of two mailboxes, one of them in a folder."""
+def tar_of(files: Mapping[str, bytes] = OF_TWO, form: int = tarfile.DEFAULT_FORMAT) -> bytes:
+    """An archive of these files, in a form of tar."""
     file = io.BytesIO()
-    with tarfile.open(fileobj=file, mode="w") as tar:
-        for name, text in (("one", ONE), ("lists/two", TWO)):
+    with tarfile.open(fileobj=file, mode="w", format=form) as tar:
+        for name, text in files.items():
             member = tarfile.TarInfo(name)
             member.size = len(text)
             tar.addfile(member, io.BytesIO(text))
     return file.getvalue()
 
 
-def zip_of_two() -> bytes:
+def zip_of(files: Mapping[str, bytes] = OF_TWO) -> bytes:
     """The same of zip."""
     file = io.BytesIO()
     with zipfile.ZipFile(file, "w") as archive:
-        archive.writestr("one", ONE)
-        archive.writestr("lists/two", TWO)
+        for name, text in files.items():
+            archive.writestr(name, text)
     return file.getvalue()
 
 
@@ -76,12 +78,12 @@ def piped_in(text: bytes, *words: str) -> bytes:
 
 # A kind of file: what makes one, by which programs it is made and read, and the subjects of its messages
 KINDS = {
-    "tar": (tar_of_two, ("tar",), ["one", "two"]),
-    "zip": (zip_of_two, ("unzip",), ["one", "two"]),
+    "tar": (tar_of, ("tar",), ["one", "two"]),
+    "zip": (zip_of, ("unzip",), ["one", "two"]),
     "7z": (seven_zip, ("7z",), ["one"]),
     "cpio": (cpio_of_one, ("cpio",), ["one"]),
     **{
-        f"tar in {program}": (partial(piped_in, tar_of_two(), program, "-c"), ("tar", program), ["one", "two"])
+        f"tar in {program}": (partial(piped_in, tar_of(), program, "-c"), ("tar", program), ["one", "two"])
         for program in ("gzip", "bzip2", "xz", "zstd", "lz4")
     },
     "lzma": (lambda: lzma.compress(ONE, lzma.FORMAT_ALONE), ("xz",), ["one"]),
@@ -144,7 +146,7 @@ def of_names(home: Path) -> None:
     mailbox(home / "own" / LONGEST, MAIL)
     equal("as long as can be", migrate_and_do(["L", f"own/{LONGEST}"], home)[0], 0)
     for name in NAMES:
-        mailbox(home / "old" / name, tar_of_two())
+        mailbox(home / "old" / name, tar_of())
         mailbox(home / "own" / name, MAIL)
         status, out = migrate_and_do(["M", "old"], home)
         equal(f"{name}: {out}", (status, subjects_below(home / "M")), (0, ["one", "two"]))
@@ -176,8 +178,8 @@ def where_none_may_write(home: Path) -> None:
     first, second, third = USERS
     with users(home):
         theirs(mailbox(home / "spool" / first, MAIL), first)
-        theirs(mailbox(home / "spool" / second, tar_of_two()), second)
-        theirs(mailbox(home / "homes" / third / "mail/it's old", tar_of_two()), third)
+        theirs(mailbox(home / "spool" / second, tar_of()), second)
+        theirs(mailbox(home / "homes" / third / "mail/it's old", tar_of()), third)
         (home / "spool").chmod(0o711)
         words = ["--users", "--tree", "mail", "spool", *USERS]
         commands = nexts_in(["--dry-run", *words], home)

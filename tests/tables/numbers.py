@@ -28,6 +28,8 @@ RAISED = KEPT.replace(b"0000000003", b"0000000008")
 WITH_OTHER = first(BASE.replace(b"3 Garden", b"8 Garden Other"), UID.replace(b" " * 10, b" " * 4)) + SECOND
 WITH_OTHER = WITH_OTHER.replace(b"X-UID: 1    \n", b"X-UID: 1    \nX-Keywords: Garden\n")
 BARE = FROM + b"Subject: a\n\na\n\n"
+# the line of a mailbox whose UIDs go up to a number, and that of another program
+UP_TO_9, UP_TO_12, OF_ANOTHER = b"X-IMAPbase: 1700000000 9", b"X-IMAPbase: 1700000000 12", b"X-IMAP: 1700000000 %010d"
 INTERNAL = (
     b"From MAILER_DAEMON  Sat Nov 28 11:29:42 2026\nSubject: DON'T DELETE THIS MESSAGE -- FOLDER INTERNAL DATA\n"
     b"X-IMAP: 1700000000 0000000003\nStatus: RO\n\nThis text is part of the internal format of your mail folder, and "
@@ -152,51 +154,32 @@ CASES = {
         BARE, listed(4), b"0 Garden\n", ["1.a:2,a"], BARE, [b""], ["keywords-added"], [f"{FLAGS}Garden mailbox a uid 2"]
     ),
     "no room for the next UID": Case(
-        first(b"X-IMAPbase: 1700000000 9", b"X-UID: 9\n"),
+        first(UP_TO_9, b"X-UID: 9\n"),
         listed(12, b"10 :1.a\n"),
         b"0 later\n",
         ["1.a:2,a"],
-        first(b"X-IMAPbase: 1700000000 9", b"X-UID: 9\n"),
+        first(UP_TO_9, b"X-UID: 9\n"),
         [b"X-UID: 10\n"],
         ["uids-not-raised", "keywords-added"],
         [f"{UPDATE}--min-next-uid 12 a", f"{FLAGS}later mailbox a uid 10"],
     ),
-    "room at the end of another line": Case(
-        first(b"X-IMAPbase: 1700000000 9", b"X-UID: 9 \n"),
-        listed(13),
-        b"",
-        [],
-        first(b"X-IMAPbase: 1700000000 12", b"X-UID: 9\n"),
-        [],
-        ["uids-raised"],
-    ),
-    "room in the line itself": Case(
-        first(b"X-IMAPbase: 1700000000 9  ", b"A: b\n"),
-        listed(13),
-        b"",
-        [],
-        first(b"X-IMAPbase: 1700000000 12 ", b"A: b\n"),
-        [],
-        ["uids-raised"],
-    ),
+    **{
+        f"the next UID is raised: {where}": Case(before, listed(13), b"", [], then, [], ["uids-raised"])
+        for where, before, then in (
+            ("room at the end of another line", first(UP_TO_9, b"X-UID: 9 \n"), first(UP_TO_12, b"X-UID: 9\n")),
+            ("room in the line itself", first(UP_TO_9 + b"  ", b"A: b\n"), first(UP_TO_12 + b" ", b"A: b\n")),
+            ("the line of another program", first(OF_ANOTHER % 3, b""), first(OF_ANOTHER % 12, b"")),
+        )
+    },
     "no room in a line that is the sender's": Case(
-        first(b"X-IMAPbase: 1700000000 9", b"A: b  \n"),
+        first(UP_TO_9, b"A: b  \n"),
         listed(13),
         b"",
         [],
-        first(b"X-IMAPbase: 1700000000 9", b"A: b  \n"),
+        first(UP_TO_9, b"A: b  \n"),
         [],
         ["uids-not-raised"],
         [f"{UPDATE}--min-next-uid 13 a"],
-    ),
-    "the line of another program": Case(
-        first(b"X-IMAP: 1700000000 0000000003", b""),
-        listed(13),
-        b"",
-        [],
-        first(b"X-IMAP: 1700000000 0000000012", b""),
-        [],
-        ["uids-raised"],
     ),
     "a mailbox that Dovecot keeps empty by a message of its own": Case(
         INTERNAL,

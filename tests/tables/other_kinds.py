@@ -2,16 +2,15 @@
 """Files that are not mbox text: what `kind` says of each kind in the table, and that its commands work."""
 import bz2
 import gzip
-import io
 import lzma
 import os
 import re
 import shutil
 import tarfile
-import zipfile
 from pathlib import Path
 
 from tests.tables.kinds import ALONE, FROM_LINE, LIKE_MAIL, NOT_KNOWN, labelled
+from tests.tables.nexts import LIST, tar_of, zip_of
 from tests.support.checks import equal, matches
 from tests.support.homes import by_json, check_all, expect, mailbox, run, run_printed
 from tests.support.mail import A, B
@@ -36,18 +35,12 @@ MAILUTIL = 'HOME=/ mailutil copy "$(realpath --relative-to=/ {})" "#driver.unix/
 BABYL = (
     'cp {} "$d/copy".old && emacs --batch -l unrmail -f batch-unrmail "$d/copy".old && mv "$d/copy".old.mail "$d/copy"'
 )
-LIST = b'<?xml version="1.0" encoding="UTF-8"?>\n<!DOCTYPE plist PUBLIC "-//Apple//DTD PLIST 1.0//EN">\n<plist/>\n'
 MAIL = b"Subject: one\nFrom: a@b\n\nhello\nFrom here on\n>From there\n"
 
 
 def archive(form: int) -> bytes:
-    """An archive that Python's tarfile makes."""
-    file = io.BytesIO()
-    with tarfile.open(fileobj=file, mode="w", format=form) as tar:
-        member = tarfile.TarInfo("From a")
-        member.size = len(MBOX)
-        tar.addfile(member, io.BytesIO(MBOX))
-    return file.getvalue()
+    """An archive of tar whose first bytes are those of a From_ line."""
+    return tar_of({"From a": MBOX}, form)
 
 
 def old_archive() -> bytes:
@@ -65,14 +58,6 @@ def block_of_tar(name: bytes, more: int = 0) -> bytes:
     block[148:156] = b" " * 8
     block[148:156] = b"%06o\0 " % (sum(block) + more)
     return bytes(block)
-
-
-def zipped() -> bytes:
-    """An archive that Python's zipfile makes."""
-    file = io.BytesIO()
-    with zipfile.ZipFile(file, "w") as one:
-        one.writestr("mbox", MBOX)
-    return file.getvalue()
 
 
 def beginning(digits: str, length: int = 100) -> bytes:
@@ -104,7 +89,7 @@ KINDS = [
         "compressed by lzma",
         MAKES % 'xz -dc <{} >"$d/copy"' + " # package xz-utils",
     ),
-    (zipped(), "an archive of zip", MAKES % 'unzip {} -d "$d/copy"'),
+    (zip_of(), "an archive of zip", MAKES % 'unzip {} -d "$d/copy"'),
     (archive(tarfile.USTAR_FORMAT), "an archive of tar", TAR),
     (archive(tarfile.GNU_FORMAT), "an archive of tar", TAR),
     (archive(tarfile.PAX_FORMAT), "an archive of tar", TAR),

@@ -253,16 +253,9 @@ def mail_box(home: Home) -> None:
     )
 
 
-def mail_of_mailutils(home: Home) -> None:
-    home.run(
-        "mail.mailutils",
-        "-n",
-        "-N",
-        "-f",
-        f"maildir://{home.folder}/Maildir",
-        given=b"copy 1 box\ncopy 2 box\nx\n",
-        MAILRC="/dev/null",
-    )
+def mail_of_mailutils(home: Home, given: bytes = b"copy 1 box\ncopy 2 box\nx\n") -> None:
+    maildir = f"maildir://{home.folder}/Maildir"
+    home.run("mail.mailutils", "-n", "-N", "-f", maildir, given=given, MAILRC="/dev/null")
 
 
 def maildrop(home: Home) -> None:
@@ -571,15 +564,7 @@ def by_mbsync_with_map(home: Home) -> None:
 
 
 def by_mail_of_mailutils(home: Home) -> None:
-    home.run(
-        "mail.mailutils",
-        "-n",
-        "-N",
-        "-f",
-        f"maildir://{home.folder}/Maildir",
-        given=b"headers\nprint 1\nexit\n",
-        MAILRC="/dev/null",
-    )
+    mail_of_mailutils(home, b"headers\nprint 1\nexit\n")
 
 
 def by_offlineimap(home: Home) -> None:

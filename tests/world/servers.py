@@ -35,10 +35,7 @@ def procmail_for_all(home: Path) -> None:
 
     PROCMAILRC.unlink(missing_ok=True)
     users = {name: home / name for name in ("m61one", "m61two")}
-    with accounts.users(users):
-        for name, own in users.items():
-            own.mkdir()
-            shutil.chown(own, name)
+    with accounts.users_at_home(users):
         shutil.chown(str(shutil.copy(os.devnull, users["m61two"] / ".procmailrc")), "m61two")
         equal("without the file", [router(name) for name in users], ["local_user", "procmail"])
         PROCMAILRC.write_text("DEFAULT=$HOME/Maildir/\n", encoding="utf-8")

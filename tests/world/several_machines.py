@@ -102,10 +102,8 @@ def killed_and_resumed(home: Path) -> None:
     if not (shutil.which("parallel") and Path(SSHD).exists()):
         raise LeftOut("it wants GNU parallel and openssh-server")
     homes = {f"m61f{number:03}": home / f"homes/m61f{number:03}" for number in range(USERS)}
-    with accounts.users(homes), servers(home):
-        for number, (name, own) in enumerate(homes.items()):
-            own.mkdir(parents=True)
-            shutil.chown(own, name, name)
+    with accounts.users_at_home(homes), servers(home):
+        for number, name in enumerate(homes):
             theirs(mailbox(home / "spool" / name, TEXT), name)
             with (home / f"users.{MACHINES[number % 3]}").open("a") as names:
                 names.write(name + "\n")

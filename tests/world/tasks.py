@@ -4,7 +4,6 @@ mailbox that nobody may write, on a file system that is mounted read-only, takes
 import gzip
 import os
 import shlex
-import shutil
 import signal
 import subprocess
 from collections.abc import Sequence
@@ -117,10 +116,7 @@ def forty_users_with_dovecot(home: Path) -> None:
     """A small server: a spool, and folders in the homes. Dovecot's numbers come along."""
     want_users()
     homes = {f"m61u{number:02}": home / f"homes/m61u{number:02}" for number in range(USERS)}
-    with accounts.users(homes):
-        for name, own in homes.items():
-            own.mkdir(parents=True)
-            shutil.chown(own, name, name)
+    with accounts.users_at_home(homes):
         numbered = ONE.replace(b"\n\n", b"\nX-IMAPbase: 1700000000 0000000007\nX-UID: 7\nStatus: RO\n\n", 1)
         for name in homes:
             theirs(mailbox(home / "spool" / name, numbered), name)
