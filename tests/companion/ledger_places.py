@@ -504,16 +504,10 @@ def rule_9_an_older_ledger_and_others(home: Home) -> None:
 
 
 def rule_9_an_undo_by_an_older_ledger(home: Home) -> None:
-    """A ledger comes from a backup, and lacks a mailbox of the record, or what one has brought since. An undo could
-    take what others have: the mailbox is left, until --again has written the lines anew."""
-    home.bring(OLD=letters(0, 1))
-    older = home.ledger().read_bytes()
+    """A ledger comes from a backup, and lacks what a mailbox has brought since. An undo could take what others have:
+    the mailbox is left, until --again has written the lines anew. tests/tables/restored.py has one that lacks a whole
+    mailbox."""
     home.bring(OTHER=letters(1, 2))
-    home.ledger().write_bytes(older)
-    want_said(home.left("OLD", words=["--undo"]), "OTHER", "--again")
-    home.done("OTHER", words=["--again"])
-    home.undo("OLD")
-    home.has(1, 2)
     with home.from_a_backup(home.ledger()):
         home.bring(OTHER=letters(1, 2, 3))
     want_said(home.left("OTHER", words=["--undo"]), "OTHER", "--again")

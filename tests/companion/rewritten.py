@@ -15,7 +15,7 @@ def looked(*messages: bytes, status: bytes = b"O") -> bytes:
     return b"".join(message.replace(b"\n\n", next(fields), 1) for message in messages)
 
 
-ALL, LOOKED, BEFORE = ONE + TWO + THREE, looked(ONE, TWO, THREE), "a: done before"
+ALL, LOOKED = ONE + TWO + THREE, looked(ONE, TWO, THREE)
 # a file that another program has placed, and files that another program has renamed
 PLACED = ("M/cur/1700000000.1.mbox:2,S", ONE.split(b"\n", 1)[1][:-1])
 RENAMES = "!cd M; n=0; for a in new/* cur/*; do test ! -e $a || mv $a cur/17000.$((n += 1)).host:2,S; done"
@@ -28,10 +28,6 @@ AFAR = FOUR.replace(b"hello\n", b"hello\nFrom afar.\n")
 FIELD = with_length(A, b"hello\nFrom the shed:\nStatus: RO\nmore\n") + b"\n"
 FIRST_ALONE = '@"$real" convert . ../placed && kill -9 $PPID'
 STORIES: dict[str, list[Step]] = {
-    "a_server_looks_and_delivers": [
-        *(("a", ALL), "migrate M a", ("a", LOOKED), ("migrate M a", BEFORE), ("a", LOOKED + FOUR)),
-        *(("migrate M a", "a: done: it grew by 1 message"), "= four one three two"),
-    ],
     "a_server_looks_and_deletes": [
         *(("a", ALL), "migrate M a", ("a", looked(ONE, THREE)), "migrate M a", "migrate --again M a"),
         "= one three two",
@@ -53,11 +49,6 @@ STORIES: dict[str, list[Step]] = {
         *(("mail/Sent", looked(ONE, TWO)), ("mail/lists/garden", looked(THREE, FOUR)), "!mv mail mail.old"),
         ("migrate M mail.old", "mail.old/Sent: done before\nmail.old/lists/garden: done before"),
         "= Sent/one Sent/two lists.garden/four lists.garden/three",
-    ],
-    "its_mail_is_gone": [
-        *(("a", ALL + FOUR), "migrate M a", "!rm $(grep -l 'Subject: t' M/new/*)"),
-        ("migrate M a", "a: done before: 2 of the 4 messages that were placed in its folder are gone, or another ..."),
-        "= four one",
     ],
     "others_have_placed_one": [
         *(("a", ONE + TWO), "!mkdir -p M/new M/cur M/tmp", PLACED),

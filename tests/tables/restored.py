@@ -8,7 +8,6 @@ FOUR = C.replace(b"three", b"four") + b"\n"
 OLDER = "a: done before: the ledger of its folder is older than its record, and lacks %s of it: mail may be missing ..."
 LEFT = "a: left (ledger): the ledger of its folder is %s, so nothing shows which of its messages were placed"
 GREW = "a: done: it grew by 1 message"
-ANOTHER_CAME = "b: done: ...up to 1 message that had been deleted or moved came back"
 NOT_SURE = (
     "a: left (undo): the ledger of its folder is older than its record, and nothing shows which files are those of b: "
     "migrate that with --again first"
@@ -50,12 +49,6 @@ STORIES: dict[str, list[Step]] = {
         ),
         *((MIGRATE, LEFT % "older than its record"), "= A/one"),
     ],
-    # each row that may bring back what was deleted says so, however long the ledger is by then
-    "the_ledger_which_others_make_longer": [
-        *(*came_back(LEDGER, "!rm $(grep -l two M/.A/new/*)"), ("b", TWO)),
-        *(("migrate --folder A M b", ANOTHER_CAME), ("b", TWO + THREE + FOUR), "migrate --folder A M b"),
-        *((MIGRATE, OLDER % "1 message"), "= A/four A/one A/three A/two"),
-    ],
     "the_folder": [
         *(*came_back("M/.A"), (MIGRATE, OLDER % "1 message"), "= A/one", ("a", ONE + TWO + THREE)),
         *((MIGRATE, LEFT % "older than its record"), "= A/one", f"{MIGRATE} --again", "= A/one A/three A/two"),
@@ -65,10 +58,6 @@ STORIES: dict[str, list[Step]] = {
         "= A/one A/three A/two",
     ],
     "the_maildir": [*came_back("M"), (MIGRATE, GREW), "= A/one A/two"],
-    "a_ledger_from_before_an_undo": [
-        *(*undone(LEDGER), (MIGRATE, LEFT % "older than its record"), "=", f"{MIGRATE} --again", "= A/one A/two"),
-        *((UNDO, "a: undone: removed 2 messages"), "="),
-    ],
     "a_folder_from_before_an_undo": [
         *(*undone("M/.A"), (MIGRATE, "a: done: placed 0 messages"), "= A/one A/two"),
         *((UNDO, "a: undone: removed 2 messages"), "="),
