@@ -9,7 +9,8 @@ from typing import Optional
 
 from tests.companion.spool import USERS, theirs, users
 from tests.support.checks import equal, match_in, matches
-from tests.support.homes import by_json, check_all, expect, mailbox, mail_in, run, run_printed, subjects, want_users
+from tests.support.homes import by_json, check_all, expect, mail_in, mailbox, make_maildir
+from tests.support.homes import run, run_printed, subjects, want_users
 from tests.support.mail import A, B, MAY, ONE, TWO, with_length
 from tests.support.running import Row
 
@@ -429,10 +430,7 @@ def without_numbers(home: Path) -> None:
         mailbox(home / name, ONE + TWO)
     words = ["migrate", "--all", "--dovecot", "--now", "--as", "mboxo", "M", "one", "tree"]
     for folder in ("M", "M/.Old Mail"):
-        (home / folder).mkdir(parents=True)
-        for sub in ("new", "cur", "tmp"):
-            (home / folder / sub).mkdir()
-        (home / folder / "dovecot.index.log").write_bytes(b"")
+        (make_maildir(home / folder) / "dovecot.index.log").write_bytes(b"")
     ran = by_json(words, home)
     equal("--dovecot: status, and the sums", (ran.status, ran.sums["says"]), (1, "2 mailboxes: 2 left"))
     for command in (one for row in ran.rows for one in row.commands):

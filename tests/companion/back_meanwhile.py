@@ -10,7 +10,7 @@ from typing import NamedTuple, Optional
 
 from tests.support.archives import Home, letter, letters, run_rules
 from tests.support.checks import LATER, equal
-from tests.support.homes import doing_first, fake
+from tests.support.homes import doing_first, fake, make_maildir
 from tests.support.running import BY_OTHERS, Run
 
 OLD, NEW, MORE = letters(1), b"Subject: new\n\nnew\n", b"Subject: more\n\nmore\n"
@@ -323,8 +323,7 @@ def where_it_goes(home: Home) -> None:
     ):
         begun(home)
         folder = {"no folder of mailboxes": ".new", "no inbox": "", "no name": ".a.below"}[what]
-        for sub in ("tmp", "new", "cur"):
-            (home.maildir / folder / sub).mkdir(parents=True, exist_ok=True)
+        make_maildir(home.maildir / folder)
         (home.maildir / folder / "new/0.M1.host").write_bytes(NEW)
         home.place.own(*home.maildir.rglob("*"))
         for number in range(1, 101) if what == "no name" else ():
@@ -351,8 +350,7 @@ def a_power_cut(home: Home) -> None:
     """The name of a new mailbox is on the disk before its mail, also if a run that was killed has made it; and mail
     that is there already, before the ledger says that it is back."""
     begun(home)
-    for sub in ("tmp", "new", "cur"):
-        (home.folder("b") / sub).mkdir(parents=True)
+    make_maildir(home.folder("b"))
     (home.folder("b") / "new/1.M1.host").write_bytes(NEW)
     home.place.own(*home.maildir.rglob("*"))
     killed = ran_first(home, f"IS_KILLED = True{SYNCED}")
@@ -389,8 +387,7 @@ def standing(home: Home) -> None:
     changed = "1 message that was changed in the Maildir is there as before"
     equal("what is said", says, {"x": [deleted, changed], "y": [deleted]})
     equal("the sums", ran.sums["still_there"], {"deleted": 2, "changed": 1})
-    for sub in ("tmp", "new", "cur"):
-        (home.folder("b") / sub).mkdir(parents=True)
+    make_maildir(home.folder("b"))
     home.place.own(home.folder("b"), *home.folder("b").iterdir())
     (moved,) = home.those(3, name="a")
     moved.rename(home.folder("b") / "new" / moved.name)

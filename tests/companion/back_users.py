@@ -13,7 +13,7 @@ from pathlib import Path
 from tests.companion.spool import theirs, users
 from tests.support import accounts
 from tests.support.checks import TOP, equal, match_in, matches, text_of
-from tests.support.homes import check_all, expect, fake, mailbox, run, want_users
+from tests.support.homes import check_all, expect, fake, mailbox, make_maildir, run, want_users
 from tests.support.mail import ONE, THREE, TWO
 from tests.support.processes import wait_for
 from tests.support.running import Desk
@@ -31,8 +31,7 @@ GROUP = "mail"
 def deliver(home: Path, user: str, folder: str = "", text: bytes = NEW, name: str = "1700000000.M1.host") -> Path:
     """A program delivers mail into the Maildir of a user."""
     place = home / "homes" / user / "Maildir" / folder
-    for sub in ("tmp", "new", "cur"):
-        (place / sub).mkdir(parents=True, exist_ok=True)
+    make_maildir(place)
     path = place / "new" / name
     path.write_bytes(text)
     os.utime(path, (1_700_000_000, 1_700_000_000))

@@ -8,7 +8,8 @@ from typing import NamedTuple
 
 from tests.support.cases import run_cases
 from tests.support.checks import equal, matches
-from tests.support.homes import at_home, expect, fake, hand_over, mailbox, subjects, want_strace, want_users
+from tests.support.homes import at_home, expect, fake, hand_over, mailbox, make_maildir, subjects
+from tests.support.homes import want_strace, want_users
 from tests.support.ledgers import RECORD
 from tests.support.mail import A, ONE, TWO, numbered
 from tests.support.mounts import small_disk
@@ -48,17 +49,10 @@ CALLS = {
 }
 
 
-def made(home: Path) -> Path:
-    """A Maildir that is there."""
-    for sub in ("new", "cur", "tmp"):
-        (home / "M" / sub).mkdir(parents=True)
-    return home / "M"
-
-
 def attempt(home: Path, one: Failing) -> None:
     """Migrates two mailboxes while a call fails, and again. What failed once stays so until --again."""
     want_strace()
-    made(home)
+    make_maildir(home / "M")
     for name, text in (("box", ONE), ("two", TWO)):
         mailbox(home / name, text)
     place = ["-P", str(home / one.path)] if one.path else ["-e", f"trace={one.call.split(':')[0]}"]
@@ -86,7 +80,7 @@ SPOILT = {
 def spoilt(home: Path) -> None:
     """The program fails, and the row says what is wrong with the Maildir."""
     for deed, says in SPOILT.items():
-        hand_over(made(home), mailbox(home / "box", A + b"Status: RO\n\nhello\n\n"), home)
+        hand_over(make_maildir(home / "M"), mailbox(home / "box", A + b"Status: RO\n\nhello\n\n"), home)
         says_so = "echo 'mbox2maildir: folder call 2 failed' >&2; exit 1"
         fails = says_so if "sleep" in deed else 'exec "$real" "$@"'
         fake(home, f"(cd '{home}'; {deed}\n)\n{fails}")

@@ -15,7 +15,7 @@ from tests.support.dovecot.mailboxes import CASES, Build, hole_without_index, ke
 from tests.support.dovecot.served import Case, differences, mail, served
 from tests.support.dovecot.server import Dovecot, is_there
 from tests.support.dovecot.settings import settings_here
-from tests.support.homes import fresh_home, install
+from tests.support.homes import fresh_home, install, make_maildir
 from tests.support.ledgers import RECORD, take_back_ends
 from tests.support.printed import commands_in
 
@@ -56,8 +56,7 @@ def comes_before(home: Path, server: Dovecot) -> Iterator[str]:
     number."""
     case = Case(home, server, "came")
     kept(case)
-    for sub in ("cur", "new", "tmp"):
-        (case.home / "Maildir" / sub).mkdir(parents=True)
+    make_maildir(case.home / "Maildir")
     (case.home / "Maildir/new/1700000000.M1.host").write_bytes(b"Subject: new\n\n")
     case.own()
     before, other = case.before()[0]["INBOX"], case.copy("delivered")
@@ -168,10 +167,7 @@ def subscribes(home: Path, server: Dovecot) -> Iterator[str]:
     written = file.read_bytes()
     file.write_bytes(b"V\t2\n\nSent\n")
     yield from says("a folder was left", case.migrate(), 0, ": 6 done before; ")
-    (case.home / "Other").mkdir()
-    for sub in ("cur", "new", "tmp"):
-        (case.home / "Other" / sub).mkdir()
-    (case.home / "Other/subscriptions").write_bytes(b"V\t2\n\nSent\n")
+    (make_maildir(case.home / "Other") / "subscriptions").write_bytes(b"V\t2\n\nSent\n")
     (case.home / "Maildir").rename(case.home / "First")
     (case.home / "Other").rename(case.home / "Maildir")
     got = case.migrate()

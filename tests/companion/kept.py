@@ -24,6 +24,7 @@ from tests.support.homes import (
     mail_below,
     mail_in,
     mailbox,
+    make_maildir,
     restore,
     run,
 )
@@ -107,8 +108,7 @@ def take_out(home: Path, path: str = "") -> None:
         book = home / kept.relative_to(PLACE)
         book.write_bytes(kept.read_bytes().replace(HOME.encode(), (path or str(home)).encode()))
         book.chmod(0o600)
-        for sub in ("new", "cur", "tmp"):
-            (book.parent / sub).mkdir(exist_ok=True)
+        make_maildir(book.parent)
         book.parent.chmod(0o700)
 
 

@@ -19,6 +19,7 @@ from tests.support.homes import (
     files_of,
     mail_in,
     mailbox,
+    make_maildir,
     run,
     run_whole,
     subjects,
@@ -277,8 +278,7 @@ def of_another_version(home: Path) -> None:
 def links(home: Path) -> None:
     """A symbolic link in a Maildir is no mail: what it leads to is not read, also if it has the name of a message."""
     mailbox(home / "box", ONE + TWO)
-    for sub in ("new", "cur", "tmp"):
-        (home / "M" / sub).mkdir(parents=True)
+    make_maildir(home / "M")
     (home / "outside").write_bytes(ONE.partition(b"\n")[2][:-1])
     os.symlink("../../outside", home / "M/cur/17.host:2,S")
     done(home, "messages 2: done")

@@ -13,7 +13,7 @@ from functools import partial
 from tests.companion.every_call import DEEDS, FOLDER, PREPARE, Deed, prepared, two_archives
 from tests.support.archives import Home, fresh
 from tests.support.cases import Failed, run_cases
-from tests.support.homes import want_strace
+from tests.support.homes import make_maildir, want_strace
 
 CALLS = (
     "execve,openat,mkdir,mkdirat,rename,renameat,renameat2,link,linkat,unlink,unlinkat,rmdir,write,pwrite64,pread64,"
@@ -35,8 +35,7 @@ BATCH = re.compile(r', "(?:mbox2maildir\\t|@\\t)')
 def there(home: Home) -> None:
     """The Maildir is there, without a record."""
     two_archives(home)
-    for sub in ("new", "cur", "tmp"):
-        (home.maildir / sub).mkdir(parents=True)
+    make_maildir(home.maildir)
     home.place.own(home.maildir, *home.maildir.iterdir())
 
 

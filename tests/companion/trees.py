@@ -7,7 +7,8 @@ from pathlib import Path
 
 from tests.support.checks import equal, matches
 from tests.support.copies import Copies
-from tests.support.homes import by_json, expect, files_of, hand_over, mailbox, run, run_printed, subjects, want_root
+from tests.support.homes import by_json, expect, files_of, hand_over, mailbox, make_maildir
+from tests.support.homes import run, run_printed, subjects, want_root
 from tests.support.ledgers import LEDGER
 from tests.support.mail import A, B, MAY, ONE, THREE, TWO, with_length
 from tests.support.printed import rows_in
@@ -125,10 +126,8 @@ def folders_of_messages(home: Path) -> None:
         sorted(f"Subject: {number}\n\nFrom here on.\n".encode() for number in range(1, 13)),
     )
     # what is in the folder besides the Maildir, or would take the place of another one, is moved by hand
-    for sub in ("cur", "new", "tmp"):
-        (home / "tree/lists" / sub).mkdir(parents=True)
-        (home / "tree/more" / sub).mkdir(parents=True)
-        (home / "tree/caf\udce9" / sub).mkdir(parents=True)
+    for name in ("lists", "more", "caf\udce9"):
+        make_maildir(home / "tree" / name)
     mailbox(home / "tree/more/notes", b"!BDN")
     out = run("migrate --all M tree", home)[1]
     for name, task in (
@@ -179,8 +178,7 @@ def commands_of_rehearsals(home: Path) -> None:
     (home / "M/.gone" / LEDGER).unlink()
     with open(home / "M/.undone" / LEDGER, "a", encoding="utf-8") as ledger:
         ledger.write(f"<\t{home}/tree/undone\n")
-    for sub in ("new", "cur", "tmp"):
-        (home / "M/.there" / sub).mkdir(parents=True)
+    make_maildir(home / "M/.there")
     expect("mbox2maildir convert M/.there tree/there", home, 0, None, None)
     for name, text in (("gone", THREE), ("there", ONE + TWO)):
         mailbox(home / "tree" / name, text)

@@ -7,7 +7,7 @@ from pathlib import Path
 
 from tests.support.checks import LATER, equal
 from tests.support.copies import Meanwhile
-from tests.support.homes import by_json, check_all, expect, mail_in, mailbox, subjects
+from tests.support.homes import by_json, check_all, expect, mail_in, mailbox, make_maildir, subjects
 from tests.support.ledgers import RECORD, take_back_ends
 from tests.support.mail import ONE
 from tests.support.running import BY_OTHERS, Run
@@ -161,8 +161,7 @@ def subscriptions(home: Path) -> None:
             (b"", 5),
         )
     ):
-        for sub in ("tmp", "new", "cur"):
-            (home / f"M{place}" / sub).mkdir(parents=True)
+        make_maildir(home / f"M{place}")
         mailbox(home / f"M{place}/subscriptions", there)
         ran = by_json(["migrate", "--dovecot", "--now", f"M{place}", "old"], home)
         rows = [row for row in ran.rows if row["reason"] == "subscriptions"]

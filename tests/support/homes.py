@@ -125,6 +125,13 @@ def mailbox(path: Path, text: bytes, age: float = 3600) -> Path:
     return path
 
 
+def make_maildir(path: Path) -> Path:
+    """Makes an empty Maildir, or what is missing of one."""
+    for sub in ("tmp", "new", "cur"):
+        (path / sub).mkdir(parents=True, exist_ok=True)
+    return path
+
+
 def mail_in(maildir: Path, subs: Sequence[str] = ("new", "cur")) -> Iterator[Path]:
     """The files of the mail of a Maildir."""
     for sub in subs:

@@ -9,7 +9,7 @@ from typing import Union
 
 from tests.support.cases import LeftOut
 from tests.support.checks import LATER, equal, matches
-from tests.support.homes import check_all, expect, run, run_printed, want_root
+from tests.support.homes import check_all, expect, make_maildir, run, run_printed, want_root
 from tests.support.mail import A, B, MAY, with_length
 from tests.support.running import decoded
 from tests.support.tables import Row, rows_of
@@ -129,8 +129,7 @@ def kinds(home: Path) -> None:
 
 def other_files(home: Path) -> None:
     """Files that are not mailboxes, or have odd names."""
-    for sub in ("cur", "new", "tmp"):
-        (home / "Maildir" / sub).mkdir(parents=True)
+    make_maildir(home / "Maildir")
     (home / "-old.mbox/sub").mkdir(parents=True)
     (home / "-old.mbox/in").write_bytes(PLAIN)
     (home / "-old.mbox/in.msf").write_bytes(b"// <!-- <mdb:mork")

@@ -12,7 +12,7 @@ from pathlib import Path
 
 from tests.support.cases import LeftOut
 from tests.support.checks import equal, matches
-from tests.support.homes import by_json, check_all, expect, is_root, mailbox, run, run_printed, subjects
+from tests.support.homes import by_json, check_all, expect, is_root, mailbox, make_maildir, run, run_printed, subjects
 from tests.support.ledgers import RECORD
 from tests.support.mail import ONE
 from tests.support.printed import groups_in, row_in
@@ -541,8 +541,7 @@ def some_folders_alone(home: Path) -> None:
     """A folder that cannot be is left, and the others are done. A run that was killed before it placed anything has
     noted the folders: there is nothing to undo. A Takeout that is locked is left as a whole."""
     takeout(home)
-    for sub in ("new", "cur", "tmp"):
-        (home / "M" / sub).mkdir(parents=True)
+    make_maildir(home / "M")
     (home / "M/.Junk").write_text("no folder\n")
     ran = by_json("migrate --labels --now M t.mbox", home)
     equal("what is left", [row["folder"] for row in ran.rows if row["verdict"] != "done"], ["Junk"])
@@ -556,8 +555,7 @@ def some_folders_alone(home: Path) -> None:
     record = home / "M" / RECORD
     first, noted, *_ = record.read_bytes().splitlines(True)
     shutil.rmtree(home / "M")
-    for sub in ("new", "cur", "tmp"):
-        (home / "M" / sub).mkdir(parents=True)
+    make_maildir(home / "M")
     record.write_bytes(first + noted)
     record.chmod(0o600)
     for words, verdict in ([*undo, "--dry-run"], "would be undone"), (undo, "undone"):

@@ -10,6 +10,7 @@ from typing import NamedTuple
 
 from tests.support.archives import Home, run_rules
 from tests.support.checks import equal
+from tests.support.homes import make_maildir
 from tests.support.running import OWNER, Row, Run
 
 FROM = b"From a@b Mon Mar  3 09:12:44 2025\n"
@@ -209,8 +210,7 @@ def numbered(home: Home, case: Case) -> Run:
     home.write("mail/a", case.text)
     home.done("mail")
     folder = home.folder("a")
-    for sub in ("tmp", "new", "cur"):
-        (folder / sub).mkdir(parents=True, exist_ok=True)
+    make_maildir(folder)
     for number, name in enumerate(case.files):
         path = folder / "cur" / name
         path.write_bytes(b"Subject: new\n\n%s\n" % re.split("[.:]", name)[1].encode())
@@ -318,8 +318,7 @@ def subscriptions(home: Home) -> None:
         home.place.own(*(home.path / "mail").rglob("*"))
         home.done("mail")
         home.folder("lists.b").rename(home.folder("moved"))
-        for sub in ("tmp", "new", "cur"):
-            (home.folder("lists.sheds") / sub).mkdir(parents=True)
+        make_maildir(home.folder("lists.sheds"))
         (home.folder("lists.sheds") / "new/1").write_bytes(b"Subject: new\n\nnew\n")
         (home.maildir / "subscriptions").write_bytes(new)
         path = home.path / "mail/.subscriptions"

@@ -26,7 +26,7 @@ from pathlib import Path
 
 from tests.support.cases import run_cases
 from tests.support.checks import TOP, WORK, differ, equal, match_in, matches, text_of
-from tests.support.homes import fresh_home, hand_over, install, is_root, meets_people, own_dovecot, script
+from tests.support.homes import fresh_home, hand_over, install, is_root, make_maildir, meets_people, own_dovecot, script
 from tests.support.mail import A, B, MAY, with_length
 from tests.support.printed import rows_in
 from tests.support.running import OWNER, Desk
@@ -223,8 +223,7 @@ def make_files(home: Path) -> None:
         path.write_bytes(content)
         os.utime(path, LONG_AGO)
     (home / "homes" / OWNER).mkdir(parents=True)
-    for sub in ("cur", "new", "tmp"):
-        (home / "Maildir" / sub).mkdir(parents=True)
+    make_maildir(home / "Maildir")
     shutil.copytree(TOP / "examples", home / "examples")
     # those of a clone may be a moment old
     for path in (home / "examples").iterdir():
@@ -373,8 +372,7 @@ def deliver_since(guide: Guide) -> None:
     for words in (f"~/Maildir {inbox} ~/mail.old", f"{PUBLIC}.new {PUBLIC}"):
         matches(words, guide.run(f"mbox2maildir-admin migrate {words}").splitlines()[-1], "...: ... done; ...")
     for folder in ("Maildir", "Maildir/.garden", f"{PUBLIC}.new/.2004"):
-        for sub in ("cur", "new", "tmp"):
-            (home / folder / sub).mkdir(parents=True, exist_ok=True)
+        make_maildir(home / folder)
         (home / folder / "new/1700000000.M1.host").write_bytes(SINCE)
     next(path for path in (home / "Maildir/.sent/cur").iterdir() if b"no end" in path.read_bytes()).unlink()
     old = home / f"{SPOOL.lstrip('/')}.old"
