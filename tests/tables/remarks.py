@@ -8,7 +8,7 @@ from tests.support.checks import TOP, equal, text_of
 from tests.support.homes import at_home
 from tests.support.mail import A, C, INTERNAL, ONE, THREE, TWO, with_length
 from tests.support.schema import SCHEMA
-from tests.support.stories import Step, take
+from tests.support.stories import Step, steps, take
 
 PSEUDO = (
     b"From MAILER-DAEMON Mon Mar  3 09:12:44 2025\nSubject: DON'T DELETE THIS MESSAGE -- FOLDER INTERNAL DATA\n"
@@ -41,6 +41,12 @@ def thunderbird(text: bytes, flags: int) -> bytes:
 
 BASE, UID = b"X-IMAPbase: 1700000000 0000000009", b"X-UID: 3"
 NUMBERED = fields(ONE, BASE, UID)
+# what a story begins with: a mailbox of one message, of two, of a tree, and of a tree that a server has numbered
+DONE, DONE_OF_TWO = steps(("a", ONE), "migrate M a"), steps(("a", ONE + TWO), "migrate M a")
+OF_TREE = steps(("old/a", ONE), "migrate M old")
+OF_SERVER = steps(("old/a", NUMBERED), "migrate --dovecot M old")
+# one of its files, and mail that comes into the folder of a tree
+A_FILE, COMES = "$(ls M/new/* | head -n 1)", "!printf 'Subject: x\\n\\nx\\n' >M/.a/"
 # the last command of each story prints rows with these words
 STORIES: list[tuple[list[Step], set[str]]] = [
     ([("old/a.b", ONE), "migrate M old"], {"name-before"}),
@@ -79,41 +85,24 @@ STORIES: list[tuple[list[Step], set[str]]] = [
     ([("a", ONE), ("b", TWO), "migrate M a", "migrate M b"], {"joins"}),
     ([("old/a", ONE), ("b", TWO), "migrate --folder a M b", "migrate M old"], {"joined"}),
     ([("a", ONE), "migrate --folder X M a", "migrate --folder Y M a"], {"elsewhere"}),
-    (
-        [("a", QUOTED), ("b", QUOTED), "migrate --as mboxrd M a", "migrate --as unquoted M b"],
-        {"other-form", "joins"},
-    ),
+    ([("a", QUOTED), ("b", QUOTED), "migrate --as mboxrd M a", "migrate --as unquoted M b"], {"other-form", "joins"}),
     # of what others did in the folder
     ([("a", ONE), "!mbox2maildir convert M a", "migrate M a"], {"there-already"}),
-    ([("a", ONE + TWO), "migrate M a", "!rm $(ls M/new/* | head -n 1)", "migrate --again M a"], {"placed"}),
+    ([*DONE_OF_TWO, f"!rm {A_FILE}", "migrate --again M a"], {"placed"}),
     ([("a", ONE), "!mkdir -p M/new M/cur M/tmp; echo >M/new/1.host", "migrate M a"], {"other-programs"}),
-    (
-        [("a", ONE), "migrate M a", "!for a in M/new/*; do mv $a M/cur/${a##*/}:2,T; done", ("b", ONE), "migrate M b"],
-        {"joins", "marked"},
-    ),
-    ([("a", ONE), "migrate M a", "!rm M/new/*", "migrate M a"], {"gone"}),
+    ([*DONE, "!for a in M/new/*; do mv $a M/cur/${a##*/}:2,T; done", ("b", ONE), "migrate M b"], {"joins", "marked"}),
+    ([*DONE, "!rm M/new/*", "migrate M a"], {"gone"}),
     ([("a", ONE), ("b", ONE), "migrate M a", "!rm M/new/*", "migrate M b"], {"shared", "gone-elsewhere"}),
-    ([("old/a", ONE), "migrate M old", "!rm -r M/.a", "migrate M old"], {"folder-gone"}),
-    ([("old/a", ONE), "migrate M old", "!rm M/.a/mbox2maildir-messages", "migrate M old"], {"ledger-gone"}),
+    ([*OF_TREE, "!rm -r M/.a", "migrate M old"], {"folder-gone"}),
+    ([*OF_TREE, "!rm M/.a/mbox2maildir-messages", "migrate M old"], {"ledger-gone"}),
     (
-        [
-            *(("a", ONE), "migrate M a", "!cp M/mbox2maildir-messages kept", ("a", ONE + TWO), "migrate M a"),
-            *("!cp kept M/mbox2maildir-messages", "migrate M a"),
-        ],
+        [*DONE, "!cp M/mbox2maildir-messages kept", *DONE_OF_TWO, "!cp kept M/mbox2maildir-messages", "migrate M a"],
         {"ledger-older"},
     ),
     # of what others did in the mailbox
-    ([("a", ONE + TWO), "migrate M a", ("a", ONE), "migrate M a"], {"lost"}),
-    (
-        [("a", ONE + TWO), "migrate M a", ("a", ONE), "migrate M a", ("a", ONE + TWO), "migrate M a"],
-        {"grew", "regained"},
-    ),
-    (
-        [
-            *(("a", MAY_BEGIN), "migrate --as mboxrd M a", ("a", MAY_BEGIN + ONE), "migrate M a"),
-        ],
-        {"as-answered", "grew"},
-    ),
+    ([*DONE_OF_TWO, *DONE], {"lost"}),
+    ([*DONE_OF_TWO, *DONE, *DONE_OF_TWO], {"grew", "regained"}),
+    ([("a", MAY_BEGIN), "migrate --as mboxrd M a", ("a", MAY_BEGIN + ONE), "migrate M a"], {"as-answered", "grew"}),
     ([("a", ONE), "!touch -d '1 hour ago' a.lock", "migrate M a"], {"old-lock"}),
     ([("a", MAY_BEGIN), "migrate --as mboxrd M a", "migrate --as unquoted M a"], {"contradicted"}),
     ([("a", ONE), "migrate --prepare --unread M a", "migrate M a"], {"prepared-before"}),
@@ -135,21 +124,12 @@ STORIES: list[tuple[list[Step], set[str]]] = [
         {"unlabelled", "unread"},
     ),
     # of an undo
-    (
-        [("a", ONE + TWO), "migrate M a", "!rm $(ls M/new/* | head -n 1)", "migrate --undo M a"],
-        {"removed", "already-gone"},
-    ),
-    (
-        [("a", ONE + TWO), "migrate M a", "!mv $(ls M/new/* | head -n 1) M/cur/1.host:2,", "migrate --undo M a"],
-        {"removed", "kept-renamed"},
-    ),
-    (
-        [("a", ONE + TWO), "migrate M a", "!echo more >>$(ls M/new/* | head -n 1)", "migrate --undo M a"],
-        {"removed", "kept-edited"},
-    ),
+    ([*DONE_OF_TWO, f"!rm {A_FILE}", "migrate --undo M a"], {"removed", "already-gone"}),
+    ([*DONE_OF_TWO, f"!mv {A_FILE} M/cur/1.host:2,", "migrate --undo M a"], {"removed", "kept-renamed"}),
+    ([*DONE_OF_TWO, f"!echo more >>{A_FILE}", "migrate --undo M a"], {"removed", "kept-edited"}),
     ([("a", ONE), "!mbox2maildir convert M a", "migrate M a", "migrate --undo M a"], {"removed", "kept-foreign"}),
     ([("a", ONE + TWO), ("b", TWO), "migrate --folder X M a b", "migrate --undo M a"], {"removed", "kept-shared"}),
-    ([("a", ONE + TWO), "migrate M a", ("a", ONE), "migrate M a", "migrate --undo M a"], {"removed", "kept-lost"}),
+    ([*DONE_OF_TWO, *DONE, "migrate --undo M a"], {"removed", "kept-lost"}),
     (
         [
             *(("a", ONE + TWO), ("b", TWO + THREE), "migrate --folder X M a b", ("b", THREE)),
@@ -158,51 +138,33 @@ STORIES: list[tuple[list[Step], set[str]]] = [
         {"removed", "kept-former"},
     ),
     # of verify, and of the way back
-    ([("a", ONE), "migrate M a", "!rm M/new/*", "verify M a"], {"nowhere"}),
-    ([("a", ONE), "migrate M a", "!cp M/new/* M/new/1.host", "verify M a"], {"double"}),
-    ([("a", ONE), "migrate M a", "!echo more >>$(ls M/new/*)", "verify M a"], {"other-bytes"}),
-    ([("a", ONE), "migrate M a", "!mv M/new/* M/cur/1.host:2,", "verify M a"], {"renamed"}),
+    ([*DONE, "!rm M/new/*", "verify M a"], {"nowhere"}),
+    ([*DONE, "!cp M/new/* M/new/1.host", "verify M a"], {"double"}),
+    ([*DONE, "!echo more >>$(ls M/new/*)", "verify M a"], {"other-bytes"}),
+    ([*DONE, "!mv M/new/* M/cur/1.host:2,", "verify M a"], {"renamed"}),
     ([("a", fields(ONE, b"Status: RO")), "migrate --dovecot M a", "verify M a"], {"without-fields"}),
     ([("a", A.replace(b"\n", b"\r")), "!mbox2maildir convert M a", "verify M a"], {"doubtful-line"}),
-    ([("old/a", ONE), "migrate M old", "!rm M/.a/new/*", "back M old"], {"deleted"}),
-    ([("old/a", ONE), "migrate M old", "!echo more >>$(ls M/.a/new/*)", "back M old"], {"changed"}),
+    ([*OF_TREE, "!rm M/.a/new/*", "back M old"], {"deleted"}),
+    ([*OF_TREE, "!echo more >>$(ls M/.a/new/*)", "back M old"], {"changed"}),
+    ([*OF_TREE, "!printf ' Subject: x\\n\\nx\\n' >M/.a/new/1.h", "back M old"], {"beside"}),
     (
-        [("old/a", ONE), "migrate M old", "!printf ' Subject: x\\n\\nx\\n' >M/.a/new/1.h", "back M old"],
-        {"beside"},
-    ),
-    (
-        [
-            *(("old/a", NUMBERED), "migrate --dovecot M old", "!echo 0 work >M/.a/dovecot-keywords"),
-            *("!printf 'Subject: x\\n\\nx\\n' >M/.a/cur/1.h:2,a", "back --dovecot M old"),
-        ],
+        [*OF_SERVER, "!echo 0 work >M/.a/dovecot-keywords", f"{COMES}cur/1.h:2,a", "back --dovecot M old"],
         {"keywords-added"},
     ),
-    (
-        [("old/a", ONE), "migrate M old", "!mkdir -p M/.Z/new M/.Z/cur; mv M/.a/new/* M/.Z/new", "back M old"],
-        {"moved"},
-    ),
-    (
-        [("old/a", ONE), "migrate M old", "!printf 'X-UID: 9\\nSubject: x\\n\\nx\\n' >M/.a/new/1.h", "back M old"],
-        {"fields-left-out"},
-    ),
+    ([*OF_TREE, "!mkdir -p M/.Z/new M/.Z/cur; mv M/.a/new/* M/.Z/new", "back M old"], {"moved"}),
+    ([*OF_TREE, "!printf 'X-UID: 9\\nSubject: x\\n\\nx\\n' >M/.a/new/1.h", "back M old"], {"fields-left-out"}),
     (
         [
-            *(("old/a", NUMBERED), "migrate --dovecot M old", "!echo 3 V1700000000 N4294967290 >M/.a/dovecot-uidlist"),
-            *("!printf 'Subject: x\\n\\nx\\n' >M/.a/new/1.h", "back --dovecot M old"),
+            *(*OF_SERVER, "!echo 3 V1700000000 N4294967290 >M/.a/dovecot-uidlist"),
+            *(f"{COMES}new/1.h", "back --dovecot M old"),
         ],
         {"uids-raised"},
     ),
     (
-        [
-            *(("old/a", NUMBERED), "migrate --dovecot M old", "!echo 3 V1700000000 N99 >M/.a/dovecot-uidlist"),
-            *("!printf 'Subject: x\\n\\nx\\n' >M/.a/new/1.h", "back M old"),
-        ],
+        [*OF_SERVER, "!echo 3 V1700000000 N99 >M/.a/dovecot-uidlist", f"{COMES}new/1.h", "back M old"],
         {"uids-not-raised"},
     ),
-    (
-        [("old/a", ONE), "migrate M old", "!printf 'a\\n' >M/subscriptions", "back --dovecot M old"],
-        {"subscriptions"},
-    ),
+    ([*OF_TREE, "!printf 'a\\n' >M/subscriptions", "back --dovecot M old"], {"subscriptions"}),
 ]
 # words that a test has in another file, and which of its cases
 ELSEWHERE = {
