@@ -8,11 +8,9 @@ from typing import NamedTuple
 
 from tests.support.cases import run_cases
 from tests.support.checks import equal, matches
-from tests.support.homes import at_home, expect, fake, hand_over, mailbox, make_maildir, subjects
-from tests.support.homes import want_strace, want_users
+from tests.support.homes import at_home, expect, fake, hand_over, mailbox, make_maildir, subjects, want_strace
 from tests.support.ledgers import RECORD
-from tests.support.mail import A, ONE, TWO, numbered
-from tests.support.mounts import small_disk
+from tests.support.mail import A, ONE, TWO
 from tests.support.running import OWNER, Desk
 
 FAILS = "mbox2maildir: folder call ... failed, which %s; "
@@ -89,16 +87,6 @@ def spoilt(home: Path) -> None:
         shutil.rmtree(home / "M")
 
 
-def few_inodes(home: Path) -> None:
-    """A mailbox for whose files a disk has no inodes is left, and nothing of it is placed."""
-    want_users()
-    with small_disk(home / "disk", "6m,nr_inodes=14"):
-        mailbox(home / "box", numbered("x", 9))
-        says = "box -> INBOX: ...left (no-room): not enough inodes: it needs 15, and ... are free\n...\n"
-        expect("migrate --all disk/M box", home, 1, says)
-        equal("what was made", list((home / "disk").iterdir()), [])
-
-
 if __name__ == "__main__":
     cases = {name: partial(at_home, partial(attempt, one=one)) for name, one in CALLS.items()}
-    run_cases({**cases, "spoilt": partial(at_home, spoilt), "few_inodes": partial(at_home, few_inodes)})
+    run_cases({**cases, "spoilt": partial(at_home, spoilt)})

@@ -292,20 +292,6 @@ def full_disk(home: Path) -> None:
         equal("the last line", out.splitlines()[-1], "5 mailboxes: 4 done, 1 left")
 
 
-def one_of_two_fits(home: Path) -> None:
-    """Of two mailboxes, each of which fills more than half of a disk, one is done. The other waits until it is known
-    that there is no space for it, and then nothing of it is placed."""
-    want_users()
-    with small_disk(home / "disk") as disk:
-        for number in range(2):
-            mailbox(home / f"old/f{number}", text_of(number, 850))
-        status, out, _ = run(["migrate", "--all", "--jobs", "2", disk / "M", "old"], home)
-        rows = [line for line in out.splitlines() if ": left (no-room): not enough space in " in line]
-        equal("status, and what is left", (status, len(rows)), (1, 1))
-        counts = Counter(path.parent.parent.name for path in (disk / "M").glob(".f*/*/*"))
-        equal("how many messages are there, in folders that have any", sorted(counts.values()), [850])
-
-
 if __name__ == "__main__":
     check_all(
         as_one_at_a_time,
@@ -319,5 +305,4 @@ if __name__ == "__main__":
         little_memory,
         one_at_work,
         full_disk,
-        one_of_two_fits,
     )

@@ -47,7 +47,7 @@ def needs(home: Path) -> None:
             found = by_json(words, home, **settings).row
             says = found["says"].replace(f"{home}/", "").split("; ")[0]
             matches(row.words, says, f"not enough {row.says}")
-            equal("what was placed", [*(home / "disk").rglob("new/*")], [])
+            equal("what was made", [*(home / "disk").iterdir()], [])
         with small_disk(home / "disk", "20m"):
             equal(row.words, by_json(words, home, **settings).status, 0)
 
@@ -61,7 +61,8 @@ def in_a_closed_folder(home: Path) -> None:
 
 
 def of_two_at_once(home: Path) -> None:
-    """Of two mailboxes that fit alone, one is done, though there was room for the other when it was looked at."""
+    """Of two mailboxes that fit alone, one is done, though there was room for the other when it was looked at. Nothing
+    of that is placed."""
     want_users()
     fake(home, 'sleep 1; "$real" "$@"')
     for name in "ab":
@@ -69,6 +70,7 @@ def of_two_at_once(home: Path) -> None:
     with small_disk(home / "disk", "2m"):
         rows = by_json("migrate --now --jobs 2 disk/M old", home).rows
         equal("one after the other", sorted(row["reason"] or row["verdict"] for row in rows), ["done", "no-room"])
+        equal("how many messages are there", len([*(home / "disk").rglob("new/*")]), 300)
 
 
 if __name__ == "__main__":
