@@ -1,14 +1,11 @@
-"""mbox2maildir-admin migrate: the flags that Thunderbird, Evolution and Gmail keep in headers of their own, and the
-dates of headers if From_ lines have none."""
-import os
+"""mbox2maildir-admin migrate: the flags that Thunderbird, Evolution and Gmail keep in headers of their own."""
 from collections.abc import Sequence
-from datetime import datetime, timezone
 from pathlib import Path
 from typing import Optional
 
 from tests.support.checks import equal
 from tests.support.homes import by_json, check_all, expect, mail_in, mailbox
-from tests.support.ledgers import take_back_ends
+from tests.support.ledgers import as_if_killed
 
 MOZILLA, EVOLUTION = "X-Mozilla-Status: %s\nX-Mozilla-Status2: 00000000\n", "X-Evolution: 0000000%d-%s\n"
 GMAIL = "X-GM-THRID: 178513455618716%d\nX-Gmail-Labels: %s\n"
@@ -183,31 +180,12 @@ def broken_off(home: Path) -> None:
     """A run that was killed before the flags: the next one sets them."""
     text = b"".join(message(number, MOZILLA % "0001") for number in range(3))
     migrates(home, text, "Thunderbird's, messages 3: done, 3 messages with flags of Thunderbird")
-    record = home / "M/mbox2maildir-record"
-    lines = record.read_text().splitlines(True)
-    equal("the last line of the record", lines[-1].split("\t")[0], "done")
-    record.write_text("".join(lines[:-1]))
-    take_back_ends(home / "M")
+    as_if_killed(home / "M")
     for path in sorted((home / "M/cur").iterdir())[:2]:
         path.rename(home / "M/new" / path.name.split(":")[0])
     migrates(home, text, "Thunderbird's, messages 3: done, 3 messages with flags of Thunderbird")
     equal("flags after a run that was killed", places(home / "M"), ["cur:2,S"] * 3)
 
 
-def dates_of_headers(home: Path) -> None:
-    """public-inbox writes no date into From_ lines. The date of the header counts, and the row says for how many
-    messages."""
-    unknown = "Thu Jan  1 00:00:00 1970"
-    text = (
-        message(0, "Date: Tue, 4 Mar 2025 10:00:00 +0000\n", unknown)
-        + message(1, "Date: Tuesday, 04-Mar-25 10:00:00 GMT\n", unknown)
-        + message(2, "Date: soon\n", unknown)
-    )
-    migrates(home, text, "mboxrd or mboxo, messages 3: done, 2 messages dated by the header; 1 message without a date")
-    moment = datetime(2025, 3, 4, 10, tzinfo=timezone.utc).timestamp()
-    dates = {path.read_text().split("Subject: ")[1][0]: os.stat(path).st_mtime for path in mail_in(home / "M")}
-    equal("dates of headers", (dates["0"], dates["1"]), (moment, moment))
-
-
 if __name__ == "__main__":
-    check_all(kept_flags, forms, marked_as_deleted, of_strangers, read_meanwhile, broken_off, dates_of_headers)
+    check_all(kept_flags, forms, marked_as_deleted, of_strangers, read_meanwhile, broken_off)

@@ -8,7 +8,7 @@ from typing import Optional
 
 from tests.companion.hostile import FAILING, SYNCING
 from tests.support.checks import equal, match_in
-from tests.support.homes import check_all, doing_first, expect, files_of, mail_in, mailbox, run
+from tests.support.homes import by_json, check_all, doing_first, expect, files_of, mail_in, mailbox, run
 from tests.support.mail import A, B
 from tests.support.printed import in_quotes
 
@@ -223,10 +223,14 @@ def dates_of_headers(home: Path, forms: Sequence[tuple[str, Optional[str]]]) -> 
 
 
 def forms_of_headers(home: Path) -> None:
-    """The date of a header in each form."""
-    text = "".join(f"From a\nSubject: {place}\nDate: {form}\n\nhi\n\n" for place, (form, _) in enumerate(HEADERS))
-    mailbox(home / "box", text.encode())
-    equal("the status", run("migrate --now M box", home, TZ=NEW_YORK).status, 0)
+    """The date of a header in each form. The row says how many messages have it, and how many have none. public-inbox
+    writes From_ lines with the first second of 1970."""
+    head = "From a Thu Jan  1 00:00:00 1970\nSubject: %d\nDate: %s\n\nhi\n\n"
+    mailbox(home / "box", "".join(head % (place, form) for place, (form, _) in enumerate(HEADERS)).encode())
+    ran = by_json("migrate --now M box", home, TZ=NEW_YORK)
+    dated = sum(moment is not None for _, moment in HEADERS)
+    says = [f"{dated} messages dated by the header", f"{len(HEADERS) - dated} messages without a date"]
+    equal("the row", (ran.status, [one["says"] for one in ran.row["remarks"]]), (0, says))
     for path in mail_in(home / "M"):
         form, moment = HEADERS[int(match_in(r"Subject: (\d+)", path.read_text())[1])]
         wanted = datetime.fromisoformat(moment).timestamp() if moment else path.stat().st_ctime
