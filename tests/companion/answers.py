@@ -1,4 +1,3 @@
-#!/usr/bin/env -S python3 -B
 """What a human decides about mailboxes. Each answer that mbox2maildir-admin migrate prints is run as it is printed, by
 the owner of the mail, and by root for mailboxes of a spool. It must give what was said of it."""
 import re

@@ -1,4 +1,3 @@
-#!/usr/bin/env -S python3 -B
 """mbox2maildir-admin back onto a real disk that is full: of the mailboxes, of the Maildir, or of both. Whatever a run
 could not write it says, and nothing is cut. Once there is room, the same command brings back what is missing.
 

@@ -1,4 +1,3 @@
-#!/usr/bin/env -S python3 -B
 """mbox2maildir-admin back that is killed, with all that it has started, at each call that changes files or syncs them,
 or when half of it is written: the same command, given again, brings back what is missing. Meanwhile other programs may
 have written into the mailboxes. In other cases a program delivers while it is at work.

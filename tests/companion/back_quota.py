@@ -1,4 +1,3 @@
-#!/usr/bin/env -S python3 -B
 """mbox2maildir-admin back --users for a user whose inbox, or whose home, is on a disk that is full, or has no more room
 by a quota of the kernel: nothing is lost, doubled or cut. With room, the same command goes on. It needs root, and is
 left out without it."""

@@ -1,4 +1,3 @@
-#!/usr/bin/env python3
 """The last block of what mbox2maildir-admin migrate prints: what is left and what asks for a look, in groups, each
 command once. The commands of groups are run as they are printed."""
 import os

@@ -1,4 +1,3 @@
-#!/usr/bin/env -S python3 -B
 """Mailboxes whose last message was not complete when they were migrated, and that are read otherwise once it is: no
 message is there twice when a run says that all is done, whatever the words are, and each is there whole in the end."""
 import re

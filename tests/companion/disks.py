@@ -1,4 +1,3 @@
-#!/usr/bin/env -S python3 -B
 """Disks that fail, are full, or lack a call: what `migrate` says of a mailbox then, and what the next run does. strace
 has calls of the system fail, in a run and in what it starts."""
 import shutil

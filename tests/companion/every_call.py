@@ -1,4 +1,3 @@
-#!/usr/bin/env -S python3 -B
 """migrate, --prepare, --again and --undo that are killed, with all that they have started, at each call that changes
 files or syncs them, or when half of it is written: the same command, given again, ends as one that was not killed,
 nothing more is to be done then, and the mailboxes can be undone.

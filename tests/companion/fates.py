@@ -1,4 +1,3 @@
-#!/usr/bin/env -S python3 -B
 """Each name in a tree, a spool and a home has exactly one fate. In each case but one there is something that `migrate`
 once passed over, or left for ever, with status 0, and that the worlds of tests/companion/worlds.py do not draw. In
 `faults` each call of the system fails in a run of its own."""

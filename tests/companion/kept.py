@@ -1,4 +1,3 @@
-#!/usr/bin/env -S python3 -B
 """What later versions keep. One version wrote the folder `kept`: Maildirs with their books, mailboxes, what `--json`
 printed of them, and the words that scripts use. Most cases go on in a copy, as in a restored backup: its files have
 other inodes and times, and only the paths in the books are those of the copy. With `--make`, this version writes the

@@ -1,4 +1,3 @@
-#!/usr/bin/env -S python3 -B
 """What `migrate` makes of mailboxes whose messages it has brought already, or another mailbox has: mailboxes that
 mail programs and people have changed since, and equal messages. What a mailbox has brought is never brought again by
 it, what is new is placed, and what was deleted does not come back unsaid.

@@ -1,4 +1,3 @@
-#!/usr/bin/env -S python3 -B
 """What `migrate` makes of folders and ledgers that are not as it left them: killed runs, folders that were renamed or
 deleted, mail that readers filed in other folders, ledgers that were lost, cut, damaged, or come from a backup, and the
 records of versions before 0.5.0. Nothing is doubled or lost unsaid. The environment's LEDGER_SEEDS says how many random

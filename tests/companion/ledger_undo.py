@@ -1,4 +1,3 @@
-#!/usr/bin/env -S python3 -B
 """What `migrate` makes of mailboxes that share messages: overlapping archives, equal mailboxes, and their undo. Each
 message is there as often as the mailbox has it that has it most often, and no undo takes what another mailbox brought.
 """

@@ -1,4 +1,3 @@
-#!/usr/bin/env -S python3 -B
 """mbox2maildir-admin migrate --prepare, as a command: what it prints, the users of a spool, and where it prepares
 nothing."""
 import json

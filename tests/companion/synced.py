@@ -1,4 +1,3 @@
-#!/usr/bin/env -S python3 -B
 """In which order migrate, --prepare, --again and --undo write, sync and lock: what a power cut at any moment leaves is
 explained by lines that are on the disk already, and no line says that anything has ended which is not on the disk.
 

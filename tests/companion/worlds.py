@@ -1,4 +1,3 @@
-#!/usr/bin/env -S python3 -B
 """Random worlds, some of each kind. `python3 -B -m tests.worlds --kind KIND --seed N --count N` tries more by hand; for
 a world with which something is wrong it prints what was done. The environment's WORLDS says how many of each are tried
 here."""

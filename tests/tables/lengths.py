@@ -1,4 +1,3 @@
-#!/usr/bin/env -S python3 -B
 """Mailboxes in which some messages have lengths: which lines `From ` within these are text by a rule, and about which a
 human is asked. Mail that Dovecot delivers has a length and no escapes, beside mail that has neither or both."""
 from pathlib import Path

@@ -1,4 +1,3 @@
-#!/usr/bin/env -S python3 -B
 """Files of other kinds: each command that mbox2maildir-admin migrate prints for them is run as it is printed, by the
 owner of the mail, and by root for users. Then the same words migrate what it made."""
 import io

@@ -1,4 +1,3 @@
-#!/usr/bin/env -S python3 -B
 """Files that are not mbox text: what `kind` says of each kind in the table, and that its commands work."""
 import bz2
 import gzip

@@ -1,4 +1,3 @@
-#!/usr/bin/env -S python3 -B
 """mbox2maildir-admin back after a real Postfix has delivered into the Maildir, by `local` and by `virtual`, beside
 procmail and Dovecot's LDA: the random histories of tests/worlds/back. Everything is left out without Postfix, or if
 somebody else than root runs it.

@@ -1,4 +1,3 @@
-#!/usr/bin/env -S python3 -B
 """File systems that say that a folder was synced, and do not pass that on: what reaches their servers, and what
 `migrate` does there. Each is mounted for this, in mounts of this process alone. One that is not here is left out."""
 import contextlib

@@ -1,4 +1,3 @@
-#!/usr/bin/env -S python3 -B
 """The way into a Maildir and back, over a real Dovecot: random users whom it serves before, in between, after
 `back --dovecot` and the commands that it prints, and after a further migration, into a new Maildir or into the same
 one. No UID ever means two messages; and the mail that came in between has its UID, its flags and its keywords in the

@@ -90,7 +90,3 @@ class DialectTest(unittest.TestCase):
         self.assertEqual(Client().bare(Letter(text)), wanted)
         for text in (b"", b"Status: x", b"Status: x\n", b"\nStatus: x\n", b" Status: x\n\n", b"X-Mozilla-Status: 1\n"):
             self.assertEqual(Client().bare(Letter(text)).text, b"" if text.startswith(b"Status") else text)
-
-
-if __name__ == "__main__":
-    unittest.main()

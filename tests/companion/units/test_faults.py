@@ -32,7 +32,3 @@ class FaultsTest(unittest.TestCase):
         self.assertEqual([one for name, one in vars(Reason).items() if name.isupper()], list(REASONS.values()))
         for reason in REASONS.values():
             self.assertRegex("%s: %s" % (reason.word, reason.says), r"\A[a-z][a-z-]*: [A-Z][^|]*\.\Z")
-
-
-if __name__ == "__main__":
-    unittest.main()

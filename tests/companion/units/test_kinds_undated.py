@@ -58,7 +58,3 @@ class UndatedTest(unittest.TestCase):
     def test_lines_of_different_shapes(self) -> None:
         for (one, *_), (other, *_) in itertools.combinations(WRITTEN + TALK, 2):
             self.assertNotEqual(shape_of(one), shape_of(other))
-
-
-if __name__ == "__main__":
-    unittest.main()

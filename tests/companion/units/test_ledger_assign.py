@@ -89,7 +89,3 @@ class OffersTest(unittest.TestCase):
         """It comes first: an undo of one of them then leaves no file more than another one needs."""
         files = files_of([line(A, 1, OTHER), line(B, 2, OTHER), line(B, 3, THIRD)], [A, B])
         self.assertEqual([one.file.name for one in offers_of(files, BOX)], [B, B, A])
-
-
-if __name__ == "__main__":
-    unittest.main()

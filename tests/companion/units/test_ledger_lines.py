@@ -180,7 +180,3 @@ class LineTest(unittest.TestCase):
         assert together
         several = [(0, Brought(PLACED, NAME, A, A)), (1, Brought(SHARED, NAME, B, A))]
         self.assertEqual([list(together.counted(wanted)) for wanted in (None, {B})], [several, several[1:]])
-
-
-if __name__ == "__main__":
-    unittest.main()

@@ -43,7 +43,3 @@ class DoubtTest(unittest.TestCase):
     def test_what_is_shown(self) -> None:
         for shown, doubt in SHOWN.items():
             self.assertEqual(Mount.parse((LINE % shown).encode()).doubt(), doubt, shown)
-
-
-if __name__ == "__main__":
-    unittest.main()

@@ -127,7 +127,3 @@ class NamesTest(unittest.TestCase):
     def test_what_is_no_name(self) -> None:
         for name, why in WHY.items():
             self.assertIn(why or "None", str(why_no_folder(name)), repr(name))
-
-
-if __name__ == "__main__":
-    unittest.main()

@@ -71,7 +71,3 @@ class TableTest(unittest.TestCase):
         # what another program renamed has no place of its own
         self.assertEqual([table.own_place(name) for name in names], [0, 2, None, None, None])
         self.assertEqual((table.has(OTHER), table.has(b"\0" * 32)), (True, False))
-
-
-if __name__ == "__main__":
-    unittest.main()

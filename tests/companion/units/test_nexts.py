@@ -86,7 +86,3 @@ class NextsTest(unittest.TestCase):
         for names, phrases in ((Does, DOES), (Todo, TODOS)):
             self.assertEqual([one for name, one in vars(names).items() if name.isupper()], list(phrases.values()))
             self.assertEqual([one.word for one in phrases.values()], list(phrases))
-
-
-if __name__ == "__main__":
-    unittest.main()

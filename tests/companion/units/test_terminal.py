@@ -63,7 +63,3 @@ class TerminalTest(unittest.TestCase):
     def test_texts(self) -> None:
         self.assertEqual(list(map(is_text, (b"box", "\u00e9".encode(), b"\xe9"))), [True, True, False])
         self.assertEqual(text_of(b"caf\xe9"), "caf\udce9")
-
-
-if __name__ == "__main__":
-    unittest.main()
