@@ -216,19 +216,8 @@ def getmail(home: Home) -> None:
 
 def git(home: Home, *form: str) -> None:
     home.run("git", "init", "-q", ".")
-    home.run(
-        "git",
-        "-c",
-        "user.name=alva",
-        "-c",
-        "user.email=alva@example.org",
-        "commit",
-        "-q",
-        "--allow-empty",
-        "-F",
-        "-",
-        given=b"one\n\n" + BODY,
-    )
+    commit = "git -c user.name=alva -c user.email=alva@example.org commit -q --allow-empty -F -"
+    home.run(*commit.split(), given=b"one\n\n" + BODY)
     home.write("box", home.run("git", "format-patch", "--stdout", "--root", "--always", *form))
 
 
@@ -280,14 +269,14 @@ def movemail(home: Home) -> None:
 
 
 def mutt(home: Home, name: str = "mutt") -> None:
-    settings = (
-        f"set folder={home.folder}; set mbox_type=mbox; set confirmappend=no; set confirmcreate=no; set delete=no; "
-        "set wait_key=no; set sort=mailbox-order"
-    )
+    settings = f"folder={home.folder}; set mbox_type=mbox; set confirmappend=no; set confirmcreate=no; set delete=no"
     keys = f"<tag-pattern>.<enter><tag-prefix><copy-message>{home.folder}/box<enter><exit>"
-    home.run_on_a_terminal(
-        name, "-n", "-F", "/dev/null", "-e", settings, "-f", home.folder / "Maildir", "-e", f"push {keys}"
-    )
+    work_in_mutt(home, name, f"{settings}; set wait_key=no; set sort=mailbox-order", keys)
+
+
+def work_in_mutt(home: Home, name: str, settings: str, keys: str) -> None:
+    words = "-n", "-F", "/dev/null", "-e", f"set {settings}", "-f", home.folder / "Maildir"
+    home.run_on_a_terminal(name, *words, "-e", f"push {keys}")
 
 
 def neomutt(home: Home) -> None:
@@ -335,17 +324,8 @@ def reformail(home: Home) -> None:
 
 
 def s_nail(home: Home) -> None:
-    home.run(
-        "s-nail",
-        "-n",
-        "-R",
-        "-S",
-        "nosave",
-        "-f",
-        f"maildir://{home.folder}/Maildir",
-        given=f"copy * {home.folder}/box\nx\n".encode(),
-        MAILRC="/dev/null",
-    )
+    maildir, given = f"maildir://{home.folder}/Maildir", f"copy * {home.folder}/box\nx\n".encode()
+    home.run("s-nail", "-n", "-R", "-S", "nosave", "-f", maildir, given=given, MAILRC="/dev/null")
 
 
 def uw_imap(home: Home) -> None:
@@ -506,17 +486,8 @@ def by_doveadm(home: Home) -> None:
 
 
 def by_mutt(home: Home, name: str = "mutt") -> None:
-    home.run_on_a_terminal(
-        name,
-        "-n",
-        "-F",
-        "/dev/null",
-        "-e",
-        "set delete=no; set wait_key=no",
-        "-f",
-        home.folder / "Maildir",
-        "-e",
-        "push <tag-pattern>.<enter><tag-prefix><set-flag>N<clear-flag>N<exit>",
+    work_in_mutt(
+        home, name, "delete=no; set wait_key=no", "<tag-pattern>.<enter><tag-prefix><set-flag>N<clear-flag>N<exit>"
     )
 
 
