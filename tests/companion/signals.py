@@ -85,14 +85,8 @@ def at_anything(home: Path) -> None:
 
 def started_by(home: Path, code: str) -> "subprocess.CompletedProcess[bytes]":
     """How `kind` ends, run by this Python."""
-    words = [
-        sys.executable,
-        "-I",
-        "-S",
-        "-B",
-        "-c",
-        "import sys\n" + code + RUNS.format(str(home / "bin" / ADMIN.name)),
-    ]
+    text = "import sys\n" + code + RUNS.format(str(home / "bin" / ADMIN.name))
+    words = [sys.executable, "-I", "-S", "-B", "-c", text]
     return subprocess.run(words, cwd=home, check=False, stdin=subprocess.DEVNULL, capture_output=True, timeout=PATIENCE)
 
 

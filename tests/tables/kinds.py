@@ -291,11 +291,7 @@ COPIES = [
     (A + b"\n" + X * b"x" + B, "--as mboxrd --begin 5 --of {of}", A + b"\n" + X * b"x" + b"\n" + B),
     (A + b"\n>From a\n", "--as mboxrd --text 5,4 --of {of}", NOTHING),
     (A + b"\n>From a\n", "--as mboxrd --text 1 --of {of}", NOTHING),
-    (
-        A + b"\nhello\n",
-        "--as mboxrd --begin 5 --of {of}",
-        NOTHING,
-    ),
+    (A + b"\nhello\n", "--as mboxrd --begin 5 --of {of}", NOTHING),
     (b"\xef\xbb\xbf\r\n\n" + A + b"\n", "", A + b"\n"),
     ((A + b"\nx\ry\n").replace(b"\n", b"\r\n"), "", A + b"\nx\ry\n"),
     ((A + b"\nx\n\n" + B).replace(b"\n", b"\r"), "--as mboxo", A + b"\nx\n\n" + B),

@@ -102,11 +102,7 @@ KINDS = [
         "an archive of 7z",
         MAKES % '7z x -o"$d/copy" {}' + " # package p7zip-full",
     ),
-    (
-        beginning("c77100fe4fc1a4810000000001000000"),
-        "an archive of cpio",
-        CPIO,
-    ),
+    (beginning("c77100fe4fc1a4810000000001000000"), "an archive of cpio", CPIO),
     (b"0707010002B5F4000081A4", "an archive of cpio", CPIO),
     (b"\x1f\x9d\x90\x46", "compressed by compress or pack", MAKES % 'gzip -dc <{} >"$d/copy"'),
     (b"Rar!\x1a\x07\x00", "an archive of rar", RAR),
@@ -122,11 +118,7 @@ KINDS = [
     (MBOX.decode().encode("utf-32"), "mboxrd or mboxo, a text in UTF-32, messages 1", MIGRATE),
     # mailutil 2007f, Emacs's Rmail, doveadm 2.3.19; [MS-PST], libdbx, [MS-CFB]
     (b"*mbx*\r\n6b08b69800000000\r\n\r\n", "UW-IMAP's mbx", MAKES % MAILUTIL + " # package uw-mailutils"),
-    (
-        b"BABYL OPTIONS: -*- rmail -*-\nVersion: 5\n",
-        "Emacs's Babyl",
-        MAKES % BABYL,
-    ),
+    (b"BABYL OPTIONS: -*- rmail -*-\nVersion: 5\n", "Emacs's Babyl", MAKES % BABYL),
     (
         b"2 M1e C6b08b5d0\n\1\2N           000000000000000F\nSubject: x\n",
         "Dovecot's dbox",
@@ -177,11 +169,7 @@ KINDS = [
         "no mail: Dovecot's index",
         LEAVE_OUT,
     ),
-    (
-        RECORD * 2,
-        "no mail: Dovecot's log of mailboxes",
-        LEAVE_OUT,
-    ),
+    (RECORD * 2, "no mail: Dovecot's log of mailboxes", LEAVE_OUT),
     (b"V\t2\n\nlists\tsheds\nSent\n", "no mail: subscriptions", LEAVE_OUT),
     (b"# KMail-Index V1506\n\t", "no mail: KMail's index", LEAVE_OUT),
     (
@@ -311,18 +299,9 @@ COPIES = [
         b"\1\1\1\1\n" + A + b"\nhello\nFrom here\n>From there\n\1\1\1\1\n\1\1\1\1\nSubject: two\n\nyes\n\n\1\1\1\1\n",
         A + b"\nhello\n>From here\n>>From there\n\n%s\nSubject: two\n\nyes\n\n\n" % NO_SENDER,
     ),
-    (
-        b"%d   \n%s%s" % (len(MAIL), MAIL, LIST),
-        QUOTED + b"\n",
-    ),
-    (
-        MAIL,
-        QUOTED + b"\n",
-    ),
-    (
-        MAIL[:-1],
-        QUOTED,
-    ),
+    (b"%d   \n%s%s" % (len(MAIL), MAIL, LIST), QUOTED + b"\n"),
+    (MAIL, QUOTED + b"\n"),
+    (MAIL[:-1], QUOTED),
     (A[1:] + b"\n" + B + b"\n", NO_SENDER + b"\n" + A[1:] + b"\n" + B + b"\n"),
     (b"\0" * 512 + b"From a\nSubject: x\n\nyes\n\n", b"From a\nSubject: x\n\nyes\n\n"),
     (b"\0\0" + A[1:] + b"\n", NO_SENDER + b"\n" + A[1:] + b"\n"),
