@@ -31,7 +31,7 @@ def piped(*words: str) -> Callable[[], bytes]:
     return lambda: subprocess.run(words, input=ONE, stdout=subprocess.PIPE, check=True).stdout
 
 
-def tar_of(files: Mapping[str, bytes] = OF_TWO, form: int = tarfile.DEFAULT_FORMAT) -> bytes:
+def tar_of(files: Mapping[str, bytes], form: int = tarfile.DEFAULT_FORMAT) -> bytes:
     """An archive of these files, in a form of tar."""
     file = io.BytesIO()
     with tarfile.open(fileobj=file, mode="w", format=form) as tar:
@@ -42,7 +42,7 @@ def tar_of(files: Mapping[str, bytes] = OF_TWO, form: int = tarfile.DEFAULT_FORM
     return file.getvalue()
 
 
-def zip_of(files: Mapping[str, bytes] = OF_TWO) -> bytes:
+def zip_of(files: Mapping[str, bytes]) -> bytes:
     """The same of zip."""
     file = io.BytesIO()
     with zipfile.ZipFile(file, "w") as archive:
@@ -77,12 +77,12 @@ def piped_in(text: bytes, *words: str) -> bytes:
 
 # A kind of file: what makes one, by which programs it is made and read, and the subjects of its messages
 KINDS = {
-    "tar": (tar_of, ("tar",), ["one", "two"]),
-    "zip": (zip_of, ("unzip",), ["one", "two"]),
+    "tar": (partial(tar_of, OF_TWO), ("tar",), ["one", "two"]),
+    "zip": (partial(zip_of, OF_TWO), ("unzip",), ["one", "two"]),
     "7z": (seven_zip, ("7z",), ["one"]),
     "cpio": (cpio_of_one, ("cpio",), ["one"]),
     **{
-        f"tar in {program}": (partial(piped_in, tar_of(), program, "-c"), ("tar", program), ["one", "two"])
+        f"tar in {program}": (partial(piped_in, tar_of(OF_TWO), program, "-c"), ("tar", program), ["one", "two"])
         for program in ("gzip", "bzip2", "xz", "zstd", "lz4")
     },
     "lzma": (lambda: lzma.compress(ONE, lzma.FORMAT_ALONE), ("xz",), ["one"]),
@@ -145,7 +145,7 @@ def of_names(home: Path) -> None:
     mailbox(home / "own" / LONGEST, MAIL)
     equal("as long as can be", migrate_and_do(["L", f"own/{LONGEST}"], home)[0], 0)
     for name in NAMES:
-        mailbox(home / "old" / name, tar_of())
+        mailbox(home / "old" / name, tar_of(OF_TWO))
         mailbox(home / "own" / name, MAIL)
         status, out = migrate_and_do(["M", "old"], home)
         equal(f"{name}: {out}", (status, subjects_below(home / "M")), (0, ["one", "two"]))
@@ -177,8 +177,8 @@ def where_none_may_write(home: Path) -> None:
     first, second, third = USERS
     with users(home):
         theirs(mailbox(home / "spool" / first, MAIL), first)
-        theirs(mailbox(home / "spool" / second, tar_of()), second)
-        theirs(mailbox(home / "homes" / third / "mail/it's old", tar_of()), third)
+        theirs(mailbox(home / "spool" / second, tar_of(OF_TWO)), second)
+        theirs(mailbox(home / "homes" / third / "mail/it's old", tar_of(OF_TWO)), third)
         (home / "spool").chmod(0o711)
         words = ["--users", "--tree", "mail", "spool", *USERS]
         commands = nexts_in(["--dry-run", *words], home)

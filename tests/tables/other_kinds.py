@@ -88,7 +88,7 @@ KINDS = [
         "compressed by lzma",
         MAKES % 'xz -dc <{} >"$d/copy"' + " # package xz-utils",
     ),
-    (zip_of(), "an archive of zip", MAKES % 'unzip {} -d "$d/copy"'),
+    (zip_of({"mbox": MBOX}), "an archive of zip", MAKES % 'unzip {} -d "$d/copy"'),
     (archive(tarfile.USTAR_FORMAT), "an archive of tar", TAR),
     (archive(tarfile.GNU_FORMAT), "an archive of tar", TAR),
     (archive(tarfile.PAX_FORMAT), "an archive of tar", TAR),

@@ -176,14 +176,14 @@ ELSEWHERE = {
 }
 
 
-def words_of(steps: list[Step], home: Path) -> set[str]:
+def words_of(story: list[Step], home: Path) -> set[str]:
     """The words of the remarks in the rows of the last command."""
-    return {word for row in take(steps, home).rows for word in row.remarks}
+    return {word for row in take(story, home).rows for word in row.remarks}
 
 
-def is_told(steps: list[Step], wanted: set[str], home: Path) -> None:
+def is_told(story: list[Step], wanted: set[str], home: Path) -> None:
     """A story ends with rows that have these words."""
-    equal(f"{steps}: words", words_of(steps, home), wanted)
+    equal(f"{story}: words", words_of(story, home), wanted)
 
 
 def all_of_them(home: Path) -> None:
