@@ -309,10 +309,14 @@ def nothing_shows_what_is_new(home: Home) -> None:
 
 def where_it_goes(home: Home) -> None:
     """Mail of a folder whose mailbox is gone, or that has none and none can be made, stays in the Maildir. A mailbox
-    that was moved, and is named by itself, gets the mail of its folder."""
-    box = begun(home, NEW)
-    box.rename(home.path / "moved")
-    equal("a mailbox that was moved", home.place.run([*BACK, "moved"]).rows[0]["messages"], 1)
+    that was moved, and is named by itself, gets the mail of its folder, also if a run has seen it empty."""
+    for text, count in (OLD, 1), (b"", 2):
+        box = begun(home, NEW)
+        box.write_bytes(text)
+        home.place.run(["migrate", "--json", "--now", "M", "mail"])
+        box.rename(home.path / "moved")
+        row = home.place.run([*BACK, "moved"]).rows[0]
+        equal(f"{text!r} was moved", (row["folder"], row["messages"]), ("a", count))
     box = begun(home, NEW)
     box.unlink()
     want_left(home, "a mailbox that is gone", "missing")

@@ -307,6 +307,21 @@ def rule_6_a_renamed_file_of_equal_messages(home: Home) -> None:
         home.has(5, 5)
 
 
+def rule_6_moved_after_it_got_a_file(home: Home) -> None:
+    """By the undo of another mailbox, a mailbox got a file in place of one that was deleted. Then it was moved, and has
+    grown: it is still the same one, and its undo removes all that it brought."""
+    home.bring(OLD=letters(5, 5))
+    home.take(5)
+    home.bring(OTHER=letters(5, 5, 5))
+    home.undo("OTHER")
+    home.has(5, 5)
+    (home.path / "OLD").rename(home.path / "MOVED")
+    home.bring(MOVED=letters(5, 5, 6))
+    home.has(5, 5, 6)
+    home.undo("MOVED")
+    home.has()
+
+
 def rule_6_the_only_file_was_renamed(home: Home) -> None:
     """Another program gave the file of a message a name of its own, which a mailbox has that another one had once. It
     stays, and the row says so."""

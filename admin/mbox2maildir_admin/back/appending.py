@@ -277,7 +277,7 @@ class Appending:
         lines += [Brought(RETURNED, one.mail.before, one.mail.core, one.bares[-1]) for one in plan.entries]
         # a mailbox that has more than the Maildir is not done, whatever its bytes are
         key = NO_KEY if plan.has_more else key
-        head = Head(len(lines), 0, 0, (), key, self.style.words, self.known.path, self.mailbox.state.st_ino)
+        head = Head(len(lines), 0, 0, (), key, self.style.words, self.known.path, self.mailbox.state.st_ino, 0)
         return self.known.ledger.begin(head, lines)
 
     def want_right(self, text: Mailbox, entries: Sequence[Appended], reads: str) -> None:

@@ -388,13 +388,15 @@ class Ledger:
         else:
             self.size = append(self.folder, lines, since=since)
 
-    def note_empty(self, path: str, key: tuple[int, str]) -> None:
-        """Notes that a mailbox has no message any more, if it had some."""
+    def note_empty(self, path: str, key: tuple[int, str], inode: int) -> None:
+        """Notes that a mailbox with this size and SHA-256, in the file with this inode, has no message any more, if it
+        had some."""
         source = self.sources.get(path)
         if source and source.count():
             has = (line.message for line in self.entries(source.has()) if line[:2] == (path, State.HELD))
             lost = [one._replace(word=LOST) for one in has]
-            self.note(END_LINE % self.begin(Head(len(lost), 0, 0, (), key, source.words, path), lost))
+            head = Head(len(lost), 0, 0, (), key, source.words, path, inode, 0)
+            self.note(END_LINE % self.begin(head, lost))
 
     def move(self, old: str, new: str) -> None:
         """Notes that a mailbox has another path now."""

@@ -160,8 +160,8 @@ class Head(NamedTuple):
     key: tuple[int, str]
     words: str
     path: str
-    inode: int = 0
-    begun: int = 0
+    inode: int
+    begun: int
 
     @classmethod
     def of(cls, found: re.Match[bytes]) -> "Head":

@@ -39,7 +39,7 @@ def note_empty(record: Record, opened: Opened, ledger: Ledger, path: str) -> lis
         # a run was killed that had begun with it
         nothing = Files(ledger.folder, Inventory())
         said += remarks_on_lost(Match.of(ledger, path, nothing, lambda place: False))
-    ledger.note_empty(path, mailbox.key())
+    ledger.note_empty(path, mailbox.key(), mailbox.state.st_ino)
     if not mailbox.size:
         record.add(Note.EMPTY, Key(name, *mailbox.key()), 0, mailbox.path)
     return said

@@ -287,7 +287,7 @@ def hand_over(ledger: Ledger, plan: Sequence[Planned]) -> None:
     for path, several in handed.items():
         if ledger.pending(path) is None:
             read = ledger.last_read(path)
-            head = Head(len(several), 0, 0, (), read.key, read.words, path)
+            head = Head(len(several), 0, 0, (), read.key, read.words, path, read.inode, 0)
             ledger.note(END_LINE % ledger.begin(head, sorted(several, key=lambda one: one.word != LOST)))
 
 
