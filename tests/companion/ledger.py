@@ -194,10 +194,14 @@ def want_undeleted(home: Home, *numbers: int) -> None:
         equal(f"{home.values}: flags of {number}: {flags}", all("T" in one for one in flags), False)
 
 
+# what programs write into the header of a message that is marked as deleted
+DELETED = b"Status: ROD\n", b"Status: RO\nX-Status: D\n", b"X-Evolution: 00000001-0012\n"
+
+
 def rule_2_deleted(home: Home) -> None:
     """A file that is marked as deleted serves no message that is not. Nor does one that a reader has marked, and that
     has a keyword of Dovecot's."""
-    for mark in home.each((b"Status: ROD\n", b"Status: RO\nX-Status: D\n", b"X-Evolution: 00000001-0012\n", b"")):
+    for mark in home.each((*DELETED, b"")):
         home.bring(OLD=letters(0, 1, 1, 2, fields=mark))
         for path in home.files() if not mark else ():
             path.rename(path.parents[1] / "cur" / f"{path.name.split(':')[0]}:2,STa")
@@ -216,6 +220,17 @@ def rule_2_deleted_under_a_name_of_another_program(home: Home) -> None:
         row = home.bring(OTHER=letters(0))["OTHER"]
         want_undeleted(home, 0)
         want_said(row, "1 message placed beside files that are marked as deleted")
+
+
+def rule_2_deleted_in_both(home: Home) -> None:
+    """A file that is marked as deleted serves messages with that mark: those of another mailbox, and those of the same
+    one after its run was killed once all was placed."""
+    for name, mark, words in home.each(("OLD", "OTHER"), DELETED, ([], ["--dovecot"])):
+        home.done(home.write("OLD", letters(0, 1, 1, 2, fields=mark)), words=words)
+        if name == "OLD":
+            home.forget_end()
+        home.done(home.write(name, letters(0, 1, 1, 2, 3, fields=mark)), words=words)
+        home.has(0, 1, 1, 2, 3)
 
 
 def rule_2_flags(home: Home) -> None:

@@ -73,7 +73,7 @@ class Contents(NamedTuple):
     def is_deleted(self, place: Place) -> bool:
         """Whether a message is marked as deleted."""
         header = self.header(place)
-        return "T" in flags_in(header, True) + (letters_of_evolution(header) or "")
+        return "T" in flags_in(header, self.is_bare) + (letters_of_evolution(header) or "")
 
     def unquoted(self, places: Sequence[int]) -> int:
         """How many lines of messages at some places lose a `>`."""
