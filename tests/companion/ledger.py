@@ -222,6 +222,23 @@ def rule_2_deleted_under_a_name_of_another_program(home: Home) -> None:
         want_said(row, "1 message placed beside files that are marked as deleted")
 
 
+def rule_2_deleted_after_a_killed_run(home: Home) -> None:
+    """A run was killed once all was placed. A file of it that is marked as deleted serves no message that is not: the
+    message was marked, and is no longer; or a reader has marked the file."""
+    for is_marked, words in home.each((True, False), ([], ["--dovecot"])):
+        home.done(
+            home.write("OLD", letters(0, 1, 1, 2, fields=DELETED[1] if is_marked else RO)),
+            words=words,
+        )
+        home.forget_end()
+        for path in home.files() if not is_marked else ():
+            path.rename(path.parents[1] / "cur" / f"{path.name.split(':')[0]}:2,ST")
+        row = home.bring(words, OLD=letters(0, 1, 1, 2, 3, fields=RO))["OLD"]
+        home.has(0, 0, 1, 1, 1, 1, 2, 2, 3)
+        want_undeleted(home, 0, 1, 2, 3)
+        want_said(row, "4 messages placed beside files that are marked as deleted")
+
+
 def rule_2_deleted_in_both(home: Home) -> None:
     """A file that is marked as deleted serves messages with that mark: those of another mailbox, and those of the same
     one after its run was killed once all was placed."""

@@ -256,8 +256,15 @@ class Match:
         table, there = self.inventory.table, self.files.there
         for one in self.ledger.intended(self.path, was_nowhere=True):
             place = table.own_place(one.name)
-            if place is not None and there[place] and self.states[place] == Stand.NOWHERE:
+            if place is None or not there[place] or self.states[place] != Stand.NOWHERE:
+                continue
+            if self.may_count(one.name, place):
                 self.states[place] = Stand.MINE
+
+    def may_count(self, name: Optional[bytes], place: int) -> bool:
+        """Whether a file of this name may count for a message: one that is marked as deleted counts only for one with
+        that mark."""
+        return name not in self.files.trashed or self.is_deleted(Place(place))
 
     def is_mine(self, name: bytes) -> bool:
         """Whether a run that was killed has placed a file of the mailbox under this name, which the text has."""
@@ -344,15 +351,15 @@ class Match:
             bare = one.file.bare if one.why is Why.ANY else one.line.message.bare
             if one.file in served or one.why in (Why.SHARED, Why.GONE) and most[bare] <= 0:
                 continue
-            forms, is_trashed = [bare] if is_same else list(waiting), one.file.name in self.files.trashed
+            forms = [bare] if is_same else list(waiting)
             waits = (at for form in forms for at in waiting.get(form, ()))
-            found = next((at for at in waits if not is_trashed or self.is_deleted(Place(at))), None)
+            found = next((at for at in waits if self.may_count(one.file.name, at)), None)
             if found is not None:
                 served.add(one.file)
                 waiting[self.inventory.bare(found)].remove(found)
                 most[self.inventory.bare(found)] -= 1
                 self.note(one, found)
-            elif is_trashed:
+            elif one.file.name in self.files.trashed:
                 refused += [(form, one.file) for form in forms]
         self.count_nowhere(
             [*itertools.chain(*waiting.values())], {file for form, file in refused if waiting.get(form)} - served
