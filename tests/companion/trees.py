@@ -129,7 +129,11 @@ def folders_of_messages(home: Path) -> None:
     for name in ("lists", "more", "caf\udce9"):
         make_maildir(home / "tree" / name)
     mailbox(home / "tree/more/notes", b"!BDN")
+    # files of this program are parts of a Maildir, and what goes back from it is no mailbox
+    for name in (LEDGER, f"{LEDGER}.damaged", "mbox2maildir-prepared", "mbox2maildir-back", "mbox2maildir-back.new"):
+        mailbox(home / "tree/caf\udce9" / name, ONE if "back" in name else b"")
     out = run("migrate --all M tree", home)[1]
+    assert "mbox2maildir-" not in out.replace("mbox2maildir-admin", ""), out
     for name, task in (
         ("lists", "move the files in its new and cur into those of M/.lists"),
         ("more", "move out of it what is not part of a Maildir, and run this again"),

@@ -13,7 +13,7 @@ from ..ledger.lines import END_LINE, RETURNED, Brought, Head
 from ..ledger.match import cores_of
 from ..ledger.record import Record
 from ..looks import is_file, is_there
-from ..maildir.making import GOES_BACK
+from ..maildir.making import DRAFT
 from ..maildir.disk import Need, want_room
 from ..mbox.files import Reader
 from ..mbox.inventory import Inventory
@@ -38,8 +38,6 @@ FILE_CHANGED = "%s was changed meanwhile: stop the program that did it, and run 
 MISREAD = "what was appended is not read back as it is, so it was taken back"
 REPLACED = "another file has its place meanwhile: run this again"
 NOT_HELD = "it cannot hold %s, which %s in the Maildir alone: %s"
-# the ending of the name of a draft
-UNFINISHED = b".new"
 # the size and the SHA-256 of no mailbox
 NO_KEY = 0, "0" * 64
 # the row of a mailbox, and the mail that it cannot hold
@@ -164,7 +162,7 @@ class Appending:
             if dry:
                 draft = Draft(stack.enter_context(unnamed(self.way.disk)).fileno())
             else:
-                draft = stack.enter_context(Draft.at(os.path.join(self.opened.folder, GOES_BACK + UNFINISHED)))
+                draft = stack.enter_context(Draft.at(os.path.join(self.opened.folder, DRAFT)))
             plan = self.planned(draft)
             if not dry:
                 self.carry_out(plan, draft)

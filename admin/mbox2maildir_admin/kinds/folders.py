@@ -5,7 +5,7 @@ import stat
 
 from ..faults import Fault
 from ..looks import type_at
-from ..maildir.making import ENVELOPES, LEDGER, RECORD, SUBFOLDERS
+from ..maildir.making import DRAFT, GOES_BACK, SUBFOLDERS
 from ..mbox.files import open_file
 from ..mbox.pieces import FROM
 from ..nexts import Next, Template, Todo, run_next, task
@@ -16,10 +16,10 @@ from .starts import FIELD
 
 Entry = os.DirEntry[bytes]
 MAILDIR, MH = "it is a Maildir", "an MH folder"
-# what servers, and programs that copy mail, write beside the three folders of a Maildir
+# what servers, and programs that copy mail, write beside the three folders of a Maildir, and what this program does
 OF_MAILDIR = pattern(
     rb"maildirfolder|maildirsize|subscriptions|dovecot.*|courier.*|\.uidvalidity|\.mbsyncstate.*|\.isyncuidmap\.db"
-    rb"|%s|%s|%s" % (re.escape(RECORD), re.escape(LEDGER), re.escape(ENVELOPES)),
+    rb"|mbox2maildir-.*",
     re.DOTALL,
 )
 KEYWORDS_OF_COURIER = b"courierimapkeywords"
@@ -48,12 +48,13 @@ def has_maildir(entries: list[Entry]) -> bool:
 
 
 def is_of_maildir(entry: Entry) -> bool:
-    """Whether a name in a Maildir is part of it. A mailbox is not, whatever its name is."""
+    """Whether a name in a Maildir is part of it. A mailbox of another program is not, whatever its name is."""
     if entry.is_dir(follow_symlinks=False):
         return entry.name in (*SUBFOLDERS, KEYWORDS_OF_COURIER)
     if not entry.is_file(follow_symlinks=False) or not OF_MAILDIR.fullmatch(entry.name):
         return False
-    return not head_of(entry.path).startswith(FROM)
+    # what goes back is mbox text, which the files of the Maildir have too
+    return entry.name in (GOES_BACK, DRAFT) or not head_of(entry.path).startswith(FROM)
 
 
 def is_export(path: bytes, entries: list[Entry]) -> bool:

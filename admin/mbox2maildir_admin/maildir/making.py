@@ -19,12 +19,10 @@ MARK = b"maildirfolder"
 RECORD = b"mbox2maildir-record"
 # each of its folders may have a ledger of messages
 LEDGER = b"mbox2maildir-messages"
-# and a file of From_ lines, which no run makes any more
-ENVELOPES = b"mbox2maildir-envelopes.gz"
 # and a list of what is prepared there
 PREPARED = b"mbox2maildir-prepared"
-# and what is going to be appended to its mailbox
-GOES_BACK = b"mbox2maildir-back"
+# and what is going to be appended to its mailbox, also before it is whole
+GOES_BACK, DRAFT = b"mbox2maildir-back", b"mbox2maildir-back.new"
 
 NO_PLACE = "the folder that it is to be made in is not there"
 
