@@ -224,7 +224,7 @@ def rule_2_deleted_under_a_name_of_another_program(home: Home) -> None:
 
 def rule_2_deleted_after_a_killed_run(home: Home) -> None:
     """A run was killed once all was placed. A file of it that is marked as deleted serves no message that is not: the
-    message was marked, and is no longer; or a reader has marked the file."""
+    message was marked, and is no longer; or a reader has marked the file. An undo removes what counted."""
     for is_marked, words in home.each((True, False), ([], ["--dovecot"])):
         home.done(
             home.write("OLD", letters(0, 1, 1, 2, fields=DELETED[1] if is_marked else RO)),
@@ -237,6 +237,13 @@ def rule_2_deleted_after_a_killed_run(home: Home) -> None:
         home.has(0, 0, 1, 1, 1, 1, 2, 2, 3)
         want_undeleted(home, 0, 1, 2, 3)
         want_said(row, "4 messages placed beside files that are marked as deleted")
+        home.undo("OLD")
+        home.has(0, 1, 1, 2)
+        equal(
+            "what is left is marked as deleted",
+            all("T" in path.name.partition(":2,")[2] for path in home.files()),
+            True,
+        )
 
 
 def rule_2_deleted_in_both(home: Home) -> None:

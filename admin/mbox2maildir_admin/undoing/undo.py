@@ -219,7 +219,7 @@ def plan_of(ledger: Ledger, path: str, has: Cores) -> list[Planned]:
     def order(one: tuple[Line, File]) -> tuple[bool, bool, bool]:
         """What stays for others comes first; and what the mailbox had once may have other bytes than what it has."""
         line, file = one
-        return not others_of(file, path, MAY_HAVE), line.state is State.FORMER, (file.name is None) != is_resumed
+        return not others_of(file, path, MAY_HAVE), line.state not in MAY_HAVE, (file.name is None) != is_resumed
 
     own = sorted(((line, file) for file in files for line in [file.line_of(path)] if line), key=order)
     plan = [planned(line, file, has, gone) for line, file in own]
