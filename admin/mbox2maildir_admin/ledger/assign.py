@@ -127,6 +127,12 @@ def nobodys(name: bytes, core: bytes, bare: bytes) -> File:
     return File([Line("", State.DROPPED, Brought(FOREIGN, name, core, bare))], name)
 
 
+def says_whose(message: Brought, is_ended: bool) -> bool:
+    """Whether the line of a message says whose its file is, in a batch that has ended or not. A file of nobody that a
+    killed run has found may be one of a mailbox that was renamed."""
+    return is_ended or message.word != FOREIGN
+
+
 class Offer(NamedTuple):
     """A file that may stand for a new message, by a line about it, and why; and whether it may stand for one in another
     form than that of the line, too."""

@@ -281,7 +281,8 @@ class Ledger:
         return most
 
     def is_in(self, path: str, cores: collections.Counter[bytes]) -> bool:
-        """Whether these are all cores, and perhaps more, that the mailbox of a path has brought, or was going to."""
+        """Whether these are all cores, and perhaps more, that the mailbox of a path had when it was read last, or that
+        a killed run was to bring."""
         source, batch = self.sources.get(path), self.open.get(self.pending(path) or 0)
         has = (source.has() if source else collections.Counter()) | counted_in(batch.cores if batch else bytearray())
         return bool(has) and not has - cores

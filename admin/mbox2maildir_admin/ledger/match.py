@@ -1,12 +1,9 @@
-"""Which messages of a mailbox are new to its folder, which files stand for these, and which names the others get.
+"""Which messages of a mailbox are new to its folder, and which files stand for these.
 
 Within a mailbox's history a message is known by its core. A new one that another mailbox brought as often, in the same
 bare form, is that one's too: if its file is gone, somebody deleted it. Any other one is there if a file holds it that
 counts for no message yet. What is nowhere then is to be placed. Each file counts once, and one that is marked as
 deleted counts for no message that is not.
-
-The program numbers equal messages of a text in their order, and passes over names that are taken. So of k equal
-messages it gets so many copies that exactly k of these names are free, whatever their numbers are.
 """
 import array
 import bisect
@@ -22,7 +19,7 @@ from ..mbox.bases import BASE, DIGEST, FIRST, base_in, before_info, is_own
 from ..mbox.core import SHORT
 from ..mbox.inventory import Inventory
 from ..units import Place, Say, silent
-from .assign import BROUGHT, File, Offer, Unnamed, Why, by_form, files_of, nobodys, offers_of
+from .assign import BROUGHT, File, Offer, Unnamed, Why, by_form, files_of, nobodys, offers_of, says_whose
 from .lines import FOREIGN, NAMELESS, NOBODYS, SHARED, Brought, Line, State, counted_in
 from .ledger import Ledger
 
@@ -278,8 +275,7 @@ class Match:
             for line in self.ledger.entries(cores):
                 if line.state is State.UNDONE:
                     self.files.kept.add(line.message.name)
-                elif line.state in BROUGHT or line.message.word != FOREIGN:
-                    # a file of nobody that a killed run has found may be one of a mailbox that was renamed
+                elif says_whose(line.message, line.state in BROUGHT):
                     self.lines.setdefault(line.message.core, []).append(line)
         names = self.names_of_lines()
         self.present = self.files.present(names) if names else set()
@@ -295,7 +291,7 @@ class Match:
         # what a killed run has placed may have another name, and the text other bytes
         is_first = path not in ledger.sources or ledger.pending(path) is not None
         several = ledger.messages({*ledger.ended, *ledger.open} if is_first else ())
-        named = (one.name for number, one in several if number in ledger.ended or one.word != FOREIGN)
+        named = (one.name for number, one in several if says_whose(one, number in ledger.ended))
         known = Hashes(itertools.chain(self.taken(), self.names_of_lines(), named))
         self.strangers = self.files.foreign(self.nowhere, known, is_first)
 
@@ -415,8 +411,13 @@ class Match:
         """How many messages stand so."""
         return self.states.count(stand)
 
+    @property
+    def new(self) -> Sequence[int]:
+        """The places of what is new: the mailbox did not bring it before, whatever stands for it."""
+        return self.places(*(one for one in Stand if one is not Stand.KNOWN))
+
     def count_new(self) -> int:
-        """How many messages are new: the mailbox did not bring them before, whatever stands for them."""
+        """How many messages are new."""
         return len(self.states) - self.count(Stand.KNOWN)
 
     def count_lost(self) -> int:
@@ -427,11 +428,6 @@ class Match:
 def cores_of(inventory: Inventory) -> collections.Counter[bytes]:
     """How often each core is among some messages."""
     return collections.Counter(map(inventory.core, range(len(inventory))))
-
-
-def bares_of(inventory: Inventory) -> collections.Counter[bytes]:
-    """How often each bare form is among some messages."""
-    return collections.Counter(map(inventory.bare, range(len(inventory))))
 
 
 class Hashes:

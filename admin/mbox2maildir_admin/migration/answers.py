@@ -10,7 +10,7 @@ from ..faults import Fault, Left, Reason
 from ..ledger.ledger import Batch, Ledger, Source
 from ..ledger.history import Entry, History, Key, Note
 from ..ledger.lines import counted_in
-from ..ledger.match import Files, Match, bares_of, cores_of
+from ..ledger.match import Files, Match, cores_of
 from ..ledger.record import Record, unspelled
 from ..maildir.files import mail_in, names_in
 from ..maildir.folders import INBOX
@@ -176,11 +176,12 @@ class Before(NamedTuple):
         human's word counts for each `>`; without one, messages are the same that differ in that alone."""
         was, is_now = self.reading.word, contents.reading.word
         is_by_word = was != is_now and (bool(decision.word) or was in (MBOXO, UNQUOTED))
-        had, forms = self.had(is_by_word), bares_of if is_by_word else cores_of
-        return [sum((had & forms(its)).values()) for its in (then, contents.inventory)]
+        several, had = (then, contents.inventory), self.had(is_by_word)
+        forms = (map(its.bare if is_by_word else its.core, range(len(its))) for its in several)
+        return [sum((had & collections.Counter(one)).values()) for one in forms]
 
     def had(self, is_by_word: bool = False) -> collections.Counter[bytes]:
-        """How often it has brought each bare form, or each core, or was going to."""
+        """How often it has brought each bare form, or each core, or was going to, also if it lost that since."""
         brought = collections.Counter[bytes]()
         if self.source:
             brought |= counted_in(self.source.bares if is_by_word else self.source.cores)

@@ -18,7 +18,7 @@ from ..faults import Fault, Left, Reason, fault_of
 from ..ledger.gone import BACK, times_of
 from ..ledger.history import Note
 from ..ledger.lines import PLACED, Head, note_all_placed, note_batch_failed, note_ends
-from ..ledger.match import Files, Match, Stand
+from ..ledger.match import Files, Match
 from ..ledger.prepared import WHOLE, drop_list, finish_list, note_failed
 from ..ledger.record import unspelled
 from ..maildir.checking import Check
@@ -247,8 +247,7 @@ def want_none_cut(one: Steps) -> None:
     found = (path for name, path in listed if before_info(name) in one.may_be_cut)
     paths = {beginning_in(path): path for path in found}
     text, inventory = one.contents.text, one.contents.inventory
-    new = Stand.NOWHERE, Stand.MINE, Stand.FOUND, Stand.FRESH
-    for place in one.match.places(*new) if paths else ():
+    for place in one.match.new if paths else ():
         digest = Digest({size for size, _ in paths})
         start = text.at(inventory.offsets[place], BLOCK).find(b"\n") + 1
         reader = Reader(text.number, Offset(inventory.offsets[place] + start), inventory.offsets[place + 1])
