@@ -15,7 +15,6 @@ from typing import NamedTuple, Optional
 from ..faults import Fault, Left, Reason
 from ..flags.clients import CLIENTS, EVOLUTION, THUNDERBIRD, kept_in
 from ..kinds.starts import FIELD, text_start
-from ..ledger.record import is_gone
 from ..maildir.files import mail_in
 from ..mbox.bases import before_info
 from ..mbox.core import forms_of
@@ -25,7 +24,7 @@ from ..mbox.files import open_file
 from ..mbox.inventory import Inventory
 from ..mbox.mailbox import Mailbox
 from ..mbox.pieces import header_of
-from ..migration.known import Known
+from ..migration.known import Known, moved_in
 from ..program import Program
 from ..readings.plans import plan_of
 from ..readings.reading import BY_LENGTHS, CR, CRLF, MBOXCL2, MBOXO, MBOXRD, UNQUOTED, Reading
@@ -267,8 +266,8 @@ def styles_of(known: Known, disk: bytes) -> Iterator[Style]:
         return
     now, paths = reading_now(mailbox), [known.path]
     if known.path not in ledger.paths():
-        same = (one for one in ledger.paths() if ledger.is_of(one, mailbox.key(), mailbox.state.st_ino))
-        paths = list(filter(is_gone, same))
+        # whether it has all that one had, its messages show once they are read
+        paths = moved_in(ledger, mailbox)
     for words in dict.fromkeys([*(ledger.last_read(one).words for one in paths[:1]), now]):
         dialect = Dialect.of_words(words)
         if dialect:

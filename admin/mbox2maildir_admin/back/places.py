@@ -76,7 +76,8 @@ class Places:
 
     def folder_of_moved(self, path: bytes) -> bytes:
         """The folder of a mailbox that the record does not know by its path: the one whose ledger shows that it is the
-        file of a mailbox that is gone from its path; else INBOX."""
+        file of a mailbox that is gone from its path; else INBOX. It is not read for that: a mailbox on another disk
+        is not known."""
         inode = os.stat(path).st_ino
         for place in folders_in(self.root):
             ledger = Ledger(place)

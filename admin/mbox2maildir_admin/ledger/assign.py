@@ -77,7 +77,9 @@ class File:
         return self.name is not None and self.lines[0].message.name not in (self.name, NAMELESS)
 
     def find(self, unnamed: Unnamed, form: bytes) -> bool:
-        """Takes a name of this form if its own is not there, and returns whether it has one then."""
+        """Takes a name of this form if its own is not there, and returns whether it has one then. Who asks first gets
+        it: `migrate` looks first for what its mailbox has, an undo for what others have, and `back` for what any has,
+        by cores and in other folders too."""
         if self.name is None and unnamed.get(form):
             self.name = unnamed[form].popleft()
         return self.name is not None

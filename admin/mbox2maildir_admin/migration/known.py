@@ -1,4 +1,5 @@
 """A mailbox that is open, and what the record of a Maildir and the ledger of a folder know of it before it is read."""
+import collections
 import itertools
 import os
 from collections.abc import Container
@@ -117,7 +118,7 @@ class Known:
             ledger = Ledger(folder_path(self.record.maildir, line.key.folder))
             cores = cores or cores_of(inventory)
             if is_same or ledger.is_in(line.path, cores):
-                found.append((line, is_gone(line.path) and (is_same or self.is_moved(ledger, line.path))))
+                found.append((line, is_gone(line.path) and (is_same or line.path in moved_in(ledger, mailbox))))
         return found
 
     def in_others(self) -> list[Elsewhere]:
@@ -156,18 +157,11 @@ class Known:
         ledger = self.ledger
         if self.path in ledger.paths():
             return
-        moved = [path for path in ledger.paths() if path not in ledger.leaving and self.is_moved(ledger, path)]
-        gone = list(filter(is_gone, moved))
-        cores = cores_of(inventory) if gone else None
-        for path in gone:
-            if cores is not None and ledger.is_in(path, cores):
-                self.move(path)
-                return
-
-    def is_moved(self, ledger: Ledger, path: str) -> bool:
-        """Whether the mailbox has the bytes of the one that was at a path, or is the same file."""
-        mailbox = self.opened.mailbox
-        return ledger.is_of(path, mailbox.key(), mailbox.state.st_ino)
+        moved = [path for path in moved_in(ledger, self.opened.mailbox) if path not in ledger.leaving]
+        cores = cores_of(inventory) if moved else collections.Counter[bytes]()
+        path = next((path for path in moved if ledger.is_in(path, cores)), None)
+        if path is not None:
+            self.move(path)
 
     def move(self, path: str) -> None:
         """Notes that what the mailbox of a path brought, and the UIDs that the folder has from it, are this one's."""
@@ -175,6 +169,13 @@ class Known:
         self.ledger.move(path, self.path)
         if numbered and numbered.path == path:
             self.record.add(Note.NUMBERED, numbered.key, numbered.messages, self.opened.mailbox.path)
+
+
+def moved_in(ledger: Ledger, mailbox: Mailbox) -> list[str]:
+    """The paths in the ledger of mailboxes that are gone from there, and of which this one may be the moved one: it has
+    the bytes of that, or is the same file. To be sure, it also has all that the mailbox had."""
+    key, inode = mailbox.key(), mailbox.state.st_ino
+    return [path for path in ledger.paths() if ledger.is_of(path, key, inode) and is_gone(path)]
 
 
 def is_replaced(line: Entry) -> bool:

@@ -23,7 +23,7 @@ from ..ledger.gone import without_line
 from ..ledger.history import Step, names_of
 from ..ledger.ledger import Ledger, count_in
 from ..ledger.prepared import Prepared, has_list
-from ..ledger.record import Record, is_gone, unspelled
+from ..ledger.record import Record, unspelled
 from ..looks import is_there
 from ..maildir.files import digest_of, forms_in, mail_in
 from ..maildir.folders import INBOX, folder_of, folder_shown, folders_in, name_of, on_disk
@@ -32,7 +32,7 @@ from ..mbox.bases import DIGEST, base_in, before_info, is_own
 from ..mbox.locks import WITHOUT_LOCKS, open_mailbox
 from ..mbox.mailbox import SIGNS_OF_FILE, Mailbox
 from ..migration.dovecot import Dovecot, remove_lists
-from ..migration.known import Known, Opened
+from ..migration.known import Known, Opened, moved_in
 from ..migration.outcomes import Fate, Observer, Row, row_left
 from ..migration.preparing import remove_prepared
 from ..migration.several import refuse
@@ -86,7 +86,9 @@ Counts = collections.Counter[Why]
 
 class Planned(NamedTuple):
     """What becomes of a message that the mailbox brought, with its line. If its file stays for another mailbox, it has
-    the path of that; and if mailboxes get it in place of a file of theirs that is gone, that file."""
+    the path of that; and if mailboxes get it in place of a file of theirs that is gone, that file. What goes may be
+    gone already, edited or renamed: one listing may miss a file that is renamed meanwhile, so `remove` looks for each
+    by the base of its name, and says what it met."""
 
     why: Why
     line: Line
@@ -149,17 +151,13 @@ class Undo:
         return Row(mailbox.path, opened.name, "", messages, fate, size=mailbox.size, remarks=remarks)
 
     def path_in(self, ledger: Ledger, opened: Opened) -> str:
-        """The path of a mailbox as a ledger spells it; empty if it does not have it. A mailbox that was moved has the
-        bytes of one that is gone, or is the same file, and has all that was brought from there."""
+        """The path of a mailbox as a ledger spells it, also if it was moved from there; empty if it does not have it.
+        An undo that was killed goes on from the new place."""
         mailbox, paths = opened.mailbox, ledger.paths()
-        for path in names_of(mailbox.path):
-            if path in paths:
-                return path
-        for path in filter(is_gone, paths):
-            is_same = ledger.is_of(path, mailbox.key(), mailbox.state.st_ino)
-            if is_same and ledger.is_in(path, self.cores_now(opened, ledger, path)):
-                return path
-        return ""
+        known = next((path for path in names_of(mailbox.path) if path in paths), "")
+        moved = () if known else moved_in(ledger, mailbox)
+        has_all = (path for path in moved if ledger.is_in(path, self.cores_now(opened, ledger, path)))
+        return known or next(has_all, "")
 
     def cores_now(self, opened: Opened, ledger: Ledger, path: str) -> Cores:
         """How often the mailbox has each core now, as it was read when it was migrated."""
