@@ -3,7 +3,7 @@ what is printed of a remark."""
 import re
 
 from .faults import Reason
-from .nexts import Phrase, Remark
+from .nexts import Phrase
 
 # a link of a page, of which only the text is printed
 LINK = re.compile(r"\[([^]]*)\]\([^)]*\)")
@@ -191,9 +191,3 @@ REMARKS = {**LOOK, **COUNTED, **SILENT}
 def to_do(reason: Phrase) -> str:
     """What is to be done about a reason."""
     return LINK.sub(r"\1", TO_DO[reason])
-
-
-def remark_of(word: str) -> Remark:
-    """The remark of a word of which no more is to be said."""
-    says = REMARKS[word]
-    return Remark(word, says[0].lower() + says[1:].rstrip("."))

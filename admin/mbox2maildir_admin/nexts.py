@@ -268,16 +268,6 @@ class Task(NamedTuple):
         return says if self.user is None else "as %s, %s" % (named(self.user), says)
 
 
-class Remark(NamedTuple):
-    """What is to be said of a mailbox, a word for that, how many of its messages were there already by it, and how many
-    stand in it although they were deleted or changed in the Maildir."""
-
-    word: str
-    says: str
-    there: int = 0
-    stands: int = 0
-
-
 class Quote(NamedTuple):
     """A line of a mailbox that is shown, by its number; as it is printed, without what is not printable; and whether it
     is shown only since it stands around another one."""

@@ -108,7 +108,7 @@ def moves(home: Path, server: Dovecot) -> Iterator[str]:
     yield from says("it was moved", case.migrate(names=["moved"]), 0, "1 done before")
     with open(case.home / "moved", "ab") as file:
         file.write(mail(20))
-    wanted = f"done, it grew by 1 message; {UNQUOTED % '1 line'}; Dovecot gives what is new its UIDs"
+    wanted = f"done, {UNQUOTED % '1 line'}; it grew by 1 message; Dovecot gives what is new its UIDs"
     yield from says("it was moved, and grew", case.migrate(names=["moved"]), 0, wanted)
     if (case.home / "Maildir/dovecot-uidlist").read_bytes() != numbers:
         yield "dovecot: it was copied, moved, and grew: other numbers"
@@ -122,7 +122,7 @@ def grows(home: Path, server: Dovecot) -> Iterator[str]:
     for number, has_looked in ((20, False), (21, True)):
         case.deliver(mail(number))
         before = case.before()
-        wanted = f"done, it grew by 1 message; {UNQUOTED % '1 line'}; Dovecot gives what is new its UIDs"
+        wanted = f"done, {UNQUOTED % '1 line'}; it grew by 1 message; Dovecot gives what is new its UIDs"
         yield from says("it grew", case.migrate(), 0, wanted)
         for line in differences(before, case.after(), False):
             yield f"dovecot: it grew, {'and Dovecot had looked' if has_looked else 'and nobody had looked'}: {line}"
@@ -135,7 +135,7 @@ def was_done(home: Path, server: Dovecot) -> Iterator[str]:
     yield from says("without --dovecot", case.migrate("--folder", "INBOX"), 0, "done")
     yield from says("done before", case.migrate(), 0, "INBOX: done before, without its UIDs")
     case.deliver(mail(20))
-    wanted = f"done, it grew by 1 message; {UNQUOTED % '1 line'}; without its UIDs"
+    wanted = f"done, {UNQUOTED % '1 line'}; it grew by 1 message; without its UIDs"
     yield from says("done before, and it grew", case.migrate(), 0, wanted)
     if list((case.home / "Maildir").glob("dovecot*")):
         yield "dovecot: done without --dovecot, and numbers came later"

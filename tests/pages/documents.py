@@ -52,7 +52,6 @@ PART = re.compile(r'codes "(.*?)(?:\\n)?"|decimal (?:\w+\.)?(\w)')
 DIAGNOSTIC = re.compile(r'^\.It "(.*)"$', re.MULTILINE)
 REASONS = re.compile(r"^## Reasons why .*?(?=^#)", re.DOTALL | re.MULTILINE)
 ROW_OF_REASON = re.compile(r"^\| <a id=.*", re.MULTILINE)
-REMARK = re.compile(r'\bRemark\("([a-z-]+)"')
 LATER = re.compile(r"^If nothing is left but what is (.*), the status is 75\.", re.MULTILINE)
 OF_COMMAND = re.compile(r"^\.Ss (\w+).*\n((?:(?!\.S[hs] ).*\n)*)", re.MULTILINE)
 OPTION = re.compile(r"(?<= -)[a-z][\w-]+")
@@ -217,15 +216,14 @@ def wrong_reasons() -> Iterator[str]:
 
 
 def wrong_remarks() -> Iterator[str]:
-    """The schema has the words of remarks that the companion has, and no module has another one."""
+    """The schema has the words of remarks that `explain` has, and each of these has its sentence in the table."""
     words = list(importlib.import_module("mbox2maildir_admin.meanings").REMARKS)
+    said = importlib.import_module("mbox2maildir_admin.remarks").SAYS
     schema = json.loads(text_of(SCHEMA))["$defs"]["remark"]["enum"]
     if schema != words:
         yield f"docs/rows.schema.json has the remarks {schema}, and the companion has {words}"
-    for path in sorted(TOP.glob("admin/mbox2maildir_admin/**/*.py")):
-        for word in REMARK.findall(text_of(path)):
-            if word not in words:
-                yield f"{path.relative_to(TOP)}: `explain` does not have the remark {word}"
+    for word in sorted(said.keys() ^ words):
+        yield f"{word}: `explain` or the table of remarks does not have it"
 
 
 def wrong_kinds() -> Iterator[str]:

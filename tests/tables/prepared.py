@@ -58,7 +58,7 @@ STORIES: dict[str, list[Step]] = {
     ],
     "what_somebody_edited": [
         *(("a", ONE + TWO), FIRST, "!echo more >>$(grep -l 'Subject: one' M/new/*)", ("a", TWO)),
-        (LAST, "a: done: 1 prepared before; 1 file kept that somebody edited"),
+        (LAST, "a: done: 1 prepared before; kept 1 file that somebody edited"),
         "= one two",
     ],
     "what_others_delivered": [

@@ -116,7 +116,7 @@ def comes_back(home: Path) -> None:
     """What is nowhere after it was converted is placed by the next run, and not taken for deleted."""
     is_left(*CASES["gone"], home)
     restore(home)
-    says = "up to 1 message that had been deleted or moved came back"
+    says = "when its mail was placed, up to 1 message that had been deleted or moved came back"
     expect(
         "migrate --all M box", home, 0, f"box -> INBOX: mboxrd or mboxo, messages 3: done, {says}\n1 mailbox: 1 done\n"
     )

@@ -22,10 +22,11 @@ from ..mbox.mailbox import Mailbox
 from ..migration.known import Known, Opened
 from ..migration.outcomes import Fate, Observer, Row
 from ..migration.options import Options
-from ..nexts import Remark, Todo, task
+from ..nexts import Todo, task
 from ..program import Program
 from ..readings.texts import disk_of
 from ..readings.unnamed import copy_of, unnamed
+from ..remarks import Says
 from ..terminal import first_of, named
 from ..units import Size, counted
 from .beside import Beside, Draft
@@ -292,12 +293,10 @@ class Appending:
         """The row of the mailbox."""
         count, there, is_dry = len(plan.entries) + len(plan.there), len(plan.there), self.way.how.dry
         fate = (Fate.WOULD_BACK if is_dry else Fate.BACK) if count else Fate.NOTHING_NEW
-        says = [Remark("there-already", "%s there already" % counted(there, "message"), there)] if there else []
+        says = Says.IN_MAILBOX.of_any(there, there=there)
         taken = [one.taken for one in plan.entries if one.taken]
-        if taken:
-            names = {name.lower(): named(name) for name in itertools.chain.from_iterable(taken)}
-            left_out = "fields left out of %s: %s" % (counted(len(taken), "message"), ", ".join(names.values()))
-            says.append(Remark("fields-left-out", left_out))
+        names = {name.lower(): named(name) for name in itertools.chain.from_iterable(taken)}
+        says += Says.FIELDS_LEFT_OUT.of_any(len(taken), ", ".join(names.values()))
         remarks = (*self.mailbox.remarks, *says, *self.numbering.remarks, *self.target.remarks)
         row = Row(self.target.path, self.target.folder, self.style.dialect.word, count, fate, size=plan.size)
         return row._replace(remarks=remarks, next=self.numbering.next, is_back=True)

@@ -20,7 +20,8 @@ from ..maildir.making import SUBFOLDERS
 from ..mbox.bases import BASE, before_info
 from ..mbox.core import forms_of
 from ..mbox.files import open_file
-from ..nexts import Remark, Runs, run_next
+from ..nexts import Runs, run_next
+from ..remarks import Remark
 from ..terminal import operand
 from ..units import Say
 

@@ -43,17 +43,15 @@ from ..mbox.pieces import LONGEST_NAME
 from ..migration.dovecot import KEYWORDS, LIST
 from ..migration.options import Options
 from ..migration.known import Opened
-from ..nexts import NOTHING, Does, Next, Remark, Runs, run_next
+from ..nexts import NOTHING, Does, Next, Runs, run_next
+from ..remarks import Remark, Says
 from ..terminal import first_of, text_of
 from .mails import Mail, Target
 
 # so many bytes each disk writes at once, or not at all
 SECTOR = 512
 NOT_KEPT = "another program has changed its first message meanwhile: stop that program, and run this again"
-RAISED, ANEW = "its next UID is %d now", "its UIDVALIDITY is %d now, so mail programs fetch all of it anew"
-NO_DOVECOT = "without --dovecot, Dovecot may give a UID twice"
-NOT_RAISED = "its first message has no room for its next UID: run the command below before a mail program looks at it"
-ADDED = "Dovecot is to add keywords, because %s: %s"
+ANEW = "its UIDVALIDITY is %d now"
 NO_BASE, NO_ROOM = "it had given the mailbox no UIDs", "the first message has no room for their names"
 # in the place of a UID
 NONE = 1 << 32
@@ -249,13 +247,13 @@ class Numbering:
         """Says what is new; of what has no room, what has Dovecot write it."""
         more: list[str] = []
         if wanted.last > head.last:
-            self.remarks.append(Remark("uids-raised", RAISED % (wanted.last + 1)))
+            self.remarks.append(Says.UIDS_RAISED.of(wanted.last + 1))
             more += ["--min-next-uid", str(wanted.last + 1)]
         if wanted.validity != head.validity:
-            self.remarks.append(Remark("uids-anew", ANEW % wanted.validity))
+            self.remarks.append(Says.UIDS_ANEW.of(ANEW % wanted.validity))
             more += ["--uid-validity", str(wanted.validity)]
         if more and not has_room:
-            self.remarks = [Remark("uids-not-raised", NOT_RAISED)]
+            self.remarks = [Says.UIDS_NOT_RAISED.of()]
             self.next = run_next(Runs.UPDATE_MAILBOX, *of_this_user(), *more, self.name)
 
     def know(self, names: Iterable[bytes]) -> None:
@@ -312,7 +310,7 @@ class Numbering:
                 wanted[name].append(uid)
         names = [name for name, its in wanted.items() if its or is_dry]
         if names:
-            self.remarks.append(Remark("keywords-added", ADDED % (self.why, first_of(names, " "))))
+            self.remarks.append(Says.KEYWORDS_ADDED.of(self.why, first_of(names, " ")))
         for name in names if not is_dry else ():
             to = "mailbox", self.name, "uid", ranges_of(wanted[name])
             words = *of_this_user(), *["--"] * name.startswith(b"-"), text_of(name), *to
@@ -345,7 +343,7 @@ def say_numbers(opened: Opened, record: Record, target: Target, name: str, how: 
     is_numbered = record.has_numbered({*gone, *names_of(opened.mailbox.path)})
     if not how.dovecot:
         numbering = Numbering()
-        numbering.remarks += [Remark("uids-not-raised", NO_DOVECOT)] * is_numbered
+        numbering.remarks += [Says.UIDS_UNKNOWN.of()] * is_numbered
         return numbering
     numbering = Numbering(name, Listed.of(opened.folder), is_numbered)
     numbering.say(opened.mailbox, target, how.dry)

@@ -14,8 +14,9 @@ from ..maildir.making import GOES_BACK, RECORD, real_place, want_roots_alone
 from ..mbox.files import is_empty
 from ..migration.outcomes import Fate, Observer, Row, row_left
 from ..migration.options import Options
-from ..nexts import NOTHING, Next, Remark, Runs, run_next
+from ..nexts import NOTHING, Next, Runs, run_next
 from ..program import Program, find_program
+from ..remarks import Remark, Says, Sentence
 from ..terminal import first_of, named, operand
 from ..units import counted
 from .appending import Returned, TakesNothing, Way, nothing_new
@@ -28,10 +29,6 @@ NO_RECORD = "it has no record, so nothing shows which mail came from the old mai
 TORN = "the message that begins in line %d is cut: a run was killed there, and another program has written after it"
 NOT_READ_BACK = "what would be appended to it would not be read back as it is"
 DISK_FULL = "no room is left on its disk, or on that of the Maildir"
-CANNOT_HOLD, TAKES_NOTHING = "%(path)s cannot hold %(files)s", "%(path)s takes nothing"
-MOVED = "%s that people moved here from %s %s in the mailbox of that"
-DELETED = "deleted", "%s that %s deleted in the Maildir %s still there"
-EDITED = "changed", "%s that %s changed in the Maildir %s there as before"
 UNLESS = ", unless somebody has removed %s from the mailbox"
 # what the name of a Maildir ends in that has been moved aside
 ASIDE = b".back"
@@ -122,10 +119,9 @@ class Folders:
         """The mail of a folder that goes back, wherever it goes to, and what is said of messages that people moved
         there."""
         path = next(iter(self.places.found.get(folder, ())), folder_path(self.way.root, folder))
-        remarks = []
+        remarks = list[Remark]()
         for other, count in collections.Counter(found.moved.get(folder, ())).items():
-            stays = "stays" if count == 1 else "stay"
-            remarks.append(Remark("moved", MOVED % (counted(count, "message"), folder_shown(other), stays)))
+            remarks += Says.MOVED.of_any(count, folder_shown(other), "stays" if count == 1 else "stay")
         return Target(path, folder, found.new.get(folder, ()), tuple(remarks), found.returned.get(folder, ()))
 
     def standing(self, found: Sorted, folder: bytes) -> dict[bytes, Remarks]:
@@ -138,7 +134,7 @@ class Folders:
         # in one that had another size when it was read last, nobody knows what it has now
         sizes = {source.key[0] for source in Ledger(folder_path(self.way.root, folder)).sources.values()}
         remarks: collections.defaultdict[bytes, Remarks] = collections.defaultdict(tuple)
-        for says, slots in ((DELETED, found.deleted), (EDITED, found.changed)):
+        for says, slots in ((Says.DELETED, found.deleted), (Says.CHANGED, found.changed)):
             counts: collections.Counter[bytes] = collections.Counter()
             for slot in slots.get(folder, ()):
                 # one that the record knows by another path has the place of the first one
@@ -165,9 +161,9 @@ class Folders:
             if found:
                 row, refused = found
                 yield row
-                yield from self.rows_beside(Target(path, target.folder, refused), CANNOT_HOLD)
+                yield from self.rows_beside(Target(path, target.folder, refused), Says.BESIDE)
                 return
-        yield from self.rows_beside(target._replace(path=several[0]), TAKES_NOTHING)
+        yield from self.rows_beside(target._replace(path=several[0]), Says.BESIDE_ALL)
 
     def recovered(self, folder: bytes) -> Iterator[Row]:
         """Takes back what a killed run appended in part. The row of a mailbox in which a message stays cut."""
@@ -189,7 +185,7 @@ class Folders:
         finally:
             os.close(beside.number)
 
-    def rows_beside(self, target: Target, why: str) -> Iterator[Row]:
+    def rows_beside(self, target: Target, why: Sentence) -> Iterator[Row]:
         """The rows of the mailboxes beside one that does not get this mail. What one of them cannot hold goes into the
         next one."""
         beside, tried = target, list[bytes]()
@@ -207,8 +203,7 @@ class Folders:
             row, refused = found
             files = [one.path for one in beside.mails if one not in refused]
             if files:
-                says = Remark("beside", why % {"path": named(target.path), "files": first_of(files)})
-                yield row._replace(remarks=(says, *row.remarks))
+                yield row._replace(remarks=(why.of(named(target.path), first_of(files)), *row.remarks))
             beside = beside._replace(mails=refused)
 
     def brought(self, target: Target) -> Optional[Returned]:
@@ -246,9 +241,8 @@ def size_at(path: bytes) -> int:
     return os.path.getsize(path) if is_file(path) else 0
 
 
-def standing(what: tuple[str, str], count: int, is_sure: bool) -> Remark:
+def standing(what: Sentence, count: int, is_sure: bool) -> Remark:
     """What is said of so many messages that stand in a mailbox, unless it has changed since it was read."""
-    word, says = what
     *verbs, them = ("was", "is", "it") if count == 1 else ("were", "are", "them")
     unless = "" if is_sure else UNLESS % them
-    return Remark(word, says % (counted(count, "message"), *verbs) + unless, stands=count if is_sure else 0)
+    return what.of(counted(count, "message"), *verbs, unless, stands=count if is_sure else 0)

@@ -12,7 +12,7 @@ from ..looks import is_folder, is_there, state_at
 from ..maildir.folders import INBOX, folder_of_place, folder_path, on_disk
 from ..migration.dovecot import FORM, OLD_SUBSCRIPTIONS, SUBSCRIPTIONS, lines_of
 from ..migration.outcomes import Fate, Row, row_left
-from ..nexts import Remark
+from ..remarks import Says
 from ..terminal import is_text
 from ..units import counted
 from .beside import Draft
@@ -112,7 +112,7 @@ def rows_of(places: Places, is_dry: bool, would: Mapping[bytes, bytes]) -> Itera
     except (Fault, OSError) as fault:
         yield row_left(path, b"", fault)._replace(reason=Reason.SUBSCRIPTIONS, is_back=True)
         return
-    says = Remark("subscriptions", "subscribed to %s" % counted(len(names), "folder"))
+    says = Says.SUBSCRIPTIONS.of(counted(len(names), "folder"))
     yield Row(path, b"", "subscriptions", None, Fate.WOULD_BACK if is_dry else Fate.BACK, remarks=(says,), is_back=True)
 
 

@@ -15,7 +15,7 @@ from ..maildir.folders import INBOX
 from ..mbox.files import is_empty
 from ..mbox.mailbox import Mailbox
 from ..migration.answers import is_passed_over
-from ..migration.outcomes import BY_RECORD, Fate, Observer, Row
+from ..migration.outcomes import Fate, Observer, Row
 from ..migration.places import Planned, recorded
 from ..migration.trees import Tree
 from ..nexts import Runs, Task, Todo, run_next
@@ -23,6 +23,7 @@ from ..progress import say_of
 from ..readings.reading import Reading
 from ..readings.texts import content_of, disk_of
 from ..readings.verdict import look_at
+from ..remarks import Says
 from ..terminal import complain, named, operand
 from ..units import Say
 from .recorded import record_of, root_of
@@ -155,4 +156,4 @@ def left_out(path: bytes, maildir: bytes, record: History, tell: Observer) -> Op
         is_noted = bool(verdict and verdict.recipe) and is_passed_over(record, mailbox)
     if holds != Holds.NO_MAIL and not is_noted:
         return None
-    return Row(path, b"", "", None, Fate.NO_MAIL, remarks=(BY_RECORD,) * is_noted)
+    return Row(path, b"", "", None, Fate.NO_MAIL, remarks=(Says.NO_MAIL_NOTED.of(),) * is_noted)

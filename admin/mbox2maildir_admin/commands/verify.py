@@ -14,9 +14,9 @@ from ..maildir.files import forms_in, paths_of
 from ..mbox.inventory import IN_MEMORY
 from ..migration.outcomes import Detail, Fate, Observer, Row
 from ..migration.rows import Reporter, Shows
-from ..nexts import Remark
 from ..program import Program, find_program
 from ..readings.texts import Text, open_text
+from ..remarks import SAYS
 from ..terminal import NAMED
 from ..units import Place, Say
 from ..users.asked import Tally
@@ -25,15 +25,14 @@ from .options import Given
 from .recorded import reading_then, record_of, root_of
 from .running import Telling, reporter_of, run_reported
 
-# what is said of how many messages, files and lines there are of each sort, and of each of them
+# what is said of each message, file and line of a sort that has a remark
 SORTS = {
-    "other-bytes": ("other bytes %d", "other bytes in"),
-    "renamed": ("under another name %d", "under another name,"),
-    "nowhere": ("nowhere %d", "nowhere"),
-    "double": ("doubles %d", "a second copy of a message:"),
-    "other-owner": ("of another owner %d", "not owned by the owner of the Maildir:"),
-    "doubtful-line": ("doubtful lines %d", "this From_ line may contain mail"),
-    "without-fields": ("without fields %d", ""),
+    "other-bytes": "other bytes in",
+    "renamed": "under another name,",
+    "nowhere": "nowhere",
+    "double": "a second copy of a message:",
+    "other-owner": "not owned by the owner of the Maildir:",
+    "doubtful-line": "this From_ line may contain mail",
 }
 STATES = {"other-bytes": State.OTHER, "renamed": State.RENAMED, "nowhere": State.NOWHERE}
 
@@ -105,7 +104,7 @@ def row_of(path: bytes, folder: bytes, check: Check, bare: int) -> Row:
         "without-fields": bare,
     }
     sizes, fate = check.inventory.sizes, Fate.WHOLE if check.is_right() else Fate.NOT_WHOLE
-    remarks = tuple(Remark(word, says % counts[word]) for word, (says, _) in SORTS.items() if counts[word])
+    remarks = tuple(SAYS[word].of(count) for word, count in counts.items() if count and word in SAYS)
     row = Row(path, folder, "", len(sizes), fate, size=sum(sizes), remarks=remarks)
     return row._replace(counts=tuple(counts.items()), details=tuple(details_of(check)))
 
@@ -114,11 +113,11 @@ def details_of(check: Check) -> Iterator[Detail]:
     """What is said of the first messages, files and lines of each sort that are not as they were converted."""
     for word, state in STATES.items():
         for place, path in islice(check.found(state), NAMED):
-            yield Detail(SORTS[word][1], word, check.inventory.lines[place], place + 1, path)
+            yield Detail(SORTS[word], word, check.inventory.lines[place], place + 1, path)
     for word, paths in (("double", check.doubles), ("other-owner", sorted(check.strangers.values()))):
-        yield from (Detail(SORTS[word][1], word, path=path) for path in paths[:NAMED])
+        yield from (Detail(SORTS[word], word, path=path) for path in paths[:NAMED])
     for doubt in check.doubts[:NAMED]:
-        yield Detail(SORTS["doubtful-line"][1], "doubtful-line", check.inventory.lines[doubt])
+        yield Detail(SORTS["doubtful-line"], "doubtful-line", check.inventory.lines[doubt])
 
 
 def check_of(program: bytes, maildir: bytes, text: Text, say: Say) -> tuple[Check, int]:

@@ -5,15 +5,14 @@ the first one counts, since a program puts its own before what was sent.
 """
 import re
 import sys
-from collections.abc import Callable, Iterable, Iterator, Sequence
+from collections.abc import Callable, Iterable, Sequence
 from typing import NamedTuple, Optional
 
 from ..mbox.fields import VALUE, headers_at
 from ..mbox.inventory import Inventory
 from ..mbox.mailbox import Mailbox
-from ..nexts import Remark
 from ..patterns import pattern
-from ..units import counted
+from ..remarks import Remark, Says
 
 # the letters of flags in a Maildir: draft, flagged, passed on, replied, seen, trashed.
 # Thunderbird, nsMsgMessageFlags.idl: Read, Replied, Marked, Forwarded
@@ -100,7 +99,6 @@ CLIENTS = {
     "Evolution": letters_of_evolution,
     GMAIL: field_of_takeout,
 }
-UNSAID = "%s came unread, since no known label says that mail was read (with --labels, --label NAME=read says so)"
 
 
 class Kept(NamedTuple):
@@ -125,14 +123,10 @@ class Kept(NamedTuple):
         unsaid = bytes(self.unsaid[place] for place in found) if self.unsaid else b""
         return Kept(self.program, [self.letters[place] for place in found], unsaid)
 
-    def remarks(self, places: Sequence[int]) -> Iterator[Remark]:
+    def remarks(self, places: Sequence[int]) -> list[Remark]:
         """What is to be said of the messages at some places."""
-        count = sum(bool(self.letters[place]) for place in places)
-        if count:
-            yield Remark("flags", "%s with flags of %s" % (counted(count, "message"), self.program))
-        unsaid = sum(self.unsaid[place] for place in places) if self.unsaid else 0
-        if unsaid:
-            yield Remark("unread", UNSAID % counted(unsaid, "message"))
+        says = Says.FLAGS.of_any(sum(bool(self.letters[place]) for place in places), self.program)
+        return says + Says.UNREAD.of_any(sum(self.unsaid[place] for place in places) if self.unsaid else 0)
 
 
 def kept_in(mailbox: Mailbox, inventory: Inventory) -> Optional[Kept]:

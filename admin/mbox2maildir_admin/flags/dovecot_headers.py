@@ -13,8 +13,8 @@ from ..mbox.fields import VALUE, Header
 from ..mbox.mailbox import Mailbox
 from ..mbox.pieces import LONGEST_NAME
 from ..mbox.plain import NOTE
-from ..nexts import Remark
 from ..patterns import pattern
+from ..remarks import Remark, Says
 from ..terminal import first_of
 from ..units import Offset, Place
 
@@ -134,16 +134,16 @@ class Reading:
     def remarks(self) -> Iterator[Remark]:
         """What is to be said of numbers and keywords that changed."""
         if self.hides_first:
-            yield Remark("first-appears", "its first message, which Dovecot hid, appears")
+            yield Says.FIRST_APPEARS.of()
         if not self.head:
-            yield Remark("no-uids", "Dovecot had given it no UIDs")
+            yield Says.NO_UIDS.of()
         elif self.is_used_up():
-            yield Remark("uids-anew", "its UIDs start anew, because too few are left above the last one")
+            yield Says.UIDS_ANEW.of("too few are left above the last one")
         elif self.is_renumbered:
-            yield Remark("new-uids", "some messages get new UIDs, because a message before them has none")
+            yield Says.NEW_UIDS.of()
         left = self.keywords[LETTERS:]
         if left:
-            yield Remark("keywords-lost", "only %d keywords are kept; lost: %s" % (LETTERS, first_of(left, " ")))
+            yield Says.KEYWORDS_LOST.of(LETTERS, first_of(left, " "))
 
     def is_used_up(self) -> bool:
         """Whether too few numbers are left for new mail."""

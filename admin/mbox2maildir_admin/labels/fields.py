@@ -7,13 +7,12 @@ from typing import Optional
 from ..flags.clients import labels_in
 from ..flags.gmail import Own, own_names
 from ..mbox.fields import VALUE
-from ..nexts import Remark
+from ..remarks import Remark, Says
 
 # Google writes both fields before those that were sent; what a sender writes comes after them
 FIELD = re.compile(rb"(X-GM-THRID|X-Gmail-Labels)" + VALUE + rb"(?:\n|\Z)", re.I)
 # Gmail's folders that nobody looks for in INBOX
 SAID = {Own.JUNK: "Spam", Own.TRASH: "Trash", Own.SENT: "Sent", Own.DRAFTS: "Drafts"}
-SAYS = "labelled %s: with --labels, labels become folders"
 
 
 def field_of(header: bytes) -> Optional[bytes]:
@@ -36,4 +35,4 @@ def remarks_on_labels(headers: Iterable[bytes]) -> list[Remark]:
     own = own_names(several)
     roles = collections.Counter(role for labels in several for role in {own.get(label) for label in labels})
     counts = ["%s %d" % (name, roles[role]) for role, name in SAID.items() if roles[role]]
-    return [Remark("labelled", SAYS % ", ".join(counts))] if counts else []
+    return [Says.LABELLED.of(", ".join(counts))] if counts else []

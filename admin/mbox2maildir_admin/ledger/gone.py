@@ -20,8 +20,7 @@ from ..maildir.folders import folders_in
 from ..maildir.making import SUBFOLDERS
 from ..mbox.bases import BASE, Table, base_in, before_info, is_own
 from ..mbox.core import SHORT
-from ..nexts import Remark
-from ..units import counted
+from ..remarks import Remark, Says
 from .ledger import Ledger
 from .lines import LOST, digest_at, pieces_in
 from .match import Match
@@ -29,8 +28,6 @@ from .match import Match
 # the most by which the times differ that the kernel gives a file and its folder in one rename, in nanoseconds
 RENAME_TICK = 20000000
 SECOND = 10**9
-GONE = "%d of the %d messages that were placed in its folder are gone, or another program renamed them"
-BACK = "up to %s that had been deleted or moved came back"
 
 
 def times_of(folder: bytes) -> tuple[int, ...]:
@@ -90,14 +87,13 @@ def gone_from(ledger: Ledger) -> list[Remark]:
         there = {hash(before_info(name)) for name, _ in mail_in(ledger.folder)} if brought else set()
         ledger.gone = sum(one not in there for one in brought), len(brought)
         ledger.looked_at = state
-    return [Remark("gone", GONE % ledger.gone)] * (ledger.gone[0] > 0)
+    return [Says.GONE.of(*ledger.gone)] * (ledger.gone[0] > 0)
 
 
 def back_in(ledger: Ledger) -> list[Remark]:
     """What came back into a folder before its mailboxes were done, though a message that came back in several runs is
     one. Each later run says it again, since one that was killed may have noted them as done and not said it."""
-    back = sum(min(source.back, len(source.cores) // SHORT) for source in ledger.sources.values())
-    return [Remark("came-back", "when its mail was placed, " + BACK % counted(back, "message"))] * (back > 0)
+    return Says.CAME_BACK.of_any(sum(min(one.back, len(one.cores) // SHORT) for one in ledger.sources.values()))
 
 
 def left_by_killed(match: Match) -> int:

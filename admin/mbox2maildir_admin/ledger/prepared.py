@@ -21,7 +21,7 @@ from ..maildir.making import PREPARED, sync_folder
 from ..mbox.bases import FIRST, Table, base_in, before_info, own_base_in
 from ..mbox.core import SHORT
 from ..mbox.inventory import NO_DATE, Inventory
-from ..nexts import Remark
+from ..remarks import SAYS, Remark
 from ..patterns import pattern
 from ..units import Say, silent
 from .lines import CUT, FIRST_LINE, append, lines_in
@@ -167,7 +167,8 @@ class AsRead(NamedTuple):
         """What a line says."""
         start, messages, kind, rest = (one.decode("utf-8", "surrogateescape") for one in found.groups())
         words = rest.split("\t")[1:]
-        remarks = (Remark(words[at], words[at + 2], int(words[at + 1])) for at in range(0, len(words), 3))
+        its = ((words[at], words[at + 2], int(words[at + 1])) for at in range(0, len(words), 3))
+        remarks = (Remark(SAYS[word], says, there) for word, says, there in its if word in SAYS)
         return cls(int(start), int(messages), kind, tuple(remarks))
 
     def line(self) -> bytes:

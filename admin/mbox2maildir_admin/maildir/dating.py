@@ -10,9 +10,9 @@ from ..mbox.dates import seconds_of_header
 from ..mbox.fields import Header
 from ..mbox.inventory import NO_DATE, Inventory
 from ..mbox.mailbox import Mailbox
-from ..nexts import Remark
+from ..remarks import Remark, Says
 from ..terminal import named
-from ..units import Place, counted
+from ..units import Place
 from .files import digest_of, listings_of
 
 # the dates that each file system can hold
@@ -95,13 +95,10 @@ class Dating:
             if self.messages - self.states.count(Dated.NO_FILE) == known:
                 break
 
-    def remarks(self) -> Iterator[Remark]:
+    def remarks(self) -> list[Remark]:
         """What is to be said of messages whose From_ line has no date."""
         without = sum(date == NO_DATE or state == Dated.NOT_HELD for date, state in zip(self.dates, self.states))
-        if self.by_header:
-            yield Remark("dated-by-header", "%s dated by the header" % counted(self.by_header, "message"))
-        if without:
-            yield Remark("without-date", "%s without a date" % counted(without, "message"))
+        return Says.DATED_BY_HEADER.of_any(self.by_header) + Says.WITHOUT_DATE.of_any(without)
 
     def undone(self, maildir: bytes) -> Iterator[str]:
         """What is said of messages that have no file with their date."""

@@ -16,7 +16,8 @@ from .. import ADMIN
 from ..faults import Left, Reason
 from ..looks import is_folder, is_there, may_be
 from ..mbox.files import BLOCK
-from ..nexts import Phrase, Remark, Todo, task
+from ..nexts import Phrase, Todo, task
+from ..remarks import Remark, Says
 from ..signals import INTERRUPTS
 from ..terminal import is_text, named
 from .files import changed_at, paths_of
@@ -171,7 +172,6 @@ VOLATILE = frozenset([b"volatile", b"fsync=volatile"])
 # kinds that were not tried, and nor were those of FUSE that have a name after a dot
 UNTRIED = b"fuse", b"fuseblk", b"virtiofs", b"9p"
 
-CUT = "a power cut could take its mail away: %s"
 NOT_PASSED_ON = "%s does not pass on the sync of a folder"
 
 
@@ -232,8 +232,8 @@ def want_syncs(maildir: bytes, any_disk: bool) -> list[Remark]:
     doubts = sorted({doubt for doubt in (mount.doubt() for mount in map(Mount.of, folders) if mount) if doubt})
     for doubt in doubts:
         if doubt.instead and not any_disk:
-            raise Left(CUT % doubt.why, Reason.NO_SYNC, task(doubt.instead))
-    return [Remark("power-cut", CUT % doubt.why) for doubt in doubts]
+            raise Left(Says.POWER_CUT.of(doubt.why).says, Reason.NO_SYNC, task(doubt.instead))
+    return [Says.POWER_CUT.of(doubt.why) for doubt in doubts]
 
 
 # for how many seconds a sync is put off at most, so that it may serve others too

@@ -15,16 +15,15 @@ from typing import NamedTuple, Optional
 from .. import ADMIN
 from ..faults import Left, Reason
 from ..looks import state_at
-from ..nexts import Remark
+from ..remarks import Says
 from ..terminal import named
 from .files import REGULAR
 from .mailbox import Mailbox
 
 # the ending of its name, and from which age on it does not count, in seconds
 LOCK, STALE = b".lock", 1200
-# what is said of one that counts for nothing, and of one that counts
-OLD = "%s is older than 20 minutes and was ignored"
-LEFT_BEHIND = "%s was left by a `back` that was killed, and was ignored"
+# why one counts for nothing, and what is said of one that counts
+OLD, LEFT_BEHIND = "is older than 20 minutes", "was left by a `back` that was killed"
 LOCKED_WITH = "another program has locked it with %s: wait, or stop that program"
 # the errors of a folder in which this user may make no file, and of a name that is too long for a lock
 NO_LOCKS = errno.EACCES, errno.EPERM, errno.EROFS, errno.ENAMETOOLONG
@@ -168,7 +167,7 @@ def look_for_lock_file(mailbox: Mailbox) -> None:
     with left_alone(Spot(path)) as is_left:
         if not is_left and time.time() - state.st_mtime < STALE:
             raise Left(LOCKED_WITH % named(path), Reason.LOCKED)
-    mailbox.remarks.append(Remark("old-lock", (LEFT_BEHIND if is_left else OLD) % named(path)))
+    mailbox.remarks.append(Says.OLD_LOCK.of(named(path), LEFT_BEHIND if is_left else OLD))
 
 
 @contextlib.contextmanager

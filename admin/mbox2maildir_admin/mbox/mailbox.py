@@ -4,7 +4,7 @@ from collections.abc import Iterable, Iterator
 from typing import Optional
 
 from ..faults import Fault, Reason
-from ..nexts import Remark
+from ..remarks import Remark
 from ..units import Line, Offset, Say, Size, silent
 from .digest import Digest
 from .files import BLOCK, LONG, Reader, open_file, open_plain

@@ -17,18 +17,17 @@ from ..maildir.folders import INBOX
 from ..mbox.bases import before_info
 from ..mbox.inventory import Inventory
 from ..mbox.mailbox import Mailbox
-from ..nexts import NOTHING, Answer, Does, Next, Remark
+from ..nexts import NOTHING, Answer, Does, Next
 from ..readings.plans import Plan, Question, plan_of
 from ..readings.reading import MBOXO, UNDECIDED, UNQUOTED, Reading, renumbered, with_deleted
 from ..readings.texts import Choice, StartOf, choice_of, content_of, disk_of, text_then
 from ..readings.verdict import look_at
+from ..remarks import Remark, Says
 from ..units import Line, counted
 from .known import Known
 from .known import Opened
 from .options import Options
 from .steps import Contents, remarks_on_lost
-
-AS_ANSWERED = Remark("as-answered", "as it was answered before")
 
 
 def note_empty(record: Record, opened: Opened, ledger: Ledger, path: str) -> list[Remark]:
@@ -97,7 +96,6 @@ def is_passed_over(record: History, mailbox: Mailbox) -> bool:
     return bool(keys) and Key(INBOX, *mailbox.key()) in keys
 
 
-CONTRADICTED = "it was read as %s, and %s gives other messages"
 READ_OTHERWISE = (
     "it was read as %s when it was migrated, and %s of that reading would stay beside those that it has as it is read "
     "now"
@@ -124,7 +122,7 @@ def as_before(opened: Opened, ledger: Ledger, path: str, by: By) -> Optional[tup
         contents = Contents(then.mailbox, then.start, then.messages(), reading, then)
         match = Match(ledger, path, Files(ledger.folder, contents.inventory), contents.is_deleted)
         match.find_known()
-        return None if match.count_new() else (contents.words, list(remarks_on_lost(match)))
+        return None if match.count_new() else (contents.words, remarks_on_lost(match))
 
 
 def contradicted(how: Options, root: bytes, opened: Opened, line: Entry) -> tuple[list[Remark], Next]:
@@ -132,10 +130,10 @@ def contradicted(how: Options, root: bytes, opened: Opened, line: Entry) -> tupl
     command that undoes it."""
     if not contradicts(opened.mailbox, line, how.decision, (disk_of(root, how.dry), how.extra.start_of)):
         return [], NOTHING
-    says = CONTRADICTED % (Reading.of_words(line.plan).of_text.words(), " ".join(how.decision.options()))
+    its = Reading.of_words(line.plan).of_text.words(), " ".join(how.decision.options())
     # a word for several mailboxes is about those that are not done
     then = (Answer(how.undo_command(root, opened), Does.UNDO),) if how.decision.alone else NOTHING
-    return [Remark("contradicted", says)], then
+    return [Says.CONTRADICTED.of(*its)], then
 
 
 def contradicts(mailbox: Mailbox, line: Entry, decision: Reading, by: By) -> bool:
@@ -248,7 +246,6 @@ def is_enough(text: Mailbox, decision: Reading, disk: bytes) -> bool:
         return False
 
 
-AS_BROUGHT = Remark("as-brought", "as the messages show that it brought")
 # how often a mailbox has brought each core
 Had = collections.Counter[bytes]
 

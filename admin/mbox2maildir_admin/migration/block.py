@@ -6,7 +6,7 @@ from typing import NamedTuple, Optional
 from ..faults import REASONS, Reason
 from ..maildir.folders import folder_shown
 from ..mbox.lines import AROUND
-from ..meanings import ITS_COMMAND, REMARKS, remark_of, to_do
+from ..meanings import ITS_COMMAND, REMARKS, to_do
 from ..nexts import BELOW, COMMAND, Answer, Command, Does, Quote, Runs, Task, Todo, lines_below
 from ..terminal import named, operand, option
 from .outcomes import Fate, Row
@@ -55,7 +55,7 @@ def answers_of(row: Row) -> list[Answer]:
 def question_of(row: Row) -> object:
     """What is the same in all rows of a group: why they are left, and what is to be done or answered."""
     steps = [(one.todo,) if isinstance(one, Task) else (one.does, *decided(one)[:2]) for one in row.next]
-    looks = row.fate if row.fate in (Fate.LEFT, Fate.NOT_WHOLE) else tuple(one.word for one in row.remarks)
+    looks = row.fate if row.fate in (Fate.LEFT, Fate.NOT_WHOLE) else tuple(one.word for one in row.said)
     return row.left_for, looks, bool(answers_of(row)) and row.kind, *steps
 
 
@@ -65,7 +65,8 @@ def detail_of(row: Row) -> str:
     counts = dict.fromkeys(str(one.messages) for one in answers_of(row) if one.messages is not None)
     several = ["%s messages" % " or ".join(counts)] if len(counts) > 1 else []
     # the title says what is told by a word alone
-    says = "; ".join(filter(None, [row.why, *(one.says for one in row.remarks if one != remark_of(one.word))]))
+    its = (one.says for one in row.said if one.says.lower() + "." != REMARKS[one.word].lower())
+    says = "; ".join(filter(None, [row.why, *its]))
     asked = [one for one in row.quotes if not one.is_around]
     line = ["%s: %s" % (says or "line %d" % one.line, one.text) for one in asked[:1]]
     return ": ".join(filter(None, [*several, *(line or [says])]))
@@ -121,7 +122,7 @@ class Group:
         row, count = self.rows[0], sum(len(one.rows) for one in (self, *self.others))
         several = "%d mailbox%s" % (count, "" if count == 1 else "es")
         if not row.left_for:
-            says = " ".join(REMARKS[one.word] for one in row.remarks)
+            says = " ".join(REMARKS[one.word] for one in row.said)
             return (
                 "not whole: " + several
                 if row.fate == Fate.NOT_WHOLE

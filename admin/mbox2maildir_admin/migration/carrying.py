@@ -15,7 +15,7 @@ from collections.abc import Iterator, Sequence
 from typing import Optional
 
 from ..faults import Fault, Left, Reason, fault_of
-from ..ledger.gone import BACK, times_of
+from ..ledger.gone import times_of
 from ..ledger.history import Note
 from ..ledger.lines import PLACED, Head, note_all_placed, note_batch_failed, note_ends
 from ..ledger.match import Files, Match
@@ -30,11 +30,12 @@ from ..mbox.core import beginning_of
 from ..mbox.digest import Digest
 from ..mbox.files import BLOCK, Reader, open_file
 from ..mbox.mailbox import Mailbox, is_still
-from ..nexts import Remark, Runs, run_next
+from ..nexts import Runs, run_next
 from ..program import Converted, Failed, Program
 from ..readings.unnamed import copy_of_some
+from ..remarks import Remark, Says
 from ..terminal import operand
-from ..units import Offset, Place, counted
+from ..units import Offset, Place
 from .known import Known
 from .outcomes import Fate, Outcome, Pass, Row
 from .steps import Steps
@@ -49,7 +50,6 @@ PREPARED_SYNC_FAILED = (
     "what is prepared, and begin anew"
 )
 CHANGED_WHILE_CONVERTED = "it changed while it was converted: stop the program that writes to it, and run this again"
-KEPT = "%s kept that somebody edited"
 FOLDER_CALL = re.compile(r"folder call (\d+) failed")
 # what the first calls do; two of them list a folder and sync it, and a sync comes last
 LISTINGS = ("lists tmp", "lists new", "lists cur")
@@ -72,8 +72,7 @@ def carry_out(steps: Steps, program: Program) -> Outcome:
         return Outcome(steps.row)
     prepared, opened, said = steps.prepared, steps.opened, list[Remark]()
     if prepared:
-        edited = prepared.remove()
-        said += [Remark("kept-edited", KEPT % counted(edited, "file"))] * bool(edited)
+        said += Says.KEPT_EDITED.of_any(prepared.remove(), "kept", noun="file")
     batch = begin(steps)
     said += [] if steps.is_known else complete(steps, program, batch)
     row = steps.row._replace(remarks=(*steps.row.remarks, *said))
@@ -101,9 +100,7 @@ def complete(steps: Steps, program: Program, batch: int) -> list[Remark]:
     of_extra = [] if is_first else steps.extra.run(steps)
     said = finish(steps) + of_extra
     want_none_cut(steps)
-    if back:
-        says = BACK % counted(min(back, len(steps.contents.inventory)), "message")
-        said.append(Remark("came-back", says))
+    said += Says.CAME_BACK.of_any(min(back, len(steps.contents.inventory)))
     if prepared and is_first and steps.origin:
         prepared.write_whole(steps.origin, steps.text, steps.took)
     return said
@@ -214,7 +211,7 @@ def finish(one: Steps) -> list[Remark]:
         raise Left(check.report(), Reason.NOT_VERIFIED)
     if one.opened.has_changed(text):
         raise Left(CHANGED_MEANWHILE, Reason.CHANGED)
-    return list(dating.remarks())
+    return dating.remarks()
 
 
 def names_that_may_be_cut(known: Known, match: Match) -> set[bytes]:

@@ -24,9 +24,10 @@ from ..maildir.making import sync_folder
 from ..mbox.fields import headers_at
 from ..mbox.files import WHOLE, open_file, read_up_to
 from ..mbox.mailbox import Mailbox
-from ..nexts import Remark, Runs, run_next
+from ..nexts import Runs, run_next
+from ..remarks import Remark, Says
 from ..terminal import is_text, named, operand
-from ..units import Offset, Place, Size, counted
+from ..units import Offset, Place, Size
 from .known import Opened
 from .steps import Steps, Extra
 
@@ -38,9 +39,8 @@ NUMBERED_BY_DOVECOT = "Dovecot has looked at this folder and keeps the UIDs that
 OF_ANOTHER = "%s has the UIDs of another mailbox"
 AFTER_THOSE = "%s, and Dovecot gives these messages UIDs after those"
 GOES_ON = "run this again, which goes on without its numbers"
-WHAT_IS_NEW = Remark("uids-of-new", "Dovecot gives what is new its UIDs")
-WITHOUT = "without its UIDs, because %s"
-DONE_WITHOUT = Remark("without-uids", WITHOUT % "it was migrated without --dovecot")
+WHAT_IS_NEW = Says.UIDS_OF_NEW.of()
+DONE_WITHOUT = Says.WITHOUT_UIDS.of("it was migrated without --dovecot")
 
 
 # records a file by its path, its size and its SHA-256 before it is written
@@ -108,17 +108,16 @@ class Dovecot(Extra):
         """What is to be said, and what was read of the mailbox, if the folder gets numbers."""
         full = one.contents.full
         head, _ = internal_head(full.mailbox, full.start)
-        says = [Remark("without-internal", "without the message in which Dovecot kept its UIDs")] * bool(head)
         lost = one.contents.unquoted(one.places)
-        loses = Remark("loses-quote", "`>From ` loses a `>` in %s (Dovecot showed it)" % counted(lost, "line"))
-        says += [loses] * (lost > 0)
+        says = Says.LOSES_QUOTE.of_any(lost, ">From", "Dovecot showed it", noun="line")
+        says += [Says.WITHOUT_INTERNAL.of()] * bool(head)
         try:
             kept = self.kept_from(one)
         except Left as left:
             if not one.is_begun:
                 raise
             # a conversion that was begun goes on, since no other command would finish it
-            kept = [Remark("without-uids", WITHOUT % left)]
+            kept = [Says.WITHOUT_UIDS.of(left)]
         if kept is not None:
             return says + kept, None
         reading = Reading(head)
@@ -149,7 +148,7 @@ class Dovecot(Extra):
             says = OF_ANOTHER % folder_shown(opened.name)
             if one.places and first_head(one.contents.full.mailbox, one.contents.full.start):
                 raise Left(AFTER_THOSE % says, Reason.NUMBERED)
-            return [WHAT_IS_NEW if one.places else Remark("without-uids", WITHOUT % says)]
+            return [WHAT_IS_NEW if one.places else Says.WITHOUT_UIDS.of(says)]
         there = [name for name in names_in(opened.folder) if name.startswith(b"dovecot")]
         if numbered and one.is_grown and LIST in there:
             return [WHAT_IS_NEW]

@@ -13,7 +13,8 @@ from ..ledger.record import Record, unspelled
 from ..looks import is_folder, is_there, may_be, real_path
 from ..maildir.files import names_in
 from ..maildir.folders import INBOX, folder_path, folders_in, name_of, words_of
-from ..nexts import Does, Remark, Runs, Todo, run_next, task
+from ..nexts import Does, Runs, Todo, run_next, task
+from ..remarks import Says
 from ..terminal import operand, spelled, text_of
 from .outcomes import Row, row_left
 from .places import Planned
@@ -21,7 +22,6 @@ from .preparing import Preparation, remove_prepared, tree_above
 from .options import Options
 from .mailbox import TENTH
 
-MAILBOX_GONE = "its mailbox is gone"
 MANY_GONE = "its mailbox is gone, as are %d of the %d of its tree that were prepared"
 NOT_MET = "it is only prepared, and no mailbox of this command goes there"
 
@@ -79,7 +79,7 @@ class Leftovers:
             elif many[one.tree] * TENTH <= all_of[one.tree]:
                 row = remove_prepared(self.record, unspelled(one.path), one.name, self.options.dry)
                 if row:
-                    yield row._replace(remarks=(Remark("mailbox-gone", MAILBOX_GONE), *row.remarks))
+                    yield row._replace(remarks=(Says.MAILBOX_GONE.of(), *row.remarks))
             else:
                 yield self.left(one, MANY_GONE % (many[one.tree], all_of[one.tree]), one.path_in(now[one.tree]))
 

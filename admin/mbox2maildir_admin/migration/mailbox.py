@@ -26,18 +26,17 @@ from ..maildir.folders import folder_path, folder_shown
 from ..mbox.locks import open_mailbox
 from ..mbox.mailbox import Mailbox
 from ..mbox.snapshot import snapshot
-from ..nexts import NOTHING, Answer, Does, Next, Phrase, Remark
+from ..nexts import NOTHING, Answer, Does, Next, Phrase
 from ..program import Program
 from ..progress import Spent
 from ..readings.plans import NoMail, NotKnown, OtherKind, Question, read_begun
 from ..readings.reading import UNDECIDED, Reading
 from ..readings.texts import Choice, choice_at_once, choice_of, disk_of, read_messages
 from ..readings.unnamed import unnamed
+from ..remarks import Remark, Says
 from ..terminal import first_of, named
 from ..units import Say, counted, silent
 from .answers import (
-    AS_ANSWERED,
-    AS_BROUGHT,
     answer_shown,
     answer_to,
     as_before,
@@ -52,7 +51,7 @@ from .answers import (
 from .carrying import CHANGED_MEANWHILE, SYNC_FAILED, carry_out, names_that_may_be_cut
 from .known import Elsewhere, Known, Opened
 from .options import Options
-from .outcomes import BY_NO_MAIL, BY_RECORD, Fate, Outcome, Pass, Row, row_left
+from .outcomes import Fate, Outcome, Pass, Row, row_left
 from .preparing import (
     Preparation,
     mend,
@@ -84,9 +83,6 @@ TENTH, FEW = 10, 3
 EDITED = "%s that it brought are gone from it, and as many are new: it was edited as a whole, or it is another mailbox"
 PARTLY_THERE = "%d of its messages are there, and no ledger says why: the ledger is older than its folder, or was lost"
 NOT_SHOWN = "the ledger of its folder is %s, so nothing shows which of its messages were placed"
-FOLDER_GONE = Remark("folder-gone", "its folder is gone")
-LEDGER_GONE = Remark("ledger-gone", "the ledger of its folder is gone")
-OLDER = "the ledger of its folder is older than its record, and lacks %s of it: mail may be missing there"
 
 
 class Migration:
@@ -125,9 +121,11 @@ class Migration:
                 except OtherKind as left:
                     if self.how.is_spared(path, not isinstance(left, NotKnown)):
                         note_no_mail(self.record, mailbox)
-                        return Outcome(Row(path, b"", left.kind, None, Fate.NO_MAIL, remarks=(BY_NO_MAIL,)))
+                        return Outcome(Row(path, b"", left.kind, None, Fate.NO_MAIL, remarks=(Says.BY_NO_MAIL.of(),)))
                     if is_passed_over(self.record, mailbox):
-                        return Outcome(Row(path, b"", left.kind, None, Fate.NO_MAIL, remarks=(BY_RECORD,)))
+                        return Outcome(
+                            Row(path, b"", left.kind, None, Fate.NO_MAIL, remarks=(Says.NO_MAIL_NOTED.of(),))
+                        )
                     left.put(self.how.where(self.root, opened))
                     raise
         except NoMail as found:
@@ -245,9 +243,9 @@ class Transfer:
         by_index = self.known.by_index
         if by_index and self.known.is_cut:
             missing = max(0, by_index.messages - count_in(self.ledger, self.path))
-            of_folder = [Remark("ledger-older", OLDER % counted(missing, "message"))]
+            of_folder = [Says.LEDGER_OLDER.of(counted(missing, "message"))]
         elif by_index:
-            of_folder = [LEDGER_GONE if is_folder(self.opened.folder) else FOLDER_GONE]
+            of_folder = [(Says.LEDGER_GONE if is_folder(self.opened.folder) else Says.FOLDER_GONE).of()]
         says = (*of_uids, *remarks_on_dropped(words), *of_folder, *more)
         return Row(mailbox.path, name, "", messages, Fate.BEFORE, size=mailbox.size, remarks=says)
 
@@ -268,7 +266,7 @@ class Transfer:
         decision = answer or answer_shown(self.how, self.known, question)
         if not decision:
             return None
-        self.remarks += [] if given else [AS_ANSWERED if answer else AS_BROUGHT]
+        self.remarks += [] if given else [(Says.AS_ANSWERED if answer else Says.AS_BROUGHT).of()]
         self.how = self.how._replace(decision=decision)
         ended = self.run()
         return ended._replace(row=ended.row._replace(tie=given.of if given else ""))
@@ -284,7 +282,7 @@ class Transfer:
         mailbox, is_bare, given = self.opened.mailbox, self.how.extra.IS_BARE, self.how.decision
         decision = given._replace(noted=noted_last(self.record, self.opened, given))
         with choice_at_once(self.program, mailbox, self.disk, decision, is_bare) as choice:
-            self.remarks += [AS_ANSWERED] * (given == UNDECIDED and choice.plan.answer is not None)
+            self.remarks += [Says.AS_ANSWERED.of()] * (given == UNDECIDED and choice.plan.answer is not None)
             yield Part(choice, functools.partial(self.read, choice), mailbox.size)
 
     def try_to_bring(self, part: Part) -> Outcome:
@@ -326,7 +324,7 @@ class Transfer:
                 if not self.how.again:
                     self.known.take_place_by_cores(contents.inventory)
             match = self.matched(part, contents)
-            if AS_BROUGHT not in self.remarks:
+            if Says.AS_BROUGHT.of() not in self.remarks:
                 note_answer(self.record, self.opened, part.plan)
             steps = self.steps(part, contents, match, said)
             if self.how.dry:
@@ -368,8 +366,8 @@ class Transfer:
         known, how, prepared, is_first = self.known, self.how, self.prepared, self.which is Pass.FIRST
         steps = Steps.of(known, contents, match, self.which, how.extra)
         if steps.is_known:
-            said = list(remarks_on_lost(match))
-            return steps._replace(row=self.row_before(contents.words, len(contents.inventory), said))
+            row = self.row_before(contents.words, len(contents.inventory), remarks_on_lost(match))
+            return steps._replace(row=row)
         if prepared:
             said = [*said, *remarks_on_prepared(prepared, how, self.opened.mailbox.say)]
         if prepared and not how.again:
@@ -408,13 +406,13 @@ class Transfer:
     def remarks_on_others(self, elsewhere: Sequence[Elsewhere]) -> Iterator[Remark]:
         """What is to be said of other folders, into which mail of the mailbox went, and of other mailboxes."""
         for line, _ in elsewhere:
-            says = "%s of it went into %s too" % (counted(line.messages, "message"), folder_shown(line.key.folder))
-            says += "" if line.path in self.known.names else ", from %s" % named(unspelled(line.path))
-            yield Remark("elsewhere", says)
+            its = counted(line.messages, "message"), folder_shown(line.key.folder)
+            is_other = line.path not in self.known.names
+            yield Says.ELSEWHERE_FROM.of(*its, named(unspelled(line.path))) if is_other else Says.ELSEWHERE.of(*its)
         yield from back_in(self.ledger)
         joined = self.known.joined(self.how.names)
         if joined:
-            yield Remark("joined", "its folder has mail of %s too" % first_of(joined, most=1))
+            yield Says.JOINED.of(first_of(joined, most=1))
 
     def row(self, part: Part, said: Sequence[Remark] = (), then: Next = NOTHING) -> Row:
         """The row of a mailbox that is done or prepared, or would be; what else is said of it, and what is to be done

@@ -8,15 +8,12 @@ from typing import Any, NamedTuple, Optional, Union
 from ..faults import Fault, Left, Reason, fault_of
 from ..looks import type_at
 from ..maildir.folders import folder_name, folder_shown
-from ..nexts import BELOW, NOTHING, ROOT, Next, Phrase, Quote, Remark, lines_below, objects_of
+from ..nexts import BELOW, NOTHING, ROOT, Next, Phrase, Quote, lines_below, objects_of
 from ..progress import Beat, Spent
 from ..readings.plans import Plan
+from ..remarks import PLACES, Remark, Says
 from ..terminal import is_text, named, shown, text_of
 from ..units import Say
-
-# what is said of a file that holds no mail by a pattern of the command line, and by that of an earlier run
-BY_NO_MAIL = Remark("by-no-mail", "by --no-mail")
-BY_RECORD = Remark("no-mail-noted", "by migrate --no-mail")
 
 
 class Fate:
@@ -118,9 +115,14 @@ class Row(NamedTuple):
         return " -> ".join(filter(None, reversed(names) if self.is_back else names))
 
     @property
+    def said(self) -> list[Remark]:
+        """What else is to be said of it, in the order of the table, whenever it came up."""
+        return sorted(self.remarks, key=lambda one: PLACES[one.word])
+
+    @property
     def says(self) -> str:
         """What is said of it in its line."""
-        return "; ".join(filter(None, [self.why, *(remark.says for remark in self.remarks)]))
+        return "; ".join(filter(None, [self.why, *(remark.says for remark in self.said)]))
 
     def line(self) -> str:
         """Its line: the mailbox, its folder, unless it was done before its kind and how many messages it has, what
@@ -157,7 +159,7 @@ class Row(NamedTuple):
             "verdict": self.fate,
             "reason": self.word or None,
             "says": self.says,
-            "remarks": [{"remark": one.word, "says": one.says} for one in self.remarks],
+            "remarks": [{"remark": one.word, "says": one.says} for one in self.said],
             "lines": [{"line": one.line, "text": one.text, "around": one.is_around} for one in self.quotes],
             # of the mailboxes of users, root runs what nobody else does
             "next": objects_of(self.next, None if self.user is None else ROOT),
@@ -179,7 +181,7 @@ class Row(NamedTuple):
     def is_said(self) -> bool:
         """Whether the row is printed, and not only counted in the sum."""
         if self.fate == Fate.NO_MAIL:
-            return BY_NO_MAIL in self.remarks
+            return Says.BY_NO_MAIL.of() in self.remarks
         return self.is_changed() or bool(self.says or self.next)
 
     def is_changed(self) -> bool:

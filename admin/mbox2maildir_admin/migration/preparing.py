@@ -61,14 +61,15 @@ from ..maildir.making import LEDGER, MARK, PREPARED, SUBFOLDERS, sync_folder
 from ..mbox.bases import base_in, before_info, own_base_in
 from ..mbox.dates import seconds_of
 from ..mbox.inventory import NO_DATE
-from ..nexts import Answer, Does, Remark
+from ..nexts import Answer, Does
 from ..progress import Spent
 from ..readings.plans import Plan
 from ..readings.reading import UNDECIDED, Reading
 from ..readings.texts import Choice, Text
+from ..remarks import Remark, Says
 from ..terminal import named, spelled
 from ..units import Offset, Say, counted, silent
-from .carrying import KEPT, PREPARED_SYNC_FAILED, SYNC_FAILED
+from .carrying import PREPARED_SYNC_FAILED, SYNC_FAILED
 from .dovecot import KEYWORDS, LIST, Dovecot, remove_part
 from .known import Known, Opened
 from .options import Options
@@ -80,7 +81,6 @@ READ = "somebody reads in its folder already: %s"
 ANOTHER = "%s is prepared in its folder, and only one mailbox can be"
 OTHERWISE = "it was prepared %s --dovecot"
 LIST_GONE = "the list of what was prepared in its folder is gone, so nothing shows which files are only copies"
-STAYS = "%d prepared before stay, whatever the mailbox has now"
 
 
 class Stage(enum.Enum):
@@ -338,14 +338,14 @@ def remarks_on_prepared(prepared: Prepared, how: Options, say: Say) -> list[Rema
     if how.again:
         prepared.look(say)
         stays = sum(prepared.files) + len(prepared.edited)
-        return [Remark("prepared-before", STAYS % stays)] * bool(stays)
-    gone, remarks = prepared.unwanted(), []
+        return [Says.PREPARED_STAYS.of(stays)] * bool(stays)
+    gone, remarks = prepared.unwanted(), list[Remark]()
     if any(prepared.files):
-        removed = ", %s %s" % (counted(gone, "message"), "to be removed" if how.dry else "removed") if gone else ""
-        remarks.append(Remark("prepared-before", "%d prepared before" % prepared.count() + removed))
-    if prepared.edited:
-        remarks.append(Remark("kept-edited", KEPT % counted(len(prepared.edited), "file")))
-    return remarks
+        removed = counted(gone, "message"), "to be removed" if how.dry else "removed"
+        of_all, less = Says.PREPARED_BEFORE, Says.PREPARED_LESS
+        remarks.append(less.of(prepared.count(), *removed) if gone else of_all.of(prepared.count()))
+    keeps = "would keep" if how.dry else "kept"
+    return remarks + Says.KEPT_EDITED.of_any(len(prepared.edited), keeps, noun="file")
 
 
 def remove_prepared(record: Record, path: bytes, name: bytes, dry: bool, say: Say = silent) -> Optional[Row]:
@@ -362,12 +362,9 @@ def remove_prepared(record: Record, path: bytes, name: bytes, dry: bool, say: Sa
     if not dry:
         one.empty()
     fate, removes, keeps = (Fate.WOULD_UNDO, "would remove", "would keep") if dry else (Fate.UNDONE, "removed", "kept")
-    remarks = [Remark("removed", "%s %s" % (removes, counted(count, "message")))]
-    if prepared.edited:
-        edited = counted(len(prepared.edited), "message")
-        remarks.append(Remark("kept-edited", "%s %s that somebody edited" % (keeps, edited)))
+    remarks = Says.REMOVED.of(counted(count, "message"), removes), *Says.KEPT_EDITED.of_any(len(prepared.edited), keeps)
     messages = prepared.origin.messages if prepared.origin else None
-    return Row(path, name, "", messages, fate, remarks=tuple(remarks))
+    return Row(path, name, "", messages, fate, remarks=remarks)
 
 
 def same_as_prepared(prepared: Prepared, how: Options, opened: Opened) -> Optional[Part]:
@@ -413,7 +410,7 @@ def row_unchanged(record: Record, how: Options, path: bytes, name: bytes, folder
     if not all(prepared.files) or prepared.edited or reader_in(record, name, prepared):
         return None
     dropped = remarks_on_dropped(origin.words)
-    says = Remark("prepared-before", "%d prepared before" % len(prepared.files))
+    says = Says.PREPARED_BEFORE.of(len(prepared.files))
     fate = Fate.WOULD_PREPARE if how.dry else Fate.PREPARED
     spent = None if how.dry else Spent(milliseconds_since(began), prepared.notes.foreseen())
     return Row(path, name, "", origin.messages, fate, size=origin.key[0], remarks=(*dropped, says), spent=spent)

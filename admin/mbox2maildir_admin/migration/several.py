@@ -16,9 +16,10 @@ from ..maildir.folders import INBOX, folder_of, on_disk
 from ..maildir.making import real_place, want_maildir, want_own, want_roots, want_roots_alone
 from ..maildir.disk import Syncs
 from ..mbox.files import is_empty
-from ..nexts import NOTHING, Remark, Runs, Todo, run_next, task
+from ..nexts import NOTHING, Runs, Todo, run_next, task
 from ..program import Program, find_program
 from ..progress import Beat
+from ..remarks import Says
 from ..terminal import named, operand, text_of
 from .dovecot import OLD_SUBSCRIPTIONS, SUBSCRIPTIONS, Dovecot, subscribe
 from .leftovers import Leftovers
@@ -253,10 +254,9 @@ class Several:
         row = ended.row
         if one.before and row.folder and row.fate != Fate.BEFORE:
             # mail programs will show another name than Dovecot did
-            row = row._replace(remarks=(*row.remarks, Remark("name-before", "its name was %s" % named(one.before))))
+            row = row._replace(remarks=(*row.remarks, Says.NAME_BEFORE.of(named(one.before))))
         if others and row.is_said():
-            says = "also named %s" % " and ".join(map(named, others))
-            row = row._replace(remarks=(*row.remarks, Remark("also-named", says)))
+            row = row._replace(remarks=(*row.remarks, Says.ALSO_NAMED.of(" and ".join(map(named, others)))))
         if one.is_inbox and row.fate in (Fate.DONE, Fate.BEFORE, Fate.WOULD) and self.is_inbox_free():
             then = into_inbox(one, row.folder, self.migration.how, self.migration.record)
             row = row._replace(next=(*row.next, *then))

@@ -23,19 +23,14 @@ from ..mbox.bases import BASE, FIRST, Table, base_in
 from ..mbox.fields import Header
 from ..mbox.inventory import Inventory
 from ..mbox.mailbox import Mailbox
-from ..nexts import Remark
-from ..readings.plans import Plan, left_out
+from ..readings.plans import Plan
 from ..readings.reading import PLAIN, Reading
 from ..readings.texts import Choice, Text
+from ..remarks import Remark, Says
 from ..terminal import first_of, named
 from ..units import Offset, Place, counted
 from .known import Known, Opened
 from .outcomes import Fate, Pass, Row
-
-# the words for messages that no mailbox brought, and for those that a mailbox no longer has, with what is said of them
-THERE, NO_LONGER = "there-already", "lost"
-GONE = "%s gone from it that it had brought"
-UNLABELLED = "the label was taken from %s; the mail stays here"
 
 
 class Contents(NamedTuple):
@@ -339,7 +334,7 @@ class Extra:
 
     def remarks_on(self, kept: Kept, one: Steps) -> list[Remark]:
         """What is to be said of flags that a program kept, and of labels that were not asked for."""
-        remarks = list(kept.remarks(one.places))
+        remarks = kept.remarks(one.places)
         if kept.program == GMAIL and not self.by_labels:
             from ..labels.fields import remarks_on_labels
 
@@ -351,31 +346,21 @@ def remarks_on(one: Steps, dry: bool) -> Iterator[Remark]:
     """What is to be said of what is new, what is there, and what is gone."""
     match, ledger = one.match, one.known.ledger
     if one.which is Pass.AGAIN:
-        placed = counted(match.count(Stand.NOWHERE), "message")
-        yield Remark("placed", "would place %s" % placed if dry else "placed %s" % placed)
+        yield Says.PLACED.of("would place" if dry else "placed", counted(match.count(Stand.NOWHERE), "message"))
     elif match.path in ledger.sources:
-        new = match.count_new()
-        if new:
-            yield Remark("grew", "it grew by %s" % counted(new, "message"))
+        yield from (*Says.GREW.of_any(match.count_new()), *Says.REGAINED.of_any(match.seen.regained))
         yield from remarks_on_lost(match)
-        regained = match.seen.regained
-        if regained:
-            yield Remark("regained", "%s in it again that had been gone from it" % counted(regained, "message"))
     else:
         yield from remarks_on_lost(match)
         if one.opened.name == INBOX and not match.seen.shared:
             others = [unspelled(path) for path, source in ledger.sources.items() if source.count()]
             if others:
-                yield Remark("joins", "INBOX has the mail of %s too" % first_of(others, most=1))
+                yield Says.JOINS.of(first_of(others, most=1))
     yield from remarks_on_shared(match)
-    for word, count, says in (
-        ("other-form", match.seen.other_form, "%s there in another form, by another mailbox"),
-        ("marked", match.seen.marked, "%s placed beside files that are marked as deleted"),
-        (THERE, len(match.seen.foreign), "%s there already, by no mailbox"),
-        ("other-programs", match.files.others, "%s of other programs in the folder"),
-    ):
-        if count:
-            yield Remark(word, says % counted(count, "message"), count if word == THERE else 0)
+    seen, foreign = match.seen, len(match.seen.foreign)
+    yield from (*Says.OTHER_FORM.of_any(seen.other_form), *Says.MARKED.of_any(seen.marked))
+    yield from Says.THERE_ALREADY.of_any(foreign, there=foreign)
+    yield from Says.OTHER_PROGRAMS.of_any(match.files.others)
     yield from remarks_on_flags_that_differ(one)
 
 
@@ -386,34 +371,26 @@ def remarks_on_flags_that_differ(one: Steps) -> Iterator[Remark]:
     offsets = {base[0]: full.offsets[place] for place, base in found if base}
     if not offsets:
         return
-    count = lacking_flags(one.opened.folder, full.mailbox, offsets.get, one.contents.is_bare)
-    if count:
-        says = "%s of these marked in it, as read or flagged, but not in the Maildir"
-        yield Remark("flags-differ", says % counted(count, "message"))
+    lacking = lacking_flags(one.opened.folder, full.mailbox, offsets.get, one.contents.is_bare)
+    yield from Says.FLAGS_DIFFER.of_any(lacking)
 
 
-def remarks_on_lost(match: Match) -> Iterator[Remark]:
+def remarks_on_lost(match: Match) -> list[Remark]:
     """What is to be said of messages that the mailbox no longer has, and that it brought, also in runs that were
     killed."""
-    unlabelled, lost = sum(match.unlabelled.values()), match.count_lost() + left_by_killed(match)
-    if unlabelled:
-        yield Remark("unlabelled", UNLABELLED % counted(unlabelled, "message"))
-    if lost:
-        yield Remark(NO_LONGER, GONE % counted(lost, "message"))
+    lost = Says.LOST.of_any(match.count_lost() + left_by_killed(match))
+    return Says.UNLABELLED.of_any(sum(match.unlabelled.values())) + lost
 
 
 def remarks_on_shared(match: Match) -> Iterator[Remark]:
     """What is to be said of messages that other mailboxes brought."""
-    if match.seen.shared:
-        paths, total = [unspelled(path) for path, _ in match.seen.shared.most_common()], sum(match.seen.shared.values())
-        says = "%s there already, from %s" % (counted(total, "message"), first_of(paths, most=1))
-        yield Remark("shared", says, total)
+    paths, total = [unspelled(path) for path, _ in match.seen.shared.most_common()], sum(match.seen.shared.values())
+    yield from Says.SHARED.of_any(total, first_of(paths, most=1), there=total)
     for path, count in match.seen.gone.items():
         if count:
-            yield Remark("gone-elsewhere", "%d that %s brought are gone" % (count, named(unspelled(path))))
+            yield Says.GONE_ELSEWHERE.of(count, named(unspelled(path)))
 
 
 def remarks_on_dropped(words: Optional[str]) -> list[Remark]:
     """What is to be said of a mailbox that is done by a reading, about messages that were left out."""
-    dropped = Reading.of_words(words).dropped
-    return [left_out(dropped)] if dropped else []
+    return Says.DELETED_LEFT_OUT.of_any(Reading.of_words(words).dropped)

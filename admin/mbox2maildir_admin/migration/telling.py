@@ -5,8 +5,8 @@ from typing import Any, NamedTuple, Optional, Union
 from ..faults import REASONS
 from ..jobs.crew import spelled
 from ..kinds.making import with_aside
-from ..meanings import REMARKS
 from ..nexts import DOES, TODOS, Answer, Command, Does, Next, OfFiles, Part, Phrase, Task, Template, Todo, task
+from ..remarks import SAYS, Sentence
 from ..terminal import bytes_of, shown
 from .outcomes import FATES, Row
 
@@ -45,10 +45,7 @@ def row_of(words: Mapping[str, Any], whose: Optional[Whose] = None) -> Row:
     """Reads a row that a process told, which may be that of a user. Root itself knows which way mail goes then, and
     whose it is. Raises an error of Python's if it is no row."""
     row = Row(**{name: list(one) if name == "next" else value_of(KINDS[name], one) for name, one in words.items()})
-    if (
-        not {*(one.word for one in row.remarks), *(one.word for one in row.details if one.word)} <= REMARKS.keys()
-        or row.fate not in FATES
-    ):
+    if not {one.word for one in row.details if one.word} <= SAYS.keys() or row.fate not in FATES:
         raise ValueError("no word")
     row = row._replace(next=next_of(row.next, row.path, whose))
     return row._replace(is_back=whose.is_back, user=whose.name) if whose else row
@@ -129,5 +126,5 @@ def number_of(value: object) -> int:
 KINDS = Row.__annotations__
 READS: Mapping[Any, Callable[[Any], Any]] = {
     **{str: shown, bytes: bytes_of, int: number_of, bool: lambda value: value is True},
-    **{Phrase: REASONS.__getitem__},
+    **{Phrase: REASONS.__getitem__, Sentence: SAYS.__getitem__},
 }

@@ -23,15 +23,13 @@ from ..kinds.profiles import Profiles
 from ..ledger.history import History, names_of
 from ..looks import is_folder, is_surely, is_there, may_be, real_path, state_at, type_at
 from ..maildir.folders import INBOX, LONGEST, folder_on_disk, folder_path, name_before
-from ..nexts import Remark, Runs, Todo, run_next, task
+from ..nexts import Runs, Todo, run_next, task
 from ..readings.copies import UNFINISHED
+from ..remarks import Remark, Says
 from ..terminal import is_text, named, operand, text_of
 from .outcomes import Fate, Row, row_left
 from .places import Pairs, Planned, recorded, with_own_folders
 from .options import Options
-
-# what is said of a file without mail
-PUT_ASIDE = Remark("put-aside", "originals that were put aside")
 
 # the facts that show that two paths are of one file: its device and inode
 Identity = tuple[int, int]
@@ -154,7 +152,7 @@ class Tree:
             return False
         if stat.S_ISDIR(state.st_mode):
             if entry.name.startswith(ASIDE):
-                self.pass_over(entry.path, PUT_ASIDE)
+                self.pass_over(entry.path, Says.PUT_ASIDE.of())
                 return False
             key = state.st_dev, state.st_ino
             return key != self.without and not self.is_met(entry.path, key)
@@ -182,7 +180,7 @@ class Tree:
         names = list(self.met[key].values())[:-1]
         others = [one for one in names if state.st_nlink == 1 or real_path(one) == real_path(path)]
         if others:
-            self.pass_over(path, Remark("same-file", "the same file as %s" % named(others[0])))
+            self.pass_over(path, Says.SAME_FILE.of(named(others[0])))
         else:
             self.files.append(path)
 

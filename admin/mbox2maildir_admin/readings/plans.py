@@ -8,9 +8,10 @@ from ..kinds.making import Recipe, Where, beside
 from ..kinds.others import Holds
 from ..mbox.lines import Lines, Reasons, Said, cut, lines_around
 from ..mbox.mailbox import Mailbox
-from ..nexts import Answer, Command, Does, Phrase, Quote, Remark
+from ..nexts import Answer, Command, Does, Phrase, Quote
+from ..remarks import Remark, Says
 from ..terminal import NAMED
-from ..units import Line, Offset, counted
+from ..units import Line, Offset
 from .quoting import Quoter, measured
 from .reading import BY_LENGTHS, CR, CRLF, MBOXCL2, MBOXO, MBOXRD, PLAIN, UNDECIDED, UNQUOTED, Reading, renumbered
 from .verdict import DROP_DELETED, Verdict, counted_by, is_against_lengths, is_answer, look_at, reading_of
@@ -20,7 +21,6 @@ REASONS = {Holds.MAIL: Reason.UNCLEAR, Holds.OTHER: Reason.OTHER_KIND, Holds.UNK
 ANOTHER_QUESTION = "what is asked about it has changed since this was answered"
 LACKS_LINES = "the answer with this --of also names lines, by --text or --begin"
 OTHER_LINES = "the answer with this --of names other lines, or none"
-DELETED_KEPT = "no deleted mail was left out, because %d of %d messages have no X-Mozilla-Status"
 NEW_LINE = "it came since the others were decided, and may begin a message"
 # the words by which lines begin messages in different ways, each with those that do it alike
 WAYS = (MBOXRD, (MBOXRD, MBOXO)), (MBOXCL2, BY_LENGTHS), (UNQUOTED, (UNQUOTED,))
@@ -251,20 +251,15 @@ def plan_by(verdict: Verdict, reading: Reading, decision: Reading, kind: str) ->
     says, without = verdict.remarks_on_text(), counts.messages - counts.marked
     if decision.drop and without:
         # not each message has a mark, so that none is taken for deleted
-        says.append(Remark("deleted-kept", DELETED_KEPT % (without, counts.messages)))
+        says.append(Says.DELETED_KEPT.of(without, counts.messages))
     elif decision.drop and counts.deleted:
-        says.append(left_out(counts.deleted))
+        says += Says.DELETED_LEFT_OUT.of_any(counts.deleted)
         reading = reading._replace(drop=True, dropped=counts.deleted)
     messages, is_copied = counts.messages - reading.dropped, wants_copy(reading, counts)
     # where no message has a mark, nothing is said of deleted mail
     is_said = decision.word or counts.marked
     answer = Reading(decision.word, drop=decision.drop, alone=decision.alone) if is_said else None
     return Plan(kind, messages, verdict.start, reading, is_copied, tuple(says), answer)
-
-
-def left_out(count: int) -> Remark:
-    """What is said of this many messages that were left out."""
-    return Remark("deleted-left-out", "without %s marked as deleted" % counted(count, "message"))
 
 
 def wants_copy(reading: Reading, counts: Quoter) -> bool:

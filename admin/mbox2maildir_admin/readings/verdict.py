@@ -13,16 +13,14 @@ from ..mbox.files import LineEnds
 from ..mbox.lines import Reasons, Said
 from ..mbox.mailbox import Mailbox
 from ..mbox.pieces import from_lines_of
-from ..meanings import remark_of
-from ..nexts import Remark
-from ..units import Line, Offset, counted
+from ..remarks import Remark, Says
+from ..units import Line, Offset
 from .reading import BY_LENGTHS, CR, CRLF, MBOXCL2, MBOXO, MBOXRD, PLAIN, UNQUOTED, Reading
 
 # lines of these sorts may be text, or may begin messages; the lines around the first ones show which
 DOUBTS = ("odd", "doubtful")
 NOT_QUOTED, TAKEOUT = "not quoted", "Gmail's Takeout"
 DROP_DELETED = Reading(drop=True)
-NO_END = remark_of("no-line-end")
 
 
 class Verdict(NamedTuple):
@@ -90,8 +88,8 @@ class Verdict(NamedTuple):
 
     def remarks_on_text(self) -> list[Remark]:
         """What is to be said of the text, however it is read."""
-        says = "its text begins at byte %d, after NUL bytes" % (self.start + 1)
-        return [Remark("after-nulls", says)] * self.look.after_nulls + [NO_END] * self.look.count("no end")
+        nulls = [Says.AFTER_NULLS.of(self.start + 1)] * self.look.after_nulls
+        return nulls + [Says.NO_LINE_END.of()] * self.look.count("no end")
 
     def remarks_on_quotes(self) -> list[Remark]:
         """What is to be said of a mailbox that is read without a decision. If messages end by their lengths: how many
@@ -106,18 +104,15 @@ class Verdict(NamedTuple):
             # length of that
             is_mboxcl2 = self.reading is not None and self.reading.word == MBOXCL2
             kept = count("quoted, by length", "quoted twice") if is_mboxcl2 else 0
-            by = "`From ` is text in %s, by lengths (--as mboxrd begins mail there)" % counted(inside, "line")
-            says = "`>From ` keeps its `>` in %s (--as mboxcl takes it away)" % counted(kept, "line")
-            return [Remark("by-lengths", by)] * bool(inside) + [Remark("keeps-quote", says)] * bool(kept)
-        return [
-            Remark("loses-quote", "`%s ` loses a `>` in %s (--as %s keeps it)" % (line, counted(number, "line"), its))
-            for number, line, its in (
-                (count("quoted twice"), ">>From", MBOXO),
-                (count("quoted, by length"), ">From", MBOXCL2),
-                (count("quoted") * (count("git") > 0), ">From", UNQUOTED),
-            )
-            if number
-        ]
+            return Says.BY_LENGTHS.of_any(inside, noun="line") + Says.KEEPS_QUOTE.of_any(kept, noun="line")
+        says = list[Remark]()
+        for number, line, its in (
+            (count("quoted twice"), ">>From", MBOXO),
+            (count("quoted, by length"), ">From", MBOXCL2),
+            (count("quoted") * (count("git") > 0), ">From", UNQUOTED),
+        ):
+            says += Says.LOSES_QUOTE.of_any(number, line, "--as %s keeps it" % its, noun="line")
+        return says
 
 
 def look_at(mailbox: Mailbox, read: Read = Look.read) -> Verdict:

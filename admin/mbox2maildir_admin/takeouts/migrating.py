@@ -30,11 +30,12 @@ from ..migration.several import Several, refuse
 from ..migration.steps import Contents, Part
 from ..migration.options import Options
 from ..migration.known import Opened
-from ..nexts import Answer, Remark
+from ..nexts import Answer
 from ..program import Program, find_program
 from ..readings.plans import Question
 from ..readings.reading import UNDECIDED
 from ..readings.texts import Choice, Text, choice_at_once, read_messages
+from ..remarks import Says
 from ..terminal import complain, named, quoted
 
 NO_MESSAGE = "it has no message, and so no labels"
@@ -241,7 +242,7 @@ class Takeouts(Migration):
         plan, places, labels = takeout.choice.plan, takeout.sorted.places[folder], takeout.sorted.labels.get(folder)
         plan = plan._replace(messages=len(places), reading=plan.reading._replace(part=word_of(places)))
         choice, kept = takeout.choice._replace(plan=plan, known=None), takeout.sorted.kept.at(places)
-        says = [Remark("same-folder", "its labels are %s" % " and ".join(map(named, labels)))] if labels else []
+        says = [Says.SAME_FOLDER.of(" and ".join(map(named, labels)))] if labels else []
         read = functools.partial(self.read_part, folder, takeout, choice)
         return Part(choice, read, takeout.size(folder), False, kept, takeout.cores, tuple(says))
 

@@ -15,8 +15,8 @@ from ..migration.outcomes import Fate, Observer, Row, row_left
 from ..migration.several import refuse
 from ..migration.known import Opened
 from ..migration.options import Options
-from ..nexts import Remark
 from ..readings.reading import Reading
+from ..remarks import Says
 from ..undoing.undo import Undo
 from ..units import Say
 
@@ -56,7 +56,7 @@ class TakeoutUndo(Undo):
                     note_nothing(self.record, line)
                 if not count:
                     fate = Fate.WOULD_UNDO if self.options.dry else Fate.UNDONE
-                    yield Row(path, b"", "", 0, fate, remarks=(Remark("removed", "nothing of it was placed"),))
+                    yield Row(path, b"", "", 0, fate, remarks=(Says.NOTHING_PLACED.of(),))
         except (Fault, OSError) as fault:
             yield row_left(path, b"", fault)
 

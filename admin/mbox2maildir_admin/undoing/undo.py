@@ -38,9 +38,10 @@ from ..migration.preparing import remove_prepared
 from ..migration.several import refuse
 from ..migration.options import Options
 from ..migration.steps import Extra
-from ..nexts import Remark, Todo, task
+from ..nexts import Todo, task
 from ..readings.reading import Reading, with_deleted
 from ..readings.texts import content_of, disk_of, text_then
+from ..remarks import Remark, Says
 from ..terminal import first_of, named
 from ..units import Say, counted, silent
 
@@ -68,16 +69,16 @@ Cores = collections.Counter[bytes]
 
 
 class Why(enum.Enum):
-    """What becomes of a message, in the word of the remark on it: it goes, stays for a reason, or was gone before."""
+    """What becomes of a message, by the remark on it: it goes, stays for a reason, or was gone before."""
 
-    REMOVED = "removed"
-    SHARED = "kept-shared"
-    FORMER = "kept-former"
-    FOREIGN = "kept-foreign"
-    LOST = "kept-lost"
-    EDITED = "kept-edited"
-    RENAMED = "kept-renamed"
-    GONE = "already-gone"
+    REMOVED = Says.REMOVED
+    SHARED = Says.KEPT_SHARED
+    FORMER = Says.KEPT_FORMER
+    FOREIGN = Says.KEPT_FOREIGN
+    LOST = Says.KEPT_LOST
+    EDITED = Says.KEPT_EDITED
+    RENAMED = Says.KEPT_RENAMED
+    GONE = Says.ALREADY_GONE
 
 
 # how many messages have each fate
@@ -386,19 +387,13 @@ def prepared_from(root: bytes, path: bytes) -> Optional[bytes]:
 
 def remarks_on(counts: Counts, keepers: collections.Counter[str], dry: bool) -> Iterator[Remark]:
     """What is said of the messages that the mailbox brought, by how many of them each other mailbox keeps."""
-    removed, kept = ("would remove %s", "would keep %s ") if dry else ("removed %s", "kept %s ")
-    yield Remark(Why.REMOVED.value, removed % counted(counts[Why.REMOVED], "message"))
+    removes, keeps = ("would remove", "would keep") if dry else ("removed", "kept")
+    yield Says.REMOVED.of(counted(counts[Why.REMOVED], "message"), removes)
     # a run that was killed may have changed the order in which mailboxes were begun
     paths = [unspelled(path) for path in sorted(keepers, key=lambda one: (-keepers[one], one))]
-    for why, says in (
-        (Why.SHARED, "that %s %s too" % (first_of(paths, most=1), "have" if len(paths) > 1 else "has")),
-        (Why.FORMER, "that another mailbox brought too"),
-        (Why.FOREIGN, "that %s nobody's" % ("was" if counts[Why.FOREIGN] == 1 else "were")),
-        (Why.LOST, "that it no longer has"),
-        (Why.EDITED, "that somebody edited"),
-        (Why.RENAMED, "that another program renamed"),
-    ):
-        if counts[why]:
-            yield Remark(why.value, kept % counted(counts[why], "message") + says)
-    if counts[Why.GONE]:
-        yield Remark(Why.GONE.value, "%s already gone" % counted(counts[Why.GONE], "message"))
+    more = {
+        Why.SHARED: (first_of(paths, most=1), "have" if len(paths) > 1 else "has"),
+        Why.FOREIGN: ("was" if counts[Why.FOREIGN] == 1 else "were",),
+    }
+    for why in counts.keys() - {Why.REMOVED}:
+        yield from why.value.of_any(counts[why], keeps, *more.get(why, ()))

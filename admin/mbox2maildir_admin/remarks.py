@@ -1,0 +1,150 @@
+"""What else is said of a mailbox in its row: each remark once, in the order in which a row says them."""
+from typing import NamedTuple
+
+from .nexts import Phrase
+from .units import counted
+
+
+class Sentence(Phrase):
+    """A remark by its word. In its sentence, `{}` stands for what differs. One word may have two sentences."""
+
+    def of(self, *its: object, there: int = 0, stands: int = 0) -> "Remark":
+        """The remark with this in its places."""
+        return Remark(self, self.says.format(*its), there, stands)
+
+    def of_any(self, count: int, *its: object, noun: str = "message", there: int = 0) -> "list[Remark]":
+        """The remark on so many messages, or other things, with what else it names; nothing if there are none."""
+        return [self.of(counted(count, noun), *its, there=there)] if count else []
+
+
+class Remark(NamedTuple):
+    """What is to be said of a mailbox, how many of its messages were there already by it, and how many stand in it
+    although they were deleted or changed in the Maildir. Only the sentences of the table make one."""
+
+    what: Sentence
+    says: str
+    there: int = 0
+    stands: int = 0
+
+    @property
+    def word(self) -> str:
+        """Its word for programs."""
+        return self.what.word
+
+
+class Says:
+    """What is said. The meanings are in `meanings.py`."""
+
+    # of what is passed over
+    BY_NO_MAIL = Sentence("by-no-mail", "by --no-mail")
+    NO_MAIL_NOTED = Sentence("no-mail-noted", "by migrate --no-mail")
+    PUT_ASIDE = Sentence("put-aside", "originals that were put aside")
+    SAME_FILE = Sentence("same-file", "the same file as {}")
+    # of mailboxes that take the place of another one, or whose own is gone
+    BESIDE = Sentence("beside", "{} cannot hold {}")
+    BESIDE_ALL = Sentence("beside", "{} takes nothing")
+    MAILBOX_GONE = Sentence("mailbox-gone", "its mailbox is gone")
+    # how it is read
+    AFTER_NULLS = Sentence("after-nulls", "its text begins at byte {}, after NUL bytes")
+    NO_LINE_END = Sentence("no-line-end", "its last line has no line end: check that the file is complete")
+    BY_LENGTHS = Sentence("by-lengths", "`From ` is text in {}, by lengths (--as mboxrd begins mail there)")
+    KEEPS_QUOTE = Sentence("keeps-quote", "`>From ` keeps its `>` in {} (--as mboxcl takes it away)")
+    LOSES_QUOTE = Sentence("loses-quote", "`{1} ` loses a `>` in {0} ({2})")
+    DELETED_KEPT = Sentence(
+        "deleted-kept", "no deleted mail was left out, because {} of {} messages have no X-Mozilla-Status"
+    )
+    DELETED_LEFT_OUT = Sentence("deleted-left-out", "without {} marked as deleted")
+    OLD_LOCK = Sentence("old-lock", "{} {} and was ignored")
+    SAME_FOLDER = Sentence("same-folder", "its labels are {}")
+    AS_ANSWERED = Sentence("as-answered", "as it was answered before")
+    AS_BROUGHT = Sentence("as-brought", "as the messages show that it brought")
+    POWER_CUT = Sentence("power-cut", "a power cut could take its mail away: {}")
+    # what a first pass had prepared, and what an undo removes and keeps
+    PREPARED_BEFORE = Sentence("prepared-before", "{} prepared before")
+    PREPARED_LESS = Sentence("prepared-before", "{} prepared before, {} {}")
+    PREPARED_STAYS = Sentence("prepared-before", "{} prepared before stay, whatever the mailbox has now")
+    REMOVED = Sentence("removed", "{1} {0}")
+    NOTHING_PLACED = Sentence("removed", "nothing of it was placed")
+    KEPT_SHARED = Sentence("kept-shared", "{1} {0} that {2} {3} too")
+    KEPT_FORMER = Sentence("kept-former", "{1} {0} that another mailbox brought too")
+    KEPT_FOREIGN = Sentence("kept-foreign", "{1} {0} that {2} nobody's")
+    KEPT_LOST = Sentence("kept-lost", "{1} {0} that it no longer has")
+    KEPT_EDITED = Sentence("kept-edited", "{1} {0} that somebody edited")
+    KEPT_RENAMED = Sentence("kept-renamed", "{1} {0} that another program renamed")
+    ALREADY_GONE = Sentence("already-gone", "{} already gone")
+    # what is new, what is gone, and what was there
+    PLACED = Sentence("placed", "{} {}")
+    GREW = Sentence("grew", "it grew by {}")
+    UNLABELLED = Sentence("unlabelled", "the label was taken from {}; the mail stays here")
+    LOST = Sentence("lost", "{} gone from it that it had brought")
+    REGAINED = Sentence("regained", "{} in it again that had been gone from it")
+    JOINS = Sentence("joins", "INBOX has the mail of {} too")
+    SHARED = Sentence("shared", "{} there already, from {}")
+    GONE_ELSEWHERE = Sentence("gone-elsewhere", "{} that {} brought are gone")
+    OTHER_FORM = Sentence("other-form", "{} there in another form, by another mailbox")
+    MARKED = Sentence("marked", "{} placed beside files that are marked as deleted")
+    THERE_ALREADY = Sentence("there-already", "{} there already, by no mailbox")
+    IN_MAILBOX = Sentence("there-already", "{} there already")
+    OTHER_PROGRAMS = Sentence("other-programs", "{} of other programs in the folder")
+    FLAGS_DIFFER = Sentence("flags-differ", "{} of these marked in it, as read or flagged, but not in the Maildir")
+    # of its folder, and of others
+    ELSEWHERE = Sentence("elsewhere", "{} of it went into {} too")
+    ELSEWHERE_FROM = Sentence("elsewhere", "{} of it went into {} too, from {}")
+    CAME_BACK = Sentence("came-back", "when its mail was placed, up to {} that had been deleted or moved came back")
+    GONE = Sentence(
+        "gone", "{} of the {} messages that were placed in its folder are gone, or another program renamed them"
+    )
+    LEDGER_OLDER = Sentence(
+        "ledger-older",
+        "the ledger of its folder is older than its record, and lacks {} of it: mail may be missing there",
+    )
+    LEDGER_GONE = Sentence("ledger-gone", "the ledger of its folder is gone")
+    FOLDER_GONE = Sentence("folder-gone", "its folder is gone")
+    CONTRADICTED = Sentence("contradicted", "it was read as {}, and {} gives other messages")
+    JOINED = Sentence("joined", "its folder has mail of {} too")
+    # of dates, flags, labels, UIDs and keywords
+    DATED_BY_HEADER = Sentence("dated-by-header", "{} dated by the header")
+    WITHOUT_DATE = Sentence("without-date", "{} without a date")
+    FLAGS = Sentence("flags", "{} with flags of {}")
+    UNREAD = Sentence(
+        "unread",
+        "{} came unread, since no known label says that mail was read (with --labels, --label NAME=read says so)",
+    )
+    LABELLED = Sentence("labelled", "labelled {}: with --labels, labels become folders")
+    WITHOUT_INTERNAL = Sentence("without-internal", "without the message in which Dovecot kept its UIDs")
+    WITHOUT_UIDS = Sentence("without-uids", "without its UIDs, because {}")
+    UIDS_OF_NEW = Sentence("uids-of-new", "Dovecot gives what is new its UIDs")
+    FIRST_APPEARS = Sentence("first-appears", "its first message, which Dovecot hid, appears")
+    NO_UIDS = Sentence("no-uids", "Dovecot had given it no UIDs")
+    NEW_UIDS = Sentence("new-uids", "some messages get new UIDs, because a message before them has none")
+    FIELDS_LEFT_OUT = Sentence("fields-left-out", "fields left out of {}: {}")
+    UIDS_RAISED = Sentence("uids-raised", "its next UID is {} now")
+    UIDS_ANEW = Sentence("uids-anew", "its UIDs start anew, because {}")
+    UIDS_NOT_RAISED = Sentence(
+        "uids-not-raised",
+        "its first message has no room for its next UID: run the command below before a mail program looks at it",
+    )
+    UIDS_UNKNOWN = Sentence("uids-not-raised", "without --dovecot, Dovecot may give a UID twice")
+    KEYWORDS_LOST = Sentence("keywords-lost", "only {} keywords are kept; lost: {}")
+    KEYWORDS_ADDED = Sentence("keywords-added", "Dovecot is to add keywords, because {}: {}")
+    SUBSCRIPTIONS = Sentence("subscriptions", "subscribed to {}")
+    # of mail that people moved, deleted or changed in the Maildir
+    MOVED = Sentence("moved", "{} that people moved here from {} {} in the mailbox of that")
+    DELETED = Sentence("deleted", "{} that {} deleted in the Maildir {} still there{}")
+    CHANGED = Sentence("changed", "{} that {} changed in the Maildir {} there as before{}")
+    # of its names
+    NAME_BEFORE = Sentence("name-before", "its name was {}")
+    ALSO_NAMED = Sentence("also-named", "also named {}")
+    # by `verify`
+    OTHER_BYTES = Sentence("other-bytes", "other bytes {}")
+    RENAMED = Sentence("renamed", "under another name {}")
+    NOWHERE = Sentence("nowhere", "nowhere {}")
+    DOUBLE = Sentence("double", "doubles {}")
+    OTHER_OWNER = Sentence("other-owner", "of another owner {}")
+    DOUBTFUL_LINE = Sentence("doubtful-line", "doubtful lines {}")
+    WITHOUT_FIELDS = Sentence("without-fields", "without fields {}")
+
+
+SAYS = {one.word: one for one in vars(Says).values() if isinstance(one, Sentence)}
+# where each stands in a row
+PLACES = {word: place for place, word in enumerate(SAYS)}
