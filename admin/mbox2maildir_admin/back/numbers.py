@@ -51,7 +51,6 @@ from .mails import Mail, Target
 # so many bytes each disk writes at once, or not at all
 SECTOR = 512
 NOT_KEPT = "another program has changed its first message meanwhile: stop that program, and run this again"
-ANEW = "its UIDVALIDITY is %d now"
 NO_BASE, NO_ROOM = "it had given the mailbox no UIDs", "the first message has no room for their names"
 # in the place of a UID
 NONE = 1 << 32
@@ -250,7 +249,7 @@ class Numbering:
             self.remarks.append(Says.UIDS_RAISED.of(wanted.last + 1))
             more += ["--min-next-uid", str(wanted.last + 1)]
         if wanted.validity != head.validity:
-            self.remarks.append(Says.UIDS_ANEW.of(ANEW % wanted.validity))
+            self.remarks.append(Says.UIDS_ANEW.of("its UIDVALIDITY is %d now" % wanted.validity))
             more += ["--uid-validity", str(wanted.validity)]
         if more and not has_room:
             self.remarks = [Says.UIDS_NOT_RAISED.of()]

@@ -8,6 +8,7 @@ from ..maildir.folders import folder_shown
 from ..mbox.lines import AROUND
 from ..meanings import ITS_COMMAND, REMARKS, to_do
 from ..nexts import BELOW, COMMAND, Answer, Command, Does, Quote, Runs, Task, Todo, lines_below
+from ..remarks import Says
 from ..terminal import named, operand, option
 from .outcomes import Fate, Row
 
@@ -64,8 +65,8 @@ def detail_of(row: Row) -> str:
     about."""
     counts = dict.fromkeys(str(one.messages) for one in answers_of(row) if one.messages is not None)
     several = ["%s messages" % " or ".join(counts)] if len(counts) > 1 else []
-    # the title says what is told by a word alone
-    its = (one.says for one in row.said if one.says.lower() + "." != REMARKS[one.word].lower())
+    # the title says all of this one
+    its = (one.says for one in row.said if one.what is not Says.NO_LINE_END)
     says = "; ".join(filter(None, [row.why, *its]))
     asked = [one for one in row.quotes if not one.is_around]
     line = ["%s: %s" % (says or "line %d" % one.line, one.text) for one in asked[:1]]

@@ -97,8 +97,8 @@ def complete(steps: Steps, program: Program, batch: int) -> list[Remark]:
         # flags are those of the last pass: a mail program may change them until then. A date changes a file's ctime
         Dating(steps.contents.text, steps.files).give_all(steps.opened.folder)
         prepared.note_facts()
-    of_extra = [] if is_first else steps.extra.run(steps)
-    said = finish(steps) + of_extra
+    said = [] if is_first else steps.extra.run(steps)
+    said += finish(steps)
     want_none_cut(steps)
     said += Says.CAME_BACK.of_any(min(back, len(steps.contents.inventory)))
     if prepared and is_first and steps.origin:

@@ -70,7 +70,6 @@ from .steps import (
     Part,
     Steps,
     remarks_on,
-    remarks_on_dropped,
     remarks_on_lost,
 )
 
@@ -239,6 +238,7 @@ class Transfer:
         """The row of a mailbox of so many messages that was done before by the words of a plan; what else is said."""
         mailbox, name = self.opened.mailbox, self.opened.name
         of_uids = self.how.extra.remarks_on_done(name) if mailbox.size else []
+        dropped = Says.DELETED_LEFT_OUT.of_any(Reading.of_words(words).dropped)
         of_folder = back_in(self.ledger) + gone_from(self.ledger)
         by_index = self.known.by_index
         if by_index and self.known.is_cut:
@@ -246,7 +246,7 @@ class Transfer:
             of_folder = [Says.LEDGER_OLDER.of(counted(missing, "message"))]
         elif by_index:
             of_folder = [(Says.LEDGER_GONE if is_folder(self.opened.folder) else Says.FOLDER_GONE).of()]
-        says = (*of_uids, *remarks_on_dropped(words), *of_folder, *more)
+        says = (*of_uids, *dropped, *of_folder, *more)
         return Row(mailbox.path, name, "", messages, Fate.BEFORE, size=mailbox.size, remarks=says)
 
     def answered(self, question: Question) -> Optional[Outcome]:

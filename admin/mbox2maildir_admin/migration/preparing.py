@@ -74,7 +74,7 @@ from .dovecot import KEYWORDS, LIST, Dovecot, remove_part
 from .known import Known, Opened
 from .options import Options
 from .outcomes import Fate, Row
-from .steps import Contents, Part, Placing, remarks_on_dropped
+from .steps import Contents, Part, Placing
 
 NOT_FREE = "mail of a mailbox is in its folder already, and migrate brings the rest"
 READ = "somebody reads in its folder already: %s"
@@ -339,13 +339,10 @@ def remarks_on_prepared(prepared: Prepared, how: Options, say: Say) -> list[Rema
         prepared.look(say)
         stays = sum(prepared.files) + len(prepared.edited)
         return [Says.PREPARED_STAYS.of(stays)] * bool(stays)
-    gone, remarks = prepared.unwanted(), list[Remark]()
-    if any(prepared.files):
-        removed = counted(gone, "message"), "to be removed" if how.dry else "removed"
-        of_all, less = Says.PREPARED_BEFORE, Says.PREPARED_LESS
-        remarks.append(less.of(prepared.count(), *removed) if gone else of_all.of(prepared.count()))
-    keeps = "would keep" if how.dry else "kept"
-    return remarks + Says.KEPT_EDITED.of_any(len(prepared.edited), keeps, noun="file")
+    gone, says = prepared.unwanted(), Says.PREPARED_BEFORE
+    goes, keeps = ("to be removed", "would keep") if how.dry else ("removed", "kept")
+    its = Says.PREPARED_LESS.of(prepared.count(), counted(gone, "message"), goes) if gone else says.of(prepared.count())
+    return [its] * any(prepared.files) + Says.KEPT_EDITED.of_any(len(prepared.edited), keeps, noun="file")
 
 
 def remove_prepared(record: Record, path: bytes, name: bytes, dry: bool, say: Say = silent) -> Optional[Row]:
@@ -409,7 +406,7 @@ def row_unchanged(record: Record, how: Options, path: bytes, name: bytes, folder
     prepared.look(say)
     if not all(prepared.files) or prepared.edited or reader_in(record, name, prepared):
         return None
-    dropped = remarks_on_dropped(origin.words)
+    dropped = Says.DELETED_LEFT_OUT.of_any(Reading.of_words(origin.words).dropped)
     says = Says.PREPARED_BEFORE.of(len(prepared.files))
     fate = Fate.WOULD_PREPARE if how.dry else Fate.PREPARED
     spent = None if how.dry else Spent(milliseconds_since(began), prepared.notes.foreseen())

@@ -347,15 +347,13 @@ def remarks_on(one: Steps, dry: bool) -> Iterator[Remark]:
     match, ledger = one.match, one.known.ledger
     if one.which is Pass.AGAIN:
         yield Says.PLACED.of("would place" if dry else "placed", counted(match.count(Stand.NOWHERE), "message"))
-    elif match.path in ledger.sources:
-        yield from (*Says.GREW.of_any(match.count_new()), *Says.REGAINED.of_any(match.seen.regained))
-        yield from remarks_on_lost(match)
     else:
         yield from remarks_on_lost(match)
-        if one.opened.name == INBOX and not match.seen.shared:
-            others = [unspelled(path) for path, source in ledger.sources.items() if source.count()]
-            if others:
-                yield Says.JOINS.of(first_of(others, most=1))
+        others = [unspelled(path) for path, source in ledger.sources.items() if source.count()]
+        if match.path in ledger.sources:
+            yield from (*Says.GREW.of_any(match.count_new()), *Says.REGAINED.of_any(match.seen.regained))
+        elif others and one.opened.name == INBOX and not match.seen.shared:
+            yield Says.JOINS.of(first_of(others, most=1))
     yield from remarks_on_shared(match)
     seen, foreign = match.seen, len(match.seen.foreign)
     yield from (*Says.OTHER_FORM.of_any(seen.other_form), *Says.MARKED.of_any(seen.marked))
@@ -389,8 +387,3 @@ def remarks_on_shared(match: Match) -> Iterator[Remark]:
     for path, count in match.seen.gone.items():
         if count:
             yield Says.GONE_ELSEWHERE.of(count, named(unspelled(path)))
-
-
-def remarks_on_dropped(words: Optional[str]) -> list[Remark]:
-    """What is to be said of a mailbox that is done by a reading, about messages that were left out."""
-    return Says.DELETED_LEFT_OUT.of_any(Reading.of_words(words).dropped)
