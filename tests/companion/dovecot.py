@@ -123,6 +123,8 @@ def grows(home: Path, server: Dovecot) -> Iterator[str]:
         case.deliver(mail(number))
         before = case.before()
         wanted = f"done, {UNQUOTED % '1 line'}; it grew by 1 message; Dovecot gives what is new its UIDs"
+        # a rehearsal says the same in the same order
+        yield from says("it would grow", case.migrate("--dovecot", "--dry-run"), 0, "would be " + wanted)
         yield from says("it grew", case.migrate(), 0, wanted)
         for line in differences(before, case.after(), False):
             yield f"dovecot: it grew, {'and Dovecot had looked' if has_looked else 'and nobody had looked'}: {line}"
