@@ -218,11 +218,11 @@ def wrong_reasons() -> Iterator[str]:
 def wrong_remarks() -> Iterator[str]:
     """The schema has the words of remarks that `explain` has, and each of these has its sentence in the table."""
     words = list(importlib.import_module("mbox2maildir_admin.meanings").REMARKS)
-    said = importlib.import_module("mbox2maildir_admin.remarks").SAYS
+    table = importlib.import_module("mbox2maildir_admin.remarks").SAYS
     schema = json.loads(text_of(SCHEMA))["$defs"]["remark"]["enum"]
     if schema != words:
         yield f"docs/rows.schema.json has the remarks {schema}, and the companion has {words}"
-    for word in sorted(said.keys() ^ words):
+    for word in sorted(table.keys() ^ words):
         yield f"{word}: `explain` or the table of remarks does not have it"
 
 
