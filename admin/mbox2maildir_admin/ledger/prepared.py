@@ -18,7 +18,7 @@ from ..faults import Fault, Reason
 from ..looks import is_there
 from ..maildir.files import CLOCK_TICK, digest_of, mail_in, names_in
 from ..maildir.making import PREPARED, sync_folder
-from ..mbox.bases import FIRST, Table, base_in, before_info, own_base_in
+from ..mbox.bases import FIRST, Table, base_in, before_info
 from ..mbox.core import SHORT
 from ..mbox.inventory import NO_DATE, Inventory
 from ..remarks import SAYS, Remark
@@ -103,18 +103,14 @@ def finish_list(folder: bytes) -> None:
     sync_folder(folder)
 
 
-def drop_list(folder: bytes) -> None:
-    """Removes the list of a folder that is done. A power cut may bring it back: then the ledger shows that it is
-    over."""
+def remove_list(folder: bytes, sync: bool = True) -> None:
+    """Removes the list of a folder, in which nothing is only prepared any more. Without a sync, a power cut may bring
+    it back."""
     for name in (NEXT_LIST, PREPARED):
         with contextlib.suppress(FileNotFoundError):
             os.unlink(os.path.join(folder, name))
-
-
-def remove_list(folder: bytes) -> None:
-    """Removes the list of a folder, in which nothing is only prepared any more."""
-    drop_list(folder)
-    sync_folder(folder)
+    if sync:
+        sync_folder(folder)
 
 
 def aside_of(folder: bytes) -> bytes:
@@ -125,7 +121,7 @@ def aside_of(folder: bytes) -> bytes:
 
 def remove_aside(path: bytes) -> None:
     """Removes a folder that was made or removed, and has nothing but a list."""
-    drop_list(path)
+    remove_list(path, sync=False)
     with contextlib.suppress(FileNotFoundError):
         os.rmdir(path)
 
@@ -343,16 +339,20 @@ class Prepared:
         inode, size, changed = self.facts[3 * place : 3 * place + 3]
         return inode, size, changed
 
+    def listed(self) -> Iterator[tuple[int, bytes, bytes]]:
+        """The files of the folder whose names are in the list, by their places there, with their names and paths."""
+        for name, path in mail_in(self.folder):
+            place = self.table.own_place(name)
+            if place is not None:
+                yield place, name, path
+
     def look(self, say: Say = silent) -> None:
         """Looks which files are there and are ours: those with the facts of the list, and others with the bytes of
         their bases."""
         self.files, self.edited, began = bytearray(len(self.table)), set(), time.monotonic()
         owner = os.stat(self.folder).st_uid if self.is_there else 0
-        for number, (name, path) in enumerate(mail_in(self.folder) if self.is_there else (), 1):
+        for number, (place, _, path) in enumerate(self.listed() if self.is_there else (), 1):
             say("looking at file %d of the folder" % number)
-            place = self.table.place_of(own_base_in(name))
-            if place is None:
-                continue
             state = os.lstat(path)
             is_right = facts_of(state) == self.facts_at(place) or digest_of(path)[0] == self.table.digest(place)
             if not is_right or state.st_uid != owner or self.files[place]:
@@ -372,7 +372,7 @@ class Prepared:
 
     def hides(self, name: bytes) -> bool:
         """Whether a file of this name, without its info, was prepared and is ours."""
-        place = self.table.place_of(own_base_in(name))
+        place = self.table.own_place(name)
         return place is not None and self.files[place] == OURS
 
     def count(self) -> int:
@@ -388,19 +388,18 @@ class Prepared:
         rows = zip(self.files, self.wanted, self.facts[1::3])
         return [size for is_there, is_wanted, size in rows if is_there and not is_wanted]
 
-    def remove(self) -> int:
+    def remove_unwanted(self) -> int:
         """Removes the files that no message wants, if they are still what was looked at, and what a killed run has left
         in `tmp`. Returns how many are not, and stay."""
         before, tmp = len(self.edited), os.path.join(self.folder, b"tmp")
         for name in names_in(tmp):
             # the record is locked, so none is at work
-            if self.table.place_of(own_base_in(name)) is not None:
+            if self.table.own_place(name) is not None:
                 os.unlink(os.path.join(tmp, name))
         if not self.unwanted():
             return 0
-        for name, path in mail_in(self.folder):
-            place = self.table.place_of(own_base_in(name))
-            if place is None or self.files[place] != OURS or self.wanted[place]:
+        for place, _, path in self.listed():
+            if self.files[place] != OURS or self.wanted[place]:
                 continue
             # a file with other facts may be a second copy
             if facts_of(os.lstat(path)) == self.facts_at(place):
@@ -486,9 +485,8 @@ class Prepared:
         time.sleep(CLOCK_TICK)
         before, began, looked_at = (time.time() - CLOCK_TICK) * 10**9, time.monotonic(), self.facts
         self.facts = array.array("Q", READ_AGAIN) * len(self.table)
-        for name, path in mail_in(self.folder):
-            place = self.table.place_of(own_base_in(name))
-            if place is not None and self.wanted[place]:
+        for place, name, path in self.listed():
+            if self.wanted[place]:
                 facts, home = facts_of(os.lstat(path)), home_of(name, path)
                 self.homes[place] = shared(home)
                 self.verified[place] &= facts == tuple(looked_at[3 * place : 3 * place + 3])

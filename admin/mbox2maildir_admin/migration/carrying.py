@@ -1,10 +1,6 @@
 """Carries out the steps of a mailbox, whatever kind of run has planned them: what is not wanted is removed, what is
 going to be there is noted, mbox2maildir places messages, and these get dates and flags, and are verified. Once the
 disk was synced, it is noted what became of mailboxes.
-
-Programs append to a mailbox, and whoever reads meanwhile gets a last message that is not complete. Its file holds the
-beginning of a message, and the complete message gets a file of another name. So the mailbox is left until the first
-file is gone.
 """
 import collections
 import contextlib
@@ -17,28 +13,22 @@ from typing import Optional
 from ..faults import Fault, Left, Reason, fault_of
 from ..ledger.gone import times_of
 from ..ledger.history import Note
-from ..ledger.lines import PLACED, Head, note_all_placed, note_batch_failed, note_ends
-from ..ledger.match import Files, Match
-from ..ledger.prepared import WHOLE, drop_list, finish_list, note_failed
+from ..ledger.lines import Head, note_all_placed, note_batch_failed, note_ends
+from ..ledger.match import Files
+from ..ledger.prepared import WHOLE, Prepared, finish_list, note_failed, remove_list
 from ..ledger.record import unspelled
 from ..maildir.checking import Check
 from ..maildir.dating import Dating
 from ..maildir.disk import what_fails, why_not_listed
-from ..maildir.files import mail_in
-from ..mbox.bases import base_in, before_info, is_own, own_base_in
-from ..mbox.core import beginning_of
-from ..mbox.digest import Digest
-from ..mbox.files import BLOCK, Reader, open_file
+from ..mbox.bases import base_in, before_info, is_own
 from ..mbox.mailbox import Mailbox, is_still
-from ..nexts import Runs, run_next
 from ..program import Converted, Failed, Program
 from ..readings.unnamed import copy_of_some
 from ..remarks import Remark, Says
-from ..terminal import operand
 from ..units import Offset, Place
-from .known import Known
+from .cut import want_none_cut
 from .outcomes import Fate, Outcome, Pass, Row
-from .steps import Steps
+from .steps import FirstPass, LaterPass, Steps
 
 CHANGED_MEANWHILE = "it changed in the meantime: stop the program that writes to it, and run this again"
 SYNC_FAILED = (
@@ -58,79 +48,95 @@ LATER = "removes a leftover, or writes or places a message"
 # the failures for which the program names no cause
 WITHOUT_CAUSE = re.compile(r"%s|cannot open the folder|could not be (?:read|written)" % FOLDER_CALL.pattern)
 ONCE = "the system reported an error, but the same works now: read the system's log, and run this again"
-CUT = "a message was read before it was complete, and the complete one is there now"
-# at the end of a beginning: line ends, and a From_ line that has just begun; and how much of an end is looked at
-UNFINISHED = re.compile(rb"(?:\n+(?:F(?:r(?:om?)?)?)?)?\Z")
-END = 64
 
 
-def carry_out(steps: Steps, program: Program) -> Outcome:
-    """Does what was planned, and returns what became of the mailbox. Raises Left if something fails, or is not as it
-    was any more."""
-    if steps.is_prepared_already:
-        note_state(steps)
-        return Outcome(steps.row)
-    prepared, opened, said = steps.prepared, steps.opened, list[Remark]()
-    if prepared:
-        said += Says.KEPT_EDITED.of_any(prepared.remove(), "kept", noun="file")
-    batch = begin(steps)
-    said += [] if steps.is_known else complete(steps, program, batch)
-    row = steps.row._replace(remarks=(*steps.row.remarks, *said))
-    its = unspelled(steps.known.path), opened.mailbox.state
-    return Outcome(row, opened.folder, batch, steps.which, *its)
+def carry_out(steps: Steps, row: Row, program: Program) -> Outcome:
+    """Does what was planned, and returns what became of the mailbox, with the row that says this and what else is to be
+    said by then. Raises Left if something fails, or is not as it was any more."""
+    own, opened, batch = steps.own, steps.opened, None
+    if isinstance(own, FirstPass):
+        if own.is_done(steps.placing):
+            note_state(own)
+            return Outcome(row)
+        said = [*cleared(own.prepared), *prepare(steps, own, program)]
+    else:
+        said = cleared(own.prepared) if own.prepared else []
+        batch = begin(steps, own)
+        said += [] if own.has_nothing_new else complete(steps, own, program, batch)
+    row, its = row._replace(remarks=(*row.remarks, *said)), (unspelled(steps.known.path), opened.mailbox.state)
+    return Outcome(row, opened.folder, batch, own.which, *its)
 
 
-def note_state(steps: Steps) -> None:
+def cleared(prepared: Prepared) -> list[Remark]:
+    """Removes what was prepared and no message wants, and returns what is to be said of that."""
+    return Says.KEPT_EDITED.of_any(prepared.remove_unwanted(), "kept", noun="file")
+
+
+def note_state(first: FirstPass) -> None:
     """Notes that the file of a mailbox has another state, and the bytes that were prepared, so that the next first pass
     does not read it."""
-    prepared, now = steps.prepared, steps.origin
-    if prepared and prepared.origin and now and prepared.origin.state != now.state and prepared.notes.as_read:
+    prepared, now = first.prepared, first.origin
+    if prepared.origin and prepared.origin.state != now.state and prepared.notes.as_read:
         prepared.append(now.line(), prepared.notes.as_read.line(), WHOLE + b"\n")
 
 
-def complete(steps: Steps, program: Program, batch: int) -> list[Remark]:
-    """Places what is nowhere, gives files their dates and flags, and verifies them. Returns what is to be said of
-    that."""
-    prepared, is_first = steps.prepared, steps.which is Pass.FIRST
-    back = steps.back + (convert(steps, program, batch) if len(steps.places) else 0)
-    if prepared and is_first:
-        # flags are those of the last pass: a mail program may change them until then. A date changes a file's ctime
-        Dating(steps.contents.text, steps.files).give_all(steps.opened.folder)
-        prepared.note_facts()
-    said = [] if is_first else steps.extra.run(steps)
-    said += finish(steps)
-    want_none_cut(steps)
-    said += Says.CAME_BACK.of_any(min(back, len(steps.contents.inventory)))
-    if prepared and is_first and steps.origin:
-        prepared.write_whole(steps.origin, steps.text, steps.took)
+def prepare(steps: Steps, first: FirstPass, program: Program) -> list[Remark]:
+    """Places what is nowhere, once the list has it, gives files their dates, and verifies them. Returns what is to be
+    said of that. Flags are those of the last pass: a mail program may change them until then."""
+    known, contents, prepared = steps.known, steps.contents, first.prepared
+    known.record.make()
+    prepared.make_folder()
+    prepared.append(first.origin.line(), *prepared.names())
+    known.record.make(steps.opened.make_folder)
+    before = known.record.prepared(steps.opened.name)
+    if not before or (before.key, before.path) != (known.key, known.path):
+        words = len(contents.inventory), unspelled(known.path), contents.words
+        known.record.add(Note.PREPARED, known.key, *words)
+    back = convert(steps, program)
+    # a date changes a file's ctime
+    Dating(contents.text, steps.files).give_all(steps.opened.folder)
+    prepared.note_facts()
+    said = [*date_and_verify(steps), *came_back(steps, back)]
+    prepared.write_whole(first.origin, first.text, first.took)
     return said
 
 
-def begin(steps: Steps) -> int:
-    """Notes what is going to be there: in the list of what is only prepared, of which it becomes a part and, unless it
-    stays so, in the ledger. Returns the number of the batch there."""
-    known, contents, prepared = steps.known, steps.contents, steps.prepared
+def begin(steps: Steps, own: LaterPass) -> int:
+    """Notes in the ledger what is going to be there, and in the list of what is only prepared that it is finished by
+    that. Returns the number of the batch."""
+    known, prepared, origin = steps.known, own.prepared, own.origin
     record, ledger, opened, mailbox = known.record, known.ledger, known.opened, known.opened.mailbox
     if prepared:
         record.make()
         prepared.make_folder()
-        ends = [] if steps.which is Pass.FIRST else [b">\t%d\n" % (ledger.last + 1)]
-        prepared.append(*([steps.origin.line()] if steps.origin else []), *prepared.names(), *ends)
+        prepared.append(*([origin.line()] if origin else []), *prepared.names(), b">\t%d\n" % (ledger.last + 1))
     record.make(opened.make_folder, ledger.make)
-    if steps.which is Pass.FIRST:
-        before = record.prepared(opened.name)
-        if not before or (before.key, before.path) != (known.key, known.path):
-            words = len(contents.inventory), unspelled(known.path), contents.words
-            record.add(Note.PREPARED, known.key, *words)
-        return 0
-    its = times_of(opened.folder), mailbox.key(), contents.words, known.path, mailbox.state.st_ino, int(time.time())
-    head = Head(steps.placing.count_of_lines(), len(steps.placing.nowhere), steps.back, *its)
+    words, inode, now = steps.contents.words, mailbox.state.st_ino, int(time.time())
+    its = times_of(opened.folder), mailbox.key(), words, known.path, inode, now
+    head = Head(steps.placing.count_of_lines(), len(steps.placing.nowhere), own.back, *its)
     return ledger.begin(head, steps.placing.lines())
 
 
-def convert(steps: Steps, program: Program, batch: int) -> int:
+def complete(steps: Steps, own: LaterPass, program: Program, batch: int) -> list[Remark]:
+    """Places what is nowhere, gives files their flags and dates, and verifies them. Returns what is to be said of
+    that."""
+    back = own.back + convert(steps, program, batch)
+    of_extra = steps.extra.apply(steps)
+    said = [*date_and_verify(steps), *of_extra]
+    want_none_cut(steps, own.may_be_cut)
+    return [*said, *came_back(steps, back)]
+
+
+def came_back(steps: Steps, count: int) -> list[Remark]:
+    """What is to be said of so many messages that may have come back."""
+    return Says.CAME_BACK.of_any(min(count, len(steps.contents.inventory)))
+
+
+def convert(steps: Steps, program: Program, batch: Optional[int] = None) -> int:
     """Converts what is nowhere. Returns how many messages were placed that were not to be: equal ones, which were
     deleted or moved after this run had looked."""
+    if not steps.places:
+        return 0
     try:
         ran = place_messages(steps, program)
     except Failed as failed:
@@ -170,7 +176,7 @@ def place_messages(steps: Steps, program: Program) -> Converted:
     return Converted(text.end, placed)
 
 
-def explained(failed: Failed, steps: Steps, batch: int) -> Left:
+def explained(failed: Failed, steps: Steps, batch: Optional[int]) -> Left:
     """Why the program failed, in better words than its own. If a sync failed, the ledger notes that."""
     folder, whole = steps.opened.folder, steps.placing.whole()
     there = Files(folder, whole, steps.opened.mailbox.say).there
@@ -189,7 +195,7 @@ def explained(failed: Failed, steps: Steps, batch: int) -> Left:
     return Left("; ".join(filter(None, [says, cause, counts])), Reason.CONVERT_FAILED)
 
 
-def finish(one: Steps) -> list[Remark]:
+def date_and_verify(one: Steps) -> list[Remark]:
     """Dates what was brought, and returns what is to be said of that. Raises Left unless each message is there once."""
     text = one.contents.text
     check, dating = Check(one.files, say=one.opened.mailbox.say), Dating(text, one.files)
@@ -214,66 +220,6 @@ def finish(one: Steps) -> list[Remark]:
     return dating.remarks()
 
 
-def names_that_may_be_cut(known: Known, match: Match) -> set[bytes]:
-    """The names of files that may hold the beginning of a message: those that the mailbox placed last when it was read,
-    and that stand for no message of it any more; and those that no line has. The mailbox was written to, so a run that
-    was killed may have read more of it than the lines that it had begun have."""
-    ledger, path, begun_at = known.ledger, known.path, known.ledger.begun.get(known.path, 0)
-    lost = {one.name for one in [*match.dropped, *ledger.intended(path)]}
-    lost.difference_update(one.name for one in match.found.values())
-    numbers = {number for number, its in ledger.ended.items() if its == path}
-    numbers.update(number for number, batch in ledger.open.items() if batch.path == path)
-    # of each batch
-    last = {number: one for number, one in ledger.messages(numbers if lost else ()) if one.word == PLACED}
-    several = [one for one in last.values() if one.name in lost]
-    cores = set(map(match.inventory.core, range(len(match.inventory)))) if several else set()
-    names: set[bytes] = set()
-    for name, file in mail_in(ledger.folder) if known.is_begun else ():
-        base = own_base_in(name)
-        # files that were dated have the dates of their From_ lines
-        if base and match.inventory.table.place_of(base) is None and os.lstat(file).st_mtime >= begun_at:
-            names.add(before_info(name))
-    if names:
-        names.difference_update(one.name for _, one in ledger.messages({*ledger.ended, *ledger.open}))
-    return names | {one.name for one in several if one.core not in cores}
-
-
-def want_none_cut(one: Steps) -> None:
-    """Raises Left if a file that may do so holds the beginning of a new message, whoever has rewritten it."""
-    listed = mail_in(one.opened.folder) if one.may_be_cut else ()
-    found = (path for name, path in listed if before_info(name) in one.may_be_cut)
-    paths = {beginning_in(path): path for path in found}
-    text, inventory = one.contents.text, one.contents.inventory
-    for place in one.match.new if paths else ():
-        digest = Digest({size for size, _ in paths})
-        start = text.at(inventory.offsets[place], BLOCK).find(b"\n") + 1
-        reader = Reader(text.number, Offset(inventory.offsets[place] + start), inventory.offsets[place + 1])
-        for piece in beginning_of(reader.read) if start else ():
-            digest.update(piece)
-        for beginning in digest.beginnings.items():
-            if beginning in paths:
-                raise Left(CUT, Reason.CUT, run_next(Runs.REMOVE, operand(paths[beginning])))
-
-
-def beginning_in(path: bytes) -> tuple[int, str]:
-    """The size and the SHA-256 of the core of the beginning of a message in a file. No symbolic link is followed."""
-    size, end = 0, b""
-    for piece in core_pieces_in(path):
-        size, end = size + len(piece), (end + piece)[-END:]
-    found = UNFINISHED.search(end)
-    size -= len(found[0]) if found else 0
-    digest = Digest([size])
-    for piece in core_pieces_in(path):
-        digest.update(piece)
-    return size, digest.beginnings.get(size, "")
-
-
-def core_pieces_in(path: bytes) -> Iterator[bytes]:
-    """The core of the beginning of a message in a file."""
-    with open_file(path, os.O_NOFOLLOW) as file:
-        yield from beginning_of(file.read)
-
-
 def settled(several: Sequence[tuple[Outcome, Optional[OSError]]]) -> list[Row]:
     """The rows of mailboxes, once their disks were synced, or failed, and that is noted of those that were verified: at
     once of all of a folder. What fails leaves those that it is about."""
@@ -291,15 +237,16 @@ def settled(several: Sequence[tuple[Outcome, Optional[OSError]]]) -> list[Row]:
                 finish_list(one.folder)
     for folder, its in ended.items():
         with leaving(rows, *its):
-            note_ends(folder, (one.batch for one in its.values()))
+            note_ends(folder, (one.batch for one in its.values() if one.batch))
             if any(one.which in (Pass.AGAIN, Pass.LAST) for one in its.values()):
-                drop_list(folder)
+                # if a power cut brings it back, the ledger shows that it is over
+                remove_list(folder, sync=False)
     return rows
 
 
-def sync_failed(folder: bytes, batch: int) -> Left:
+def sync_failed(folder: bytes, batch: Optional[int]) -> Left:
     """What is said of a sync that failed. The ledger notes it or, for what is only prepared, its list."""
-    if not batch:
+    if batch is None:
         note_failed(folder)
         return Left(PREPARED_SYNC_FAILED, Reason.SYNC_FAILED)
     try:

@@ -66,22 +66,26 @@ class Dovecot(Extra):
         """What is to be said of a mailbox that was done before."""
         return [] if self.record.numbered(name) else [DONE_WITHOUT]
 
-    def check(self, one: Steps) -> None:
-        """Raises Left, before anything is placed, if the folder cannot get the numbers of the mailbox."""
-        if not one.is_begun:
-            self.kept_from(one)
+    def hindrance(self, one: Steps) -> Optional[Left]:
+        """Why the folder cannot get the numbers of the mailbox, if it can't."""
+        try:
+            if not one.was_begun:
+                self.kept_from(one)
+        except Left as left:
+            return left
+        return None
 
     def foresee(self, one: Steps) -> list[Remark]:
-        """What `run` would say. Nothing is written."""
+        """What `apply` would say. Nothing is written."""
         return self.look(one)[0]
 
-    def run(self, one: Steps) -> list[Remark]:
+    def apply(self, one: Steps) -> list[Remark]:
         """Writes the files, each once, and returns what is to be said of it."""
         says, reading = self.look(one)
         for name in (KEYWORDS, LIST):
             remove_part(one.opened.folder, name)
         if reading:
-            if one.is_begun:
+            if one.was_begun:
                 remove_lists(self.record, one.opened)
             self.write(one, reading)
         elif one.contents.is_bare:
@@ -114,7 +118,7 @@ class Dovecot(Extra):
         try:
             kept = self.kept_from(one)
         except Left as left:
-            if not one.is_begun:
+            if not one.was_begun:
                 raise
             # a conversion that was begun goes on, since no other command would finish it
             kept = [Says.WITHOUT_UIDS.of(left)]
@@ -150,7 +154,7 @@ class Dovecot(Extra):
                 raise Left(AFTER_THOSE % says, Reason.NUMBERED)
             return [WHAT_IS_NEW if one.places else Says.WITHOUT_UIDS.of(says)]
         there = [name for name in names_in(opened.folder) if name.startswith(b"dovecot")]
-        if numbered and one.is_grown and LIST in there:
+        if numbered and one.had_brought and LIST in there:
             return [WHAT_IS_NEW]
         for name in there:
             if not self.is_own(opened.name, opened.folder, name):
@@ -158,8 +162,8 @@ class Dovecot(Extra):
         if LIST in there:
             is_same = numbered is not None and numbered.key == Key(opened.name, *opened.mailbox.key())
             # one that a killed run has written was read by nobody, and the mailbox may have changed since
-            return None if is_same or one.is_begun else [WHAT_IS_NEW]
-        return [DONE_WITHOUT] if one.is_grown else None
+            return None if is_same or one.was_begun else [WHAT_IS_NEW]
+        return [DONE_WITHOUT] if one.had_brought else None
 
     def is_own(self, folder: bytes, path: bytes, name: bytes) -> bool:
         """Whether the record has a file as one that was written for a mailbox of the folder of this name, which is at

@@ -43,11 +43,11 @@ class Leftovers:
     prepared from a tree is that tree's if one of its folders is: it may have another path by now."""
 
     def __init__(self, record: Record, root: bytes, names: Sequence[bytes], options: Options) -> None:
-        """Takes the names that a run migrates. A first pass leaves nothing over."""
+        """Takes the names that a run migrates."""
         self.record, self.root, self.options = record, root, options
-        self.trees = [real_path(name) for name in names if is_folder(name) and not options.prepare]
+        self.trees = [real_path(name) for name in names if is_folder(name)]
         self.listed: list[Listed] = []
-        for folder in () if options.prepare else folders_in(root):
+        for folder in folders_in(root):
             origin = origin_in(folder) if has_list(folder) else None
             if origin:
                 self.listed.append(Listed(name_of(root, folder), origin.path, origin.tree))
@@ -98,7 +98,7 @@ class Leftovers:
     def clear_unused(self, went: Container[bytes]) -> None:
         """Removes the lists that passes have left that were killed before they placed anything, and the folders that
         were made for these, or were removed."""
-        if self.options.dry or self.options.prepare:
+        if self.options.dry:
             return
         for name in names_in(self.root):
             with contextlib.suppress(OSError):

@@ -1,9 +1,9 @@
 """The way of a mailbox into a folder of a Maildir: it is opened and read, its messages are matched with what is there,
 and what is to be done is planned. That is carried out, unless this is a rehearsal.
 
-The way is the same where mail is only prepared; what differs is asked of the `Pass`. Each pass removes what was
-prepared and no message wants any more. Files have the digests of messages as names, so one is right or not wanted,
-whatever the mailbox was when it was read.
+The way is the same where mail is only prepared. What differs is asked as `how.prepare`, and the steps have what their
+pass has of its own. Each pass removes what was prepared and no message wants any more. Files have the digests of
+messages as names, so one is right or not wanted, whatever the mailbox was when it was read.
 """
 import collections
 import contextlib
@@ -48,7 +48,8 @@ from .answers import (
     noted_last,
     want_same_reading,
 )
-from .carrying import CHANGED_MEANWHILE, SYNC_FAILED, carry_out, names_that_may_be_cut
+from .carrying import CHANGED_MEANWHILE, SYNC_FAILED, carry_out
+from .cut import names_that_may_be_cut
 from .known import Elsewhere, Known, Opened
 from .options import Options
 from .outcomes import Fate, Outcome, Pass, Row, row_left
@@ -67,6 +68,8 @@ from .preparing import (
 from .steps import (
     Contents,
     Extra,
+    FirstPass,
+    LaterPass,
     Part,
     Steps,
     remarks_on,
@@ -101,7 +104,7 @@ class Migration:
         """A folder on the disk where copies are made."""
         return disk_of(self.root, self.how.dry)
 
-    def run(
+    def migrate_path(
         self, path: bytes, name: bytes, say: Say = silent, follow: bool = False, why: Optional[Fault] = None
     ) -> Outcome:
         """Migrates a mailbox into the folder of this name. `say` takes the progress. If `why` is a reason why not, a
@@ -116,7 +119,7 @@ class Migration:
             with self.opened(path, say, follow, not (why or self.how.now)) as mailbox:
                 opened = Opened.into(self.root, name, mailbox)
                 try:
-                    return Outcome(self.judge(opened, why)) if why else self.migrate(opened)
+                    return Outcome(self.judge(opened, why)) if why else self.migrate_opened(opened)
                 except OtherKind as left:
                     if self.how.is_spared(path, not isinstance(left, NotKnown)):
                         note_no_mail(self.record, mailbox)
@@ -151,21 +154,21 @@ class Migration:
             pass
         return row_left(mailbox.path, b"", why, None, mailbox.size)
 
-    def migrate(self, opened: Opened) -> Outcome:
+    def migrate_opened(self, opened: Opened) -> Outcome:
         """Does what is left to do, and returns what became of the mailbox."""
         if not self.how.is_labelled and line_of(self.record, opened.mailbox):
             undo = self.how._replace(is_labelled=True).undo_command(self.root, opened)
             left = Left(WITH_LABELS, Reason.ANOTHER_READING, (Answer(undo),))
             return Outcome(row_left(opened.mailbox.path, b"", left, None, opened.mailbox.size))
-        return self.bring(opened)
+        return self.transfer(opened)
 
-    def bring(self, opened: Opened, part: Optional[Part] = None) -> Outcome:
+    def transfer(self, opened: Opened, part: Optional[Part] = None) -> Outcome:
         """Brings a mailbox, or a part of it, into its folder, and returns what became of that."""
         verified, ledger, self.kept = self.verified[opened.name], self.kept, None
         if not ledger or ledger.folder != opened.folder:
             ledger = Ledger(opened.folder, verified, self.how.dry)
         preparation = None if part else mend(self.record, self.how, opened, ledger, verified)
-        ended = Transfer(self, opened, ledger, preparation, part).run()
+        ended = Transfer(self, opened, ledger, preparation, part).bring_rest()
         if ended.batch:
             verified.add(ended.batch)
             ledger.end(ended.batch)
@@ -190,49 +193,58 @@ class Transfer:
         self.how, self.want_room, self.disk = migration.how, migration.want_room, migration.disk
         self.opened, self.ledger, self.part = opened, ledger, part
         self.preparation, self.prepared = preparation, preparation.prepared if preparation else None
-        ledger.is_dry = ledger.is_dry or self.which is Pass.FIRST
+        ledger.is_dry = ledger.is_dry or self.how.prepare
         # when this began; and whether a last pass would have it to do again, since the mailbox may change again
         self.began, self.is_changed = time.monotonic(), self.prepared is not None and self.prepared.is_whole
         self.known = Known(self.record, ledger, opened)
         self.path = self.known.path
         # what is to be said of it, whatever it brings
         self.remarks: list[Remark] = [*opened.mailbox.remarks, *(part.remarks if part else ())]
+        # the tie of the answer for several mailboxes that decided about it, if one did
+        self.tie = ""
         if part:
             self.how = self.how._replace(extra=Extra(part.kept))
 
-    @property
-    def which(self) -> Pass:
-        """Which pass this is."""
-        if self.how.prepare:
-            return Pass.FIRST
-        return Pass.AGAIN if self.how.again else Pass.LAST if self.prepared else Pass.AT_ONCE
+    def bring_rest(self) -> Outcome:
+        """Does what is left to do, and returns what became of the mailbox. If a human must decide about it, that may be
+        known from before."""
+        row = None if self.how.again else self.row_if_done()
+        is_wanted = not row and self.is_wanted()
+        while not row:
+            try:
+                with self.chosen() as part:
+                    ended = self.try_to_bring(part) if is_wanted else Outcome(self.row(part))
+                    return ended._replace(row=ended.row._replace(tie=self.tie))
+            except Question as question:
+                row = None if self.how.again else self.row_as_before()
+                if not row and not self.is_answered(question):
+                    self.how.put_commands(self.root, self.opened, question)
+                    raise
+        return Outcome(row)
 
-    def run(self) -> Outcome:
-        """Does what is left to do, and returns what became of the mailbox."""
-        if not self.how.again:
-            self.known.take_place_by_bytes()
-        line = None if self.how.again else self.known.done()
-        is_first = self.which is Pass.FIRST
-        # a line may be about other messages of a Takeout
-        if line and (not self.part or Reading.of_words(line.plan).part == self.part.plan.reading.part):
-            more, then = ([], NOTHING) if is_first else contradicted(self.how, self.root, self.opened, line)
-            return Outcome(self.row_before(line.plan, line.messages, more)._replace(next=then))
-        try:
-            if self.preparation and is_first:
-                is_another = self.ledger.sources and self.path not in self.ledger.paths()
-                if is_another and not self.opened.mailbox.size:
-                    # a program that delivers makes such a file once the old one was moved away
-                    with self.chosen() as part:
-                        return Outcome(self.row(part))
-                want_free(self.preparation, self.known)
-            with self.chosen() as part:
-                return self.try_to_bring(part)
-        except Question as question:
-            ended = self.answered(question)
-            if ended:
-                return ended
-            self.how.put_commands(self.root, self.opened, question)
-            raise
+    def row_if_done(self) -> Optional[Row]:
+        """The row of a mailbox that is done by its bytes. A line may be about other messages of a Takeout."""
+        self.known.take_place_by_bytes()
+        line = self.known.done()
+        if not line or self.part and Reading.of_words(line.plan).part != self.part.plan.reading.part:
+            return None
+        more, then = ([], NOTHING) if self.how.prepare else contradicted(self.how, self.root, self.opened, line)
+        return self.row_before(line.plan, line.messages, more)._replace(next=then)
+
+    def is_wanted(self) -> bool:
+        """Whether it goes into the folder. A first pass leaves one that is empty, where another one has brought mail: a
+        program that delivers makes such a file once the old one was moved away. Raises Left if it cannot go there."""
+        if not self.preparation or not self.how.prepare:
+            return True
+        if self.ledger.sources and self.path not in self.ledger.paths() and not self.opened.mailbox.size:
+            return False
+        want_free(self.preparation, self.known)
+        return True
+
+    def row_as_before(self) -> Optional[Row]:
+        """The row of a mailbox about which there is a question, if it was done as it was read then."""
+        before = as_before(self.opened, self.ledger, self.path, (self.disk, self.how.extra.start_of))
+        return self.row_before(before[0], count_in(self.ledger, self.path), before[1]) if before else None
 
     def row_before(self, words: Optional[str], messages: Optional[int], more: Sequence[Remark]) -> Row:
         """The row of a mailbox of so many messages that was done before by the words of a plan; what else is said."""
@@ -249,27 +261,21 @@ class Transfer:
         says = (*of_uids, *dropped, *of_folder, *more)
         return Row(mailbox.path, name, "", messages, Fate.BEFORE, size=mailbox.size, remarks=says)
 
-    def answered(self, question: Question) -> Optional[Outcome]:
-        """What became of a mailbox about which there is a question, if it was done before as it was read then, or was
-        answered before, or if what it has brought answers; None if a human must."""
-        if not self.how.again:
-            before = as_before(self.opened, self.ledger, self.path, (self.disk, self.how.extra.start_of))
-            if before:
-                words, more = before
-                return Outcome(self.row_before(words, count_in(self.ledger, self.path), more))
+    def is_answered(self, question: Question) -> bool:
+        """Whether a question is answered by what was said before, or by what the mailbox has brought: then it is read
+        by that."""
         given = question.by_tie(self.how.answer)
         answer = given or answer_to(self.record, self.opened, question)
         # what is decided about several does not decide what was asked about one
         is_kept = not self.how.decision.alone and answer is not None and answer.alone
         if self.how.decision != UNDECIDED and not is_kept:
-            return None
+            return False
         decision = answer or answer_shown(self.how, self.known, question)
         if not decision:
-            return None
+            return False
         self.remarks += [] if given else [(Says.AS_ANSWERED if answer else Says.AS_BROUGHT).of()]
-        self.how = self.how._replace(decision=decision)
-        ended = self.run()
-        return ended._replace(row=ended.row._replace(tie=given.of if given else ""))
+        self.how, self.tie = self.how._replace(decision=decision), given.of if given else ""
+        return True
 
     @contextlib.contextmanager
     def chosen(self) -> Iterator[Part]:
@@ -288,56 +294,107 @@ class Transfer:
     def try_to_bring(self, part: Part) -> Outcome:
         """Brings the mailbox, which is left if that fails. Everything that is nowhere is brought of one that was
         rewritten, or whose sync failed, if that is wanted of such mailboxes alone."""
-        mailbox, again = self.opened.mailbox, self.how._replace(again=True)
+        mailbox, is_wanted = self.opened.mailbox, self.how.again_rewritten
+        again = self.how.again or is_wanted and self.has_failed()
         try:
-            if self.how.again_rewritten and self.has_failed():
-                self.how = again
             try:
-                return self.bring(part)
+                return self.bring(part, again)
             except Left as left:
-                is_rewritten = left.reason in (Reason.REWRITTEN, Reason.LEDGER)
-                if not (is_rewritten and self.how.again_rewritten) or self.how.again:
+                if again or not is_wanted or left.reason not in (Reason.REWRITTEN, Reason.LEDGER):
                     raise
-            self.how = again
-            return self.bring(part)
+            return self.bring(part, True)
         except (Fault, OSError) as fault:
             return Outcome(row_left(mailbox.path, self.opened.name, fault, part.plan, mailbox.size))
 
-    def bring(self, part: Part) -> Outcome:
-        """Brings what is new, once it is chosen which text stands for the mailbox. Raises what keeps it from being
-        done. One without mail only gets its folder, from which everything is removed that is prepared."""
-        if self.preparation and not self.how.again:
+    def bring(self, part: Part, again: bool) -> Outcome:
+        """Brings what is new, once it is chosen which text stands for the mailbox, or all that is nowhere. Raises what
+        keeps it from being done."""
+        if self.preparation and not again:
             want_usable(self.preparation, self.how, self.opened)
         if part.plan.is_empty:
-            if self.preparation and not self.how.dry:
-                self.preparation.clear(self.how, self.opened.mailbox.say)
-            if self.which is Pass.FIRST:
-                return Outcome(self.row(part))
-            self.record.make(self.opened.make_folder)
-            return Outcome(self.row(part, note_empty(self.record, self.opened, self.ledger, self.path)))
+            return Outcome(self.bring_nothing(part, again))
         said = want_syncs(self.opened.folder, self.how.any_disk)
-        self.want_ended()
+        self.want_ended(again)
         with part.read() as contents:
-            if self.which is not Pass.FIRST:
-                self.go_by_ledger(contents)
-                want_same_reading(self.how, self.known, part.choice, contents)
-                if not self.how.again:
-                    self.known.take_place_by_cores(contents.inventory)
-            match = self.matched(part, contents)
-            if Says.AS_BROUGHT.of() not in self.remarks:
-                note_answer(self.record, self.opened, part.plan)
-            steps = self.steps(part, contents, match, said)
+            steps, row = (self.first_steps if self.how.prepare else self.steps)(part, contents, again, said)
             if self.how.dry:
-                return Outcome(steps.row)
-            self.is_changed = self.is_changed and not steps.is_prepared_already
-            ended = carry_out(steps, self.program)
-            return ended._replace(row=ended.row._replace(spent=self.spent()))
+                return Outcome(row)
+            ended = carry_out(steps, row, self.program)
+            return ended._replace(row=ended.row._replace(spent=row.spent and self.spent()))
 
-    def matched(self, part: Part, contents: Contents) -> Match:
+    def bring_nothing(self, part: Part, again: bool) -> Row:
+        """Brings a mailbox without mail, which only gets its folder, from which everything is removed that is prepared.
+        A first pass removes the folder too if it was made for that: the mailbox may go later."""
+        preparation = None if self.how.dry else self.preparation
+        has_list = preparation is not None and preparation.prepared.is_there and not again
+        if preparation and has_list:
+            preparation.prepared.look(self.opened.mailbox.say)
+        if self.how.prepare:
+            if preparation and has_list:
+                preparation.empty()
+            return self.row(part)
+        if preparation:
+            if has_list:
+                preparation.prepared.remove_unwanted()
+            preparation.forget()
+        self.record.make(self.opened.make_folder)
+        return self.row(part, note_empty(self.record, self.opened, self.ledger, self.path))
+
+    def first_steps(self, part: Part, contents: Contents, again: bool, said: Sequence[Remark]) -> tuple[Steps, Row]:
+        """What a first pass does by what it finds of the messages, and the row that says so."""
+        assert self.prepared, "a first pass keeps a list"
+        match = self.matched(part, contents, again)
+        said = [*said, *remarks_on_prepared(self.prepared, self.how, self.opened.mailbox.say)]
+        origin, text = origin_now(self.known, contents, self.how.names), text_to_list(part.choice, contents)
+        took = in_milliseconds(self.opened.mailbox.took) if text else self.passed()
+        own = FirstPass(self.prepared, origin, text, took)
+        steps = Steps.of(self.known, contents, match, self.how.extra, own)
+        self.is_changed = self.is_changed and not own.is_done(steps.placing)
+        self.want_room_for(steps)
+        return steps, self.row(part, said)
+
+    def steps(self, part: Part, contents: Contents, again: bool, said: Sequence[Remark]) -> tuple[Steps, Row]:
+        """What any other pass does, and its row. Raises Left if it cannot be done, with the command that does what
+        can."""
+        known, again = self.known, self.go_by_ledger(contents, again)
+        how = self.how._replace(again=again)
+        want_same_reading(how, known, part.choice, contents)
+        if not again:
+            known.take_place_by_cores(contents.inventory)
+        match, prepared = self.matched(part, contents, again), None if again else self.prepared
+        which = Pass.AGAIN if again else Pass.LAST if prepared else Pass.AT_ONCE
+        if known.path in known.ledger.sources and not match.count_new():
+            steps = Steps.of(known, contents, match, how.extra, LaterPass(which, has_nothing_new=True))
+            return steps, self.row_before(contents.words, len(contents.inventory), remarks_on_lost(match))
+        origin = origin_now(known, contents, how.names) if prepared and not prepared.origin else None
+        back = 0 if again else self.may_come_back(match)
+        own = LaterPass(which, prepared, origin, back, names_that_may_be_cut(known, match))
+        steps = Steps.of(known, contents, match, how.extra, own)
+        hindrance = how.extra.hindrance(steps)
+        if hindrance:
+            raise Left(str(hindrance), hindrance.reason, self.command(Does.RUN, again=again, dovecot=False))
+        self.want_room_for(steps)
+        if self.prepared:
+            said = [*said, *remarks_on_prepared(self.prepared, how, self.opened.mailbox.say)]
+        return steps, self.row_of(part, steps, said)
+
+    def row_of(self, part: Part, steps: Steps, said: Sequence[Remark]) -> Row:
+        """The row of a mailbox that brings something, or would."""
+        contents, match = steps.contents, steps.match
+        # a message of a Takeout may be in many folders
+        elsewhere = [] if self.part else self.known.elsewhere(contents.inventory)
+        said = [*said, *remarks_on(steps, self.how.dry), *self.remarks_on_others(elsewhere)]
+        then = self.command(Does.BRINGS_BACK, again=True) if sum(match.seen.gone.values()) else NOTHING
+        there = (self.opened._replace(name=line.key.folder) for line, is_moved in elsewhere if is_moved)
+        then += tuple(Answer(self.how.undo_command(self.root, one), Does.UNDO_THERE) for one in there)
+        return self.row(part, [*said, *(self.how.extra.foresee(steps) if self.how.dry else ())], then)
+
+    def matched(self, part: Part, contents: Contents, again: bool) -> Match:
         """The messages of the text, with what is there of them; what was prepared counts for those that nothing else
-        stands for. Raises Left if nobody knows what the files of the folder are, or whether it is the same mailbox."""
-        prepared, say, is_again = self.prepared, self.opened.mailbox.say, self.how.again
-        if is_again:
+        stands for. Notes the answer by which it was read. Raises Left if nobody knows what the files of the folder are,
+        or whether it is the same mailbox."""
+        prepared, say = self.prepared, self.opened.mailbox.say
+        if again:
             match = self.matched_again(self.ledger, contents)
         else:
             if prepared and not part.is_as_prepared:
@@ -347,52 +404,20 @@ class Transfer:
         if part.cores:
             # what only left the folder of a label is not gone
             match.unlabelled = match.lost & part.cores
-        if not is_again:
+        if not again:
             self.want_sure(contents, match)
             if prepared:
                 take_prepared(match, prepared)
         if part.is_as_prepared and match.count(Stand.NOWHERE):
             raise Left(CHANGED_MEANWHILE, Reason.CHANGED)
+        if Says.AS_BROUGHT.of() not in self.remarks:
+            note_answer(self.record, self.opened, part.plan)
         return match
 
     def matched_again(self, ledger: Ledger, contents: Contents) -> Match:
         """The same if all that is nowhere is placed."""
         files = Files(ledger.folder, contents.inventory, self.opened.mailbox.say)
         return Match.again(ledger, self.path, files, contents.is_deleted)
-
-    def steps(self, part: Part, contents: Contents, match: Match, said: Sequence[Remark]) -> Steps:
-        """What is to be done by what was found of the messages, and the row that says so. Raises Left if it cannot be
-        done, with the command that does what can."""
-        known, how, prepared, is_first = self.known, self.how, self.prepared, self.which is Pass.FIRST
-        steps = Steps.of(known, contents, match, self.which, how.extra)
-        if steps.is_known:
-            row = self.row_before(contents.words, len(contents.inventory), remarks_on_lost(match))
-            return steps._replace(row=row)
-        if prepared:
-            said = [*said, *remarks_on_prepared(prepared, how, self.opened.mailbox.say)]
-        if prepared and not how.again:
-            steps = steps._replace(prepared=prepared)
-            if is_first or not prepared.origin:
-                steps = steps._replace(origin=origin_now(known, contents, how.names))
-        if is_first:
-            steps = steps._replace(text=text_to_list(part.choice, contents))
-            steps = steps._replace(took=in_milliseconds(self.opened.mailbox.took) if steps.text else self.passed())
-            self.want_room_for(steps)
-            return steps._replace(row=self.row(part, said))
-        steps = steps._replace(back=self.may_come_back(match))
-        hindrance = how.extra.hindrance(steps)
-        if hindrance:
-            raise Left(str(hindrance), hindrance.reason, self.command(Does.RUN, again=how.again, dovecot=False))
-        self.want_room_for(steps)
-        # a message of a Takeout may be in many folders
-        elsewhere = [] if self.part else known.elsewhere(contents.inventory)
-        said = [*said, *remarks_on(steps, how.dry), *self.remarks_on_others(elsewhere)]
-        then = self.command(Does.BRINGS_BACK, again=True) if sum(match.seen.gone.values()) else NOTHING
-        there = (self.opened._replace(name=line.key.folder) for line, is_moved in elsewhere if is_moved)
-        then += tuple(Answer(how.undo_command(self.root, one), Does.UNDO_THERE) for one in there)
-        steps = steps._replace(may_be_cut=names_that_may_be_cut(known, match))
-        said = [*said, *(how.extra.foresee(steps) if how.dry else ())]
-        return steps._replace(row=self.row(part, said, then))
 
     def want_room_for(self, steps: Steps) -> None:
         """Raises Left if the disk has no room for what is placed, and for the lines about it."""
@@ -417,15 +442,16 @@ class Transfer:
     def row(self, part: Part, said: Sequence[Remark] = (), then: Next = NOTHING) -> Row:
         """The row of a mailbox that is done or prepared, or would be; what else is said of it, and what is to be done
         next."""
-        is_first, plan = self.which is Pass.FIRST, part.plan
-        done, would = (Fate.PREPARED, Fate.WOULD_PREPARE) if is_first else (Fate.DONE, Fate.WOULD)
+        plan, done, would, spent = part.plan, Fate.DONE, Fate.WOULD, None
+        if self.how.prepare:
+            done, would, spent = Fate.PREPARED, Fate.WOULD_PREPARE, self.spent()
         its = self.opened.name, plan.kind, plan.messages, would if self.how.dry else done
-        row = Row(self.opened.mailbox.path, *its, size=part.size, spent=self.spent())
+        row = Row(self.opened.mailbox.path, *its, size=part.size, spent=spent)
         return row._replace(remarks=(*plan.remarks, *self.remarks, *said), next=then)
 
     def spent(self) -> Optional[Spent]:
         """What a first pass has spent on it so far, and what a last pass is going to spend."""
-        if not self.prepared or self.which is not Pass.FIRST or self.how.dry:
+        if not self.prepared or self.how.dry:
             return None
         return Spent(self.passed(), self.passed() if self.is_changed else self.prepared.notes.foreseen())
 
@@ -438,20 +464,20 @@ class Transfer:
         is_failed = self.prepared is not None and (self.prepared.has_failed or has_failed(self.ledger))
         return is_failed or has_failed(self.ledger, self.path)
 
-    def want_ended(self) -> None:
+    def want_ended(self, again: bool) -> None:
         """Raises Left if an undo was interrupted, or if a sync failed."""
         if self.path in self.ledger.leaving:
             undo = self.how.undo_command(self.root, self.opened)
             raise Left("its undo was interrupted", Reason.UNDO, (Answer(undo),))
-        if self.has_failed() and not self.how.again:
+        if self.has_failed() and not again:
             raise Left(SYNC_FAILED, Reason.SYNC_FAILED)
 
-    def go_by_ledger(self, contents: Contents) -> None:
+    def go_by_ledger(self, contents: Contents, again: bool) -> bool:
         """Raises Left if the ledger is damaged, or lacks something that the index has of the mailbox. If all that is
-        nowhere is placed, what is damaged is put aside. If nothing is nowhere, the ledger gets what it lacks, as if
-        all that is nowhere were to be placed."""
+        nowhere is placed, what is damaged is put aside. Returns whether it is: also if nothing is nowhere, so that the
+        ledger gets what it lacks."""
         known, ledger = self.known, self.ledger
-        if self.how.again:
+        if again:
             if ledger.damage:
                 ledger.put_aside()
         elif ledger.damage:
@@ -462,11 +488,13 @@ class Transfer:
             # what is prepared is no mail yet
             if rest.count(Stand.NOWHERE) or self.prepared and self.prepared.is_there:
                 raise self.left_to_store(Left(NOT_SHOWN % how, Reason.LEDGER), contents, rest)
-            self.how = self.how._replace(again=True)
+            return True
+        return again
 
     def left_to_store(self, left: Left, contents: Contents, match: Match) -> Left:
         """Why it is left, with the command that stores what is nowhere: without what could not be done besides then."""
-        hindrance = self.how.extra.hindrance(Steps.of(self.known, contents, match, self.which, self.how.extra))
+        steps = Steps.of(self.known, contents, match, self.how.extra, LaterPass(Pass.AGAIN))
+        hindrance = self.how.extra.hindrance(steps)
         stays = self.how.dovecot and not hindrance
         then = self.command(Does.DOUBLES, match.count(Stand.NOWHERE), again=True, dovecot=stays)
         return Left("%s; %s" % (left, hindrance) if hindrance else "%s" % left, left.reason, then)
@@ -491,7 +519,7 @@ class Transfer:
         strangers = unexplained(self.root, match) if match.count(Stand.NOWHERE) else []
         if strangers:
             left = Left(PARTLY_THERE % len(strangers), Reason.PARTLY_THERE)
-            if self.which is Pass.FIRST:
+            if self.how.prepare:
                 raise left
             raise self.left_to_store(left, contents, self.matched_again(self.ledger, contents))
         source, lost = self.ledger.sources.get(self.path), match.count_lost()
@@ -501,8 +529,6 @@ class Transfer:
 
     def may_come_back(self, match: Match) -> int:
         """How many messages that are nowhere may have been there before, and were deleted."""
-        if self.how.again:
-            return 0
         # the ledger may lack what was deleted of other mailboxes that the index counts
         others = sum(one.messages for one in self.known.unknown if one.path not in self.known.names)
         back, ledger = min(others, match.count(Stand.NOWHERE)), self.ledger

@@ -207,7 +207,7 @@ class Outcome(NamedTuple):
     row: Row
     # the folder, the batch of its ledger, which a first pass does not have, and which pass it was
     folder: bytes = b""
-    batch: int = 0
+    batch: Optional[int] = None
     which: Pass = Pass.AT_ONCE
     # the path of the mailbox, and the state of its file: it is closed, so others may write to it
     path: bytes = b""

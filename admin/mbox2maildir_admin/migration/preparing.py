@@ -35,11 +35,11 @@ from typing import Optional
 
 from ..faults import Left, Reason
 from ..flags.renaming import sync_names
-from ..ledger.history import Note, Step
-from ..ledger.history import names_of
+from ..ledger.history import Note, Step, names_of
 from ..ledger.ledger import Ledger, has_failed
 from ..ledger.lines import PLACED, Brought
 from ..ledger.match import Match, Stand
+from ..ledger.placing import Placing
 from ..ledger.prepared import (
     NEXT_LIST,
     AsRead,
@@ -61,7 +61,7 @@ from ..maildir.making import LEDGER, MARK, PREPARED, SUBFOLDERS, sync_folder
 from ..mbox.bases import base_in, before_info, own_base_in
 from ..mbox.dates import seconds_of
 from ..mbox.inventory import NO_DATE
-from ..nexts import Answer, Does
+from ..nexts import NOTHING, Answer, Does, Next
 from ..progress import Spent
 from ..readings.plans import Plan
 from ..readings.reading import UNDECIDED, Reading
@@ -74,7 +74,7 @@ from .dovecot import KEYWORDS, LIST, Dovecot, remove_part
 from .known import Known, Opened
 from .options import Options
 from .outcomes import Fate, Row
-from .steps import Contents, Part, Placing
+from .steps import Contents, Part
 
 NOT_FREE = "mail of a mailbox is in its folder already, and migrate brings the rest"
 READ = "somebody reads in its folder already: %s"
@@ -160,11 +160,9 @@ class Preparation:
 
     def give_names_back(self) -> None:
         """Gives files the names that they were prepared with. Those that only the killed run has placed are removed."""
-        table = self.prepared.table
-        for name, path in list(mail_in(self.folder)):
-            at = table.place_of(own_base_in(name))
-            home = self.prepared.homes[at] if at is not None else None
-            if at is not None and home is None and digest_of(path)[0] == table.digest(at):
+        for place, name, path in list(self.prepared.listed()):
+            home = self.prepared.homes[place]
+            if home is None and digest_of(path)[0] == self.prepared.table.digest(place):
                 os.unlink(path)
             elif home and home != home_of(name, path):
                 target = os.path.join(self.folder, home[:3], before_info(name) + home[3:])
@@ -174,7 +172,7 @@ class Preparation:
     def empty(self) -> None:
         """Removes everything that was prepared, and the folder itself if it was made for that, holds nothing else, and
         no mailbox has brought anything."""
-        self.prepared.remove()
+        self.prepared.remove_unwanted()
         folder, aside, is_unused = self.folder, aside_of(self.folder), False
         if self.name != INBOX and not self.ledger.paths():
             others = set(os.listdir(folder)) - {*SUBFOLDERS, MARK, LEDGER, PREPARED, NEXT_LIST}
@@ -195,18 +193,6 @@ class Preparation:
         if is_unused:
             remove_aside(aside)
             self.ledger.forget_all()
-
-    def clear(self, how: Options, say: Say) -> None:
-        """Removes everything that is prepared, since the mailbox has no mail any more. A first pass also removes the
-        folder if it was made for that: the mailbox may go later."""
-        if self.prepared.is_there and not how.again:
-            self.prepared.look(say)
-            if how.prepare:
-                self.empty()
-            else:
-                self.prepared.remove()
-        if not how.prepare:
-            self.forget()
 
     def forget(self) -> None:
         """Notes that nothing is prepared there any more. Without its list the folder would count as lost."""
@@ -255,9 +241,11 @@ def want_usable(one: Preparation, how: Options, opened: Opened) -> None:
     """Raises Left if what is prepared cannot be finished, with the command that keeps what is there, and stores what is
     nowhere. A first pass prints none: what is there may be mail by then."""
     stage, command = one.stage, functools.partial(how.command, one.record.maildir, opened)
-    if stage is Stage.FREE and not how.prepare:
-        return
-    then = () if how.prepare else (Answer(command(again=True), Does.STORES),)
+    then: Next = NOTHING
+    if not how.prepare:
+        if stage is Stage.FREE:
+            return
+        then = (Answer(command(again=True), Does.STORES),)
     if stage is Stage.LIST_GONE and is_there(one.folder):
         raise Left(LIST_GONE, Reason.LEDGER, then)
     if one.prepared.has_failed or has_failed(one.ledger):

@@ -98,8 +98,10 @@ def run_all(
         extra = Dovecot(record) if options.dovecot else Extra()
         how = options._replace(extra=extra, is_spared=spared, names=names, home=home.path if home else b"")
         several = Several(Migration(program, root, record, how), observer, home)
-        leftovers = Leftovers(record, root, names, options)
-        for row in leftovers.rows(several.migrate(options.folder)):
+        # a first pass leaves nothing over
+        leftovers = None if how.prepare else Leftovers(record, root, names, options)
+        plan = several.migrate_all(options.folder)
+        for row in leftovers.rows(plan) if leftovers else ():
             observer.row(row)
         several.subscribe()
 
@@ -126,7 +128,7 @@ class Several:
         self.others: dict[bytes, list[bytes]] = {}
         self.trees: dict[bytes, Tree] = {}
 
-    def migrate(self, folder: Optional[str]) -> Sequence[Planned]:
+    def migrate_all(self, folder: Optional[str]) -> Sequence[Planned]:
         """Migrates each mailbox; those that are files go into this folder. Returns which hold mail."""
         how, plan = self.migration.how, list(self.plan(folder))
         if not folder:
@@ -245,8 +247,8 @@ class Several:
 
     def is_no_mail(self, one: Planned) -> bool:
         """Whether a file that would go into the folder of another one holds no mail."""
-        looked_at = functools.partial(self.migration.run, one.path, one.folder, why=Left("it is only looked at"))
-        return is_empty(one.path) or looked_at().row.fate == Fate.NO_MAIL
+        why = Left("it is only looked at")
+        return is_empty(one.path) or self.migration.migrate_path(one.path, one.folder, why=why).row.fate == Fate.NO_MAIL
 
     def run_named(self, one: Planned) -> Outcome:
         """Migrates a mailbox. Its row says which other name its folder had, and which other names the file has."""
@@ -279,7 +281,7 @@ class Several:
             return Outcome(row_left(one.path, b"", one.why))
         say = Beat(functools.partial(self.progress, named(one.path)))
         follow = one.path in self.links
-        ended = self.migration.run(one.target or one.path, one.folder, say, follow, one.why)
+        ended = self.migration.migrate_path(one.target or one.path, one.folder, say, follow, one.why)
         row = ended.row._replace(path=one.path)
         if one.why and one.reason is Reason.COPY and row.fate == Fate.LEFT:
             # whatever its text is, this reason comes first

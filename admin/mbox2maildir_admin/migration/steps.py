@@ -1,25 +1,24 @@
-"""What a run does with a mailbox and its folder: a value, which is made before anything is done. A rehearsal prints
-what it says, and `carrying.py` carries it out."""
-import array
+"""What a run does with a mailbox and its folder: a value, which is made before anything is done. A rehearsal ends
+with it, and `carrying.py` carries it out."""
 import collections
 import contextlib
-import itertools
 import os
 import time
-from collections.abc import Callable, Container, Iterable, Iterator, Sequence
-from typing import NamedTuple, Optional
+from collections.abc import Callable, Container, Iterator, Sequence
+from typing import NamedTuple, Optional, Union
 
 from ..faults import Left
 from ..flags.clients import GMAIL, Kept, kept_in, letters_of_evolution
 from ..flags.dovecot_headers import flags_in
 from ..flags.renaming import add_flags, lacking_flags
 from ..ledger.gone import left_by_killed
-from ..ledger.lines import LOST, PLACED, Brought
+from ..ledger.lines import PLACED
 from ..ledger.match import Match, Stand
+from ..ledger.placing import Placing
 from ..ledger.prepared import Origin, Prepared, ReadText
 from ..ledger.record import unspelled
 from ..maildir.folders import INBOX
-from ..mbox.bases import BASE, FIRST, Table, base_in
+from ..mbox.bases import BASE
 from ..mbox.fields import Header
 from ..mbox.inventory import Inventory
 from ..mbox.mailbox import Mailbox
@@ -30,7 +29,7 @@ from ..remarks import Remark, Says
 from ..terminal import first_of, named
 from ..units import Offset, Place, counted
 from .known import Known, Opened
-from .outcomes import Fate, Pass, Row
+from .outcomes import Pass
 
 
 class Contents(NamedTuple):
@@ -98,6 +97,37 @@ class Part(NamedTuple):
         return self.choice.plan
 
 
+class FirstPass(NamedTuple):
+    """What a first pass has of its own: the list of what is prepared in the folder, and what it notes there of the
+    mailbox and, if it can, of the text, with the milliseconds that these took to read."""
+
+    prepared: Prepared
+    origin: Origin
+    text: Optional[ReadText]
+    took: int
+    which: Pass = Pass.FIRST
+
+    def is_done(self, placing: Placing) -> bool:
+        """Whether it finds everything as the last one has left it."""
+        prepared, before = self.prepared, self.prepared.origin
+        is_all = prepared.is_whole and not placing.nowhere and prepared.count() == len(prepared.table)
+        return before is not None and is_all and before.key == self.origin.key
+
+
+class LaterPass(NamedTuple):
+    """What any other pass has of its own."""
+
+    which: Pass
+    # what was only prepared in the folder, unless that stays as it is; and what is read, if its list does not have that
+    prepared: Optional[Prepared] = None
+    origin: Optional[Origin] = None
+    # how many messages may come back that were deleted, and the names of files that may hold the beginning of one
+    back: int = 0
+    may_be_cut: Container[bytes] = ()
+    # whether the mailbox has no message that it has not brought, so that it is only noted that it was read
+    has_nothing_new: bool = False
+
+
 class Steps(NamedTuple):
     """What a run does with a mailbox and its folder. What was only prepared there, and no message wants, is removed.
     Then it is noted what is going to be there; what is nowhere is placed; and what this program has placed gets dates
@@ -105,41 +135,39 @@ class Steps(NamedTuple):
 
     known: Known
     contents: Contents
-    placing: "Placing"
-    # which pass it is, and what is done besides mail and dates
-    which: Pass
+    placing: Placing
+    # what is done besides mail and dates, and what this pass has of its own
     extra: "Extra"
+    own: Union[FirstPass, LaterPass]
     # the places in the text of the messages that are placed, or that a run has placed that was killed; and these with
     # the bases of their files
     places: Sequence[int]
     files: Inventory
-    # whether a run was killed that had begun with this; whether the mailbox has brought other messages before, and has
-    # no new one, so that it is only noted that it was read; and when it was begun first, in seconds since 1970
-    is_begun: bool
-    is_grown: bool
-    is_known: bool
+    # by the ledger as it was before anything is done: whether a run was killed that had begun with this; whether the
+    # mailbox has brought something; and when it was begun first, in seconds since 1970
+    was_begun: bool
+    had_brought: bool
     begun_at: int
-    # what was only prepared in the folder, unless it stays as it is; what is read, if its list does not have that; and
-    # after a first pass, what the list notes of the text, and how many milliseconds it took to read
-    prepared: Optional[Prepared] = None
-    origin: Optional[Origin] = None
-    text: Optional[ReadText] = None
-    took: int = 0
-    # how many messages may come back that were deleted, and the names of files that may hold the beginning of one
-    back: int = 0
-    may_be_cut: Container[bytes] = ()
-    # the row of the mailbox, if all of this succeeds; more may be said of it by then
-    row: Row = Row(b"", b"", "", None, Fate.LEFT)
 
     @classmethod
-    def of(cls, known: Known, contents: Contents, match: Match, which: Pass, extra: "Extra") -> "Steps":
+    def of(
+        cls, known: Known, contents: Contents, match: Match, extra: "Extra", own: Union[FirstPass, LaterPass]
+    ) -> "Steps":
         """What is to be done by what was found of the messages."""
         placing, places = Placing(match), match.places(Stand.NOWHERE, Stand.MINE, Stand.FRESH)
-        is_grown, begun_at = known.path in known.ledger.sources, known.ledger.begun.get(known.path)
-        is_known = which is not Pass.FIRST and is_grown and not match.count_new()
-        begun_at = int(time.time()) if begun_at is None else begun_at
-        its = placing.files(places), known.is_begun, is_grown, is_known, begun_at
-        return cls(known, contents, placing, which, extra, places, *its)
+        ledger, files = known.ledger, placing.files(places)
+        before = known.is_begun, known.path in ledger.sources, ledger.begun.get(known.path, int(time.time()))
+        return cls(known, contents, placing, extra, own, places, files, *before)
+
+    @property
+    def which(self) -> Pass:
+        """Which pass this is."""
+        return self.own.which
+
+    @property
+    def prepared(self) -> Optional[Prepared]:
+        """What was only prepared in the folder, unless it stays as it is."""
+        return self.own.prepared
 
     @property
     def opened(self) -> Opened:
@@ -150,15 +178,6 @@ class Steps(NamedTuple):
     def match(self) -> Match:
         """What was found of its messages."""
         return self.placing.match
-
-    @property
-    def is_prepared_already(self) -> bool:
-        """Whether a first pass finds everything as the last one has left it."""
-        prepared, now = self.prepared, self.origin
-        if self.which is not Pass.FIRST or not prepared or not now or not prepared.origin:
-            return False
-        is_all = prepared.is_whole and not self.placing.nowhere and prepared.count() == len(prepared.table)
-        return is_all and prepared.origin.key == now.key
 
     def is_unread(self, place: Place) -> bool:
         """Whether nobody but this program has given the file of a message its name: this run places it, or it was
@@ -177,110 +196,6 @@ class Steps(NamedTuple):
         if self.prepared and at is not None and self.prepared.verified[at]:
             return self.files.table.digest(place)
         return self.contents.inventory.digest_by(self.contents.text, self.places[place], number, state)
-
-
-class Placing:
-    """The messages of a text that are nowhere, the names of their files, and what the program gets for that: copies of
-    messages first, then the text itself from a place on."""
-
-    def __init__(self, match: Match) -> None:
-        self.match, self.inventory, self.nowhere = match, match.inventory, match.nowhere
-        # the names that differ from those that the messages have in the text, and how many more copies of a message the
-        # program gets
-        self.names: dict[int, bytes] = {}
-        self.more: collections.Counter[int] = collections.Counter()
-        rest = len(self.inventory)
-        for place in reversed(self.nowhere):
-            if place != rest - 1:
-                break
-            rest = place
-        # from here on all messages are nowhere
-        self.rest = Place(rest)
-        for digest, places in self.special().items():
-            taken = set(match.files.counts_of(digest))
-            self.give_names(digest, places, taken)
-            if places[-1] >= self.rest and (taken or places[0] < self.rest):
-                self.rest = Place(len(self.inventory))
-
-    def special(self) -> dict[bytes, list[int]]:
-        """The places of the messages that equal others, or files, by their digests."""
-        found: collections.defaultdict[bytes, list[int]] = collections.defaultdict(list)
-        table, files = self.inventory.table, self.match.files
-        has_files = bool(files.counts) or any(files.there)
-        for place in self.nowhere if has_files or table.repeats else ():
-            digest = table.digest(place)
-            if table.place_of(digest + FIRST) in table.repeats or has_files and files.has_digest(digest):
-                found[digest].append(place)
-        return found
-
-    def give_names(self, digest: bytes, places: Sequence[int], taken: set[int]) -> None:
-        """Gives equal messages the first names that are free. Before each, the program gets as many copies as there are
-        names to pass over, so that messages are placed in their order."""
-        free = (count for count in itertools.count(1) if count not in taken)
-        last = 0
-        for place, count in zip(places, free):
-            name = b"%s.%d" % (digest.hex().encode(), count)
-            if name != self.inventory.table.name(place):
-                self.names[place] = name
-            self.more[place], last = count - last - 1, count
-
-    def name(self, place: int) -> bytes:
-        """The name that the file of a message gets."""
-        return self.names.get(place) or self.inventory.table.name(place)
-
-    def base(self, place: int) -> bytes:
-        """The base that the file of a message gets."""
-        return base_in(self.names[place]) or b"" if place in self.names else self.inventory.table.base(place)
-
-    def copied(self) -> list[Place]:
-        """The places of the messages of which the program gets copies first, as often as it gets them."""
-        return [Place(one) for one in self.nowhere if one < self.rest for _ in range(1 + self.more[one])]
-
-    def lines(self) -> Iterator[Brought]:
-        """The lines of the batch, in the order in which messages are placed."""
-        match, inventory = self.match, self.inventory
-        yield from (one._replace(word=LOST) for one in match.dropped)
-        for place in sorted(match.found):
-            yield match.found[place]
-        for place in itertools.chain(match.places(Stand.MINE), self.nowhere):
-            yield Brought(PLACED, self.name(place), inventory.core(place), inventory.bare(place))
-
-    def count_of_lines(self) -> int:
-        """How many lines these are."""
-        match = self.match
-        return len(match.dropped) + len(match.found) + match.count(Stand.MINE) + len(self.nowhere)
-
-    def files(self, places: Sequence[int]) -> Inventory:
-        """The messages at these places, with the bases of their files."""
-        if len(places) == len(self.inventory) and not self.names and not self.match.count(Stand.FRESH):
-            return self.inventory
-        names = (self.match.found[place].name if place in self.match.found else self.name(place) for place in places)
-        return with_bases(self.inventory, places, map(base_in, names))
-
-    def whole(self) -> Inventory:
-        """All messages, with the bases of the files that stand for them as far as these have bases."""
-        if not self.names and not self.match.found:
-            return self.inventory
-        names = {**self.names, **{place: one.name for place, one in self.match.found.items()}}
-        several = range(len(self.inventory))
-        bases = [base_in(names[place]) if place in names else self.inventory.table.base(place) for place in several]
-        used = {base for place, base in enumerate(bases) if place in names}
-        for place in several:
-            own = self.inventory.table.base(place)
-            if bases[place] is None or place not in names and own in used:
-                bases[place] = own if own not in used else b"%s.%d" % (bytes(32), place + 1)
-        return with_bases(self.inventory, several, bases)
-
-
-def with_bases(inventory: Inventory, places: Sequence[int], bases: Iterable[Optional[bytes]]) -> Inventory:
-    """Some messages of a text, with other bases."""
-    some = Inventory()
-    some.table = Table.of(base for base in bases if base)
-    some.count_lines = lambda: (inventory.lines[place] for place in places)
-    for name in ("sizes", "offsets", "unquoted", "dates"):
-        row = getattr(inventory, name)
-        setattr(some, name, array.array(row.typecode, (row[place] for place in places)))
-    return some
 
 
 class Extra:
@@ -303,15 +218,9 @@ class Extra:
         del name
         return []
 
-    def check(self, one: Steps) -> None:
-        """Raises Left, before anything is placed, if `run` could not do it."""
-
-    def hindrance(self, one: Steps) -> Optional[Left]:
-        """Why `run` could not do it, if it can't."""
-        try:
-            self.check(one)
-        except Left as left:
-            return left
+    def hindrance(self, one: Steps) -> Optional[Left]:  # pylint: disable=useless-return
+        """Why `apply` could not do it, if it can't. It is asked before anything is placed."""
+        del one
         return None
 
     def kept(self, one: Steps) -> Optional[Kept]:
@@ -319,11 +228,11 @@ class Extra:
         return self.by_labels or kept_in(one.contents.text, one.contents.inventory)
 
     def foresee(self, one: Steps) -> list[Remark]:
-        """What `run` would say, if nothing may be made."""
+        """What `apply` would say, if nothing may be made."""
         kept = self.kept(one)
         return self.remarks_on(kept, one) if kept else []
 
-    def run(self, one: Steps) -> list[Remark]:
+    def apply(self, one: Steps) -> list[Remark]:
         """Does it once all is placed, before files get dates and are verified. Returns what is to be said of it."""
         kept = self.kept(one)
         if not kept:

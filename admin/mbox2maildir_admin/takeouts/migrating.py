@@ -101,7 +101,7 @@ class Takeouts(Migration):
             tell(*words)
 
         try:
-            self.add(self.run(path, b"", say, follow=True))
+            self.add(self.migrate_path(path, b"", say, follow=True))
         finally:
             # what was verified is done, even if a signal ends this
             self.syncs.sync()
@@ -124,7 +124,7 @@ class Takeouts(Migration):
         ended = ended._replace(row=ended.row._replace(is_part=bool(ended.row.folder)))
         self.syncs.add(ended.folder, (ended, self.observer.row))
 
-    def migrate(self, opened: Opened) -> Outcome:
+    def migrate_opened(self, opened: Opened) -> Outcome:
         """Migrates an open Takeout, and reports what became of each folder but the last, which it returns. Raises Fault
         if the Takeout is left."""
         line = line_of(self.record, opened.mailbox)
@@ -233,7 +233,7 @@ class Takeouts(Migration):
     def bring_into(self, folder: bytes, takeout: Takeout, opened: Opened) -> Outcome:
         """Brings the messages of one folder."""
         try:
-            return self.bring(Opened.into(self.root, folder, opened.mailbox), self.part(folder, takeout))
+            return self.transfer(Opened.into(self.root, folder, opened.mailbox), self.part(folder, takeout))
         except (Fault, OSError) as fault:
             return Outcome(row_left(opened.mailbox.path, folder, fault))
 
