@@ -309,8 +309,10 @@ class Match:
             core, bare = self.inventory.core(place), self.inventory.bare(place)
             if core in self.lines or bare in self.strangers or self.files.has_digest(table.digest(place)):
                 groups[core].append(place)
+        if not groups:
+            return
         bares = set(map(self.inventory.bare, itertools.chain.from_iterable(groups.values())))
-        most, had = self.ledger.most(self.path, bares), self.places(Stand.KNOWN, Stand.MINE) if bares else ()
+        most, had = self.ledger.most(self.path, bares), self.places(Stand.KNOWN, Stand.MINE)
         most.subtract(bare for bare in map(self.inventory.bare, had) if bare in bares)
         for core, places in groups.items():
             files = files_of(self.lines.get(core, ()), self.present)
@@ -397,7 +399,7 @@ class Match:
     def places(self, *stands: Stand) -> Sequence[int]:
         """The places of the messages that stand so."""
         count = sum(map(self.states.count, stands))
-        if count == len(self.states):
+        if count in (0, len(self.states)):
             return range(count)
         are_wanted = self.states.translate(bytes(one in stands for one in range(256)))
         return array.array("Q", itertools.compress(itertools.count(), are_wanted))

@@ -209,6 +209,8 @@ def mend(
     """Removes a list that is over from the folder of a mailbox, and takes back what a killed last pass did there.
     Returns what is only prepared there then, or is going to be; None if mail is placed there at once. These batches of
     the ledger were verified by this run, and their disk is not synced yet."""
+    if not (how.prepare or record.has_prepared or has_list(opened.folder)):
+        return None
     one = Preparation(record, opened.name, ledger)
     one.take_begun()
     stage = one.stage
