@@ -110,7 +110,7 @@ LOOK = {
     "flags-differ": "Messages are marked in it, as read or flagged, but not in the Maildir: another mailbox brought "
     "them first, and its marks stay.",
     "folder-gone": "The folder was removed. If nobody meant that, migrate the mailbox with --again.",
-    "gone": "Mail that it brought was deleted in the Maildir.",
+    "gone": "Mail of its folder was deleted in the Maildir.",
     "gone-elsewhere": "Mail that another mailbox brought too was deleted in the Maildir. Its command brings it back.",
     "kept-edited": "Files stay that somebody edited. One that was prepared stays beside its message: delete one.",
     "kept-foreign": "Files stay that belong to no mailbox.",
@@ -157,7 +157,7 @@ COUNTED = {
     "regained": "Mail that was gone from it is in it again.",
     "renamed": "Other programs gave files new names: `mbox2maildir convert` would deliver their messages again.",
     "shared": "Another mailbox brought some of its mail too. It is there once.",
-    "there-already": "Some of its mail was there already, by no mailbox. An undo keeps it.",
+    "there-already": "Some of its mail was there already, though no run had brought it. An undo keeps it.",
     "uids-anew": "All messages have new UIDs: clients fetch them again.",
     "uids-of-new": "Dovecot gives UIDs to what is new.",
     "uids-raised": "The next UID was raised, so that none is given twice.",
