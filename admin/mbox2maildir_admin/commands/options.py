@@ -77,7 +77,7 @@ OPTIONS = {
         Option("--jobs", "migrate", "migrate N folders at a time, with --users N users (otherwise up to 8)", "N"),
         Option("--json", "kind migrate verify back", "print one JSON object per line"),
         Option("--report", "migrate back", "write these objects to a new file, too", "FILE"),
-        Option("--all", "migrate verify back", "print a whole line for each mailbox of which there is something to say"),
+        Option("--all", "migrate verify back", "print a whole line for each mailbox of which there is more to say"),
         Option("--no-questions", "migrate", "ask nothing on a terminal, and print the answers as commands"),
     ],
     TAKEOUT: [
