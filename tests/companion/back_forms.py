@@ -48,7 +48,7 @@ FIELDS = {
 }
 DAY = 86400
 # mailboxes by their formats, and the answer that gives these; new mail; and what goes beside: the first would lose its
-# `>`, and the others would leave it open whether lengths are right in the mailbox
+# `>`, the next ones would leave it open whether lengths are right in the mailbox, and the last would keep each `>`
 INSIDE = b"hello\n\nFrom the shed.\n"
 BY_LENGTH = letter(1, b"Content-Length: %d\n" % len(INSIDE), INSIDE)
 FORMATS = {
@@ -60,6 +60,7 @@ FORMATS = {
     },
     "--as mboxo": {"mboxo": OLD},
     "--as mboxcl": {"mboxcl": BY_LENGTH + letters(2)},
+    "--as unquoted": {"unquoted": OLD},
 }
 LINES = {
     "none": b"Subject: new\n\nhello\n",
@@ -69,6 +70,7 @@ LINES = {
 }
 IN_PART = "mboxcl2-part", "mboxcl2-quoted", "mboxcl"
 GO_BESIDE = {("mboxo", "quoted"), *((name, line) for name in IN_PART for line in ("quoted", "twice"))}
+GO_BESIDE.update(("unquoted", line) for line in LINES)
 
 
 class Told(NamedTuple):

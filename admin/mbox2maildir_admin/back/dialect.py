@@ -270,9 +270,11 @@ def styles_of(known: Known, disk: bytes) -> Iterator[Style]:
         paths = moved_in(ledger, mailbox)
     for words in dict.fromkeys([*(ledger.last_read(one).words for one in paths[:1]), now]):
         dialect = Dialect.of_words(words)
-        if dialect:
-            for gap in dialect.gaps_after(mailbox.at(mailbox.size - ENDS, ENDS)):
-                yield Style(words, dialect, gap, now.startswith(ASKED), disk)
+        if not dialect:
+            # whoever reads it so again would keep each `>` that another dialect adds
+            return
+        for gap in dialect.gaps_after(mailbox.at(mailbox.size - ENDS, ENDS)):
+            yield Style(words, dialect, gap, now.startswith(ASKED), disk)
 
 
 def reading_now(mailbox: Mailbox) -> str:
