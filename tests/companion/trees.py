@@ -388,6 +388,11 @@ STORIES: dict[str, list[Step]] = {
         ),
         "= Linked/one Linked/three One/one two",
     ],
+    # its flags come first
+    "named_twice": [
+        *(("plain", ONE), ("status", ONE.replace(b"\n", b"\nStatus: RO\n", 1))),
+        *(("migrate M status plain ./status", "plain: done: ...\nstatus: done"), "= one:S"),
+    ],
     "links_that_are_named": [
         *(
             ("else/box", ONE),

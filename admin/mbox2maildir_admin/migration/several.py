@@ -215,7 +215,8 @@ class Several:
 
     def plan(self, folder: Optional[str]) -> Iterator[Planned]:
         """The mailboxes in their order, with their folders. Reports the rows of what is not migrated."""
-        names = list({os.path.abspath(name): name for name in reversed(self.names)}.values())[::-1]
+        first: dict[bytes, bytes] = {}
+        names = list(dict.fromkeys(first.setdefault(os.path.abspath(name), name) for name in self.names))
         for name in names:
             key = None if self.is_tree(name) or self.own and is_link(name) else identity(name)
             if key:
