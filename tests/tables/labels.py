@@ -624,6 +624,19 @@ def mail_that_goes_back(home: Path) -> None:
     equal("what went back", [messages_in(home / "old" / name) for name in ("inbox-back", "Sent")], [1, 1])
 
 
+def mail_that_goes_back_without_them(home: Path) -> None:
+    """A Takeout that was migrated without labels takes it, with labels, and is migrated with them into a new
+    Maildir."""
+    takeout(home)
+    expect("migrate --now M t.mbox", home, 0, None)
+    for place, subject in (("new/1.other", "ten"), ("cur/2.other:2,FS", "eleven")):
+        mailbox(home / "M" / place, f"Subject: {subject}\n\nhello\n".encode())
+    expect("back --now M t.mbox", home, 0, None)
+    expect("migrate --now --labels --label Unread=none N t.mbox", home, 0, None)
+    equal("the folders", folders_in(home / "N"), {**FOLDERS, ".Archive": ["eleven", "five", "ten"]})
+    equal("the flags", flags_in(home / "N")["eleven"], "FS")
+
+
 def messages_in(path: Path) -> int:
     """How many messages a mailbox has."""
     return path.read_bytes().count(b"\nSubject: ")
@@ -691,6 +704,7 @@ if __name__ == "__main__":
         a_label_gives_no_folder,
         a_label_that_no_message_has,
         mail_that_goes_back,
+        mail_that_goes_back_without_them,
         a_look_has_its_folder,
         only_a_takeout_has_labels,
         a_later_takeout,

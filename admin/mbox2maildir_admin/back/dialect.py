@@ -84,11 +84,11 @@ class Letter(NamedTuple):
         return None
 
     def fields(self, line_end: bytes) -> bytes:
-        """The fields for its flags, and the further ones."""
+        """The further ones, and the fields for its flags. A Takeout's messages begin with Gmail's."""
         status = b"R" * ("S" in self.flags) + b"O" * self.is_old
         others = b"".join(value for flag, value in X_STATUS.items() if flag in self.flags)
         flags = [b"Status: " + status] * bool(status) + [b"X-Status: " + others] * bool(others)
-        return b"".join(field + line_end for field in (*flags, *self.notes))
+        return b"".join(field + line_end for field in (*self.notes, *flags))
 
 
 class Dialect(NamedTuple):
@@ -116,11 +116,13 @@ class Dialect(NamedTuple):
         fields = letter.fields(end)
         if self.word in BY_LENGTHS:
             fields += b"Content-Length: %d%s" % (len(body) + body.count(b"\n") * self.crlf, end)
-        # what no field follows is not certainly a From_ line; a line that begins with a blank would go on with a field
-        if FIELD.match(header) or header.startswith((b" ", b"\t")):
+        # a line that begins with a blank would go on with a field; what no field follows is not certainly a From_ line
+        if header.startswith((b" ", b"\t")):
             header += fields
+        elif fields or FIELD.match(header):
+            header = fields + header
         else:
-            header = (fields or b"Status:" + end) + header
+            header = b"Status:" + end + header
         text = b"".join([from_line, header, gap, body, b"\n"])
         return text.replace(b"\n", b"\r\n") if self.crlf else text
 
