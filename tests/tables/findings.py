@@ -63,7 +63,15 @@ def what_files_are(home: Path) -> None:
         one["path"]: one for one in map(json.loads, run("migrate --json --dry-run M old", home)[1].splitlines()[:-1])
     }
     equal("its lines as migrate shows them", question["lines"], migrated["old/doubtful"]["lines"])
-    equal("answers as migrate has them", list(answers), [one["answer"] for one in migrated["old/doubtful"]["next"]])
+    for path in ("old/doubtful", "old/packed"):
+        own, its = (
+            [(one["answer"], " ".join(one["argv"])) for one in rows[path]["next"]] for rows in (found, migrated)
+        )
+        equal(
+            f"{path}: answers as migrate has them",
+            [(one, text.replace("MAILDIR", "M")) for one, text in own],
+            [(one, text.replace(" --dry-run", "")) for one, text in its],
+        )
 
 
 # a letter's folder: whose it is, by the owner and the group, and its mode; and whether the letter's owner may write

@@ -6,7 +6,7 @@ import os
 import pwd
 import stat
 from collections.abc import Sequence
-from typing import Optional
+from typing import NamedTuple, Optional
 
 from ..faults import Left, Status
 from ..kinds.folders import is_maildir
@@ -15,6 +15,7 @@ from ..kinds.others import Holds
 from ..ledger.history import History
 from ..looks import is_folder
 from ..maildir.disk import trial_folder
+from ..maildir.folders import INBOX, words_of
 from ..mbox.mailbox import Mailbox
 from ..migration.outcomes import Detail, Fate, Observer, Row
 from ..migration.rows import Shows
@@ -29,6 +30,19 @@ from ..terminal import operand
 from .files import each, read_tree, say_left_out, without_mail
 from .options import Given
 from .running import reporter_of
+
+
+class Found(NamedTuple):
+    """A file or folder that was found: its path and, if it was not named itself, the folder of mailboxes that it is in,
+    and the folder of a Maildir that it gets by its place there, by its name on the disk."""
+
+    path: bytes
+    top: bytes = b""
+    folder: bytes = INBOX
+
+    def words(self) -> list[str]:
+        """The words that migrate it by itself into its folder."""
+        return [*([] if self.folder == INBOX else words_of(self.folder)), "MAILDIR"]
 
 
 def do_kind(given: Given) -> int:
@@ -46,78 +60,81 @@ def kind_below(path: bytes, tell: Observer) -> bool:
     """Prints what a file is or, for a folder, what each file in it is. Returns whether all can be converted as they
     are."""
     if not is_folder(path):
-        return kind_of(path, tell)
+        return kind_of(Found(path), tell)
     if is_maildir(path):
         tell.row(row_found(path, "a Maildir", task(Todo.LEAVE)))
         return False
     tree, plan = read_tree(path)
-    right = each([one.path for one in plan], lambda file: kind_of(file, tell, tree), tell)
+    found = {one.path: Found(one.path, tree.old, one.folder) for one in plan}
+    right = each(found, lambda file: kind_of(found[file], tell, tree), tell)
     right = say_left_out((without_mail(row, trial_folder(), History()) for row in tree.rows), tell) and right
     if plan:
-        tell.row(row_found(path, "a folder of mailboxes", (Answer(migrate(path)),)))
+        tell.row(row_found(path, "a folder of mailboxes", (Answer(migrate(Found(path))),)))
     return right
 
 
-def kind_of(path: bytes, tell: Observer, tree: Optional[Tree] = None) -> bool:
+def kind_of(found: Found, tell: Observer, tree: Optional[Tree] = None) -> bool:
     """Prints what a file is. Returns whether it can be converted as it is or, in a tree, holds no mail."""
+    path = found.path
     with Mailbox.open(path, say_of(path)) as mailbox:
-        verdict, top = look_at(mailbox), tree.old if tree else b""
+        verdict = look_at(mailbox)
         if tree and verdict.holds == Holds.NO_MAIL:
             tree.pass_over(path, kind=verdict.kind.partition(": ")[2])
             return True
         if form_of(mailbox):
-            say_kind_in(mailbox, verdict, tell, top)
+            say_kind_in(mailbox, verdict, tell, found)
             # a packed file has to be unpacked first
             return False
-        then, quotes = next_of(mailbox, verdict, top)
+        then, quotes = next_of(verdict, found)
         row = row_found(path, verdict.kind, then)._replace(messages=verdict.messages, most=verdict.most)
         details = tuple(Detail(one.says, line=one.line or None, text=one.text) for one in verdict.remarks)
         tell.row(row._replace(quotes=tuple(quotes), details=details))
         return verdict.is_as_it_is
 
 
-def say_kind_in(mailbox: Mailbox, verdict: Verdict, tell: Observer, top: bytes) -> None:
-    """Prints what is in a packed file. `top` is the folder of mailboxes that it is in, if it is in one."""
-    path = mailbox.path
+def say_kind_in(mailbox: Mailbox, verdict: Verdict, tell: Observer, found: Found) -> None:
+    """Prints what is in a packed file."""
+    path = found.path
     try:
         with choice_of(mailbox, trial_folder()) as choice:
             plan = choice.plan
-            tell.row(row_found(path, plan.kind, as_it_is(path, plan.kind, top))._replace(messages=plan.messages))
+            tell.row(row_found(path, plan.kind, as_it_is(found, plan.kind))._replace(messages=plan.messages))
     except Left as left:
         if isinstance(left, Question):
-            left.put(functools.partial(migrate, path, left.kind))
+            left.put(functools.partial(migrate, found, left.kind))
         elif isinstance(left, OtherKind):
-            left.put(where(path, top))
+            left.put(where(found))
         row = row_found(path, left.kind or verdict.kind, left.next)._replace(messages=left.messages, most=left.most)
         tell.row(row._replace(why=str(left), quotes=left.quotes))
 
 
-def next_of(mailbox: Mailbox, verdict: Verdict, top: bytes) -> tuple[Next, Sequence[Quote]]:
+def next_of(verdict: Verdict, found: Found) -> tuple[Next, Sequence[Quote]]:
     """What to do next with a file, and the lines that are shown for a question about it."""
-    path = mailbox.path
     if verdict.recipe:
-        return where(path, top).next(verdict.recipe, path), ()
+        return where(found).next(verdict.recipe, found.path), ()
     if verdict.is_as_it_is or verdict.reading:
-        return as_it_is(path, verdict.kind, top), ()
+        return as_it_is(found, verdict.kind), ()
     question = question_of(verdict)
-    question.put(functools.partial(migrate, path, verdict.kind))
+    question.put(functools.partial(migrate, found, verdict.kind))
     return question.next, question.quotes
 
 
-def as_it_is(path: bytes, kind: str, top: bytes) -> Next:
+def as_it_is(found: Found, kind: str) -> Next:
     """What to do next with a file that needs no answer. One command for a whole folder of mailboxes follows later."""
-    return () if top else (Answer(migrate(path, kind)),)
+    return () if found.top else (Answer(migrate(found, kind)),)
 
 
-def migrate(path: bytes, kind: str = "", decision: Reading = UNDECIDED) -> Command:
+def migrate(found: Found, kind: str = "", decision: Reading = UNDECIDED) -> Command:
     """The command that migrates a mailbox as it was decided, and a Takeout into the folders of its labels."""
-    labels = ["--labels"] * kind.startswith(TAKEOUT)
-    return Command.of(Runs.MIGRATE, *labels, *decision.options(), "MAILDIR", operand(path))
+    words = [*decision.options(), *found.words()]
+    if kind.startswith(TAKEOUT):
+        words = ["--labels", *decision.options(), "MAILDIR"]
+    return Command.of(Runs.MIGRATE, *words, operand(found.path))
 
 
-def where(path: bytes, top: bytes) -> Where:
+def where(found: Found) -> Where:
     """Where a file is put, by its owner, after a command has made a mailbox of it."""
-    owner = os.stat(path).st_uid
+    path, owner = found.path, os.stat(found.path).st_uid
     user: User = None
     if os.geteuid() != 0 or owner == 0:
         owner, home = os.geteuid(), os.path.expanduser("~")
@@ -127,10 +144,10 @@ def where(path: bytes, top: bytes) -> Where:
             user, home = account.pw_name, account.pw_dir
         except KeyError:
             user, home = owner, "/"
-    found = Where.of(path, top, os.fsencode(home), lambda folder: may_write(folder, owner))._replace(user=user)
+    place = Where.of(path, found.top, os.fsencode(home), lambda folder: may_write(folder, owner))._replace(user=user)
     if may_write(os.path.dirname(path) or b".", owner):
-        return found
-    return found._replace(migrate=("MAILDIR",))
+        return place
+    return place._replace(migrate=tuple(found.words()))
 
 
 def may_write(folder: bytes, owner: int) -> bool:
