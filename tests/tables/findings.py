@@ -34,6 +34,8 @@ def what_files_are(home: Path) -> None:
         ("doubtful", DOUBTFUL),
         ("note", b"%PDF-1.4\n"),
         ("packed", gzip.compress(DOUBTFUL)),
+        ("same", ONE),
+        ("same.mbox", b""),
     ):
         mailbox(home / "old" / name, text)
     (home / "old/link").symlink_to("a")
@@ -45,12 +47,22 @@ def what_files_are(home: Path) -> None:
             "old/a": "mboxrd or mboxo",
             "old/doubtful": "not quoted",
             "old/packed": "not quoted, compressed by gzip",
+            "old/same": "mboxrd or mboxo",
             "old": "a folder of mailboxes",
         },
     )
     equal("messages", [found["old/a"][name] for name in ("messages", "most", "next")], [2, 2, []])
     rows = {path: (one["verdict"], one["reason"]) for path, one in found.items() if one["verdict"] != "found"}
-    equal("rows", rows, {"old/note": ("no mail", None), "old/link": ("left", "link"), "none": ("left", "missing")})
+    equal(
+        "rows",
+        rows,
+        {
+            "old/note": ("no mail", None),
+            "old/same.mbox": ("no mail", None),
+            "old/link": ("left", "link"),
+            "none": ("left", "missing"),
+        },
+    )
     question, packed = found["old/doubtful"], found["old/packed"]
     equal("a question about what is packed", packed["lines"], question["lines"])
     of_both = [[(one["answer"], one["messages"]) for one in row["next"]] for row in (packed, question)]

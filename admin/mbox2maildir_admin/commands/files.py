@@ -11,6 +11,7 @@ from ..kinds.others import Holds
 from ..ledger.history import History, Note
 from ..ledger.record import Record
 from ..looks import is_folder, type_at
+from ..maildir.disk import trial_folder
 from ..maildir.folders import INBOX
 from ..mbox.files import is_empty
 from ..mbox.mailbox import Mailbox
@@ -65,8 +66,8 @@ def read_tree(
     them. That Maildir is left out if it is there too."""
     if is_maildir(path):
         raise Fault("it is a Maildir, not a mailbox", Reason.MAILDIR, (Task(Todo.LEAVE),))
-    tree = Tree(path, maildir).read()
-    plan = tree.plan(record or History(), maildir or b"")
+    tree, known, disk = Tree(path, maildir).read(), record or History(), maildir or trial_folder()
+    plan = tree.plan(known, maildir or b"", lambda one: bool(row_without_mail(one.path, disk, known)))
     if not plan and not tree.rows:
         raise Fault("it contains no mailbox", Reason.NO_MAILBOX, (Task(Todo.NO_FILES),))
     return tree, plan
@@ -140,10 +141,14 @@ def of_folder(folder: bytes, maildir: bytes, path: bytes, record: History) -> It
 
 def without_mail(row: Row, maildir: bytes, record: History) -> Row:
     """The row of a file of a tree that has no folder, if it has no mail, and so needs none; any other row as it is."""
-    try:
-        return (row.reason is Reason.NO_FOLDER and left_out(row.path, maildir, record, Observer())) or row
-    except (Fault, OSError):
-        return row
+    return (row.reason is Reason.NO_FOLDER and row_without_mail(row.path, maildir, record)) or row
+
+
+def row_without_mail(path: bytes, maildir: bytes, record: History) -> Optional[Row]:
+    """The row of a file that surely has no mail; None for any other."""
+    with contextlib.suppress(Fault, OSError):
+        return left_out(path, maildir, record, Observer())
+    return None
 
 
 def left_out(path: bytes, maildir: bytes, record: History, tell: Observer) -> Optional[Row]:

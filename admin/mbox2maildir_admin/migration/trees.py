@@ -212,9 +212,11 @@ class Tree:
             return one.left_to_human("the name of its folder would be too long", self.words_by_hand)
         return Planned(path, folder, name_before(place.name.decode()), is_inbox=place.is_inbox)
 
-    def plan(self, record: History, root: bytes) -> list[Planned]:
+    def plan(
+        self, record: History, root: bytes, has_no_mail: Callable[[Planned], bool] = lambda one: False
+    ) -> list[Planned]:
         """The mailboxes with their folders. Adds rows for mailboxes without one, and for everything else."""
-        plan = self.placed(record, root, set())
+        plan = self.placed(record, root, set(), has_no_mail)
         for maildir in self.maildirs:
             self.leave(maildir.path, Left(MAILDIR, Reason.MAILDIR))
         for one in plan:
