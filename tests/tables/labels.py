@@ -462,16 +462,19 @@ def a_line_is_asked_about(home: Path) -> None:
 
 
 def a_later_takeout(home: Path) -> None:
-    """One in which only marks changed places nothing, whether it takes the place of the first or stands beside it. Into
-    a folder that is new for a message that message is placed, and the row counts both."""
+    """One in which only marks changed places nothing, whether it takes the place of the first or stands beside it, and
+    then its rows count these marks. Into a folder that is new for a message that message is placed, and the row counts
+    both."""
     takeout(home, [("one", "Inbox,Unread"), ("two", "Sent"), ("three", "Inbox,Unread")])
     expect(LABELS, home, 0, None)
     there = folders_in(home / "M")
     takeout(home, [("one", "Inbox,Opened"), ("two", "Sent,Starred"), ("three", "Opened,Inbox")])
     takeout(home, [("one", "Inbox,Opened"), ("two", "Sent,Starred"), ("three", "Opened,Inbox")], "beside")
     expect(LABELS, home, 0, "2 mailboxes: 2 done before\n")
-    row = "beside -> INBOX: ...: done, 2 messages there already, from .../t.mbox\n"
-    out = f"{row}beside -> Sent: ...\n2 mailboxes: 2 done\n"
+    row = (
+        "beside -> INBOX: ...: done, 2 messages there already, from .../t.mbox; 2 messages of these marked in it, ...\n"
+    )
+    out = f"{row}beside -> Sent: ...; 1 message of these marked in it, ...\n2 mailboxes: 2 done\n"
     expect("migrate --all --labels M beside", home, 0, out)
     equal("the folders", folders_in(home / "M"), there)
     takeout(home, [("one", "Work,Opened"), ("two", "Sent,Work"), ("three", "Inbox"), ("four", "Sent")], "beside")

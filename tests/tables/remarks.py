@@ -111,6 +111,18 @@ STORIES: list[tuple[list[Step], set[str]]] = [
         {"prepared-before", "mailbox-gone", "removed"},
     ),
     # of labels
+    (
+        [
+            ("a", ONE),
+            (
+                "t",
+                message("two", "Sent,Opened").encode()
+                + ONE.replace(b"\n", b"\nX-GM-THRID: 1\nX-Gmail-Labels: Opened\n", 1),
+            ),
+            *("migrate --folder Archive M a", "migrate --labels M t"),
+        ],
+        {"flags", "shared", "flags-differ"},
+    ),
     ([("t", message("one", "Sent,Opened").encode()), "migrate M t"], {"labelled", "flags"}),
     (
         [("t", (message("one", "a.b") + message("two", "a-b")).encode()), "migrate --labels M t"],

@@ -3,22 +3,17 @@ import array
 import contextlib
 import os
 from collections.abc import Callable, Container, Iterator, Sequence
-from typing import NamedTuple, Optional
+from typing import NamedTuple
 
 from ..looks import is_there
 from ..maildir.files import mail_in
 from ..maildir.making import sync_folder
 from ..mbox.bases import OWN, before_info
-from ..mbox.fields import Header
 from ..mbox.inventory import Inventory
-from ..mbox.mailbox import Mailbox
-from ..units import Offset, Place
-from .dovecot_headers import flags_in
+from ..units import Place
 
 # what follows the base in a name, before the letters of its flags
 INFO = b":2,"
-# the offset of a message by the base of its file; None if there is none
-OffsetOf = Callable[[bytes], Optional[int]]
 
 
 class Flagged(NamedTuple):
@@ -75,16 +70,13 @@ def add_flags(
     sync_names(folder)
 
 
-def lacking_flags(folder: bytes, mailbox: Mailbox, offset_of: OffsetOf, is_bare: bool) -> int:
-    """How many messages, whose offsets are given by the bases of their files, have a flag in their headers that their
-    files lack. `is_bare` says whether bare text was converted, which decides the flags that they got."""
+def lacking_flags(folder: bytes, flags_of: Callable[[bytes], str]) -> int:
+    """How many files of messages lack a flag that these have in a mailbox, by the bases of their names."""
     count = 0
     for name, _ in mail_in(folder):
         base, info = OWN.match(name), name[len(before_info(name)) :]
-        offset = offset_of(base[0]) if base else None
-        if offset is not None and (not info or info.startswith(INFO)):
-            letters = info[len(INFO) :].decode("latin-1")
-            count += bool({*flags_in(Header.at(mailbox, Offset(offset)).text, is_bare)} - {*letters})
+        if base and (not info or info.startswith(INFO)):
+            count += bool({*flags_of(base[0])} - {*info[len(INFO) :].decode("latin-1")})
     return count
 
 

@@ -273,13 +273,19 @@ def remarks_on(one: Steps, dry: bool) -> Iterator[Remark]:
 
 def remarks_on_flags_that_differ(one: Steps) -> Iterator[Remark]:
     """What is to be said of messages whose files, which others brought, lack flags."""
-    full = one.contents.full
+    by_labels = one.extra.by_labels
     found = ((place, BASE.match(its.name)) for place, its in one.match.found.items() if its.word != PLACED)
-    offsets = {base[0]: full.offsets[place] for place, base in found if base}
-    if not offsets:
-        return
-    lacking = lacking_flags(one.opened.folder, full.mailbox, offsets.get, one.contents.is_bare)
-    yield from Says.FLAGS_DIFFER.of_any(lacking)
+    places = {base[0]: Place(place) for place, base in found if base}
+
+    def flags_of(base: bytes) -> str:
+        if base not in places:
+            return ""
+        place = places[base]
+        flags = flags_in(one.contents.header(place), one.contents.is_bare)
+        return flags + (by_labels.letters[place] if by_labels else "")
+
+    if places:
+        yield from Says.FLAGS_DIFFER.of_any(lacking_flags(one.opened.folder, flags_of))
 
 
 def remarks_on_lost(match: Match) -> list[Remark]:
