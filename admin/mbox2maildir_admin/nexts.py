@@ -224,8 +224,9 @@ class Command(NamedTuple):
         return Part(Runs.AS_NUMBER if isinstance(self.user, int) else Runs.AS_USER, (str(self.user), *words))
 
     def line(self) -> str:
-        """The command as it is typed. For another user's rights, root types it."""
-        return self.text() if self.user is None else self.by_root().line()
+        """The command as it is typed. For another user's rights, root types it, who may have run this by `runuser`."""
+        user = user_of_runuser() if self.user is None else self.user
+        return self.text() if user is None else self._replace(user=user).by_root().line()
 
     def fields(self) -> dict[str, Any]:
         """The command without its user, for JSON: its words if each is a text, otherwise what a shell reads."""
@@ -265,7 +266,8 @@ class Task(NamedTuple):
     def sentence(self) -> str:
         """What a reader gets."""
         says = self.todo.says.format(*map(named, self.names))
-        return says if self.user is None else "as %s, %s" % (named(self.user), says)
+        user = user_of_runuser() if self.user is None and isinstance(self.todo, OfFiles) else self.user
+        return says if user is None else "as %s, %s" % (named(user), says)
 
 
 class Quote(NamedTuple):
@@ -311,16 +313,6 @@ def user_of_runuser() -> Optional[str]:
         return None
 
 
-def typed(step: Step) -> Step:
-    """What is to be done, as whoever sees it printed does it."""
-    user = user_of_runuser()
-    if user is None:
-        return step
-    if isinstance(step, Task):
-        return step._replace(user=step.user or user) if isinstance(step.todo, OfFiles) else step
-    return step._replace(command=step.command._replace(user=step.command.user or user))
-
-
 def lines_below(quotes: Sequence[Quote], then: Next, is_once: bool = False) -> Iterator[str]:
     """What stands below a row or a fault: lines of mail behind their numbers, of which those are marked that others
     stand around, and gaps between them; and what is to be done, each command by itself. A sentence that several
@@ -331,7 +323,7 @@ def lines_below(quotes: Sequence[Quote], then: Next, is_once: bool = False) -> I
             yield BELOW + ".."
         yield ("%s%s%d | %s" % (BELOW, marks[quote.is_around], quote.line, quote.text)).rstrip()
     before = ""
-    for step in map(typed, then):
+    for step in then:
         if isinstance(step, Task):
             yield BELOW + step.sentence()
             continue

@@ -210,6 +210,9 @@ def as_root_types_them(home: Path) -> None:
         for path, text in (("mail/letter", MAIL), ("mail/one", ONE), ("mail/a.txt", b"hello\n")):
             theirs(mailbox(own / path, text), name)
         command = f"exec runuser -u {name} -- mbox2maildir-admin migrate --all --now {own}/Maildir {own}/mail"
+        out = run(["/bin/sh", "-c", command.replace(" --all", "")], home)[1]
+        groups = [line.split()[:3] for line in out.splitlines() if line.startswith(" " * 8)]
+        equal(f"the groups: {out}", groups, [["runuser", "-u", name]] * 2)
         status, out, _ = run(["/bin/sh", "-c", command], home)
         commands = {row.name: row.command for row in rows_in(out) if row.below}
         equal("what is left", (status, sorted(commands)), (1, [f"{own}/mail/{one}" for one in ("a.txt", "letter")]))

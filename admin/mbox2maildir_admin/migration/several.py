@@ -215,19 +215,20 @@ class Several:
 
     def plan(self, folder: Optional[str]) -> Iterator[Planned]:
         """The mailboxes in their order, with their folders. Reports the rows of what is not migrated."""
-        first: dict[bytes, bytes] = {}
-        names = list(dict.fromkeys(first.setdefault(os.path.abspath(name), name) for name in self.names))
-        for name in names:
+        names: dict[bytes, bytes] = {}
+        for name in self.names:
+            names.setdefault(os.path.abspath(name), name)
+        for name in names.values():
             key = None if self.is_tree(name) or self.own and is_link(name) else identity(name)
             if key:
                 self.met.setdefault(key, {}).setdefault(os.path.abspath(name), name)
         record, root, options, _ = self.pairs
         # before a file has its folder, all of its names are known
         is_alone = len(names) == 1 and not self.own
-        trees = filter(self.is_tree, names)
+        trees = filter(self.is_tree, names.values())
         self.trees = {name: Tree(name, root, self.met, options, is_alone).read() for name in trees}
         self.others = other_names(self.met)
-        for name in names:
+        for name in names.values():
             if name in self.trees:
                 tree = self.trees[name]
                 placed = tree.placed(record, root, self.taken, self.is_no_mail)
