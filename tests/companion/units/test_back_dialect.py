@@ -10,20 +10,20 @@ MAIL, HEAD = b"Subject: one\n\nFrom me\n>From you\nend\n", b"Subject: one\n"
 SPELLED: list[tuple[str, bool, bytes, str, bool, bytes]] = [
     ("mboxrd", False, MAIL, "", False, HEAD + b"\n>From me\n>>From you\nend\n\n"),
     ("mboxo", False, MAIL, "", False, HEAD + b"\n>From me\n>From you\nend\n\n"),
-    ("mboxcl", False, MAIL, "", False, HEAD + b"Content-Length: 24\n\n>From me\n>>From you\nend\n\n"),
-    ("mboxcl2", False, MAIL, "", False, HEAD + b"Content-Length: 22\n\nFrom me\n>From you\nend\n\n"),
+    ("mboxcl", False, MAIL, "", False, b"Content-Length: 24\n" + HEAD + b"\n>From me\n>>From you\nend\n\n"),
+    ("mboxcl2", False, MAIL, "", False, b"Content-Length: 22\n" + HEAD + b"\nFrom me\n>From you\nend\n\n"),
     ("mboxrd", True, b"A: b\n\nx\n", "", False, b"A: b\r\n\r\nx\r\n\r\n"),
     # what the mail has itself stays beside that
-    ("mboxrd", False, b"A: b\r\n\r\nx\r\n", "S", False, b"A: b\r\nStatus: R\r\n\r\nx\r\n\n"),
-    ("mboxcl2", True, b"A: b\n\nx\n", "", False, b"A: b\r\nContent-Length: 3\r\n\r\nx\r\n\r\n"),
+    ("mboxrd", False, b"A: b\r\n\r\nx\r\n", "S", False, b"Status: R\r\nA: b\r\n\r\nx\r\n\n"),
+    ("mboxcl2", True, b"A: b\n\nx\n", "", False, b"Content-Length: 3\r\nA: b\r\n\r\nx\r\n\r\n"),
     # flags
-    ("mboxrd", False, b"A: b\n\nx\n", "", True, b"A: b\nStatus: O\n\nx\n\n"),
-    ("mboxrd", False, b"A: b\n\nx\n", "S", True, b"A: b\nStatus: RO\n\nx\n\n"),
-    ("mboxrd", False, b"A: b\n\nx\n", "DFRST", True, b"A: b\nStatus: RO\nX-Status: AFTD\n\nx\n\n"),
+    ("mboxrd", False, b"A: b\n\nx\n", "", True, b"Status: O\nA: b\n\nx\n\n"),
+    ("mboxrd", False, b"A: b\n\nx\n", "S", True, b"Status: RO\nA: b\n\nx\n\n"),
+    ("mboxrd", False, b"A: b\n\nx\n", "DFRST", True, b"Status: RO\nX-Status: AFTD\nA: b\n\nx\n\n"),
     ("mboxrd", False, b"A: b\n\nx\n", "P", False, b"A: b\n\nx\n\n"),
     # a last line without an end
     ("mboxrd", False, b"A: b\n\nx", "", False, b"A: b\n\nx\n\n"),
-    ("mboxcl2", False, b"A: b\n\nx", "", False, b"A: b\nContent-Length: 2\n\nx\n\n"),
+    ("mboxcl2", False, b"A: b\n\nx", "", False, b"Content-Length: 2\nA: b\n\nx\n\n"),
     ("mboxrd", False, b"A: b", "", False, b"A: b\n\n"),
     ("mboxrd", False, b"", "", False, b"Status:\n\n"),
     # a field precedes a first line that is none, unless that would go on in it
