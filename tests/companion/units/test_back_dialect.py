@@ -31,6 +31,7 @@ SPELLED: list[tuple[str, bool, bytes, str, bool, bytes]] = [
     ("mboxrd", False, b"\nx\n", "", False, b"Status:\n\nx\n\n"),
     ("mboxcl2", False, b"hello\n", "", False, b"Content-Length: 0\nhello\n\n"),
     ("mboxrd", False, b" a: b\n\nx\n", "", False, b" a: b\n\nx\n\n"),
+    ("mboxrd", False, b" a: b\n\nx\n", "S", True, b" a: b\nStatus: RO\n\nx\n\n"),
     ("mboxrd", False, b"hello\r\n", "S", True, b"Status: RO\r\nhello\r\n\n"),
 ]
 SENDERS = [
