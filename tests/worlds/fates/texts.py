@@ -37,9 +37,11 @@ class Content(NamedTuple):
 
     def under(self, raw: bytes) -> "Content":
         """What it is under a name. What nobody knows is an index under the name of one, if it does not look like
-        mail."""
-        is_index = self.is_unknown and raw.endswith(b".msf") and not self.is_like_mail
-        return no_mail(self.data) if is_index else self
+        mail, and a short line of ASCII is a lock."""
+        is_line = len(self.data) <= 256 and self.data.isascii() and len(self.data.splitlines()) == 1
+        is_lock = raw.endswith(b".lock") and is_line
+        is_index = raw.endswith(b".msf") and not self.is_like_mail
+        return no_mail(self.data) if self.is_unknown and (is_index or is_lock) else self
 
 
 Maker = Callable[[Random], Content]
