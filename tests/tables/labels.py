@@ -6,15 +6,25 @@ import os
 import re
 import shlex
 import shutil
-import subprocess
 from collections.abc import Sequence
 from pathlib import Path
 
 from tests.support.cases import LeftOut
 from tests.support.checks import equal, matches
-from tests.support.homes import by_json, check_all, expect, is_root, mailbox, make_maildir, run, run_printed, subjects
+from tests.support.homes import (
+    by_json,
+    check_all,
+    expect,
+    mailbox,
+    make_maildir,
+    run,
+    run_printed,
+    subjects,
+    want_users,
+)
 from tests.support.ledgers import RECORD
 from tests.support.mail import ONE
+from tests.support.mounts import small_disk
 from tests.support.printed import groups_in, row_in
 from tests.support.terminals import Terminal
 
@@ -567,23 +577,25 @@ def some_folders_alone(home: Path) -> None:
         equal("of nothing", found, (verdict, 0, ["nothing of it was placed"]))
 
 
-def room_is_counted_first(home: Path) -> None:
-    """The copies in all folders must fit before the first is made."""
-    if not is_root():
-        raise LeftOut("it wants root")
-    (home / "disk").mkdir()
+def room_for_each_folder(home: Path) -> None:
+    """Nothing is made if the largest text of a folder does not fit. Then each folder wants room for itself, and the
+    next run goes on with those that were left."""
+    want_users()
     text = "".join(message(name, "Inbox,Sent,Work", body="x" * 70 + "\n" + "y" * 200_000 + "\n") for name in "abc")
     mailbox(home / "t.mbox", text.encode())
-    subprocess.run(["mount", "-t", "tmpfs", "-o", "size=2m", "tmpfs", str(home / "disk")], check=True)
-    try:
-        words = ["migrate", "--all", "--labels", "--label", "Sent=none", "--label", "Work=folder", "disk/M", "t.mbox"]
-        expect(
-            [*words[:3], *words[5:]], home, 1, "t.mbox: left (no-room): not enough space in ...\n1 mailbox: 1 left\n"
-        )
-        equal("whether anything was made", (home / "disk/M").exists(), False)
-        expect(words, home, 0, None)
-    finally:
-        subprocess.run(["umount", str(home / "disk")], check=True)
+    words = ["migrate", "--labels", "--label", "Work=folder", "disk/M", "t.mbox"]
+    with small_disk(home / "disk", "8m") as disk:
+        ballast = mailbox(disk / "ballast", bytes(7_900_000))
+        ran = by_json(words, home)
+        equal("nothing fits", [(row["directory"], row["reason"]) for row in ran.rows], [(None, "no-room")])
+        equal("whether anything was made", (disk / "M").exists(), False)
+        os.truncate(ballast, 6_000_000)
+        for fates in ["done", "done", "no-room"], ["done before", "done before", "done"]:
+            rows = by_json(words, home).rows
+            equal("what became of each", [row["reason"] or row["verdict"] for row in rows], fates)
+            ballast.unlink(missing_ok=True)
+        copies = [len([*(disk / "M" / folder).glob("new/*")]) for folder in ("", ".Sent", ".Work")]
+        equal("how often each is there", copies, [3, 3, 3])
 
 
 def a_label_that_no_message_has(home: Path) -> None:
@@ -714,6 +726,6 @@ if __name__ == "__main__":
         with_labels_and_without,
         the_record_knows_the_folders,
         some_folders_alone,
-        room_is_counted_first,
+        room_for_each_folder,
         the_command_for_an_archive_leads_to_its_mailbox,
     )

@@ -16,9 +16,7 @@ import os
 from collections.abc import Container, Iterable, Iterator
 from typing import Optional, Union
 
-from ..maildir.files import mail_in
 from ..maildir.making import LEDGER, SyncNames, sync_folder
-from ..mbox.bases import before_info
 from ..mbox.core import SHORT
 from ..terminal import is_text
 from .lines import (
@@ -265,20 +263,6 @@ class Ledger:
     def paths(self) -> list[str]:
         """The paths of the mailboxes that brought something, or may have."""
         return list(dict.fromkeys([*self.sources, *(one.path for one in self.open.values() if one.is_whole)]))
-
-    def brought(self) -> collections.Counter[bytes]:
-        """How often a mailbox has brought each core, at most. Of a batch that has not ended, what has its file
-        counts."""
-        most: collections.Counter[bytes] = collections.Counter()
-        for source in self.sources.values():
-            most |= counted_in(source.cores)
-        there = {before_info(name) for name, _ in mail_in(self.folder)} if self.open else set()
-        begun: collections.defaultdict[int, collections.Counter[bytes]] = collections.defaultdict(collections.Counter)
-        for number, one in self.messages(self.open):
-            begun[number][one.core] += one.name in there
-        for cores in begun.values():
-            most |= cores
-        return most
 
     def is_in(self, path: str, cores: collections.Counter[bytes]) -> bool:
         """Whether these are all cores, and perhaps more, that the mailbox of a path had when it was read last, or that

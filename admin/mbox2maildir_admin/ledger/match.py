@@ -20,7 +20,7 @@ from ..mbox.core import SHORT
 from ..mbox.inventory import Inventory
 from ..units import Place, Say, silent
 from .assign import BROUGHT, File, Offer, Unnamed, Why, by_form, files_of, nobodys, offers_of, says_whose
-from .lines import FOREIGN, NAMELESS, NOBODYS, SHARED, Brought, Line, State, counted_in
+from .lines import FOREIGN, NAMELESS, NOBODYS, PLACED, SHARED, Brought, Line, State, counted_in
 from .ledger import Ledger
 
 # tells whether a file of this name, without its info, counts for nothing
@@ -257,6 +257,14 @@ class Match:
                 continue
             if self.may_count(one.name, place):
                 self.states[place] = Stand.MINE
+
+    def take_prepared(self, place: int, base: bytes, name: Optional[bytes]) -> None:
+        """Takes the file with this base, which was prepared for a message that is nowhere, and its name unless that is
+        the one of the text."""
+        self.files.take(base)
+        self.states[place] = Stand.FRESH if name else Stand.MINE
+        if name:
+            self.found[place] = Brought(PLACED, name, self.inventory.core(place), self.inventory.bare(place))
 
     def may_count(self, name: Optional[bytes], place: int) -> bool:
         """Whether a file of this name may count for a message: one that is marked as deleted counts only for one with

@@ -37,8 +37,8 @@ from ..faults import Left, Reason
 from ..flags.renaming import sync_names
 from ..ledger.history import Note, Step, names_of
 from ..ledger.ledger import Ledger, has_failed
-from ..ledger.lines import PLACED, Brought
-from ..ledger.match import Match, Stand
+from ..ledger.lines import PLACED
+from ..ledger.match import Match
 from ..ledger.placing import Placing
 from ..ledger.prepared import (
     NEXT_LIST,
@@ -311,16 +311,12 @@ def tree_above(path: bytes, trees: Iterable[bytes]) -> bytes:
 def take_prepared(match: Match, prepared: Prepared) -> None:
     """Takes the files that were prepared for those messages that are to be placed under their names. Then no message
     wants the others."""
-    inventory, placing = match.inventory, Placing(match)
+    placing = Placing(match)
     for place in placing.nowhere:
         at = prepared.note(placing.base(place))
         prepared.wanted[at] = 1
         if prepared.files[at]:
-            match.files.take(prepared.table.base(at))
-            match.states[place] = Stand.FRESH if place in placing.names else Stand.MINE
-            if place in placing.names:
-                name = placing.name(place)
-                match.found[place] = Brought(PLACED, name, inventory.core(place), inventory.bare(place))
+            match.take_prepared(place, prepared.table.base(at), placing.names.get(place))
 
 
 def remarks_on_prepared(prepared: Prepared, how: Options, say: Say) -> list[Remark]:

@@ -17,7 +17,7 @@ from ..ledger.ledger import Ledger
 from ..ledger.match import cores_of
 from ..ledger.prepared import has_list
 from ..ledger.record import Record, is_gone, unspelled
-from ..maildir.folders import folder_path, folders_in, name_of
+from ..maildir.folders import folders_in, name_of
 from ..maildir.making import real_place
 from ..maildir.disk import Need, Syncs
 from ..mbox.fields import headers_at
@@ -135,8 +135,9 @@ class Takeouts(Migration):
         noted = noted._replace(choosing=self.chosen(opened, noted))
         try:
             with self.chosen_text(opened, noted) as choice, self.read(choice, noted) as takeout:
-                self.want_room_for(takeout)
                 folders = tuple(takeout.sorted.places)
+                # each folder wants room for its text again, and for its messages
+                self.want_room(Need.of(self.disk, [], max(map(takeout.size, folders))))
                 self.record.make()
                 note(self.record, opened.mailbox, noted._replace(folders=folders), len(takeout.inventory))
                 self.observer.total += len(folders) - 1
@@ -215,20 +216,6 @@ class Takeouts(Migration):
             sorting = Sorting(headers, noted.choosing, noted.folders)
             self.labels.update(sorting.counts)
             yield Takeout(choice, text, inventory, sorting.sorted())
-
-    def want_room_for(self, takeout: Takeout) -> None:
-        """Raises Left if the disk has too little room for what no folder has, with the largest of the texts of
-        folders."""
-        sizes: list[int] = []
-        for folder, places in takeout.sorted.places.items():
-            brought = Ledger(folder_path(self.root, folder)).brought()
-            for place in places:
-                core = takeout.inventory.core(place)
-                brought[core] -= 1
-                if brought[core] < 0:
-                    sizes.append(takeout.inventory.sizes[place])
-        most = max(map(takeout.size, takeout.sorted.places))
-        self.want_room(Need.of(self.root, sizes, 0 if self.how.dry else most))
 
     def bring_into(self, folder: bytes, takeout: Takeout, opened: Opened) -> Outcome:
         """Brings the messages of one folder."""
