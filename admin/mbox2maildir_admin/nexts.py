@@ -313,24 +313,35 @@ def user_of_runuser() -> Optional[str]:
         return None
 
 
-def lines_below(quotes: Sequence[Quote], then: Next, is_once: bool = False) -> Iterator[str]:
+def together(answers: Sequence[Answer]) -> Answer:
+    """The same answer to several questions, with how many messages it gives to all of them, if that is known."""
+    known = [one.messages for one in answers if one.messages is not None]
+    return answers[0]._replace(messages=sum(known) if len(known) == len(answers) else None)
+
+
+def lines_of(several: Sequence[Step], letter: str = "") -> Iterator[str]:
+    """A step, or the same one of several mailboxes: its sentence once, which has a letter if a human chooses by that,
+    and each command."""
+    answers = [one for one in several if isinstance(one, Answer)]
+    tasks = [one for one in several if isinstance(one, Task)]
+    if len({one.user for one in tasks}) > 1:
+        tasks = [one._replace(user="each user") for one in tasks]
+    yield from dict.fromkeys(BELOW + one.sentence() for one in tasks)
+    if answers:
+        yield "%s%s%s:" % (BELOW, letter, together(answers).sentence())
+    yield from dict.fromkeys(COMMAND + one.command.line() for one in answers)
+
+
+def lines_below(quotes: Sequence[Quote], then: Next) -> Iterator[str]:
     """What stands below a row or a fault: lines of mail behind their numbers, of which those are marked that others
-    stand around, and gaps between them; and what is to be done, each command by itself. A sentence that several
-    commands have, one after the other, is there for each of them, or once."""
+    stand around, and gaps between them; and what is to be done, each command by itself."""
     marks = ("> ", "  ") if any(quote.is_around for quote in quotes) else ("", "")
     for above, quote in zip((None, *quotes), quotes):
         if marks[0] and above and quote.line > above.line + 1:
             yield BELOW + ".."
         yield ("%s%s%d | %s" % (BELOW, marks[quote.is_around], quote.line, quote.text)).rstrip()
-    before = ""
     for step in then:
-        if isinstance(step, Task):
-            yield BELOW + step.sentence()
-            continue
-        if not is_once or step.sentence() != before:
-            yield "%s%s:" % (BELOW, step.sentence())
-        before = step.sentence()
-        yield COMMAND + step.command.line()
+        yield from lines_of([step])
 
 
 def objects_of(then: Next, user: Optional[str] = None) -> list[dict[str, Any]]:

@@ -7,7 +7,7 @@ from ..faults import REASONS, Reason
 from ..maildir.folders import folder_shown
 from ..mbox.lines import AROUND
 from ..meanings import ITS_COMMAND, REMARKS, to_do
-from ..nexts import BELOW, COMMAND, Answer, Command, Does, Quote, Runs, Task, Todo, lines_below
+from ..nexts import BELOW, COMMAND, Answer, Command, Does, Quote, Runs, Task, Todo, lines_below, lines_of, together
 from ..remarks import Says
 from ..terminal import named, operand, option
 from .outcomes import Fate, Row
@@ -145,8 +145,7 @@ class Group:
                 word, drop, _ = decided(several[0])
                 ties = ",".join(dict.fromkeys(decided(one)[2] for one in several))
                 words = ["--as", word] * bool(word) + ["--drop-deleted"] * drop + ["--of", ties]
-                yield "%s%s:" % (BELOW, together(several).sentence())
-                yield COMMAND + typed.command(words, users).line()
+                yield from lines_of([together(several)._replace(command=typed.command(words, users))])
 
     def no_mail(self) -> Iterator[str]:
         """The options that pass over the files. Of many users they are patterns for paths below the home."""
@@ -156,22 +155,7 @@ class Group:
     def steps(self, is_asked: bool) -> Iterator[str]:
         """What is to be done, step by step: each sentence once, with the command of each row."""
         for letter, several in zip(LETTERS, zip(*(one.next for one in self.rows))):
-            answers = [one for one in several if isinstance(one, Answer)]
-            if answers:
-                letter = "%s: " % letter if is_asked else ""
-                yield "%s%s%s:" % (BELOW, letter, together(answers).sentence())
-            else:
-                tasks = [one for one in several if isinstance(one, Task)]
-                if len({one.user for one in tasks}) > 1:
-                    tasks = [one._replace(user="each user") for one in tasks]
-                yield from dict.fromkeys(BELOW + one.sentence() for one in tasks)
-            yield from dict.fromkeys(COMMAND + one.command.line() for one in answers)
-
-
-def together(answers: Sequence[Answer]) -> Answer:
-    """The same answer to several questions, with how many messages it gives to all of them, if that is known."""
-    known = [one.messages for one in answers if one.messages is not None]
-    return answers[0]._replace(messages=sum(known) if len(known) == len(answers) else None)
+            yield from lines_of(several, "%s: " % letter if is_asked else "")
 
 
 def first_of(quotes: Sequence[Quote]) -> Sequence[Quote]:

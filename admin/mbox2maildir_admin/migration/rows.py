@@ -1,5 +1,6 @@
 """What a migration prints: a line when a mailbox ends, how far it is, and a sum."""
 import collections
+import itertools
 import math
 import time
 from collections.abc import Callable, Mapping, Sequence
@@ -9,7 +10,7 @@ from typing import TYPE_CHECKING, NamedTuple, Optional
 from .. import ADMIN
 from ..faults import Status
 from ..meanings import COUNTED, LOOK
-from ..nexts import COMMAND, Phrase, lines_below
+from ..nexts import COMMAND, Phrase, lines_of
 from ..progress import AtWork, Estimate, Progress, Task, duration, length
 from ..terminal import LINE, complain, flush, named, put
 from ..units import WAITING, counted
@@ -233,8 +234,10 @@ class Reporter(Observer):
             words = ", ".join("%s %d" % pair for pair in sorted(self.kept.noted.items()))
             put("noted: %s (`%s explain WORD`)" % (words, ADMIN))
         put(line)
-        for below in lines_below((), self.then, True):
-            put(below)
+        # a sentence that several commands have, one after the other, is there once
+        for _, several in itertools.groupby(self.then, lambda one: one.sentence()):
+            for below in lines_of([*several]):
+                put(below)
         flush()
 
 
