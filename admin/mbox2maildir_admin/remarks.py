@@ -1,25 +1,39 @@
 """What else is said of a mailbox in its row: each remark once, in the order in which a row says them."""
+# A new one needs a meaning in `meanings.py`, by which it is printed too, and its word in docs/rows.schema.json, in the
+# order of the meanings. tests/pages/documents.py compares the three, and tests/tables/remarks.py wants a story of each.
 from typing import NamedTuple
 
 from .nexts import Phrase
 from .units import counted
 
 
+# verbs by how they are with a count of one, and with any other
+ONE = {"was": "was", "is": "is", "stays": "stays"}
+SEVERAL = {"was": "were", "is": "are", "stays": "stay"}
+
+
 class Sentence(Phrase):
-    """A remark by its word. In its sentence, `{}` stands for what differs. One word may have two sentences."""
+    """A remark by its word. In its sentence, `{}` stands for what differs, and `{was}` for a verb of what is counted. A
+    rehearsal may say it in another one. One word may have several sentences."""
 
-    def of(self, *its: object, there: int = 0, stands: int = 0) -> "Remark":
+    def __init__(self, word: str, says: str, would: str = "", noun: str = "message") -> None:
+        super().__init__(word, says)
+        # what a rehearsal says; and what is counted
+        self.would, self.noun = would or says, noun
+
+    def of(self, *its: object, dry: bool = False, there: int = 0, stands: int = 0, **verbs: str) -> "Remark":
         """The remark with this in its places."""
-        return Remark(self, self.says.format(*its), there, stands)
+        return Remark(self, (self.would if dry else self.says).format(*its, **verbs), there, stands)
 
-    def of_any(self, count: int, *its: object, noun: str = "message", there: int = 0) -> "list[Remark]":
-        """The remark on so many messages, or other things, with what else it names; nothing if there are none."""
-        return [self.of(counted(count, noun), *its, there=there)] if count else []
+    def of_any(self, count: int, *its: object, dry: bool = False, there: int = 0, stands: int = 0) -> "list[Remark]":
+        """The remark on so many of what it counts, with what else it names; nothing if there are none."""
+        verbs, whole = ONE if count == 1 else SEVERAL, counted(count, self.noun)
+        return [self.of(whole, *its, dry=dry, there=there, stands=stands, **verbs)] if count else []
 
 
 class Remark(NamedTuple):
     """What is to be said of a mailbox, how many of its messages were there already by it, and how many stand in it
-    although they were deleted or changed in the Maildir. Only the sentences of the table make one."""
+    although they were deleted or changed in the Maildir."""
 
     what: Sentence
     says: str
@@ -30,6 +44,11 @@ class Remark(NamedTuple):
     def word(self) -> str:
         """Its word for programs."""
         return self.what.word
+
+
+def kept(word: str, which: str, noun: str = "message") -> Sentence:
+    """The remark on what an undo, or a pass, does not remove."""
+    return Sentence(word, "kept {} that " + which, "would keep {} that " + which, noun)
 
 
 class Says:
@@ -47,9 +66,11 @@ class Says:
     # how it is read
     AFTER_NULLS = Sentence("after-nulls", "its text begins at byte {}, after NUL bytes")
     NO_LINE_END = Sentence("no-line-end", "its last line has no line end: check that the file is complete")
-    BY_LENGTHS = Sentence("by-lengths", "`From ` is text in {}, by lengths (--as mboxrd begins mail there)")
-    KEEPS_QUOTE = Sentence("keeps-quote", "`>From ` keeps its `>` in {} (--as mboxcl takes it away)")
-    LOSES_QUOTE = Sentence("loses-quote", "`{1} ` loses a `>` in {0} ({2})")
+    BY_LENGTHS = Sentence(
+        "by-lengths", "`From ` is text in {}, by lengths (--as mboxrd begins mail there)", noun="line"
+    )
+    KEEPS_QUOTE = Sentence("keeps-quote", "`>From ` keeps its `>` in {} (--as mboxcl takes it away)", noun="line")
+    LOSES_QUOTE = Sentence("loses-quote", "`{1} ` loses a `>` in {0} ({2})", noun="line")
     DELETED_KEPT = Sentence(
         "deleted-kept", "no deleted mail was left out, because {} of {} messages have no X-Mozilla-Status"
     )
@@ -61,19 +82,21 @@ class Says:
     POWER_CUT = Sentence("power-cut", "a power cut could take its mail away: {}")
     # what a first pass had prepared, and what an undo removes and keeps
     PREPARED_BEFORE = Sentence("prepared-before", "{} prepared before")
-    PREPARED_LESS = Sentence("prepared-before", "{} prepared before, {} {}")
+    PREPARED_LESS = Sentence(
+        "prepared-before", "{} prepared before, {} removed", "{} prepared before, {} to be removed"
+    )
     PREPARED_STAYS = Sentence("prepared-before", "{} prepared before stay, whatever the mailbox has now")
-    REMOVED = Sentence("removed", "{1} {0}")
+    REMOVED = Sentence("removed", "removed {}", "would remove {}")
     NOTHING_PLACED = Sentence("removed", "nothing of it was placed")
-    KEPT_SHARED = Sentence("kept-shared", "{1} {0} that {2} {3} too")
-    KEPT_FORMER = Sentence("kept-former", "{1} {0} that another mailbox brought too")
-    KEPT_FOREIGN = Sentence("kept-foreign", "{1} {0} that {2} nobody's")
-    KEPT_LOST = Sentence("kept-lost", "{1} {0} that it no longer has")
-    KEPT_EDITED = Sentence("kept-edited", "{1} {0} that somebody edited")
-    KEPT_RENAMED = Sentence("kept-renamed", "{1} {0} that another program renamed")
+    KEPT_SHARED = kept("kept-shared", "{} {} too")
+    KEPT_FORMER = kept("kept-former", "another mailbox brought too")
+    KEPT_FOREIGN = kept("kept-foreign", "{was} nobody's")
+    KEPT_LOST = kept("kept-lost", "it no longer has")
+    KEPT_EDITED = kept("kept-edited", "somebody edited", "file")
+    KEPT_RENAMED = kept("kept-renamed", "another program renamed")
     ALREADY_GONE = Sentence("already-gone", "{} already gone")
     # what is new, what is gone, and what was there
-    PLACED = Sentence("placed", "{} {}")
+    PLACED = Sentence("placed", "placed {}", "would place {}")
     GREW = Sentence("grew", "it grew by {}")
     UNLABELLED = Sentence("unlabelled", "the label was taken from {}; the mail stays here")
     LOST = Sentence("lost", "{} gone from it that it had brought")
@@ -129,9 +152,9 @@ class Says:
     KEYWORDS_ADDED = Sentence("keywords-added", "Dovecot is to add keywords, because {}: {}")
     SUBSCRIPTIONS = Sentence("subscriptions", "subscribed to {}")
     # of mail that people moved, deleted or changed in the Maildir
-    MOVED = Sentence("moved", "{} that people moved here from {} {} in the mailbox of that")
-    DELETED = Sentence("deleted", "{} that {} deleted in the Maildir {} still there{}")
-    CHANGED = Sentence("changed", "{} that {} changed in the Maildir {} there as before{}")
+    MOVED = Sentence("moved", "{} that people moved here from {} {stays} in the mailbox of that")
+    DELETED = Sentence("deleted", "{} that {was} deleted in the Maildir {is} still there{}")
+    CHANGED = Sentence("changed", "{} that {was} changed in the Maildir {is} there as before{}")
     # of its names
     NAME_BEFORE = Sentence("name-before", "its name was {}")
     ALSO_NAMED = Sentence("also-named", "also named {}")

@@ -156,7 +156,7 @@ def twice(path: Path) -> None:
     path.write_bytes(mail_of(letter(1))[0] + b"more\n")
 
 
-EDITED, RENAMED = "kept 1 message that somebody edited", "kept 1 message that another program renamed"
+EDITED, RENAMED = "kept 1 file that somebody edited", "kept 1 message that another program renamed"
 # what happens to a file of two, how often its message is there then, and what the row says of the undo
 FILES = (
     (gets(":2,FS"), 0, ["removed 2 messages"]),

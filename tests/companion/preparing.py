@@ -281,7 +281,7 @@ def spoilt(home: Path) -> None:
     one, two = mail_in(home / "M")
     one.write_bytes(one.read_bytes().upper())
     shutil.copy(two, home / "M/cur" / f"{two.name}:2,S")
-    says = "box -> INBOX: messages 2: undone, removed 1 message; kept 2 messages that somebody edited\n...\n"
+    says = "box -> INBOX: messages 2: undone, removed 1 message; kept 2 files that somebody edited\n...\n"
     expect("migrate --all --undo M box", home, 0, says)
     equal("what is there", len([*mail_in(home / "M")]), 2)
 

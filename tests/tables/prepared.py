@@ -235,9 +235,9 @@ STORIES: dict[str, list[Step]] = {
         ),
         (
             "migrate --dry-run --undo M a",
-            "a: would be undone: would remove 1 message; would keep 1 message that somebody ...",
+            "a: would be undone: would remove 1 message; would keep 1 file that somebody ...",
         ),
-        *(("migrate --undo M a", "a: undone: removed 1 message; kept 1 message that somebody edited"), "= new one"),
+        *(("migrate --undo M a", "a: undone: removed 1 message; kept 1 file that somebody edited"), "= new one"),
     ],
     # the ledger has what is done, so the list says nothing, and stays
     "undone_by_a_list_from_a_backup": [

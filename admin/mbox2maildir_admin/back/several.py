@@ -18,7 +18,6 @@ from ..nexts import NOTHING, Next, Runs, run_next
 from ..program import Program, find_program
 from ..remarks import Remark, Says, Sentence
 from ..terminal import first_of, named, operand
-from ..units import counted
 from .appending import Returned, TakesNothing, Way, nothing_new
 from .beside import FULL, Beside
 from .mails import Sorted, Target, sorted_mail
@@ -121,7 +120,7 @@ class Folders:
         path = next(iter(self.places.found.get(folder, ())), folder_path(self.way.root, folder))
         remarks = list[Remark]()
         for other, count in collections.Counter(found.moved.get(folder, ())).items():
-            remarks += Says.MOVED.of_any(count, folder_shown(other), "stays" if count == 1 else "stay")
+            remarks += Says.MOVED.of_any(count, folder_shown(other))
         return Target(path, folder, found.new.get(folder, ()), tuple(remarks), found.returned.get(folder, ()))
 
     def standing(self, found: Sorted, folder: bytes) -> dict[bytes, Remarks]:
@@ -141,7 +140,8 @@ class Folders:
                 counts.update([one for one in paths if names[one] & slot.paths] or paths[:1])
             for path, count in counts.items():
                 is_sure = not may_be(lambda one: size_at(one) not in sizes, path)
-                remarks[path] += (standing(says, count, is_sure),)
+                unless = "" if is_sure else UNLESS % ("it" if count == 1 else "them")
+                remarks[path] += (*says.of_any(count, unless, stands=count if is_sure else 0),)
         return remarks
 
     def rows(self, target: Target) -> Iterator[Row]:
@@ -239,10 +239,3 @@ def left(target: Target, fault: Union[Fault, OSError]) -> Row:
 def size_at(path: bytes) -> int:
     """How many bytes the file at a path has; 0 if there is none."""
     return os.path.getsize(path) if is_file(path) else 0
-
-
-def standing(what: Sentence, count: int, is_sure: bool) -> Remark:
-    """What is said of so many messages that stand in a mailbox, unless it has changed since it was read."""
-    *verbs, them = ("was", "is", "it") if count == 1 else ("were", "are", "them")
-    unless = "" if is_sure else UNLESS % them
-    return what.of(counted(count, "message"), *verbs, unless, stands=count if is_sure else 0)

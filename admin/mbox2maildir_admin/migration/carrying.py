@@ -69,7 +69,7 @@ def carry_out(steps: Steps, row: Row, program: Program) -> Outcome:
 
 def cleared(prepared: Prepared) -> list[Remark]:
     """Removes what was prepared and no message wants, and returns what is to be said of that."""
-    return Says.KEPT_EDITED.of_any(prepared.remove_unwanted(), "kept", noun="file")
+    return Says.KEPT_EDITED.of_any(prepared.remove_unwanted())
 
 
 def note_state(first: FirstPass) -> None:

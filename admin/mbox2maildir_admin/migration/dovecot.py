@@ -113,7 +113,7 @@ class Dovecot(Extra):
         full = one.contents.full
         head, _ = internal_head(full.mailbox, full.start)
         lost = one.contents.unquoted(one.places)
-        says = Says.LOSES_QUOTE.of_any(lost, ">From", "Dovecot showed it", noun="line")
+        says = Says.LOSES_QUOTE.of_any(lost, ">From", "Dovecot showed it")
         says += [Says.WITHOUT_INTERNAL.of()] * bool(head)
         try:
             kept = self.kept_from(one)

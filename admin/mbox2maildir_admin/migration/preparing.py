@@ -325,10 +325,9 @@ def remarks_on_prepared(prepared: Prepared, how: Options, say: Say) -> list[Rema
         prepared.look(say)
         stays = sum(prepared.files) + len(prepared.edited)
         return [Says.PREPARED_STAYS.of(stays)] * bool(stays)
-    gone, says = prepared.unwanted(), Says.PREPARED_BEFORE
-    goes, keeps = ("to be removed", "would keep") if how.dry else ("removed", "kept")
-    its = Says.PREPARED_LESS.of(prepared.count(), counted(gone, "message"), goes) if gone else says.of(prepared.count())
-    return [its] * any(prepared.files) + Says.KEPT_EDITED.of_any(len(prepared.edited), keeps, noun="file")
+    count, gone = prepared.count(), counted(prepared.unwanted(), "message")
+    its = Says.PREPARED_LESS.of(count, gone, dry=how.dry) if prepared.unwanted() else Says.PREPARED_BEFORE.of(count)
+    return [its] * any(prepared.files) + Says.KEPT_EDITED.of_any(len(prepared.edited), dry=how.dry)
 
 
 def remove_prepared(record: Record, path: bytes, name: bytes, dry: bool, say: Say = silent) -> Optional[Row]:
@@ -344,10 +343,10 @@ def remove_prepared(record: Record, path: bytes, name: bytes, dry: bool, say: Sa
     count = prepared.unwanted()
     if not dry:
         one.empty()
-    fate, removes, keeps = (Fate.WOULD_UNDO, "would remove", "would keep") if dry else (Fate.UNDONE, "removed", "kept")
-    remarks = Says.REMOVED.of(counted(count, "message"), removes), *Says.KEPT_EDITED.of_any(len(prepared.edited), keeps)
+    removed = Says.REMOVED.of(counted(count, "message"), dry=dry)
+    remarks = removed, *Says.KEPT_EDITED.of_any(len(prepared.edited), dry=dry)
     messages = prepared.origin.messages if prepared.origin else None
-    return Row(path, name, "", messages, fate, remarks=remarks)
+    return Row(path, name, "", messages, Fate.WOULD_UNDO if dry else Fate.UNDONE, remarks=remarks)
 
 
 def same_as_prepared(prepared: Prepared, how: Options, opened: Opened) -> Optional[Part]:

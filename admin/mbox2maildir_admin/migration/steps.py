@@ -255,7 +255,7 @@ def remarks_on(one: Steps, dry: bool) -> Iterator[Remark]:
     """What is to be said of what is new, what is there, and what is gone."""
     match, ledger = one.match, one.known.ledger
     if one.which is Pass.AGAIN:
-        yield Says.PLACED.of("would place" if dry else "placed", counted(match.count(Stand.NOWHERE), "message"))
+        yield Says.PLACED.of(counted(match.count(Stand.NOWHERE), "message"), dry=dry)
     else:
         yield from remarks_on_lost(match)
         others = [unspelled(path) for path, source in ledger.sources.items() if source.count()]

@@ -104,14 +104,14 @@ class Verdict(NamedTuple):
             # length of that
             is_mboxcl2 = self.reading is not None and self.reading.word == MBOXCL2
             kept = count("quoted, by length", "quoted twice") if is_mboxcl2 else 0
-            return Says.BY_LENGTHS.of_any(inside, noun="line") + Says.KEEPS_QUOTE.of_any(kept, noun="line")
+            return Says.BY_LENGTHS.of_any(inside) + Says.KEEPS_QUOTE.of_any(kept)
         says = list[Remark]()
         for number, line, its in (
             (count("quoted twice"), ">>From", MBOXO),
             (count("quoted, by length"), ">From", MBOXCL2),
             (count("quoted") * (count("git") > 0), ">From", UNQUOTED),
         ):
-            says += Says.LOSES_QUOTE.of_any(number, line, "--as %s keeps it" % its, noun="line")
+            says += Says.LOSES_QUOTE.of_any(number, line, "--as %s keeps it" % its)
         return says
 
 

@@ -387,13 +387,9 @@ def prepared_from(root: bytes, path: bytes) -> Optional[bytes]:
 
 def remarks_on(counts: Counts, keepers: collections.Counter[str], dry: bool) -> Iterator[Remark]:
     """What is said of the messages that the mailbox brought, by how many of them each other mailbox keeps."""
-    removes, keeps = ("would remove", "would keep") if dry else ("removed", "kept")
-    yield Says.REMOVED.of(counted(counts[Why.REMOVED], "message"), removes)
+    yield Says.REMOVED.of(counted(counts[Why.REMOVED], "message"), dry=dry)
     # a run that was killed may have changed the order in which mailboxes were begun
     paths = [unspelled(path) for path in sorted(keepers, key=lambda one: (-keepers[one], one))]
-    more = {
-        Why.SHARED: (first_of(paths, most=1), "have" if len(paths) > 1 else "has"),
-        Why.FOREIGN: ("was" if counts[Why.FOREIGN] == 1 else "were",),
-    }
+    keeper = first_of(paths, most=1), "have" if len(paths) > 1 else "has"
     for why in counts.keys() - {Why.REMOVED}:
-        yield from why.value.of_any(counts[why], keeps, *more.get(why, ()))
+        yield from why.value.of_any(counts[why], *(keeper if why is Why.SHARED else ()), dry=dry)
