@@ -36,11 +36,11 @@ SAID_QUOTES = re.compile(r"`>+From ` (?:loses|keeps) .*? in (\d+) lines? \(--as 
 ESCAPED = ("mboxrd or mboxo", "Google Groups' archive")
 COUNTS = re.compile(r"(?m), messages (\d+)(?: to (\d+))?(?:[:;,]|$)")
 QUOTES = re.compile(rb"(?m)^>*From ")
-# a dated From_ line within a line, as a crash and a missing line end leave it, after an address too; after a blank only
-# before a header of mail: it is left whatever is said of several
+# a dated From_ line within a line, as a crash and a missing line end leave it, after an address too; after a blank, or
+# a CR that begins the line, only before a header of mail: it is left whatever is said of several
 DATED = rb"From \S+ [^\n]*\d\d:\d\d:\d\d [^\n]*\d{4}$"
 DAMAGE = re.compile(
-    rb"(?m)(?:[^>\s]|@[^<>\s]+>)%s|\w[ \t\r]%s\n(?:[^\s:]+:.*\n)*?(?i:from|return-path|date):" % (DATED, DATED)
+    rb"(?m)(?:[^>\s]|@[^<>\s]+>)%s|(?:\w[ \t\r]|^\r)%s\n(?:[^\s:]+:.*\n)*?(?i:from|return-path|date):" % (DATED, DATED)
 )
 SAME = (("mboxrd", "mboxo"), ("mboxcl", "mboxcl2"), ("unquoted",))
 NONE: frozenset[int] = frozenset()
