@@ -98,5 +98,4 @@ class Returned(Migrate):
 
 def with_status(text: bytes) -> bytes:
     """A message that a reader has met, as it is in the mailbox."""
-    head, gap, body = text.partition(b"\n\n")
-    return head + b"\nStatus: O" + gap + body + b"\n"
+    return b"Status: O\n" + text + b"\n"
