@@ -32,12 +32,12 @@ MOST = 1 << 16
 
 class Break(NamedTuple):
     """Where a text is parted within a line, since a message begins there: where the line before ends, where the From_
-    line begins, its number, and what the line before lacks."""
+    line begins, its number, and what is added to the line before."""
 
     end: Offset
     start: Offset
     line: Line = Line(0)
-    lacks: bytes = b""
+    added: bytes = b""
 
 
 def breaks_of(mailbox: Mailbox, lines: frozenset[Line]) -> Iterator[Break]:
@@ -86,14 +86,14 @@ class Quoter:
             file = Watched(mailbox.number, Size(one.end), mailbox.digest, mailbox.say)
             file.seek(start)
             read = LineEnds(file).read if self.how.ends == CR else file.read
-            blocks = itertools.chain(iter(functools.partial(read, BLOCK), b""), filter(None, [one.lacks]))
+            blocks = itertools.chain(iter(functools.partial(read, BLOCK), b""), filter(None, [one.added]))
             pieces = pieces_of(lambda _, blocks=blocks: next(blocks, b""), start)  # type: ignore[misc]
             for piece in pieces:
                 data = self.piece(line, piece)
                 line = Line(line + piece.data.count(b"\n"))
                 self.read, self.given = self.read + len(piece.data), self.given + len(data)
                 yield data
-            skipped, added, start, line = one.start - one.end, len(one.lacks), one.start, one.line
+            skipped, added, start, line = one.start - one.end, len(one.added), one.start, one.line
             self.read += skipped - added
             self.left_out += skipped
             self.added += added

@@ -109,13 +109,13 @@ class Takeouts(Migration):
     def say_not_there(self) -> None:
         """Says which labels were named that no message has, with those that are spelled alike: then nothing that was
         said of them had an effect. Nothing is said if no labels could be read."""
-        lacking = [one for one in self.how.labels.given if one[0] not in self.labels] if self.how.labels else []
-        if lacking and self.labels:
+        unknown = [one for one in self.how.labels.given if one[0] not in self.labels] if self.how.labels else []
+        if unknown and self.labels:
             # the module is loaded only here, so that nothing else waits for it
             from difflib import get_close_matches
 
             plain = {label.casefold(): label for label in sorted(self.labels)}
-            for label, gives in lacking:
+            for label, gives in unknown:
                 near = [named(plain[one]) for one in get_close_matches(label.casefold(), plain)]
                 complain(NOT_THERE % (named(label), gives) + (ALIKE % ", ".join(near) if near else ""))
 

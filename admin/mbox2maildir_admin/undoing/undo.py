@@ -135,10 +135,10 @@ class Undo:
         if not path:
             raise Left(NOT_RECORDED, Reason.UNDO)
         known = Known(self.record, ledger, opened)
-        lacked = known.by_index or next((one for one in known.unknown if one.what is not Step.UNDONE), None)
-        if lacked:
+        newer = known.by_index or next((one for one in known.unknown if one.what is not Step.UNDONE), None)
+        if newer:
             # the ledger lacks what the index has of the mailbox, or of another one of its folder
-            raise Left(OLDER % named(unspelled(lacked.path)), Reason.UNDO)
+            raise Left(OLDER % named(unspelled(newer.path)), Reason.UNDO)
         plan = plan_of(ledger, path, self.cores_now(opened, ledger, path))
         # without lines of its files, the ledger is older than its folder: another mailbox may have what would go
         names = without_line(self.root, opened.folder) if any(one.why is Why.REMOVED for one in plan) else ()
