@@ -15,7 +15,7 @@ from typing import NamedTuple, Optional
 
 from ..faults import Fault, Left, Reason
 from ..maildir.making import GOES_BACK, sync_folder
-from ..mbox.files import Reader, open_plain
+from ..mbox.files import Reader, open_plain, write_all
 from ..mbox.mailbox import Mailbox
 from ..terminal import named, spelled
 from ..units import Line, Offset
@@ -252,13 +252,6 @@ class Draft:
         os.fsync(self.number)
         os.rename(self.path, path)
         sync_folder(os.path.dirname(path))
-
-
-def write_all(number: int, piece: bytes) -> None:
-    """Writes all of the bytes. Raises OSError if the disk is full."""
-    written = 0
-    while written < len(piece):
-        written += os.write(number, piece[written:])
 
 
 def digest_of(number: int, size: int) -> str:

@@ -5,7 +5,7 @@ one: IMAP keeps some names and changes others. Any further file is new, also a c
 """
 import collections
 import os
-from collections.abc import Iterable, Iterator, Sequence
+from collections.abc import Callable, Iterable, Iterator, Sequence
 from typing import NamedTuple, TypeVar
 
 from ..faults import Fault, Reason
@@ -79,15 +79,14 @@ class Slot(NamedTuple):
         """Whether a mailbox has it since it went back, or had it, by the state of its lines."""
         return any(line.state is state and line.message.word == RETURNED for line in self.file.lines)
 
-    def forms(self) -> Sequence[bytes]:
-        """By what it is found if its message has another name."""
-        return forms_by(self.folder, self.file.lines[0].message.name, self.core)
 
-
-def forms_by(folder: bytes, name: bytes, core: bytes) -> Sequence[bytes]:
-    """By what a file is found that does not have the name of its message: by its core in the folder; in another one by
-    the name that this program gave, or by its core."""
-    return folder + core, name if BASE.fullmatch(name) else b"", core
+# by what a file is found that does not have the name of its message: by its folder and core; in other folders by the
+# name that this program gave, then by its core
+FORMS: Sequence[Callable[[bytes, bytes, bytes], bytes]] = (
+    lambda folder, name, core: folder + core,
+    lambda folder, name, core: name if BASE.fullmatch(name) else b"",
+    lambda folder, name, core: core,
+)
 
 
 class Sorted(NamedTuple):
@@ -112,10 +111,11 @@ class Sorted(NamedTuple):
         slots = [slot for slot in several if slot.file.is_held or slot.went_back(State.FORMER)]
         slots.sort(key=lambda slot: not slot.file.is_held)
         found = [(left.pop(homes[slot.folder][slot.file.name]), slot) for slot in slots if slot.file.name]
-        for way in range(len(forms_by(b"", b"", b""))):
-            free = by_form((forms_by(mail.folder, mail.before, mail.core)[way], path) for path, mail in left.items())
+        for form_of in FORMS:
+            free = by_form((form_of(mail.folder, mail.before, mail.core), path) for path, mail in left.items())
             for slot in slots:
-                if slot.file.name is None and slot.file.find(free, slot.forms()[way]):
+                form = form_of(slot.folder, slot.file.lines[0].message.name, slot.core)
+                if slot.file.name is None and slot.file.find(free, form):
                     found.append((left.pop(slot.file.name or b""), slot))
         new = sorted(left.values(), key=lambda mail: (mail.time, mail.name, mail.folder))
         at_home = [(mail, slot) for mail, slot in found if mail.folder == slot.folder]

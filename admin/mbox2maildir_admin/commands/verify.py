@@ -145,7 +145,7 @@ def take_alike(maildir: bytes, text: Text, check: Check) -> int:
     for found in check.found(State.NOWHERE):
         wanted[inventory.bare(found.place)].append(found.place)
     for name, path in paths_of(maildir):
-        forms = forms_in(path) if check.inventory.place(name) is None and path not in taken else None
+        forms = forms_in(path) if check.inventory.table.own_place(name) is None and path not in taken else None
         places = wanted.get(forms[1]) if forms else None
         if places:
             check.take_alike(places.pop(0), path)

@@ -44,7 +44,7 @@ def flagged_in(folder: bytes, inventory: Inventory) -> Iterator[Flagged]:
         places, infos, known = array.array("Q"), list[bytes](), {b"": b""}
         with os.scandir(os.path.join(folder, sub)) as entries:
             for name in (entry.name for entry in entries):
-                place, info = inventory.place(name), name[len(before_info(name)) :]
+                place, info = inventory.table.own_place(name), name[len(before_info(name)) :]
                 if place is not None and (not info or info.startswith(INFO)):
                     places.append(place)
                     infos.append(known.setdefault(info, info))

@@ -9,6 +9,7 @@ from collections.abc import Callable
 from typing import Any, NoReturn, Optional, TypeVar, Union
 
 from ..faults import REASONS, Fault
+from ..mbox.files import write_all
 from ..nexts import Phrase, Template
 from ..signals import INTERRUPTS, blocked
 from ..terminal import shown, text_of
@@ -47,11 +48,9 @@ class Parent:
 
     def tell(self, *words: Any) -> None:
         """Tells words, which would be lost if only a part of them were told."""
-        rest = spelled(words) + b"\n"
         try:
             with INTERRUPTS.held():
-                while rest:
-                    rest = rest[os.write(self.told, rest) :]
+                write_all(self.told, spelled(words) + b"\n")
         except OSError:
             raise KeyboardInterrupt from None
 

@@ -13,6 +13,7 @@ from typing import NamedTuple, Optional, Union
 from ..faults import Fault, Reason, naming
 from ..maildir.making import LEDGER
 from ..mbox.core import SHORT
+from ..mbox.files import write_all
 from ..mbox.locks import WITHOUT_LOCKS
 from ..patterns import pattern
 from ..terminal import named
@@ -215,16 +216,16 @@ def append_to(number: int, path: bytes, lines: Iterable[bytes], sync: bool) -> i
     state = os.fstat(number)
     want_trusted(path, state)
     if state.st_size and os.pread(number, 1, state.st_size - 1) != b"\n":
-        put(number, CUT + b"\n")
+        write_all(number, CUT + b"\n")
     pieces: list[bytes] = []
     length = 0
     for line in lines:
         pieces.append(line)
         length += len(line)
         if length >= PIECE:
-            put(number, b"".join(pieces))
+            write_all(number, b"".join(pieces))
             pieces, length = [], 0
-    put(number, b"".join(pieces))
+    write_all(number, b"".join(pieces))
     # others may append meanwhile: what is of this size is on the disk then
     size = os.fstat(number).st_size
     if sync:
@@ -246,14 +247,6 @@ def note_ends(folder: bytes, numbers: Iterable[int]) -> None:
 def note_batch_failed(folder: bytes, number: int) -> None:
     """Notes that a sync failed of a batch of the ledger of a folder, of which nothing is to be believed."""
     append(folder, [b"!\t%d\n" % number])
-
-
-def put(number: int, piece: bytes) -> None:
-    """Appends whole lines at once. Raises OSError if not all of them could be written."""
-    written = os.write(number, piece) if piece else 0
-    while written < len(piece):
-        # a disk that is full says so now
-        written += os.write(number, piece[written:])
 
 
 def digest_at(digests: Union[bytes, bytearray], at: int) -> bytes:

@@ -138,8 +138,8 @@ IsDeleted = Callable[[Place], bool]
 
 class Stand(enum.IntEnum):
     """How a message of a mailbox stands: nothing was found that stands for it; the mailbox had it before; a killed run
-    of the mailbox has placed it under the base that it has in the text; a file stands for it; or the same, and this
-    program has placed that file, and no run has finished with it."""
+    of the mailbox or a first pass has placed it under the base that it has in the text; a file stands for it; or the
+    same, and this program has placed that file, and no run has finished with it."""
 
     NOWHERE = 0
     KNOWN = 1

@@ -80,7 +80,7 @@ class Check:
         self.owner = os.stat(maildir).st_uid
         for listing, paths in enumerate(listings_of(maildir)):
             again = listing > 0
-            files = ((self.inventory.place(name), name, path) for name, path in paths)
+            files = ((self.inventory.table.own_place(name), name, path) for name, path in paths)
             for number, (file, ahead) in enumerate(self.read_ahead(files, again), 1):
                 # the number is news each time: a child that says nothing new is ended
                 self.say("verifying file %d" % number)
@@ -152,7 +152,7 @@ class Check:
                     self.doubles.append(path)
         homes: collections.defaultdict[Place, list[bytes]] = collections.defaultdict(list)
         for name, path in paths_of(maildir) if self.met_again else ():
-            place = self.inventory.place(name)
+            place = self.inventory.table.own_place(name)
             if place is not None and place in self.met_again:
                 homes[place].append(path)
         for paths in homes.values():

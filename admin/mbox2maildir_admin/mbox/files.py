@@ -1,4 +1,4 @@
-"""Opens files, and reads them in blocks."""
+"""Opens files, and reads and writes them."""
 import errno
 import io
 import os
@@ -19,6 +19,13 @@ LONG = 998
 WHOLE = 1 << 20
 # how many bytes of a mailbox may be holes, which were never written
 MOST_HOLES = 16 << 20
+
+
+def write_all(number: int, piece: bytes) -> None:
+    """Writes all of the bytes. Raises OSError if not all of them could be written."""
+    while piece:
+        # a disk that is full may take a part, and says so at the next write
+        piece = piece[os.write(number, piece) :]
 
 
 def is_empty(path: bytes) -> bool:

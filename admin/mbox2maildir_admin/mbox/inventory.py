@@ -211,7 +211,3 @@ class Inventory:
         begin = self.offsets[place] + len(mailbox.from_line_at(self.offsets[place])) + 1
         is_so = mailbox.has(begin, number, state.st_size) and not mailbox.has_changed()
         return self.table.digest(place) if is_so else None
-
-    def place(self, name: bytes) -> Optional[Place]:
-        """The place of the message to which a file of this name belongs; None if it belongs to none, or was renamed."""
-        return self.table.own_place(name)

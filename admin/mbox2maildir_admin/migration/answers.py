@@ -119,7 +119,7 @@ def as_before(opened: Opened, ledger: Ledger, path: str, by: By) -> Optional[tup
     with content_of(opened.mailbox, by[0]) as text, text_then(text, reading, *by) as then:
         if not then:
             return None
-        contents = Contents(then.mailbox, then.start, then.messages(), reading, then)
+        contents = Contents(then, then.messages(), reading)
         match = Match(ledger, path, Files(ledger.folder, contents.inventory), contents.is_deleted)
         match.find_known()
         return None if match.count_new() else (contents.words, remarks_on_lost(match))
@@ -278,7 +278,7 @@ def given_by(how: Options, known: Known, text: Mailbox, had: Had, lines: Iterabl
     choice = Choice(text, plan_of(text, decision=how.decision))
     with choice.text(disk_of(known.record.maildir, how.dry)) as whole:
         part = whole.begun_by(how.extra.start_of)
-        contents = Contents(part.mailbox, whole.start, part.messages(), choice.plan.bared(how.extra.IS_BARE).reading)
+        contents = Contents(part, part.messages(), choice.plan.bared(how.extra.IS_BARE).reading)
         is_shown = are_brought(had, contents.inventory, lines)
         if is_shown:
             # a mailbox that is read so also goes on as it was read before

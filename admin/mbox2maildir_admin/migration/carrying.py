@@ -1,4 +1,4 @@
-"""Carries out the steps of a mailbox, whatever kind of run has planned them: what is not wanted is removed, what is
+"""Carries out the steps of a mailbox, those of a first pass or of any other: what is not wanted is removed, what is
 going to be there is noted, mbox2maildir places messages, and these get dates and flags, and are verified. Once the
 disk was synced, it is noted what became of mailboxes.
 """
@@ -27,7 +27,7 @@ from ..readings.unnamed import copy_of_some
 from ..remarks import Remark, Says
 from ..units import Offset, Place
 from .cut import want_none_cut
-from .outcomes import Fate, Outcome, Pass, Row
+from .outcomes import Fate, Outcome, Row
 from .steps import FirstPass, LaterPass, Steps
 
 CHANGED_MEANWHILE = "it changed in the meantime: stop the program that writes to it, and run this again"
@@ -52,8 +52,8 @@ ONCE = "the system reported an error, but the same works now: read the system's 
 
 def carry_out(steps: Steps, row: Row, program: Program) -> Outcome:
     """Does what was planned, and returns what became of the mailbox, with the row that says this and what else is to be
-    said by then. Raises Left if something fails, or is not as it was any more."""
-    own, opened, batch = steps.own, steps.opened, None
+    said by then. Raises Left, Fault or OSError if something fails, or is not as it was any more."""
+    own, opened, batch, ends_list = steps.own, steps.opened, None, False
     if isinstance(own, FirstPass):
         if own.is_done(steps.placing):
             note_state(own)
@@ -61,10 +61,10 @@ def carry_out(steps: Steps, row: Row, program: Program) -> Outcome:
         said = [*cleared(own.prepared), *prepare(steps, own, program)]
     else:
         said = cleared(own.prepared) if own.prepared else []
-        batch = begin(steps, own)
+        batch, ends_list = begin(steps, own), own.ends_list
         said += [] if own.has_nothing_new else complete(steps, own, program, batch)
     row, its = row._replace(remarks=(*row.remarks, *said)), (unspelled(steps.known.path), opened.mailbox.state)
-    return Outcome(row, opened.folder, batch, own.which, *its)
+    return Outcome(row, opened.folder, batch, ends_list, *its)
 
 
 def cleared(prepared: Prepared) -> list[Remark]:
@@ -94,7 +94,7 @@ def prepare(steps: Steps, first: FirstPass, program: Program) -> list[Remark]:
         known.record.add(Note.PREPARED, known.key, *words)
     back = convert(steps, program)
     # a date changes a file's ctime
-    Dating(contents.text, steps.files).give_all(steps.opened.folder)
+    Dating(contents.text.mailbox, steps.files).give_all(steps.opened.folder)
     prepared.note_facts()
     said = [*date_and_verify(steps), *came_back(steps, back)]
     prepared.write_whole(first.origin, first.text, first.took)
@@ -141,10 +141,10 @@ def convert(steps: Steps, program: Program, batch: Optional[int] = None) -> int:
         ran = place_messages(steps, program)
     except Failed as failed:
         raise explained(failed, steps, batch) from failed
-    is_whole, wanted = ran.end == steps.contents.text.end, len(steps.placing.nowhere)
+    is_whole, wanted = ran.end == steps.contents.text.mailbox.end, len(steps.placing.nowhere)
     if batch and is_whole and 0 < wanted <= ran.placed:
         note_all_placed(steps.opened.folder, batch)
-    if steps.opened.has_changed(steps.contents.text):
+    if steps.opened.has_changed(steps.contents.text.mailbox):
         raise Left(CHANGED_WHILE_CONVERTED, Reason.CHANGED)
     return max(0, ran.placed - wanted) if is_whole else 0
 
@@ -154,7 +154,7 @@ def place_messages(steps: Steps, program: Program) -> Converted:
     program gets no message that is there, since that would come back if somebody deletes it now. A copy of what stands
     before messages that are there comes first. In a folder that is prepared, it does not run for nothing: what a killed
     pass has placed is synced with the disk. The record stays locked meanwhile."""
-    text, inventory, placing, placed = steps.contents.text, steps.contents.inventory, steps.placing, 0
+    text, inventory, placing, placed = steps.contents.text.mailbox, steps.contents.inventory, steps.placing, 0
     folder, record, before = steps.opened.folder, steps.known.record, placing.copied()
 
     def place(text: Mailbox, start: Offset) -> Converted:
@@ -197,7 +197,7 @@ def explained(failed: Failed, steps: Steps, batch: Optional[int]) -> Left:
 
 def date_and_verify(one: Steps) -> list[Remark]:
     """Dates what was brought, and returns what is to be said of that. Raises Left unless each message is there once."""
-    text = one.contents.text
+    text = one.contents.text.mailbox
     check, dating = Check(one.files, say=one.opened.mailbox.say), Dating(text, one.files)
 
     def look_first(place: Place, number: int, state: os.stat_result) -> Optional[bytes]:
@@ -233,12 +233,13 @@ def settled(several: Sequence[tuple[Outcome, Optional[OSError]]]) -> list[Row]:
                 raise Left(CHANGED_MEANWHILE, Reason.CHANGED)
             if one.batch:
                 ended[one.folder][place] = one
-            elif one.which is Pass.FIRST:
+            elif one.folder:
+                # of a first pass
                 finish_list(one.folder)
     for folder, its in ended.items():
         with leaving(rows, *its):
             note_ends(folder, (one.batch for one in its.values() if one.batch))
-            if any(one.which in (Pass.AGAIN, Pass.LAST) for one in its.values()):
+            if any(one.ends_list for one in its.values()):
                 # if a power cut brings it back, the ledger shows that it is over
                 remove_list(folder, sync=False)
     return rows

@@ -55,7 +55,7 @@ def want_none_cut(one: Steps, names: Container[bytes]) -> None:
     listed = mail_in(one.opened.folder) if names else ()
     found = (path for name, path in listed if before_info(name) in names)
     paths = {beginning_in(path): path for path in found}
-    text, inventory = one.contents.text, one.contents.inventory
+    text, inventory = one.contents.text.mailbox, one.contents.inventory
     for place in one.match.new if paths else ():
         digest = Digest({size for size, _ in paths})
         start = text.at(inventory.offsets[place], BLOCK).find(b"\n") + 1

@@ -52,7 +52,7 @@ from .carrying import CHANGED_MEANWHILE, SYNC_FAILED, carry_out
 from .cut import names_that_may_be_cut
 from .known import Elsewhere, Known, Opened
 from .options import Options
-from .outcomes import Fate, Outcome, Pass, Row, row_left
+from .outcomes import Fate, Outcome, Row, row_left
 from .preparing import (
     Preparation,
     mend,
@@ -208,6 +208,8 @@ class Transfer:
     def bring_rest(self) -> Outcome:
         """Does what is left to do, and returns what became of the mailbox. If a human must decide about it, that may be
         known from before."""
+        if not self.how.again:
+            self.known.take_place_by_bytes()
         row = None if self.how.again else self.row_if_done()
         is_wanted = not row and self.is_wanted()
         while not row:
@@ -217,14 +219,13 @@ class Transfer:
                     return ended._replace(row=ended.row._replace(tie=self.tie))
             except Question as question:
                 row = None if self.how.again else self.row_as_before()
-                if not row and not self.is_answered(question):
+                if not row and not self.take_answer(question):
                     self.how.put_commands(self.root, self.opened, question)
                     raise
         return Outcome(row)
 
     def row_if_done(self) -> Optional[Row]:
         """The row of a mailbox that is done by its bytes. A line may be about other messages of a Takeout."""
-        self.known.take_place_by_bytes()
         line = self.known.done()
         if not line or self.part and Reading.of_words(line.plan).part != self.part.plan.reading.part:
             return None
@@ -232,8 +233,9 @@ class Transfer:
         return self.row_before(line.plan, line.messages, more)._replace(next=then)
 
     def is_wanted(self) -> bool:
-        """Whether it goes into the folder. A first pass leaves one that is empty, where another one has brought mail: a
-        program that delivers makes such a file once the old one was moved away. Raises Left if it cannot go there."""
+        """Whether anything is done with it. A first pass does nothing with one that is empty, where another one has
+        brought mail: a program that delivers makes such a file once the old one was moved away. Raises Left if it can't
+        go there."""
         if not self.preparation or not self.how.prepare:
             return True
         if self.ledger.sources and self.path not in self.ledger.paths() and not self.opened.mailbox.size:
@@ -261,9 +263,9 @@ class Transfer:
         says = (*of_uids, *dropped, *of_folder, *more)
         return Row(mailbox.path, name, "", messages, Fate.BEFORE, size=mailbox.size, remarks=says)
 
-    def is_answered(self, question: Question) -> bool:
-        """Whether a question is answered by what was said before, or by what the mailbox has brought: then it is read
-        by that."""
+    def take_answer(self, question: Question) -> bool:
+        """Has the mailbox read by the answer to a question that was given before, or that what it has brought shows.
+        Returns whether there is one."""
         given = question.by_tie(self.how.answer)
         answer = given or answer_to(self.record, self.opened, question)
         # what is decided about several does not decide what was asked about one
@@ -362,13 +364,13 @@ class Transfer:
         if not again:
             known.take_place_by_cores(contents.inventory)
         match, prepared = self.matched(part, contents, again), None if again else self.prepared
-        which = Pass.AGAIN if again else Pass.LAST if prepared else Pass.AT_ONCE
+        ends_list = again or prepared is not None
         if known.path in known.ledger.sources and not match.count_new():
-            steps = Steps.of(known, contents, match, how.extra, LaterPass(which, has_nothing_new=True))
+            steps = Steps.of(known, contents, match, how.extra, LaterPass(again, ends_list, has_nothing_new=True))
             return steps, self.row_before(contents.words, len(contents.inventory), remarks_on_lost(match))
         origin = origin_now(known, contents, how.names) if prepared and not prepared.origin else None
         back = 0 if again else self.may_come_back(match)
-        own = LaterPass(which, prepared, origin, back, names_that_may_be_cut(known, match))
+        own = LaterPass(again, ends_list, prepared, origin, back, names_that_may_be_cut(known, match))
         steps = Steps.of(known, contents, match, how.extra, own)
         hindrance = how.extra.hindrance(steps)
         if hindrance:
@@ -493,7 +495,7 @@ class Transfer:
 
     def left_to_store(self, left: Left, contents: Contents, match: Match) -> Left:
         """Why it is left, with the command that stores what is nowhere: without what could not be done besides then."""
-        steps = Steps.of(self.known, contents, match, self.how.extra, LaterPass(Pass.AGAIN))
+        steps = Steps.of(self.known, contents, match, self.how.extra, LaterPass(True, ends_list=True))
         hindrance = self.how.extra.hindrance(steps)
         stays = self.how.dovecot and not hindrance
         then = self.command(Does.DOUBLES, match.count(Stand.NOWHERE), again=True, dovecot=stays)
@@ -512,7 +514,7 @@ class Transfer:
         with choice.text(self.disk) as whole:
             text = whole.begun_by(self.how.extra.start_of)
             inventory = read_messages(self.program, text, choice)
-            yield Contents(text.mailbox, whole.start, inventory, choice.plan.reading, text)
+            yield Contents(text, inventory, choice.plan.reading)
 
     def want_sure(self, contents: Contents, match: Match) -> None:
         """Raises Left if nobody knows what the files of the folder are, or whether it is the same mailbox."""

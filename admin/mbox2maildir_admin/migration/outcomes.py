@@ -1,5 +1,4 @@
 """What became of a mailbox, how that is said, and who is told of it."""
-import enum
 import functools
 import os
 from collections.abc import Iterator, Sequence
@@ -189,26 +188,16 @@ class Row(NamedTuple):
         return self.fate not in (Fate.BEFORE, Fate.NOTHING_NEW, Fate.FOUND, Fate.WHOLE, Fate.NO_MAIL)
 
 
-class Pass(enum.IntEnum):
-    """How a run brings mail: it is mail at once, and with --again all that is nowhere is placed. Or first passes only
-    prepare it, and go by nothing in the ledger, until a last pass makes mail of that. Once mail was prepared in a
-    Maildir, a run into any folder without mail is a last pass: if it is killed, a first pass may follow."""
-
-    AT_ONCE = 0
-    AGAIN = 1
-    FIRST = 2
-    LAST = 3
-
-
 class Outcome(NamedTuple):
     """What became of a mailbox: the row that is printed of it and, if all of its messages were verified in a folder,
     what is noted there once the disk was synced."""
 
     row: Row
-    # the folder, the batch of its ledger, which a first pass does not have, and which pass it was
+    # the folder, the batch of its ledger, which a first pass does not have, and whether a list of what was prepared
+    # there is over then
     folder: bytes = b""
     batch: Optional[int] = None
-    which: Pass = Pass.AT_ONCE
+    ends_list: bool = False
     # the path of the mailbox, and the state of its file: it is closed, so others may write to it
     path: bytes = b""
     state: Optional[os.stat_result] = None

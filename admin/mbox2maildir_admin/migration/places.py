@@ -110,9 +110,9 @@ def with_own_folders(
     return several
 
 
-def has_record(plan: Iterable[Planned], record: Record) -> bool:
-    """Whether there is a record, which several processes need from the beginning. It is made if a mailbox can be read.
-    A dry run needs none."""
+def make_record(plan: Iterable[Planned], record: Record) -> bool:
+    """Makes the record, which several processes need from the beginning, if a mailbox can be read. Returns whether
+    there is one; a dry run needs none."""
     if any(is_mbox(one.target or one.path) for one in plan):
         record.make()
     return record.is_dry or record.is_open

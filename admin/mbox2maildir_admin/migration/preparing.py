@@ -367,9 +367,8 @@ def same_as_prepared(prepared: Prepared, how: Options, opened: Opened) -> Option
     # where a From_ line names no time zone, its date is that of today's zone
     dates = (seconds_of(mailbox.from_line_at(offset)) for offset in inventory.offsets[:-1])
     inventory.dates = array.array("q", (NO_DATE if date is None else date for date in dates))
-    full = Text(mailbox, plan.start, offsets=inventory.offsets)
-    copy = Text(mailbox, plan.start, full=full) if reading.bare else None
-    contents = Contents(mailbox, Offset(inventory.offsets[0]), inventory, reading, copy)
+    text = Text(mailbox, plan.start, offsets=inventory.offsets)
+    contents = Contents(text._replace(full=text) if reading.bare else text, inventory, reading)
     return Part(Choice(mailbox, plan), lambda: contextlib.nullcontext(contents), mailbox.size, is_as_prepared=True)
 
 

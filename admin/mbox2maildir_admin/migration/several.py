@@ -26,7 +26,7 @@ from .leftovers import Leftovers
 from .carrying import settled
 from .mailbox import Migration
 from .outcomes import Fate, Observer, Outcome, Row, row_left, seen
-from .places import Pairs, Planned, UserHome, as_inbox, as_named, has_record, into_inbox, recorded
+from .places import Pairs, Planned, UserHome, as_inbox, as_named, into_inbox, make_record, recorded
 from .servers import Place, locations, want_unread
 from .options import Options
 from .steps import Extra
@@ -142,7 +142,7 @@ class Several:
         groups = groups_of(folders)
         jobs, rows = min(jobs_of(how.jobs, len(groups)), len(groups)), InOrder(self.observer.row)
         try:
-            if jobs > 1 and has_record(plan, self.migration.record):
+            if jobs > 1 and make_record(plan, self.migration.record):
                 self.observer.at_once = jobs
                 self.migrate_at_once(plan, largest_first(groups, [one.target or one.path for one in plan]), jobs, rows)
             else:

@@ -1,5 +1,5 @@
-"""What a run does with a mailbox and its folder: a value, which is made before anything is done. A rehearsal ends
-with it, and `carrying.py` carries it out."""
+"""What a run does with a mailbox and its folder: a value, which is made before anything is placed or removed for it. A
+rehearsal ends with it, and `carrying.py` carries it out."""
 import collections
 import contextlib
 import os
@@ -29,18 +29,14 @@ from ..remarks import Remark, Says
 from ..terminal import first_of, named
 from ..units import Offset, Place, counted
 from .known import Known, Opened
-from .outcomes import Pass
 
 
 class Contents(NamedTuple):
-    """What is converted of a mailbox: the text that stands for it, where that begins, its messages, how it is read, and
-    what else is known of a copy."""
+    """What is converted of a mailbox: the text that stands for it, its messages, and how it is read."""
 
-    text: Mailbox
-    start: Offset
+    text: Text
     inventory: Inventory
     reading: Reading = PLAIN
-    copy: Optional[Text] = None
 
     @property
     def words(self) -> str:
@@ -50,14 +46,12 @@ class Contents(NamedTuple):
     @property
     def full(self) -> Text:
         """The text with all its header fields."""
-        if self.copy and self.copy.full:
-            return self.copy.full
-        return Text(self.text, self.start, offsets=self.inventory.offsets)
+        return self.text.full or self.text._replace(offsets=self.inventory.offsets)
 
     @property
     def is_bare(self) -> bool:
         """Whether its bare text goes into the files."""
-        return bool(self.copy and self.copy.full)
+        return self.text.full is not None
 
     def header(self, place: Place) -> bytes:
         """The header of a message, with all its fields."""
@@ -71,7 +65,7 @@ class Contents(NamedTuple):
 
     def unquoted(self, places: Sequence[int]) -> int:
         """How many lines of messages at some places lose a `>`."""
-        quoted = self.copy.quoted_before if self.copy else ()
+        quoted = self.text.quoted_before
         skipped = len(quoted) - 1 - len(self.inventory)
         by_copy = sum(quoted[skipped + place + 1] - quoted[skipped + place] for place in places) if quoted else 0
         return sum(self.inventory.unquoted[place] for place in places) - by_copy
@@ -98,14 +92,14 @@ class Part(NamedTuple):
 
 
 class FirstPass(NamedTuple):
-    """What a first pass has of its own: the list of what is prepared in the folder, and what it notes there of the
-    mailbox and, if it can, of the text, with the milliseconds that these took to read."""
+    """What a first pass has of its own, which goes by nothing in the ledger: the list of what is prepared in the
+    folder, and what it notes there of the mailbox and, if it can, of the text, with the milliseconds that these took to
+    read."""
 
     prepared: Prepared
     origin: Origin
     text: Optional[ReadText]
     took: int
-    which: Pass = Pass.FIRST
 
     def is_done(self, placing: Placing) -> bool:
         """Whether it finds everything as the last one has left it."""
@@ -115,9 +109,12 @@ class FirstPass(NamedTuple):
 
 
 class LaterPass(NamedTuple):
-    """What any other pass has of its own."""
+    """What any other pass has of its own. It makes mail at once. Once mail was prepared in the Maildir, it is a last
+    pass in any folder without mail: if it is killed, a first pass may follow."""
 
-    which: Pass
+    # whether all that is nowhere is placed, as with --again; and whether the list of what was prepared is over then
+    is_again: bool
+    ends_list: bool
     # what was only prepared in the folder, unless that stays as it is; and what is read, if its list does not have that
     prepared: Optional[Prepared] = None
     origin: Optional[Origin] = None
@@ -160,11 +157,6 @@ class Steps(NamedTuple):
         return cls(known, contents, placing, extra, own, places, files, *before)
 
     @property
-    def which(self) -> Pass:
-        """Which pass this is."""
-        return self.own.which
-
-    @property
     def prepared(self) -> Optional[Prepared]:
         """What was only prepared in the folder, unless it stays as it is."""
         return self.own.prepared
@@ -195,7 +187,7 @@ class Steps(NamedTuple):
         # what was prepared, and is as it was verified then, is not read again
         if self.prepared and at is not None and self.prepared.verified[at]:
             return self.files.table.digest(place)
-        return self.contents.inventory.digest_by(self.contents.text, self.places[place], number, state)
+        return self.contents.inventory.digest_by(self.contents.text.mailbox, self.places[place], number, state)
 
 
 class Extra:
@@ -225,7 +217,7 @@ class Extra:
 
     def kept(self, one: Steps) -> Optional[Kept]:
         """The flags that a mail program kept, if one did."""
-        return self.by_labels or kept_in(one.contents.text, one.contents.inventory)
+        return self.by_labels or kept_in(one.contents.text.mailbox, one.contents.inventory)
 
     def foresee(self, one: Steps) -> list[Remark]:
         """What `apply` would say, if nothing may be made."""
@@ -254,7 +246,7 @@ class Extra:
 def remarks_on(one: Steps, dry: bool) -> Iterator[Remark]:
     """What is to be said of what is new, what is there, and what is gone."""
     match, ledger = one.match, one.known.ledger
-    if one.which is Pass.AGAIN:
+    if isinstance(one.own, LaterPass) and one.own.is_again:
         yield Says.PLACED.of(counted(match.count(Stand.NOWHERE), "message"), dry=dry)
     else:
         yield from remarks_on_lost(match)

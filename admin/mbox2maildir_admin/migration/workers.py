@@ -14,7 +14,7 @@ from ..maildir.disk import Need, want_room
 from ..progress import amount
 from ..signals import INTERRUPTS
 from ..terminal import bytes_of, complain
-from .outcomes import Observer, Outcome, Pass, row_left
+from .outcomes import Observer, Outcome, row_left
 from .places import Planned
 from .telling import fields_of, row_of, value_of
 
@@ -131,9 +131,9 @@ class Workers(Crew):
     def take_row(self, child: Worker, place: int, row: Mapping[str, Any], *told: Any) -> None:
         """Takes what became of a mailbox."""
         child.places.remove(place)
-        folder, batch, which, path, state = told
+        folder, batch, ends_list, path, state = told
         its = bytes_of(path), state and os.stat_result(*state)
-        self.ended[place] = Outcome(row_of(row), bytes_of(folder), batch, Pass(which), *its)
+        self.ended[place] = Outcome(row_of(row), bytes_of(folder), batch, ends_list, *its)
         self.rest(child)
 
     def serve(self) -> None:

@@ -241,4 +241,4 @@ class Takeouts(Migration):
         with part_of(takeout.text, takeout.inventory, places, self.disk) as text:
             inventory = read_messages(self.program, text, choice)
             want_same(inventory, takeout.inventory, places)
-            yield Contents(text.mailbox, text.start, inventory, choice.plan.reading, text)
+            yield Contents(text, inventory, choice.plan.reading)
