@@ -10,6 +10,7 @@ from typing import Any, NoReturn
 
 from .. import ADMIN
 from ..faults import Status
+from ..nexts import Does
 from ..terminal import complain, put, shown, write
 from ..version import version
 from .options import USERS, Given, Option, WrongOptions, options_of, want_homes, want_together
@@ -54,7 +55,7 @@ class Parser:
     def error(self, message: str) -> NoReturn:
         """Ends the program with status 2."""
         complain(message)
-        complain("run this next: %s --help" % self.prog)
+        complain("%s: %s --help" % (Does.RUN.says, self.prog))
         sys.exit(2)
 
     def read(self, words: Iterable[str]) -> Given:

@@ -114,6 +114,14 @@ class Row(NamedTuple):
         return " -> ".join(filter(None, reversed(names) if self.is_back else names))
 
     @property
+    def name(self) -> str:
+        """What its line begins with in a list: INBOX for the mailbox of the spool. One that is left is named without
+        its folder, unless it has several, of which some may be left."""
+        if not self.path:
+            return " ".join(filter(None, [self.label, folder_shown(self.folder) if self.folder else ""]))
+        return self.label if self.fate == Fate.LEFT and not self.is_part else self.way
+
+    @property
     def said(self) -> list[Remark]:
         """What else is to be said of it, in the order of the table, whenever it came up."""
         return sorted(self.remarks, key=lambda one: PLACES[one.word])
