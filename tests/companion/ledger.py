@@ -3,6 +3,7 @@ mail programs and people have changed since, and equal messages. What a mailbox 
 it, what is new is placed, and what was deleted does not come back unsaid.
 """
 import gzip
+import os
 from collections.abc import Callable, Sequence
 from functools import partial
 
@@ -79,6 +80,27 @@ def rule_1_killed_and_taken_by_another(home: Home) -> None:
         row = home.bring(OTHER=letters(4, 7))["OTHER"]
         home.has(*range(5), 7)
         want_said(row, 1, "already", "OLD")
+
+
+def rule_1_killed_and_finished_by_another(home: Home) -> None:
+    """A run was killed once all was placed, before files got their dates. Another mailbox takes a file of it, which is
+    dated and verified then. If somebody has edited that, the mailbox is left until the file is moved away."""
+    for words, is_edited in home.each(([], ["--again"]), (False, True)):
+        home.bring(OLD=letters(4, 5))
+        home.forget_end()
+        for path in home.files():
+            os.utime(path)
+        home.write("OTHER", letters(4, 7))
+        (path,) = home.those(4)
+        if is_edited:
+            path.write_bytes(path.read_bytes() + b"more\n")
+            ran = home.run("OTHER", words=words)
+            equal(f"{home.values}: why it is left", ran["OTHER"]["reason"], "not-verified")
+            want_said(ran["OTHER"], "other bytes 1")
+            path.rename(home.path / "edited")
+        home.done("OTHER", words=words)
+        home.has(4, 5, 7)
+        equal(f"{home.values}: the date", home.those(4)[0].stat().st_mtime % 60, 4)
 
 
 def fields_change(fields: Fields, home: Home) -> None:

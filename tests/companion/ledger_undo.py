@@ -183,6 +183,21 @@ def rule_6_whatever_became_of_a_file(home: Home) -> None:
         equal(f"{home.values}: rehearsed", [one["says"] for one in rehearsed["remarks"]], would)
 
 
+def rule_6_edited_beside_a_killed_run(home: Home) -> None:
+    """A run of the first was killed before it had placed a message, which its twin brings. Somebody edits that file,
+    and an undo of the twin keeps it. It is no file of the first: the twin is left until the file is moved away."""
+    home.bring(OLD=letters(1))
+    home.forget_end()
+    home.take(1)
+    home.bring(TWIN=letters(1))
+    edited(home.those(1)[0])
+    want_said(home.undo("TWIN")["TWIN"], EDITED)
+    equal("why it is left", home.left("TWIN")["reason"], "not-verified")
+    home.those(1)[0].rename(home.path / "edited")
+    home.done("TWIN")
+    home.has(1)
+
+
 def rule_6_what_is_kept(home: Home) -> None:
     """What the mailbox does not have any more stays, and so does what others have or had, which is counted each."""
     home.bring(OLD=letters(*TEN), OTHER=letters(0, 1, 3))

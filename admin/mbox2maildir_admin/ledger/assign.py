@@ -56,6 +56,11 @@ class File:
         """Whether a mailbox has its message still."""
         return any(line.state is State.HELD for line in self.lines)
 
+    @property
+    def is_brought(self) -> bool:
+        """Whether a mailbox has brought its message, and has it still or not. A run has finished with it then."""
+        return any(line.state in BROUGHT for line in self.lines)
+
     def is_held_by(self, path: str) -> bool:
         """Whether this mailbox has it still."""
         return any(line[:2] == (path, State.HELD) for line in self.lines)

@@ -327,7 +327,7 @@ class Match:
             unnamed = self.unnamed(files, places)
             # first what the mailbox has: each counts for one message only
             for file in sorted(files, key=lambda one: (not one.is_held_by(self.path), not one.is_held)):
-                if any(line.state in BROUGHT for line in file.lines):
+                if file.is_brought:
                     file.find(unnamed, file.bare)
             files += [nobodys(name, core, bare) for bare, names in unnamed.items() for name in names]
             served = {one for one in files if self.is_mine(one.name or b"") or one.is_held_by(self.path)}
@@ -381,13 +381,15 @@ class Match:
         self.seen.other_form += sum(bool(there) and self.inventory.bare(place) not in there for place in rest)
 
     def note(self, offer: Offer, place: int) -> None:
-        """Notes that a file stands for a message. What this program has placed and no run has finished gets dates and
-        flags too."""
+        """Notes that a file stands for a message. What this program has placed and no run has finished, whichever
+        mailbox that was for, is verified, and gets dates and flags too."""
         why, (path, state, its, *_), seen = offer.why, offer.line, self.seen
         word = its.word if path == self.path else FOREIGN if its.word in NOBODYS else SHARED
         self.found[place] = Brought(word, its.name, self.inventory.core(place), self.inventory.bare(place))
         is_there = its.name == offer.file.name and is_own(its.name)
-        self.states[place] = Stand.FRESH if is_there and why in (Why.BEGUN, Why.NOBODYS) else Stand.FOUND
+        # with --again, a file of nobody was read just now
+        is_finished = offer.file.is_brought if path else why is Why.ANY
+        self.states[place] = Stand.FRESH if is_there and (why is Why.BEGUN or not is_finished) else Stand.FOUND
         if not path:
             seen.foreign.append(its.name)
         elif why is not Why.ANY:
