@@ -4,20 +4,18 @@ from ..back.several import bring_back
 from ..migration.outcomes import Row
 from ..migration.rows import Reporter, Shows
 from ..migration.options import Options
-from ..users.asked import Tally
 from ..users.going_back import back_users
 from .options import Given, jobs_in
-from .running import reporter_of, run_reported
-from .spools import spool_of
+from .running import reporter_of, run_reported, spool_of
 
 
 def do_back(given: Given) -> int:
     """Brings mail back, and says whether all of it is in the mailboxes."""
     options = Options(dry=given.dry_run, now=given.now, dovecot=given.dovecot, jobs=jobs_in(given))
 
-    def back(reporter: Reporter, tally: Tally) -> None:
+    def back(reporter: Reporter) -> None:
         if given.users:
-            back_users(*spool_of(given), options, reporter, tally)
+            back_users(spool_of(given, options), reporter)
         else:
             root, *names = given.operands
             reporter.then = bring_back(root, names, options, reporter)

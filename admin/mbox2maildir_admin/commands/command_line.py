@@ -12,7 +12,6 @@ from .. import ADMIN
 from ..faults import Status
 from ..nexts import Does
 from ..terminal import complain, put, shown, write
-from ..version import version
 from .options import USERS, Given, Option, WrongOptions, options_of, want_homes, want_together
 from .words import COMMANDS, PROGRAM, Words
 
@@ -149,6 +148,8 @@ def run(words: Sequence[str]) -> int:
     parser = Parser(ADMIN, PROGRAM._replace(text="\n".join([PROGRAM.text, "", "commands:", *shorts])), {"": [VERSION]})
     given = parser.read(words)
     if given.version:
+        from ..version import version
+
         put("%s %s" % (ADMIN, version()))
         return Status.WELL
     for name in given.operands:

@@ -12,9 +12,8 @@ from ..migration.options import Options
 from ..nexts import Runs, run_next
 from ..readings.reading import UNDECIDED
 from ..terminal import complain, has_terminal, named, operand
-from ..users.asked import Tally
 from .options import Given, WrongOptions, decision_of, jobs_in, labels_of
-from .running import Telling, reporter_of, run_reported
+from .running import Telling, reporter_of, run_reported, spool_of
 
 # the options that answer questions about mailboxes, or can be given only once
 ANSWERS = ("--as", "--of", "--text", "--begin", "--drop-deleted", "--report")
@@ -32,14 +31,13 @@ def do_migrate(given: Given) -> int:
     task, reporter = task_of(given), printer_of(given)
     if given.list:
         from ..users.spool import list_users
-        from .spools import spool_of
 
-        return Status.of(list_users(*spool_of(given)))
+        return Status.of(list_users(spool_of(given, Options())))
 
-    def migrate(reporter: Reporter, tally: Tally) -> None:
-        tally.notes += [ONLY_PREPARED] * given.prepare
-        task(reporter, tally)
-        reporter.ask(lambda words: task_of(given.read(words))(reporter, tally))
+    def migrate(reporter: Reporter) -> None:
+        task(reporter)
+        reporter.notes += (ONLY_PREPARED,) * given.prepare
+        reporter.ask(lambda words: task_of(given.read(words))(reporter))
         unmet = [tie for tie in given.of.split(",") if tie not in reporter.kept.ties]
         if given.of and unmet and not is_one(given):
             complain(UNMET % ",".join(map(named, unmet)))
@@ -54,12 +52,11 @@ def task_of(given: Given) -> Telling:
     says = given.again or given.word or given.drop_deleted
     options = options_of(given, bool(says) and is_one(given))
 
-    def task(reporter: Reporter, tally: Tally) -> None:
+    def task(reporter: Reporter) -> None:
         if given.users:
             from ..users.spool import migrate_users
-            from .spools import spool_of
 
-            migrate_users(*spool_of(given), options, reporter, tally)
+            migrate_users(spool_of(given, options), reporter)
         elif given.undo:
             undo(target, names[0], options, reporter)
         elif not leave_unquoted(given.operands, options, reporter):

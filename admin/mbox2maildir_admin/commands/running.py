@@ -1,18 +1,21 @@
-"""How a command runs that tells what becomes of mailboxes: its rows, its report and its last line."""
+"""How a command runs that tells what becomes of mailboxes: whose they are, its rows, its report and its last line."""
 import contextlib
 import os
 import sys
 from collections.abc import Callable, Mapping
-from typing import Optional
+from typing import TYPE_CHECKING, Optional
 
 from ..faults import Status
+from ..migration.options import Options
 from ..migration.rows import INTERRUPTED, STEPS, Reporter, Shows
 from ..terminal import OutputFault, complain, drop
-from ..users.asked import Tally
 from .options import Given
 
+if TYPE_CHECKING:
+    from ..users.homes import Spool
+
 # does what a command says, and tells what became of each mailbox
-Telling = Callable[[Reporter, Tally], None]
+Telling = Callable[[Reporter], None]
 
 
 def reporter_of(given: Given, shows: Shows, steps: Mapping[str, int] = STEPS, task: str = "migrating") -> Reporter:
@@ -25,17 +28,28 @@ def reporter_of(given: Given, shows: Shows, steps: Mapping[str, int] = STEPS, ta
     return reporter
 
 
+def spool_of(given: Given, options: Options) -> "Spool":
+    """The spool that the command line names, and the users who are asked for, if any are."""
+    # only this one needs what gives a process the rights of another user
+    from ..users.homes import Spool
+    from ..users.spool import asked_for
+
+    path, *names = given.operands
+    asked = asked_for(names, None if given.names is None else os.fsencode(given.names))
+    return Spool(path, os.fsencode(given.maildir), os.fsencode(given.tree or ""), options, asked)
+
+
 def run_reported(task: Telling, reporter: Reporter, report: Optional[str], after: str) -> int:
     """Does a task whose rows a reporter gets, and a new file if one is named. Returns the status. `after` says what to
     do if the output takes no more."""
-    tally, written = Tally(), contextlib.ExitStack()
+    written = contextlib.ExitStack()
     if report is not None:
         from ..migration.objects import Report
 
         reporter.objects.insert(0, written.enter_context(contextlib.closing(Report(os.fsencode(report)))))
     try:
-        task(reporter, tally)
-        return reporter.end(*tally.words())
+        task(reporter)
+        return reporter.end(*reporter.notes)
     except KeyboardInterrupt:
         reporter.end(INTERRUPTED)
         raise

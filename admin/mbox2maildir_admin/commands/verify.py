@@ -19,7 +19,6 @@ from ..readings.texts import Text, open_text
 from ..remarks import SAYS
 from ..terminal import NAMED
 from ..units import Place, Say
-from ..users.asked import Tally
 from .files import each, for_mailboxes
 from .options import Given
 from .recorded import reading_then, record_of, root_of
@@ -41,30 +40,25 @@ def do_verify(given: Given) -> int:
     """Says whether each message is in the Maildir."""
     shows = Shows((lambda row: True) if given.all else None, given.users)
     reporter = reporter_of(given, shows, {}, "verifying")
+    task: Telling = functools.partial(verify_named, given)
     if given.users:
         # only this one needs what migrates
         task = importlib.import_module("%s.verify_users" % __package__).verifying_users(given)
-    else:
-        task = verifying(*given.operands)
     return run_reported(task, reporter, given.report, "run the same command again")
 
 
-def verifying(maildir: bytes, *files: bytes) -> Telling:
-    """What compares mailboxes with a Maildir."""
+def verify_named(given: Given, tell: Reporter) -> None:
+    """Compares the mailboxes that are named with a Maildir."""
+    maildir, *files = given.operands
 
-    def verify(tell: Reporter, tally: Tally) -> None:
-        del tally
+    def compare(folder: bytes, file: bytes) -> bool:
+        noted = noted_of(record_of(maildir), file)
+        if noted:
+            return verify_takeout(maildir, file, find_program(), noted, tell)
+        return verify_file(folder, file, find_program(), tell, os.path.relpath(folder, root_of(maildir)))
 
-        def compare(folder: bytes, file: bytes) -> bool:
-            noted = noted_of(record_of(maildir), file)
-            if noted:
-                return verify_takeout(maildir, file, find_program(), noted, tell)
-            return verify_file(folder, file, find_program(), tell, os.path.relpath(folder, root_of(maildir)))
-
-        tell.total = len(files)
-        each(files, lambda path: for_mailboxes(maildir, path, compare, tell), tell)
-
-    return verify
+    tell.total = len(files)
+    each(files, lambda path: for_mailboxes(maildir, path, compare, tell), tell)
 
 
 def verify_file(maildir: bytes, file: bytes, program: bytes, tell: Observer, folder: bytes) -> bool:

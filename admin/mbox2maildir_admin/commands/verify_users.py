@@ -1,4 +1,5 @@
 """The command `verify --users`: the mailboxes of many users, each compared with its Maildir with its user's rights."""
+import functools
 import os
 from collections.abc import Iterator
 
@@ -6,29 +7,21 @@ from ..ledger.record import Record
 from ..looks import is_folder, is_link
 from ..maildir.folders import INBOX
 from ..migration.places import Pairs, Planned, recorded
-from ..migration.rows import Reporter
 from ..migration.options import Options
 from ..migration.trees import Tree, link_left
 from ..nexts import Runs
-from ..program import Program
-from ..users.asked import Tally
 from ..users.homes import Migrant, Relay
 from ..users.spool import migrate_users
 from .files import for_planned
 from .options import Given, jobs_in
-from .running import Telling
-from .spools import spool_of
+from .running import Telling, spool_of
 from .verify import verify_file
 
 
 def verifying_users(given: Given) -> Telling:
     """What compares the mailboxes of users with their Maildirs."""
-    (spool, asked), options = spool_of(given), Options(jobs=jobs_in(given))
-
-    def verify(reporter: Reporter, tally: Tally) -> None:
-        migrate_users(spool, asked, options, reporter, tally, Verifier)
-
-    return verify
+    spool = spool_of(given, Options(jobs=jobs_in(given)))
+    return functools.partial(migrate_users, spool._replace(kind=Verifier))
 
 
 class Verifier(Migrant):
@@ -40,12 +33,12 @@ class Verifier(Migrant):
         """There is nothing else to compare."""
         return False
 
-    def run(self, names: list[bytes], relay: Relay, program: Program) -> None:
+    def run(self, names: list[bytes], relay: Relay) -> None:
         """Compares the mailboxes at these paths with the Maildir."""
         root = self.root
 
         def verify(folder: bytes, file: bytes) -> bool:
-            return verify_file(folder, file, program.path, relay, os.path.relpath(folder, root))
+            return verify_file(folder, file, self.spool.program, relay, os.path.relpath(folder, root))
 
         with Record.open(root, False) as record:
             pairs = Pairs(record, root, own=names)

@@ -216,8 +216,9 @@ class Observer:
 
     # how many mailboxes, or users, there are, and how many are at work at the same time
     total, at_once = 0, 1
-    # what is to be done once all is done
+    # what is to be done once all is done, and what else the last line says
     then: Next = NOTHING
+    notes: tuple[str, ...] = ()
 
     def begin(self, count: int = 1) -> None:
         """Notes that this many more have begun."""

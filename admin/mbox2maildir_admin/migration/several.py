@@ -5,8 +5,7 @@ from collections.abc import Callable, Iterator, Sequence
 from typing import TYPE_CHECKING, Optional
 
 from ..faults import Fault, Left, Reason
-from ..jobs.count import Places, groups_of, jobs_of
-from ..jobs.order import InOrder, largest_first
+from ..jobs.order import InOrder, Places, groups_of, jobs_of, largest_first
 from ..kinds.folders import is_maildir
 from ..kinds.making import is_below
 from ..kinds.named import is_spared

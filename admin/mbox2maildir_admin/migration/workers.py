@@ -6,8 +6,8 @@ from collections.abc import Callable, Iterator, Mapping, Sequence
 from typing import Any, NamedTuple, Optional
 
 from ..faults import Fault, Left, Reason
-from ..jobs.count import Places
 from ..jobs.crew import Child, Crew, Parent
+from ..jobs.order import Places
 from ..ledger.history import BY_WORD, Entry, Key
 from ..ledger.record import Record
 from ..maildir.disk import Need, want_room

@@ -16,11 +16,8 @@ from ..mbox.bases import BASE
 from ..mbox.lock_file import hold, look_for_lock_file, spot_of
 from ..mbox.mailbox import Mailbox
 from ..migration.outcomes import Fate, Observer
-from ..migration.options import Options
 from ..migration.trees import Tree
 from ..nexts import Runs
-from ..program import Program
-from .asked import Sources, Tally
 from .homes import Migrant, Relay, Spool, is_recorded
 from .inboxes import MAKE, RELEASE, TAKE, InboxClerk, Inboxes
 from .spool import migrate_users
@@ -56,18 +53,19 @@ class Returner(Migrant):
         yield from self.boxes
         yield from self.names_of_home(relay)
 
-    def run(self, names: list[bytes], relay: Relay, program: Program) -> None:
+    def run(self, names: list[bytes], relay: Relay) -> None:
         """Brings the mail of the Maildir back into the mailboxes at these paths."""
         root = self.root
         if not is_there(root) and all(map(is_bare, names)):
             return
         has_none = not self.mailbox and names == [self.user.place]
-        # what is there came from no old mailbox if its user has none
-        if not has_none or has_own_names(root):
+        # what is there came from no old mailbox if its user has none, unless a file has a name that only this program
+        # gives
+        if not has_none or any(BASE.match(name) for folder in folders_in(root) for name, _ in mail_in(folder)):
             want_migrated(root)
         paths = [one for one in names if one not in self.user.others or is_recorded(root, one)]
         names_back, keeper = Names(paths, self.tree, NO_INBOX), Asking(relay.parent, self.boxes)
-        relay.parent.tell("then", bring_all(program, root, names_back, self.options, keeper, relay))
+        relay.parent.tell("then", bring_all(self.program(relay), root, names_back, self.options, keeper, relay))
 
 
 def is_bare(path: bytes) -> bool:
@@ -79,11 +77,6 @@ def is_bare(path: bytes) -> bool:
     tree = Tree(path).read()
     is_left = tree.mailboxes() or tree.links or tree.maildirs
     return not is_left and all(row.fate == Fate.NO_MAIL for row in tree.rows)
-
-
-def has_own_names(root: bytes) -> bool:
-    """Whether a file of a Maildir has a name that only this program gives."""
-    return any(BASE.match(name) for folder in folders_in(root) for name, _ in mail_in(folder))
 
 
 class Asking(Keeper):
@@ -134,12 +127,12 @@ class Asking(Keeper):
         super().drop_locks([path for path in paths if os.path.realpath(path) not in self.places], owner)
 
 
-def back_users(spool: Spool, asked: Optional[Sources], options: Options, observer: Observer, tally: Tally) -> None:
+def back_users(spool: Spool, observer: Observer) -> None:
     """Brings the mail of the users of a spool back."""
     with contextlib.ExitStack() as stack:
-        if not options.dry:
+        if not spool.options.dry:
             with naming(spool.path):
                 spool = spool._replace(inboxes=stack.enter_context(contextlib.closing(Inboxes(spool.path))))
-        migrate_users(spool, asked, options, observer, tally, Returner)
+        migrate_users(spool._replace(kind=Returner), observer)
         # users end in any order
         observer.then = tuple(sorted(observer.then, key=str))

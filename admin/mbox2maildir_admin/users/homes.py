@@ -3,7 +3,7 @@ import functools
 import marshal
 import os
 import stat
-from collections.abc import Iterator, Sequence
+from collections.abc import Iterator, Mapping, Sequence
 from typing import Any, NamedTuple, Optional, Union
 
 from ..faults import Fault, Left, Reason
@@ -64,8 +64,8 @@ class Migrant:
     # has nothing of its user
     command, is_back = Runs.MIGRATE, False
 
-    def __init__(self, user: Found, spool: "Spool", options: Options, program: bytes) -> None:
-        self.user, self.spool, self.options, self.program = user, spool, options, program
+    def __init__(self, user: Found, spool: "Spool") -> None:
+        self.user, self.spool, self.options = user, spool, spool.options
         self.account, self.mailbox = user.account, None if user.size is None else user.place
         # the Maildir, and the folder of mailboxes, if one is asked for
         self.root = self.path_of(spool.maildir)
@@ -94,7 +94,7 @@ class Migrant:
             for path in self.of_spool() or [of_home]:
                 relay.leave(path, left)
         else:
-            self.work_on(list(self.names(relay)), relay, Program(self.program, parent.alive))
+            self.work_on(list(self.names(relay)), relay)
         parent.tell("end", relay.rows)
 
     def of_spool(self) -> list[bytes]:
@@ -123,7 +123,7 @@ class Migrant:
         except (Fault, OSError) as fault:
             relay.leave(self.tree, fault)
 
-    def work_on(self, names: list[bytes], relay: "Relay", program: Program) -> None:
+    def work_on(self, names: list[bytes], relay: "Relay") -> None:
         """Does the work for the mailboxes at these paths. If that cannot go on, those that have no row yet are left."""
         if not names and not self.has_more():
             return
@@ -135,7 +135,7 @@ class Migrant:
             if self.user.why_not and not is_recorded(self.root, names[0]):
                 relay.leave_rest(names, self.user.why_not)
                 return
-            self.run(names, relay, program)
+            self.run(names, relay)
         except (Fault, OSError) as fault:
             relay.leave_rest(names or [self.root], fault)
         except Exception as fault:  # pylint: disable=broad-except
@@ -145,22 +145,30 @@ class Migrant:
         """Whether folders of the Maildir are only prepared, which is said even if no mailbox is there any more."""
         return not self.options.prepare and may_be(lambda root: any(map(has_list, folders_in(root))), self.root)
 
-    def run(self, names: list[bytes], relay: "Relay", program: Program) -> None:
+    def run(self, names: list[bytes], relay: "Relay") -> None:
         """Migrates the mailboxes at these paths into the Maildir."""
         has_inbox = bool(self.mailbox) or self.user.is_left
         home = UserHome(self.account.home, has_inbox, functools.partial(sync_by_root, relay.parent))
-        run_all(self.options, self.root, names, relay, program, home)
+        run_all(self.options, self.root, names, relay, self.program(relay), home)
+
+    def program(self, relay: "Relay") -> Program:
+        """What runs mbox2maildir, as long as root is there."""
+        return Program(self.spool.program, relay.parent.alive)
 
 
 class Spool(NamedTuple):
     """A folder with one mailbox per user, and what is the same for all users: the names of the Maildir and of the
-    folder of mailboxes in each home, the options, and what is done."""
+    folder of mailboxes in each home, which may be empty, the options, the users who are asked for, with where their
+    names came from, if any are, and what is done."""
 
     path: bytes
     maildir: bytes
-    tree: Optional[bytes]
-    options: Options = Options()
+    tree: bytes
+    options: Options
+    asked: Optional[Mapping[bytes, str]] = None
     kind: type[Migrant] = Migrant
+    # the path of mbox2maildir
+    program: bytes = b""
     # where Dovecot looks for mail, if that was asked for
     locations: Optional[Sequence[str]] = None
     # the folder of the inboxes into which mail goes back, unless nothing is written

@@ -1,47 +1,66 @@
-"""The mailboxes of a spool, each migrated by a child that has only its user's rights."""
+"""The mailboxes of a spool, each migrated by a child that has only its user's rights: whose they are, and where the
+names of these users came from."""
 import collections
 import os
-from collections.abc import Iterable, Iterator
+from collections.abc import Iterable, Iterator, Mapping, Sequence
 from typing import AbstractSet, Optional, Union
 
-from ..faults import Fault, Left, Reason
-from ..jobs.count import MOST, jobs_of
-from ..jobs.order import size_of
+from ..faults import Fault, Left, Reason, naming
+from ..jobs.order import MOST, jobs_of, size_of
 from ..kinds.named import is_auxiliary, is_no_mail
 from ..looks import is_surely, is_there, may_be
 from ..maildir.folders import folder_path, on_disk
 from ..migration.outcomes import Fate, Observer, Row, row_left
 from ..migration.servers import locations
-from ..migration.options import Options
 from ..nexts import Answer, Command, Runs, run_next
 from ..program import find_program
 from ..readings.copies import stem_of
-from ..terminal import complain, named, operand, put, shown, text_of
+from ..terminal import INPUT, complain, named, operand, put, shown, text_of
+from ..units import counted
 from .accounts import MANY, NOBODY, Account, Accounts, size_of_mailbox, why_no_home
-from .asked import ACCOUNTS, ENDS, SPOOL, Sources, Tally
 from .children import Children, load_for_children
-from .homes import Found, Migrant, Spool
+from .homes import Found, Spool
+
+COMMAND_LINE, SPOOL, ACCOUNTS = "from the command line", "from the spool", "from the accounts"
+# as the name of a list of users: standard input
+DASH = b"-"
+# how long such a list may be, in bytes, and what ends a name in it
+LONGEST_LIST, ENDS = 1 << 24, frozenset(b"\t\n")
 
 # an account, however many names it has: its number and its home
 Key = tuple[int, bytes]
+# where each name came from, by the name
+Sources = Mapping[bytes, str]
 
 
-def migrate_users(
-    spool: Spool,
-    asked: Optional[Sources],
-    options: Options,
-    reporter: Observer,
-    tally: Tally,
-    kind: type[Migrant] = Migrant,
-) -> None:
+def asked_for(names: Sequence[bytes], path: Optional[bytes]) -> Optional[Sources]:
+    """The users that the command line and a list name; None if neither names any. The list has one name per line, each
+    up to a tab. Raises Fault if it has none, since that would have meant all users."""
+    asked = dict.fromkeys(names, COMMAND_LINE)
+    if path is None:
+        return asked or None
+    place = "standard input" if path == DASH else named(path)
+    with naming(path), open(INPUT if path == DASH else path, "rb", closefd=path != DASH) as file:
+        text = file.read(LONGEST_LIST + 1)
+    if len(text) > LONGEST_LIST:
+        raise Fault("%s: it is longer than 16 MB, so it is not a list of names" % place)
+    listed = list(filter(None, (line.partition(b"\t")[0] for line in text.split(b"\n"))))
+    if not listed:
+        raise Fault("%s: it contains no name" % place)
+    for name in listed:
+        asked.setdefault(name, "from %s" % place)
+    return asked
+
+
+def migrate_users(spool: Spool, reporter: Observer) -> None:
     """Migrates the mailboxes of a spool, and a folder of mailboxes of each home, user by user; or does something else
     with them."""
-    spool = spool._replace(path=os.path.abspath(spool.path), options=options, kind=kind)
+    options = spool.options
+    spool = spool._replace(path=os.path.abspath(spool.path), program=os.path.abspath(find_program()))
     if options.prepare:
         spool = spool._replace(locations=locations())
-    program = os.path.abspath(find_program())
     jobs = reporter.at_once = jobs_of(options.jobs, MOST)
-    waiting, others = users_of(spool, asked, reporter, tally, jobs > 1)
+    waiting, others = users_of(spool, reporter, jobs > 1)
     load_for_children()
     reporter.total = len(waiting) + len(others)
     # only one process at a time can be at work for an account
@@ -51,8 +70,8 @@ def migrate_users(
                 reporter.begin()
                 # if there are fewer users than jobs, several folders of a user are at work; what is left over goes to
                 # the first ones, which are the largest
-                options = options._replace(jobs=jobs // at_once + (place < jobs % at_once))
-                children.add(kind(one, spool, options, program))
+                its = options._replace(jobs=jobs // at_once + (place < jobs % at_once))
+                children.add(spool.kind(one, spool._replace(options=its)))
             children.wait()
 
 
@@ -62,30 +81,29 @@ def unpacked(waiting: "collections.deque[bytes]") -> Iterator[Found]:
         yield Found.unpacked(waiting.popleft())
 
 
-def users_of(
-    spool: Spool, asked: Optional[Sources], reporter: Observer, tally: Tally, is_by_size: bool
-) -> "tuple[collections.deque[bytes], list[Found]]":
+def users_of(spool: Spool, reporter: Observer, is_by_size: bool) -> "tuple[collections.deque[bytes], list[Found]]":
     """The users whose mailboxes are migrated: those that were asked for, otherwise those of the spool, and all users if
     homes have a folder of mailboxes; and further mailboxes of theirs. Says which names are left."""
     listed, accounts = frozenset(os.listdir(spool.path)), Accounts()
     want_entered(spool.path)
     names = mailboxes_among(listed, spool)
-    sources = sources_of(spool, names, accounts) if asked is None else asked
-    if asked is None:
-        tally.users = {SPOOL: 0, ACCOUNTS: 0}
+    sources = sources_of(spool, names, accounts)
+    if spool.asked is None:
+        counts, not_asked = {SPOOL: 0, ACCOUNTS: 0}, 0
         for name in listed - names:
             reporter.row(Row(b"", b"", "", None, Fate.NO_MAIL, user=shown(name)))
     else:
-        tally.users = dict.fromkeys(asked.values(), 0)
-        tally.not_asked = len({stem_of(name, listed) for name in listed} - asked.keys())
+        counts = dict.fromkeys(sources.values(), 0)
+        not_asked = len({stem_of(name, listed) for name in listed} - sources.keys())
     users = Users(spool, names, sources, accounts, reporter)
-    for name, source, account in accounts_of(spool, sources, accounts, asked is not None):
+    for name, source, account in accounts_of(spool, sources, accounts):
         if isinstance(account, Left):
             users.leave(name, account)
             users.leave_beside(name)
         else:
             users.add(name, account)
-            tally.users[source] += 1
+            counts[source] += 1
+    reporter.notes += tuple(sums_of(counts, not_asked))
     if spool.kind.is_back:
         users.join()
     found: Iterable[Found] = users.found.values()
@@ -95,13 +113,22 @@ def users_of(
     return collections.deque(map(Found.packed, found)), users.others
 
 
-def list_users(spool: Spool, asked: Optional[Sources]) -> bool:
+def sums_of(counts: Mapping[str, int], not_asked: int) -> Iterator[str]:
+    """What the last line says of users: how many there are, by where their names came from, and how many names of the
+    spool were not asked for."""
+    found = {source: count for source, count in counts.items() if count} or dict([*counts.items()][:1])
+    said = ", ".join("%d %s" % (count, source) for source, count in found.items())
+    yield "%s: %s" % (counted(sum(counts.values()), "user"), said)
+    if not_asked:
+        yield "%s of the spool %s not asked for" % (counted(not_asked, "name"), "was" if not_asked == 1 else "were")
+
+
+def list_users(spool: Spool) -> bool:
     """Prints the name of each user whom a run takes, where the name came from, and how many bytes the mailbox in the
     spool has, with tabs between them. Returns whether a list can hold all of these names."""
     spool, accounts, can_hold = spool._replace(path=os.path.abspath(spool.path)), Accounts(), True
-    names = mailboxes_among(os.listdir(spool.path), spool) if asked is None else frozenset()
-    sources = sources_of(spool, names, accounts) if asked is None else asked
-    for name, source, account in accounts_of(spool, sources, accounts, asked is not None):
+    names = mailboxes_among(os.listdir(spool.path), spool) if spool.asked is None else frozenset()
+    for name, source, account in accounts_of(spool, sources_of(spool, names, accounts), accounts):
         if isinstance(account, Left) or source == ACCOUNTS and not may_have_mail(account, spool):
             continue
         if ENDS & {*name}:
@@ -152,7 +179,10 @@ def mailboxes_among(names: Iterable[bytes], spool: Spool) -> AbstractSet[bytes]:
 
 
 def sources_of(spool: Spool, names: AbstractSet[bytes], accounts: Accounts) -> Sources:
-    """The names of a spool that may be mailboxes and, if homes have a folder of mailboxes, those of all users."""
+    """The users who are asked for, otherwise the names of a spool that may be mailboxes and, if homes have a folder of
+    mailboxes, those of all users."""
+    if spool.asked is not None:
+        return spool.asked
     # a file that may be a copy goes with its mailbox
     found = {name: SPOOL for name in names if stem_of(name, names) == name}
     if spool.is_of_homes:
@@ -162,23 +192,23 @@ def sources_of(spool: Spool, names: AbstractSet[bytes], accounts: Accounts) -> S
 
 
 def accounts_of(
-    spool: Spool, sources: Sources, accounts: Accounts, are_named: bool
+    spool: Spool, sources: Sources, accounts: Accounts
 ) -> Iterator[tuple[bytes, str, Union[Account, Left]]]:
     """The account of each name, with the source of the name, or why it is left."""
     if len(sources) > MANY and not accounts.by_name:
         accounts.read()
     for name, source in sources.items():
         try:
-            yield name, source, user_of(name, accounts, are_named, spool)
+            yield name, source, user_of(name, accounts, spool)
         except Left as left:
             yield name, source, left
 
 
-def user_of(name: bytes, accounts: Accounts, is_named: bool, spool: Spool) -> Account:
+def user_of(name: bytes, accounts: Accounts, spool: Spool) -> Account:
     """The account of a name. Raises Left if it is not a user's, and was not asked for by its name, with what would do
     it."""
     account = accounts.of_name(name)
-    if accounts.is_users(account) or is_named and account.uid not in (0, *NOBODY):
+    if accounts.is_users(account) or spool.asked is not None and account.uid not in (0, *NOBODY):
         return account
     command, words, says = spool.kind.command, spool.words(), "a system account"
     mailbox = operand(os.path.join(spool.path, account.name))
@@ -198,10 +228,10 @@ class Users:
     """The users that are migrated. Each account is there once, under the name of its mailbox."""
 
     def __init__(
-        self, spool: Spool, names: AbstractSet[bytes], asked: Sources, accounts: Accounts, reporter: Observer
+        self, spool: Spool, names: AbstractSet[bytes], sources: Sources, accounts: Accounts, reporter: Observer
     ) -> None:
-        """Begins without users. `names` are those of the spool, and `asked` all that are looked at."""
-        self.spool, self.names, self.asked, self.accounts, self.reporter = spool, names, asked, accounts, reporter
+        """Begins without users. `names` are those of the spool, and `sources` has all that are looked at."""
+        self.spool, self.names, self.sources, self.accounts, self.reporter = spool, names, sources, accounts, reporter
         # the names that may be copies, by the names of their mailboxes
         self.copies: dict[bytes, list[bytes]] = {}
         for name in sorted(names):
@@ -235,7 +265,7 @@ class Users:
             other = self.other_name(name, key)
             if other is not None:
                 self.others.append(user._replace(why_not=self.why_not(account, other, place)))
-                if other in self.asked:
+                if other in self.sources:
                     return
                 user = Found(name, account, place, None, True)
         if user.size is not None or self.spool.is_of_homes and key not in self.found:
@@ -281,7 +311,7 @@ class Users:
         own = self.accounts.of_number(key[0])
         if own and own.name != name and own.home == key[1]:
             # on the way back, an account has its place under its own name, even if no mailbox is there
-            if own.name in self.names or self.spool.kind.is_back and own.name in self.asked:
+            if own.name in self.names or self.spool.kind.is_back and own.name in self.sources:
                 return own.name
         taken = self.found.get(key)
         return taken.name if taken and taken.size is not None else None
