@@ -261,6 +261,24 @@ def rule_6_a_foreign_file_was_deleted(home: Home) -> None:
     home.has(20)
 
 
+def rule_6_what_was_nobodys_is_shared_first(home: Home) -> None:
+    """A mailbox has a message twice: in a file that was nobody's, and in one that it has placed, at once or before its
+    run was killed. What another mailbox shares is nobody's, so an undo of the first leaves no second file."""
+    for was_killed in home.each((False, True)):
+        home.bring(FIRST=letters(20))
+        home.place_file("1700.M1.host:2,S", mail_of(letter(1))[0])
+        home.bring(TWICE=letters(1, 1))
+        if was_killed:
+            home.forget_end()
+            home.done("TWICE")
+        home.bring(ONCE=letters(1))
+        home.has(1, 1, 20)
+        home.undo("TWICE")
+        home.has(1, 20)
+        home.undo("ONCE")
+        home.has(1, 20)
+
+
 def rule_6_what_was_nobodys(home: Home) -> None:
     """What was nobody's stays, also under a name that this program gives. What a reader has deleted of it is gone."""
     home.bring(FIRST=letters(20))

@@ -13,7 +13,7 @@ from collections.abc import Container, Iterable, Iterator, Mapping
 from enum import IntEnum
 from typing import NamedTuple, Optional
 
-from .lines import FOREIGN, NAMELESS, SHARED, Brought, Line, State
+from .lines import FOREIGN, NAMELESS, NOBODYS, SHARED, Brought, Line, State
 
 
 class Why(IntEnum):
@@ -170,6 +170,8 @@ def offers_of(files: Iterable[File], path: str) -> list[Offer]:
             one.file.is_renamed,
             one.line.path != path,
             one.line.state is State.FORMER,
+            # what was nobody's stays, whatever is undone
+            one.line.message.word not in NOBODYS,
             -one.file.takers,
         ),
     )
