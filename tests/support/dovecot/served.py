@@ -31,6 +31,8 @@ QUOTE = re.compile(rb"(?m)^>(?=>*From )")
 LEFT = re.compile(r"(?m)^.* -> (\S+): .*left \([a-z-]+\): .*\n(?:    (?:\.\.|(?:> |  )\d+ \|.*)\n)+    .* messages?:$")
 SAID_QUOTES = re.compile(r"in (\d+) lines? \(Dovecot showed it")
 STATUS, HEADER_END = re.compile(rb"(?im)^status[ \t]*:"), re.compile(rb"\n\r?\n")
+# a line with CR LF that a From_ line follows at once
+WITHOUT_BLANK_LINE = re.compile(rb"(?m)^(.+)\r\n(?=From )")
 INTERNAL = re.compile(rb"(?s)From MAILER.DAEMON .*?initial values\.\n\n")
 
 
@@ -171,8 +173,10 @@ class Case:
         self.folders = [name for name in self.folders if name not in left]
         is_by_pop3 = before[1] or not before[0]["INBOX"][2]
         before, after = (without(shown, left, bool(is_by_pop3)) for shown in (before, self.after()))
-        if self.may_be_left and any(differences(before, after, self.is_new)):
-            before = self.by_mailbox(before)
+        if self.may_be_left:
+            before = self.with_hidden_ends(before)
+            if any(differences(before, after, self.is_new)):
+                before = self.by_mailbox(before)
         self.seen.update(figures(before, after), left=len(left))
         if left:
             yield from differences(before, after, self.is_new)
@@ -186,6 +190,21 @@ class Case:
             yield from unsaid(before, after, says)
         yield from self.wrong_afterwards()
 
+    def text_of(self, folder: str) -> bytes:
+        """The text of the mailbox that Dovecot shows as a folder."""
+        return (self.inbox if folder == "INBOX" else self.home / "mail" / folder).read_bytes()
+
+    def with_hidden_ends(self, before: Shown) -> Shown:
+        """What was shown, with the CR LF at the end of a message that Dovecot takes for the blank line before the next
+        one, if there is none: when it removes a message after such an end, it removes the blank line, too."""
+        folders = {}
+        for name, (validity, following, rows) in before[0].items():
+            lines = tuple(b"\n" + line for line in WITHOUT_BLANK_LINE.findall(self.text_of(name)))
+            whole = [(*row[:4], row[4] + b"\r\n" * row[4].endswith(lines)) for row in rows]
+            self.seen["messages whose CR LF Dovecot hides"] += sum(row != its for row, its in zip(rows, whole))
+            folders[name] = validity, following, whole
+        return (folders, *before[1:])
+
     def by_mailbox(self, before: Shown) -> Shown:
         """What was shown, except that messages have the dates that Dovecot shows without its index, and those with
         several fields Status the flags. Its index may contradict the mailbox, which is all that `migrate` reads: a
@@ -197,9 +216,8 @@ class Case:
             anew = {row[0]: row for row in self.server.by_imap(other.name, name)[2]}
             if anew.keys() != {row[0] for row in rows}:
                 raise LeftOut("Dovecot shows other messages without its index")
-            path = self.inbox if name == "INBOX" else self.home / "mail" / name
             # a first message that Dovecot hides has no row
-            texts = split(path.read_bytes(), "unquoted")[-len(rows) :]
+            texts = split(self.text_of(name), "unquoted")[-len(rows) :]
             changed = []
             for row, text in zip(rows, texts):
                 its = anew[row[0]]
