@@ -7,6 +7,7 @@ import re
 import time
 from collections.abc import Callable, Iterable, Sequence
 from pathlib import Path
+from random import Random
 
 from tests.support.archives import texts_of
 from tests.support.ledgers import LEDGER, RECORD
@@ -292,6 +293,15 @@ class Passes(Trees):
             for row in rows
             if row["verdict"] != "undone"
         }
+
+    def chosen(self, several: Sequence[list[str]]) -> list[str]:
+        """The same command for both Maildirs, whatever else is left in one of them: nobody answers a question in two
+        ways."""
+
+        def order(words: list[str]) -> float:
+            return Random(f"{self.seed} {[word for word in words if word != self.into]}").random()
+
+        return min(several, key=order)
 
     def undo_rows(self) -> dict[str, object]:
         """What an undo of a mailbox would do."""

@@ -2,6 +2,7 @@
 between mailboxes and between folders, give both other names, copy, compress and restore them, until everything is
 done."""
 import shlex
+from collections.abc import Sequence
 
 from tests.support.running import Row
 from tests.worlds.deeds import OF_PLAIN, OF_TREES
@@ -68,10 +69,14 @@ class Trees(History):
             # nobody follows a second answer that is wrong
             if not (right if is_any else several):
                 break
-            words = self.draw.choice(right or [words for _, words in several])
+            words = self.chosen(right or [words for _, words in several])
             rows = self.run(["migrate", "--json", "--now", *words[2:]])[1]
             left, is_any = {path: row for path, row in rows.items() if row["verdict"] == "left"}, True
         return is_any
+
+    def chosen(self, several: Sequence[list[str]]) -> list[str]:
+        """The one of several commands that is run."""
+        return self.draw.choice(several)
 
     def is_right(self, path: str, words: list[str]) -> bool:
         """Whether a command makes no mail that nobody sent, and no program put there: a human answers by the lines that
