@@ -31,7 +31,7 @@ from tests.support.cases import Failed
 from tests.support.checks import equal
 from tests.support.homes import hand_over
 from tests.support.ledgers import as_if_killed
-from tests.support.mail import digest_of
+from tests.support.mail import INTERNAL, digest_of
 from tests.support.running import Kill, Row
 
 SEEDS = int(os.environ.get("LEDGER_SEEDS", "8"))
@@ -288,6 +288,21 @@ def rule_8_moved_and_more(home: Home) -> None:
     home.place.run(answers_of(ran["mail/x"])[0][1:])
     home.has(name="put-aside")
     home.has(0, 1, 2, 2, 3, 3, 4, 4, 5, 5, 6, 6, 7)
+
+
+def rule_8_moved_without_mail(home: Home) -> None:
+    """A mailbox that has no message but the one in which a server keeps its UIDs was moved. What is delivered to it
+    then is placed: the folder has its UIDs. Another mailbox at its new path has others."""
+    for is_other in home.each((False, True), words=["--dovecot", "--folder", "Archive"]):
+        home.bring(OLD=INTERNAL)
+        (home.path / "OLD").rename(home.path / "MOVED")
+        own = INTERNAL.replace(b"X-IMAP: 17", b"X-IMAP: 16") if is_other else INTERNAL
+        row = home.bring(MOVED=own)["MOVED"]
+        equal(f"{home.values}: has others", says(row, "Archive has the UIDs of another mailbox"), is_other)
+        home.write("MOVED", own + letter(1))
+        ran = home.run("MOVED")
+        equal(f"{home.values}: why it is left", ran["MOVED"]["reason"], "numbered" if is_other else None)
+        home.has(*[1] * (not is_other))
 
 
 def rule_8_moved_and_killed(home: Home) -> None:

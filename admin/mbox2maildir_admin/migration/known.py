@@ -6,7 +6,7 @@ from collections.abc import Container
 from typing import NamedTuple, Optional
 
 from ..ledger.history import Entry, Key, Note, Step, names_of
-from ..ledger.ledger import Ledger
+from ..ledger.ledger import Ledger, count_in
 from ..ledger.match import cores_of
 from ..ledger.record import Record, is_gone, unspelled
 from ..looks import is_there, state_at
@@ -153,15 +153,20 @@ class Known:
 
     def take_place_by_cores(self, inventory: Inventory) -> None:
         """Takes the place of a mailbox of the folder that is gone from its path, if this one is the same file, or has
-        its bytes, and has all that it had."""
+        its bytes, and has all that it had. Of one that had no message, only bytes show that it is the same."""
         ledger = self.ledger
         if self.path in ledger.paths():
             return
         moved = [path for path in moved_in(ledger, self.opened.mailbox) if path not in ledger.leaving]
         cores = cores_of(inventory) if moved else collections.Counter[bytes]()
-        path = next((path for path in moved if ledger.is_in(path, cores)), None)
+        path = next((path for path in moved if ledger.is_in(path, cores) or self.has_bytes_without_mail(path)), None)
         if path is not None:
             self.move(path)
+
+    def has_bytes_without_mail(self, path: str) -> bool:
+        """Whether the mailbox of a path had the bytes of this one, but no message: a server keeps its UIDs there."""
+        mailbox, ledger = self.opened.mailbox, self.ledger
+        return mailbox.size > 0 and not count_in(ledger, path) and ledger.last_read(path).key == mailbox.key()
 
     def move(self, path: str) -> None:
         """Notes that what the mailbox of a path brought, and the UIDs that the folder has from it, are this one's."""
