@@ -15,6 +15,8 @@ from tests.support.running import Row
 
 # a program may have escaped the line with `>`, so that no rule decides
 PART = with_length(A, MAY + b">From the shed.\n") + b"\n" + B + b"\n"
+# a message that Thunderbird has marked as read, and one that it has also marked as deleted
+SEEN, GONE = (A + b"X-Mozilla-Status: 000%d\n\nhello\n\n" % mark for mark in (1, 9))
 # a mailbox, and how many messages the answers give
 TEXTS = {
     "in part": (PART, (2, 3)),
@@ -30,6 +32,8 @@ TEXTS = {
     "joined": (A + b"\nhello" + B + b"\nyes\n\n", (1, 2)),
     "mail in a From_ line": (A + b"\n\nFrom x\ry Mon Mar  3 09:12:44 2025\n\n", (2, 1)),
     "mail in one without a date": (b"From a@b\nS: x\n\nhello\n\nFrom e\0@f\nS: z\n\n", (2, 1)),
+    "without a mark": (SEEN * 2 + B + b"\nyes\n\n" + SEEN, (3, 4)),
+    "without a mark beside deleted mail": (GONE + SEEN + B + b"\nyes\n\n" + SEEN, (2, 3, 3, 4)),
     "deleted": (
         A + b"X-Mozilla-Status: 0009\n\nhello\n\n" + B + b"X-Mozilla-Status: 0000\n\nyes\n\n",
         (1, 2),

@@ -1,10 +1,11 @@
 """mbox2maildir-admin migrate: the flags that Thunderbird, Evolution and Gmail keep in headers of their own."""
+import shutil
 from collections.abc import Sequence
 from pathlib import Path
 from typing import Optional
 
 from tests.support.checks import equal
-from tests.support.homes import by_json, check_all, expect, mail_in, mailbox
+from tests.support.homes import by_json, check_all, expect, mail_in, mailbox, run_printed
 from tests.support.ledgers import as_if_killed
 
 MOZILLA, EVOLUTION = "X-Mozilla-Status: %s\nX-Mozilla-Status2: 00000000\n", "X-Evolution: 0000000%d-%s\n"
@@ -157,6 +158,25 @@ def of_strangers(home: Path) -> None:
         (home / "M").rename(home / program)
 
 
+def one_without(home: Path) -> None:
+    """One message between others has no header of Thunderbird: a human is asked whether it begins there. What the rest
+    has counts by either answer, but not if another program delivered the last one."""
+    texts = [message(number, MOZILLA % "0001" if number != 1 else "") for number in range(4)]
+    for folder, text, count in (
+        ("between", b"".join(texts), (3, 4)),
+        ("behind", b"".join([*texts, message(9)]), (4, 5)),
+    ):
+        mailbox(home / folder, text)
+        answers = by_json(["migrate", "--now", "--folder", "Old", "M", folder], home).of(folder).answers
+        equal(f"{folder}: the answers", (*answers.values(),), count)
+        for command, given in answers.items():
+            equal(command, run_printed(command, home).status, 0)
+            wanted = [*["cur:2,S"] * 3, *["new"] * (given - 3)] if folder == "between" else ["new"] * given
+            equal(f"{folder}: {command}", sorted(places(home / "M/.Old")), wanted)
+            expect(["migrate", "--all", "--folder", "Old", "M", folder], home, 0, "1 mailbox: 1 done before\n")
+            shutil.rmtree(home / "M")
+
+
 def read_meanwhile(home: Path) -> None:
     """What somebody opened or flagged keeps its flags, and so does what was done before the mailbox grew."""
     text = b"".join(message(number, MOZILLA % "0005") for number in range(3))
@@ -188,4 +208,4 @@ def broken_off(home: Path) -> None:
 
 
 if __name__ == "__main__":
-    check_all(kept_flags, forms, marked_as_deleted, of_strangers, read_meanwhile, broken_off)
+    check_all(kept_flags, forms, marked_as_deleted, of_strangers, one_without, read_meanwhile, broken_off)

@@ -1,7 +1,8 @@
 """The flags that mail programs keep in headers of their own: Thunderbird, Evolution, and Gmail's Takeout.
 
-A sender may write such headers too. They count only if each message of a mailbox has its own. Of two with the same name
-the first one counts, since a program puts its own before what was sent.
+A sender may write such headers too. They count only if each message of a mailbox has its own; of Thunderbird's, a few
+may be missing between others. Of two with the same name the first one counts, since a program puts its own before what
+was sent.
 """
 import re
 import sys
@@ -93,12 +94,18 @@ def decoded_words(words: re.Match[str]) -> str:
     return "".join(piece.decode(charset or "ascii") if isinstance(piece, bytes) else piece for piece, charset in pieces)
 
 
-GMAIL = "Gmail"
+MOZILLA, GMAIL = "Thunderbird", "Gmail"
 CLIENTS = {
-    "Thunderbird": lambda header: letters_of(mozilla_status(header), THUNDERBIRD),
+    MOZILLA: lambda header: letters_of(mozilla_status(header), THUNDERBIRD),
     "Evolution": letters_of_evolution,
     GMAIL: field_of_takeout,
 }
+
+
+def are_few(unmarked: int, marked: int) -> bool:
+    """Whether so many messages without a mark are few beside those with one: a program has marked all mail then, rather
+    than a sender some."""
+    return 3 * unmarked <= marked
 
 
 class Kept(NamedTuple):
@@ -130,14 +137,17 @@ class Kept(NamedTuple):
 
 
 def kept_in(mailbox: Mailbox, inventory: Inventory) -> Optional[Kept]:
-    """The flags that a program has kept in a mailbox, if one has them in the header of each message."""
+    """The flags that a program has kept in a mailbox, if one has them in the header of each message. A few may lack
+    those of Thunderbird between others: a human has decided that they begin there."""
     for program, read in CLIENTS.items():
-        several: list[str] = []
+        several = list[Optional[str]]()
         for found in map(read, headers_at(mailbox, inventory.offsets[:-1])):
-            if found is None:
-                break
             # many messages have the same
-            several.append(sys.intern(found))
-        else:
-            return Kept.by_labels(several) if program == GMAIL else Kept(program, several)
+            several.append(None if found is None else sys.intern(found))
+            if found is None and (program != MOZILLA or several[0] is None):
+                break
+        lacking = several.count(None)
+        if several and several[-1] is not None and are_few(lacking, len(several) - lacking):
+            letters = [one or "" for one in several]
+            return Kept.by_labels(letters) if program == GMAIL else Kept(program, letters)
     return None

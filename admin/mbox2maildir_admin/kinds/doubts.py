@@ -8,7 +8,7 @@ of numbers, by which lines are named, has these too.
 import array
 import functools
 import hashlib
-from collections.abc import Mapping
+from collections.abc import Container, Mapping
 from typing import NamedTuple, Optional
 
 from ..mbox.fields import NOTED_FIELD
@@ -20,8 +20,8 @@ from ..units import Line, Offset
 from .sorts import DOUBTFUL
 
 # why a line is doubtful: it may begin a message, it does if no From_ line has a date, its message is marked as deleted,
-# or it is cut
-MAY_BEGIN, LIKE_FIRST, DELETED, CUT = range(4)
+# it is cut, or it has no mark of a program, although nearly all others have one
+MAY_BEGIN, LIKE_FIRST, DELETED, CUT, UNMARKED = range(5)
 # the sorts of lines `From ` that begin messages, and of those about which that is doubtful
 CERTAIN = "dated", "undated"
 ASKED_ABOUT = "inside", *DOUBTFUL, "like the first"
@@ -61,12 +61,26 @@ class Doubts:
             self.offsets.append(offset)
             self.whys.append(why)
 
-    def end(self, have_dates: bool, are_deleted: bool) -> None:
-        """Ends the text. If no From_ line has a date, those like the first one are certain; and marks of deleted mail
-        count only if each message has one."""
+    def add_unmarked(self, offset: Offset) -> None:
+        """Adds a message without a mark, unless something else is doubtful about its line."""
+        if not self.offsets or self.offsets[-1] != offset:
+            self.add(offset, UNMARKED)
+
+    def unmarked(self, last: Offset) -> "array.array[int]":
+        """Where the messages without a mark begin before the last one that has a mark."""
+        rows = zip(self.whys, self.offsets)
+        return array.array("Q", (offset for why, offset in rows if why == UNMARKED and offset < last))
+
+    def end(self, have_dates: bool, are_deleted: bool, unmarked: Container[int]) -> None:
+        """Ends the text. If no From_ line has a date, those like the first one are certain; marks of deleted mail count
+        only if each message has one; and of those without a mark, only some are doubtful."""
         dropped = {*([] if have_dates else [LIKE_FIRST]), *([] if are_deleted else [DELETED])}
-        rows = [row for row in zip(self.whys, self.offsets) if row[0] not in dropped]
-        self.whys, self.offsets = (array.array(kind, [row[place] for row in rows]) for place, kind in enumerate("BQ"))
+        rows = zip(self.whys, self.offsets)
+        self.whys, self.offsets = array.array("B"), array.array("Q")
+        for why, offset in rows:
+            if why not in dropped and (why != UNMARKED or offset in unmarked):
+                self.whys.append(why)
+                self.offsets.append(offset)
 
     @functools.cached_property
     def lines(self) -> "array.array[int]":
@@ -82,7 +96,7 @@ class Doubts:
     def after(self, count: int) -> list[tuple[Line, Offset]]:
         """The lines after the first ones that may begin messages, and where each begins."""
         rows = zip(self.lines[count:], self.whys[count:], self.offsets[count:])
-        return [(Line(line), Offset(offset)) for line, why, offset in rows if why in (MAY_BEGIN, LIKE_FIRST)]
+        return [(Line(line), Offset(offset)) for line, why, offset in rows if why in (MAY_BEGIN, LIKE_FIRST, UNMARKED)]
 
     def ties(self, what: str) -> Ties:
         """The ties of the text, which is this."""

@@ -2,10 +2,10 @@
 import collections
 import functools
 import re
-from collections.abc import Callable, Iterator, Mapping
+from collections.abc import Callable, Iterator, Mapping, Sequence
 from typing import Optional
 
-from ..flags.clients import is_deleted
+from ..flags.clients import are_few, is_deleted
 from ..flags.dovecot_headers import internal_head
 from ..mbox.dates import is_dated
 from ..mbox.fields import LENGTH, Header
@@ -51,7 +51,7 @@ class Look:
         self.seen: collections.defaultdict[str, Lines] = collections.defaultdict(Lines)
         # the offset of the message that ends by its length, and that at which it ends; the offset at which the body of
         # the last message begins, and whether a program has added CRs to it; and whether a message has no length
-        self.claimed_by, self.claimed, self.body, self.is_crlf, self.without = 0, 0, 0, False, False
+        self.claimed_by, self.claimed, self.body, self.is_crlf, self.without = Offset(0), 0, 0, False, False
         # whether the first message is the one by which Dovecot keeps an empty mailbox
         self.internal = bool(internal_head(mailbox, start)[0])
         self.doubts = Doubts(mailbox)
@@ -61,6 +61,8 @@ class Look:
         self.first_line = mailbox.at(start, LONG).split(b"\n")[0]
         # whether the length of the last message says that something is missing, and whether all was looked at
         self.is_cut = self.is_whole = False
+        # the last message that has a mark of a program
+        self.last_marked: Optional[Offset] = None
 
     def read(self, enough: Optional["Enough"] = None) -> "Look":
         """Looks at the whole text, or only at its beginning if that is enough."""
@@ -89,7 +91,10 @@ class Look:
                 self.doubts.add(self.mailbox.end, CUT)
         have_dates = self.count("dated") > 0
         self.seen["doubtful" if have_dates else "undated"].take(self.seen.pop("like the first", Lines()))
-        self.doubts.end(have_dates, self.are_deleted())
+        unmarked = self.unmarked()
+        for offset in unmarked:
+            self.seen["unmarked"].add(offset, self.mailbox.from_line_at(offset))
+        self.doubts.end(have_dates, self.are_deleted(), set(unmarked))
         self.mailbox.check()
         self.is_whole = True
 
@@ -180,22 +185,19 @@ class Look:
     def header(self, piece: Piece, body: int, has_marks: bool) -> None:
         """Begins a message, whose body begins at a place of its piece. Looks at what programs wrote into its header, if
         that has anything of it, and at its length."""
+        # what a right length has ended is whole
+        header, is_after_whole = Header.of(piece) if has_marks else None, self.claimed > 0
         self.messages += 1
         self.claimed, self.claimed_by, self.body = 0, piece.offset, piece.offset + body
         self.is_cut = self.is_crlf = False
+        if header and self.has_mark(header):
+            self.last_marked = piece.offset
+        elif self.last_marked is not None and not is_after_whole:
+            self.doubts.add_unmarked(piece.offset)
         # most mail has nothing of it
-        if not has_marks:
+        if not header:
             self.without = True
             return
-        header = Header.of(piece)
-        if header[b"x-gm-thrid"]:
-            self.seen["Gmail"].add(piece.offset)
-        deleted = is_deleted(header.text)
-        if deleted is not None:
-            self.seen["Thunderbird"].add(piece.offset)
-        if deleted:
-            self.seen["deleted"].add(header.offset + header.place(b"x-mozilla-status"))
-            self.doubts.add(piece.offset, DELETED)
         if NOTE in header.text and header[b"subject"] == NOTE:
             self.seen["internal"].add(piece.offset)
         end = header.message_end(self.mailbox)
@@ -208,6 +210,24 @@ class Look:
             self.seen["wrong"].add(header.offset + header.place(b"content-length"), b"Content-Length: " + length)
         elif not (self.internal and piece.offset == self.start):
             self.without = True
+
+    def has_mark(self, header: Header) -> bool:
+        """Whether a header has what Thunderbird or Gmail writes into each message."""
+        is_of_gmail, deleted = bool(header[b"x-gm-thrid"]), is_deleted(header.text)
+        if is_of_gmail:
+            self.seen["Gmail"].add(self.claimed_by)
+        if deleted is not None:
+            self.seen["Thunderbird"].add(self.claimed_by)
+        if deleted:
+            self.seen["deleted"].add(header.offset + header.place(b"x-mozilla-status"))
+            self.doubts.add(self.claimed_by, DELETED)
+        return is_of_gmail or deleted is not None
+
+    def unmarked(self) -> Sequence[int]:
+        """Where messages without a mark begin that may be text of those before them: they lie between messages that
+        have marks, and are few beside these."""
+        found = self.doubts.unmarked(self.last_marked or Offset(0))
+        return found if are_few(len(found), max(self.count("Thunderbird"), self.count("Gmail"))) else ()
 
     @functools.cached_property
     def shape(self) -> tuple[bytes, ...]:
@@ -276,8 +296,9 @@ class Look:
                 yield Said(Line(0), "and %d more lines like the last one" % (self.count(sort) - NAMED))
 
     def are_deleted(self) -> bool:
-        """Whether Thunderbird marked messages as deleted. Its marks count only if each message has one."""
-        return self.count("deleted") > 0 and self.count("Thunderbird") == self.messages
+        """Whether Thunderbird marked messages as deleted. Its marks count only if each message has one, but for those
+        that are doubtful since they have none."""
+        return self.count("deleted") > 0 and self.count("Thunderbird", "unmarked") == self.messages
 
     def keeping(self) -> Reasons:
         """The lines because of which the text cannot be read without a decision, and what is said of the first ones."""

@@ -6,7 +6,7 @@ from ..mbox.files import LONG
 # `From ` within such messages; and those that may be text or may begin messages
 MAY_BE_MAIL = ("inside, dated", "inside, like mail")
 WITHIN = ("inside", *MAY_BE_MAIL)
-DOUBTFUL = (*MAY_BE_MAIL, "text", "odd", "doubtful")
+DOUBTFUL = (*MAY_BE_MAIL, "text", "odd", "doubtful", "unmarked")
 # what is said of the lines of a sort, in this order; {} stands for the number of another line
 SAID = {
     "holds mail": "a From_ line with a CR, a NUL byte or more than %d bytes may contain mail" % LONG,
@@ -17,6 +17,7 @@ SAID = {
     "text": "a line `From ` without a date at its end",
     "odd": "a line `From ` with a date, but no header after it",
     "doubtful": "a line `From ` without a date at its end, which may begin a message",
+    "unmarked": "a line `From ` with a date, but without the X-Mozilla-Status or X-GM-THRID of the others",
     "joined": "a message may begin in the middle of this line",
     "undated": "a From_ line without a date",
     "deleted": "this message is marked as deleted",
@@ -30,7 +31,7 @@ SAID = {
 }
 # the sorts because of which a text is not converted as it is, in the order in which they are to be looked at
 KEEPING = (
-    (*MAY_BE_MAIL, "odd", "doubtful", "joined"),
+    (*MAY_BE_MAIL, "odd", "doubtful", "unmarked", "joined"),
     ("inside", "text"),
     ("holds mail",),
     ("cut",),

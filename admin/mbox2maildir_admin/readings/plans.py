@@ -249,8 +249,10 @@ def plan_by(verdict: Verdict, reading: Reading, decision: Reading, kind: str) ->
     if reading.ends == CRLF and not counts.crlf:
         reading = reading._replace(ends="")
     says, without = verdict.remarks_on_text(), counts.messages - counts.marked
-    if decision.drop and without:
-        # not each message has a mark, so that none is taken for deleted
+    # those without a mark about which a human has decided here
+    known = verdict.look.count("unmarked") if decision.of else 0
+    if decision.drop and without > known:
+        # not each other message has a mark, so that none is taken for deleted
         says.append(Says.DELETED_KEPT.of(without, counts.messages))
     elif decision.drop and counts.deleted:
         says += Says.DELETED_LEFT_OUT.of_any(counts.deleted)

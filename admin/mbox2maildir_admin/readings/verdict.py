@@ -18,7 +18,7 @@ from ..units import Line, Offset
 from .reading import BY_LENGTHS, CR, CRLF, MBOXCL2, MBOXO, MBOXRD, PLAIN, UNQUOTED, Reading
 
 # lines of these sorts may be text, or may begin messages; the lines around the first ones show which
-DOUBTS = ("odd", "doubtful")
+DOUBTS = ("odd", "doubtful", "unmarked")
 NOT_QUOTED, TAKEOUT = "not quoted", "Gmail's Takeout"
 DROP_DELETED = Reading(drop=True)
 
@@ -161,7 +161,7 @@ def kind_of(look: Look) -> str:
         return "git's patches"
     for sort, kind in (("Gmail", TAKEOUT), ("Thunderbird", "Thunderbird's")):
         # a sender may have written the header of some of them
-        if count(sort) == look.messages:
+        if count(sort, "unmarked") == look.messages:
             return kind
     form = look.ending.value if look.ending else "mboxrd or mboxo"
     return form + (", with wrong lengths" if count("wrong") else "")
@@ -209,7 +209,7 @@ def counted_by(look: Look, decision: Reading) -> Optional[int]:
     if not is_by_marks or look.lines.get(look.start) in decision.text:
         return None
     if decision.word == UNQUOTED:
-        named = look.numbers("odd", "inside, dated") or set()
+        named = look.numbers("odd", "unmarked", "inside, dated") or set()
         is_known = decision.text <= named and is_dated(look.mailbox.from_line_at(look.start))
         return look.count("dated", "odd", "inside, dated") - len(decision.text) if is_known else None
     is_known = decision.text <= (look.numbers(*WITHIN, "text", *DOUBTS) or set())
@@ -226,7 +226,7 @@ def is_answer(look: Look, word: str) -> bool:
         return look.count(*WITHIN) > 0 and not look.count("text", *DOUBTS)
     if word == UNQUOTED:
         # a line with a date that may be text is asked about
-        return not look.count("odd") and (kind_of(look) == NOT_QUOTED or Reading(UNQUOTED) in doubts)
+        return not look.count("odd", "unmarked") and (kind_of(look) == NOT_QUOTED or Reading(UNQUOTED) in doubts)
     return PLAIN in doubts
 
 
@@ -242,7 +242,7 @@ def is_against_lengths(look: Look, decision: Reading) -> bool:
 def as_mail(look: Look) -> Reading:
     """The decision that all lines which may be mail are mail: by dates, but for lines with a date that have no header
     after them, or all by their numbers."""
-    count, dated = look.count, look.numbers("odd")
+    count, dated = look.count, look.numbers("odd", "unmarked")
     if not count(*WITHIN, "text", *DOUBTS):
         return PLAIN
     everything = count("inside", "inside, like mail", "wrong", "git", "text after a blank line")
