@@ -4,7 +4,7 @@ import os
 import sys
 import time
 import unicodedata
-from collections.abc import Iterable
+from collections.abc import Iterable, Mapping
 from typing import NamedTuple, Optional
 
 from .terminal import LINE, complain, named
@@ -16,6 +16,8 @@ PAUSE, MINUTE = 0.2, 60
 WIDTH, NAME = 80, 24
 # more bytes than any text has
 MOST = 1 << 63
+# what one does and, if that is known, the place in a text and the size of that text
+Doing = tuple[str, Optional[int], Optional[int]]
 UNITS = (("GB", 1e9), ("MB", 1e6), ("kB", 1e3))
 
 
@@ -190,32 +192,14 @@ class Beat:
             self.tell(doing, place, size)
 
 
-class AtWork:
-    """The progress of all that are at work at the same time, and what they do together."""
-
-    def __init__(self, task: str = "migrating") -> None:
-        self.task = task
-        # what each one does and, if that is known, the place in a text and the size of that text
-        self.doing: dict[str, tuple[str, Optional[int], Optional[int]]] = {}
-
-    def __len__(self) -> int:
-        return len(self.doing)
-
-    def tell(self, who: str, doing: str, place: Optional[int], size: Optional[int]) -> None:
-        """Notes the progress of one of them."""
-        self.doing[who] = (doing, place, size)
-
-    def end(self, who: str) -> None:
-        """Notes that one of them is no longer at work."""
-        self.doing.pop(who, None)
-
-    def together(self) -> tuple[str, str, Optional[int], Optional[int]]:
-        """Returns the progress of all together: how many they are, what they do, and the sums of what is known."""
-        words = {doing.split(" ", 1)[0] for doing, _, _ in self.doing.values()}
-        known = [(place, size) for _, place, size in self.doing.values() if place is not None and size is not None]
-        places, sizes = (sum(numbers) for numbers in zip((0, 0), *known))
-        doing = words.pop() if len(words) == 1 else self.task
-        return "%d at work" % len(self), doing, places if known else None, sizes if known else None
+def together(at_work: Mapping[str, Doing], task: str) -> tuple[str, str, Optional[int], Optional[int]]:
+    """Returns the progress of all that are at work at the same time: how many they are, what they do, which is their
+    task unless all do the same, and the sums of what is known."""
+    words = {doing.split(" ", 1)[0] for doing, _, _ in at_work.values()}
+    known = [(place, size) for _, place, size in at_work.values() if place is not None and size is not None]
+    places, sizes = (sum(numbers) for numbers in zip((0, 0), *known))
+    doing = words.pop() if len(words) == 1 else task
+    return "%d at work" % len(at_work), doing, places if known else None, sizes if known else None
 
 
 @functools.lru_cache(maxsize=None)

@@ -11,7 +11,7 @@ from .. import ADMIN
 from ..faults import Status
 from ..meanings import COUNTED, LOOK
 from ..nexts import COMMAND, Phrase, lines_of
-from ..progress import AtWork, Estimate, Progress, Task, duration, length
+from ..progress import Doing, Estimate, Progress, Task, duration, length, together
 from ..terminal import LINE, complain, flush, named, put
 from ..units import WAITING, counted
 from .block import Typed, groups_of
@@ -85,7 +85,8 @@ class Reporter(Observer):
         # how long a last pass would take, if this is a first one
         self.estimate = Estimate()
         self.steps, self.line = steps, Progress()
-        self.at_work = AtWork(task)
+        # what all do together, and what each one does that is at work
+        self.task, self.at_work = task, dict[str, Doing]()
         # how many mailboxes or users there are, and how many have begun; and which are at work
         self.total = self.begun = 0
         # those of which it was said that they wait
@@ -105,14 +106,14 @@ class Reporter(Observer):
             complain("%s: %s" % (who, doing))
         number = self.steps.get(doing.split(" ", 1)[0])
         step = "step %d of %d" % (number, max(self.steps.values())) if number else ""
-        self.at_work.tell(who, doing, place, size)
+        self.at_work[who] = doing, place, size
         if len(self.at_work) > 1:
-            who, doing, place, size, step = *self.at_work.together(), ""
+            who, doing, place, size, step = *together(self.at_work, self.task), ""
         self.line.tell(Task(who, "%d/%d " % (self.begun, self.total), step), doing, place, size)
 
     def rest(self, who: str) -> None:
         """Notes that one is no longer at work."""
-        self.at_work.end(who)
+        self.at_work.pop(who, None)
         self.line.end(who)
 
     def row(self, row: Row) -> None:

@@ -4,7 +4,7 @@ from collections.abc import Callable, Sequence
 from typing import Any, Optional
 
 from mbox2maildir_admin.progress import (
-    AtWork,
+    Doing,
     Estimate,
     Pace,
     Spent,
@@ -15,6 +15,7 @@ from mbox2maildir_admin.progress import (
     duration,
     fitted,
     length,
+    together,
     width_of,
 )
 
@@ -78,15 +79,15 @@ class ProgressTest(unittest.TestCase):
 
     def test_several_at_work(self) -> None:
         """What they do together, if all do the same, and how far they are, as far as that is known."""
-        work = AtWork()
+        work: dict[str, Doing] = {}
         for who, place, size, wanted in (
             ("reading", 1, 10, ("1 at work", "reading", 1, 10)),
             ("reading b", 5, 30, ("2 at work", "reading", 6, 40)),
             ("converting", 7, 100, ("3 at work", "migrating", 13, 140)),
             ("waiting 3 seconds", None, None, ("4 at work", "migrating", 13, 140)),
         ):
-            work.tell(who, who, place, size)
-            self.assertEqual(work.together(), wanted)
+            work[who] = who, place, size
+            self.assertEqual(together(work, "migrating"), wanted)
         for who in ("reading", "reading b", "converting", "converting"):
-            work.end(who)
-        self.assertEqual((len(work), work.together()), (1, ("1 at work", "waiting", None, None)))
+            work.pop(who, None)
+        self.assertEqual(together(work, "migrating"), ("1 at work", "waiting", None, None))
