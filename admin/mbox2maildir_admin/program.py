@@ -37,20 +37,14 @@ class Failed(Left):
     """What `mbox2maildir convert` said when it failed."""
 
 
-def places_of_program(here: str, clone: str) -> Iterator[str]:
-    """The paths at which it may be, given the folder of what was started, and that of the clone, if it is in one."""
-    yield os.path.join(here, PROGRAM)
-    in_path = (os.path.join(folder, PROGRAM) for folder in os.get_exec_path())
-    yield from (program for program in in_path if os.access(program, os.X_OK))
-    yield os.path.join(clone, "build", PROGRAM) if clone else ""
-
-
 def find_program() -> bytes:
     """Returns the path of mbox2maildir: beside the program that was started, or else the first in PATH, or else, in a
     clone, the one that `make` has built."""
     here = os.path.dirname(os.fsdecode(real_path(os.fsencode(sys.argv[0]))))
     clone = os.path.dirname(here) if is_folder(os.path.join(here, str(__package__))) else ""
-    for program in places_of_program(here, clone):
+    in_path = (os.path.join(folder, PROGRAM) for folder in os.get_exec_path())
+    built = [os.path.join(clone, "build", PROGRAM)] if clone else []
+    for program in (os.path.join(here, PROGRAM), *(one for one in in_path if os.access(one, os.X_OK)), *built):
         if is_file(program):
             return os.fsencode(program)
     then = run_next(Runs.BUILD, clone) if clone else task(Todo.INSTALL)

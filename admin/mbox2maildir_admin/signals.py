@@ -17,22 +17,8 @@ else:
     Process = subprocess.Popen
 
 # the signals that end a program, except those that no program sees, and those of its own errors
-NAMES = (
-    "SIGHUP",
-    "SIGINT",
-    "SIGQUIT",
-    "SIGTERM",
-    "SIGALRM",
-    "SIGVTALRM",
-    "SIGPROF",
-    "SIGUSR1",
-    "SIGUSR2",
-    "SIGXCPU",
-    "SIGPWR",
-    "SIGPOLL",
-    "SIGSTKFLT",
-)
-ENDING = [getattr(signal, name) for name in NAMES if hasattr(signal, name)]
+NAMES = "HUP INT QUIT TERM ALRM VTALRM PROF USR1 USR2 XCPU PWR POLL STKFLT"
+ENDING = [getattr(signal, "SIG" + name) for name in NAMES.split() if hasattr(signal, "SIG" + name)]
 
 
 class Interrupts:

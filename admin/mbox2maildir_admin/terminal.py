@@ -38,20 +38,15 @@ def bytes_of(text: str) -> bytes:
 def shown(name: Union[bytes, str]) -> str:
     """Returns a name, or a line of mail, as it is printed: bytes that are no printable character are escaped."""
     text = text_of(name)
-    return text if text.isprintable() else "".join(map(escaped, text))
+    if text.isprintable():
+        return text
+    return "".join(one if one.isprintable() else "".join("\\x%02x" % byte for byte in bytes_of(one)) for one in text)
 
 
 def named(name: Union[bytes, str]) -> str:
     """Returns a name as it stands in a sentence or before a row: in quotes if it could be taken for a part of that."""
     text = shown(name)
     return "'%s'" % shown(text_of(name).replace("\\", "\\\\").replace("'", "\\'")) if UNCLEAR.search(text) else text
-
-
-def escaped(letter: str) -> str:
-    """Returns a letter as it is printed."""
-    if letter.isprintable():
-        return letter
-    return "".join("\\x%02x" % byte for byte in bytes_of(letter))
 
 
 def spelled(path: bytes) -> str:

@@ -12,9 +12,8 @@ from ..mbox.mailbox import is_still
 from ..progress import say_of
 from ..readings.texts import open_text
 from ..terminal import complain, named, put
-from .files import Complaints, each, for_mailboxes
+from .files import Complaints, each, for_mailboxes, reading_then
 from .options import Given
-from .recorded import reading_then
 
 # how many messages without a date are named
 UNDATED = 10

@@ -1,4 +1,4 @@
-"""The files that the command line names, and the mailboxes below folders."""
+"""The files that the command line names, the mailboxes below folders, and what the record of a Maildir says of them."""
 import contextlib
 import functools
 import os
@@ -10,9 +10,10 @@ from ..kinds.folders import is_maildir
 from ..kinds.others import Holds
 from ..ledger.history import History, Note
 from ..ledger.record import Record
-from ..looks import is_folder, type_at
+from ..looks import is_folder, is_there, type_at
 from ..maildir.disk import trial_folder
 from ..maildir.folders import INBOX
+from ..maildir.making import RECORD
 from ..mbox.files import is_empty
 from ..mbox.mailbox import Mailbox
 from ..migration.answers import is_passed_over
@@ -27,7 +28,6 @@ from ..readings.verdict import look_at
 from ..remarks import Says
 from ..terminal import complain, named, operand
 from ..units import Say
-from .recorded import record_of, root_of
 
 
 class Complaints(Observer):
@@ -162,3 +162,27 @@ def left_out(path: bytes, maildir: bytes, record: History, tell: Observer) -> Op
     if holds != Holds.NO_MAIL and not is_noted:
         return None
     return Row(path, b"", "", None, Fate.NO_MAIL, remarks=(Says.NO_MAIL_NOTED.of(),) * is_noted)
+
+
+def reading_then(folder: bytes, mailbox: Mailbox) -> Reading:
+    """How a mailbox was read when it was converted into a folder of a Maildir; nothing is decided unless the record has
+    the mailbox as done."""
+    record = record_of(folder)
+    done = record.done(*mailbox.key()) if mailbox.size in record.sizes_done() else None
+    return Reading.of_words(done.plan if done else None)
+
+
+def record_of(folder: bytes) -> History:
+    """The record of the Maildir of a folder; an empty one if it can't be trusted."""
+    try:
+        with Record.open(root_of(folder), make=False) as record:
+            return record
+    except Fault:
+        return History()
+
+
+def root_of(folder: bytes) -> bytes:
+    """The Maildir of a folder: the one that it is in, if that has a record and the folder has none."""
+    above = os.path.dirname(os.path.abspath(folder))
+    has_records = [is_there(os.path.join(one, RECORD)) for one in (folder, above)]
+    return above if has_records == [False, True] else folder

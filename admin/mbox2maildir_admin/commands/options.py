@@ -42,6 +42,11 @@ class Option(NamedTuple):
     choices: tuple[str, ...] = ()
     without: Optional[str] = None
     is_several: bool = False
+    # the options that it needs, with `|` between those of which one will do, those that it excludes, and what it needs
+    # of the mailboxes that are named
+    needs: str = ""
+    excludes: str = ""
+    mailboxes: str = ""
 
     @property
     def name(self) -> str:
@@ -59,14 +64,26 @@ class Option(NamedTuple):
         return [] if self.is_several else self.without if self.value else False
 
 
+# what an option may need of the mailboxes
+FILE, ONE = "a MAILBOX that is a file", "exactly one MAILBOX, which is a file"
 OPTIONS = {
     HOW: [
         Option("--dry-run", "migrate", "print what would be done, and write nothing"),
         Option("--dry-run", "back", "print what would go back, and write nothing"),
-        Option("--prepare", "migrate", "place what is there by now, while people use the mailboxes, for later"),
-        Option("--unread", "migrate", "with --prepare: nobody reads MAILDIR, although no Dovecot shows that"),
+        Option(
+            "--prepare",
+            "migrate",
+            "place what is there by now, while people use the mailboxes, for later",
+            excludes="--again --labels",
+        ),
+        Option(
+            "--unread",
+            "migrate",
+            "with --prepare: nobody reads MAILDIR, although no Dovecot shows that",
+            needs="--prepare",
+        ),
         Option("--now", "migrate back", "do not wait until a mailbox was left alone for a minute"),
-        Option("--folder", "migrate", "convert into this folder of MAILDIR", "NAME"),
+        Option("--folder", "migrate", "convert into this folder of MAILDIR", "NAME", mailboxes=FILE),
         Option("--dovecot", "migrate", "keep order, UIDs, keywords and subscriptions as Dovecot had them"),
         Option(
             "--dovecot",
@@ -88,6 +105,8 @@ OPTIONS = {
             "than 2000 folders",
             "one|all",
             (SOME, *WORDS_OF_LABELS),
+            excludes="--folder --dovecot",
+            mailboxes=FILE,
         ),
         Option(
             "--label",
@@ -95,21 +114,37 @@ OPTIONS = {
             "what a label gives: WHAT is `folder`, `none`, or instead of a folder a flag: `read`, `unread`, `starred`",
             "NAME=WHAT",
             is_several=True,
+            needs="--labels",
         ),
     ],
     ANSWERS: [
+        Option("--as", "quote migrate", "how mailboxes were written: %s" % ", ".join(WORDS), "WORD", without=""),
         Option(
-            "--as",
+            "--text",
             "quote migrate",
-            "how mailboxes were written: %s" % ", ".join(WORDS),
-            "WORD",
-            without="",
+            "lines of the one mailbox that belong to the mail",
+            "LINE,..",
+            is_several=True,
+            needs="--as --of",
+            mailboxes=ONE,
         ),
         Option(
-            "--text", "quote migrate", "lines of the one mailbox that belong to the mail", "LINE,..", is_several=True
+            "--begin",
+            "quote migrate",
+            "lines of the one mailbox that begin messages",
+            "LINE,..",
+            is_several=True,
+            needs="--as --of",
+            mailboxes=ONE,
         ),
-        Option("--begin", "quote migrate", "lines of the one mailbox that begin messages", "LINE,..", is_several=True),
-        Option("--of", "quote migrate", "what this is an answer to, as it is printed with it", "TIE", without=""),
+        Option(
+            "--of",
+            "quote migrate",
+            "what this is an answer to, as it is printed with it",
+            "TIE",
+            without="",
+            needs="--as|--drop-deleted",
+        ),
         Option("--drop-deleted", "quote migrate", "leave out mail that Thunderbird has marked as deleted"),
         Option(
             "--no-mail",
@@ -125,7 +160,14 @@ OPTIONS = {
             "store the messages of one mailbox that are nowhere; of several, of those left as `rewritten`, `ledger` "
             "or `sync-failed`",
         ),
-        Option("--undo", "migrate", "remove the messages that one mailbox placed"),
+        Option(
+            "--undo",
+            "migrate",
+            "remove the messages that one mailbox placed",
+            excludes="--users --list --again --dovecot --no-mail --as --text --begin --of --drop-deleted --prepare "
+            "--unread --labels --label --any-disk",
+            mailboxes=ONE,
+        ),
         Option("--any-disk", "migrate", "migrate even onto a disk on which a power cut could take mail away"),
         Option(
             "--dovecot",
@@ -136,7 +178,12 @@ OPTIONS = {
         Option("--header", "dates", "take the dates of the headers Date if all From_ lines have the same date"),
     ],
     USERS: [
-        Option("--users", "migrate", "migrate each mailbox in OLD into a Maildir in the home of its user"),
+        Option(
+            "--users",
+            "migrate",
+            "migrate each mailbox in OLD into a Maildir in the home of its user",
+            excludes="--folder --labels --text --begin",
+        ),
         Option("--users", "verify", "check each mailbox in OLD, and the Maildir in the home of its user"),
         Option("--users", "back", "bring back the mail of each user, from the Maildir in the home"),
         Option(
@@ -158,33 +205,16 @@ OPTIONS = {
             "only the users in this list, with one name per line (- is standard input)",
             "FILE",
         ),
-        Option("--list", "migrate", "only print these users, each with the source of the name and the bytes"),
+        Option(
+            "--list",
+            "migrate",
+            "only print these users, each with the source of the name and the bytes",
+            excludes="--json --report",
+        ),
         Option("--jobs", "verify back", "take N users at a time (otherwise up to 8)", "N"),
         Option("--report", "verify", "write the objects of --json to a new file, too", "FILE"),
     ],
 }
-
-
-# the options that each needs, with `|` between those of which one will do
-NEEDS = {
-    "--unread": "--prepare",
-    "--label": "--labels",
-    "--text": "--as --of",
-    "--begin": "--as --of",
-    "--of": "--as|--drop-deleted",
-}
-# those that each excludes
-EXCLUDES = {
-    "--prepare": "--again --labels",
-    "--labels": "--folder --dovecot",
-    "--undo": "--users --list --again --dovecot --no-mail --as --text --begin --of --drop-deleted --prepare --unread "
-    "--labels --label --any-disk",
-    "--users": "--folder --labels --text --begin",
-    "--list": "--json --report",
-}
-# what each needs of the mailboxes that are named
-FILE, ONE = "a MAILBOX that is a file", "exactly one MAILBOX, which is a file"
-MAILBOXES = {"--folder": FILE, "--labels": FILE, "--text": ONE, "--begin": ONE, "--undo": ONE}
 
 
 def options_of(command: str) -> dict[str, list[Option]]:
@@ -197,17 +227,15 @@ def want_together(command: str, given: Given) -> None:
     """Raises WrongOptions unless the options and the operands of a command go together."""
     names, mailboxes = {words[0].partition("=")[0] for words in given.typed}, given.operands[1:]
     for group, options in options_of(command).items():
-        for name in (one.name for one in options if one.name in names):
-            wanted = MAILBOXES.get(name)
-            are_others = wanted and (wanted == ONE and len(mailboxes) > 1 or any(map(is_folder, mailboxes)))
-            for needed in (*NEEDS.get(name, "").split(), *["--users"] * (group == USERS)):
+        for one in (one for one in options if one.name in names):
+            for needed in (*one.needs.split(), *["--users"] * (group == USERS)):
                 if names.isdisjoint(needed.split("|")):
-                    raise WrongOptions("%s needs %s" % (name, needed.replace("|", " or ")))
-            for other in EXCLUDES.get(name, "").split():
+                    raise WrongOptions("%s needs %s" % (one.name, needed.replace("|", " or ")))
+            for other in one.excludes.split():
                 if other in names:
-                    raise WrongOptions("%s does not go with %s" % (name, other))
-            if are_others:
-                raise WrongOptions("%s needs %s" % (name, wanted))
+                    raise WrongOptions("%s does not go with %s" % (one.name, other))
+            if one.mailboxes and (one.mailboxes == ONE and len(mailboxes) > 1 or any(map(is_folder, mailboxes))):
+                raise WrongOptions("%s needs %s" % (one.name, one.mailboxes))
 
 
 def jobs_in(given: Given) -> Optional[int]:

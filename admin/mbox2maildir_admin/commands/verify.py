@@ -19,9 +19,8 @@ from ..readings.texts import Text, open_text
 from ..remarks import SAYS
 from ..terminal import NAMED
 from ..units import Place, Say
-from .files import each, for_mailboxes
+from .files import each, for_mailboxes, reading_then, record_of, root_of
 from .options import Given
-from .recorded import reading_then, record_of, root_of
 from .running import Telling, reporter_of, run_reported
 
 # what is said of each message, file and line of a sort that has a remark
