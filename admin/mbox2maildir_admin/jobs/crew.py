@@ -8,7 +8,7 @@ import time
 from collections.abc import Callable
 from typing import Any, NoReturn, Optional, TypeVar, Union
 
-from ..faults import REASONS, Fault
+from ..faults import REASONS, Fault, Left
 from ..mbox.files import write_all
 from ..nexts import Phrase, Template
 from ..signals import INTERRUPTS, blocked
@@ -65,10 +65,10 @@ class Parent:
             answer += piece
         return json.loads(answer)
 
-    def refusal(self, *words: Any) -> Optional[tuple[str, Phrase]]:
-        """Has the parent do something. Why it did not, as a sentence and as a reason; None if it did."""
+    def refusal(self, *words: Any) -> Optional[Left]:
+        """Has the parent do something. Why it did not; None if it did."""
         said = self.ask(*words)
-        return (said[0], REASONS[said[1]]) if said else None
+        return Left(said[0], REASONS[said[1]]) if said else None
 
     def progress(self, who: str, doing: str, place: Optional[int] = None, size: Optional[int] = None) -> None:
         """Tells how far a mailbox is, now and then: also that it is at work, even if the words are the same as
@@ -114,6 +114,15 @@ class Child:
     def refuse(self, fault: Fault) -> None:
         """Answers it why something was not done."""
         self.answer(str(fault), fault.reason)
+
+    def serve(self, task: Callable[..., object], *words: Any) -> None:
+        """Does what it asks for, and answers it that this is done, or why not."""
+        try:
+            task(*words)
+        except Fault as why:
+            self.refuse(why)
+        else:
+            self.answer()
 
     def watch(self) -> Optional[int]:
         """Its status, if it has ended."""

@@ -5,7 +5,7 @@ import os
 from collections.abc import Callable, Iterator, Mapping, Sequence
 from typing import Any, NamedTuple, Optional
 
-from ..faults import Fault, Left, Reason
+from ..faults import Left, Reason
 from ..jobs.crew import Child, Crew, Parent
 from ..jobs.order import Places
 from ..ledger.history import BY_WORD, Entry, Key
@@ -35,7 +35,7 @@ class Work(Parent):
         for entry in entries:
             refusal = self.refusal("line", *entry)
             if refusal:
-                raise Fault(*refusal)
+                raise refusal
 
     def want_room(self, need: Need) -> None:
         """Waits until nobody else at work counts on the same space on a disk. Raises Left if the disk lacks space
@@ -114,12 +114,7 @@ class Workers(Crew):
             child.answer(*child.places)
         elif what == "line":
             word, (folder, *text), *others = words
-            try:
-                self.orders.record.add_entry(Entry(BY_WORD[word], Key(bytes_of(folder), *text), *others))
-            except Fault as fault:
-                child.refuse(fault)
-            else:
-                child.answer()
+            child.serve(self.orders.record.add_entry, Entry(BY_WORD[word], Key(bytes_of(folder), *text), *others))
         else:
             child.has, child.wants = None, value_of(Need, words)
 

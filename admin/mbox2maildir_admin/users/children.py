@@ -1,13 +1,16 @@
-"""Processes that have only the rights of one user, and tell root what they do."""
+"""Processes that have only the rights of one user, keep nothing else of root's, and tell root what they do."""
 import gc
 import importlib
 import math
 import os
+import resource
 import signal
+import sys
 import time
+from collections.abc import Callable, Iterable
 from typing import Any, Optional
 
-from ..faults import Fault, Left, Reason
+from ..faults import Left, Reason
 from ..jobs.crew import BROKEN, Child, Crew, Parent
 from ..maildir.folders import folder_of
 from ..maildir.disk import call_of_system
@@ -15,10 +18,10 @@ from ..migration.outcomes import Observer, row_left
 from ..migration.telling import LONGEST, next_of, number_of, row_of
 from ..nexts import Todo, task
 from ..patterns import compile_all
+from ..signals import ENDING, INTERRUPTS
 from ..terminal import named, shown
-from .disks import SYNC, Disks
+from .clerks import SYNC, Disks
 from .homes import Migrant
-from .rights import become, joining
 
 # how long a child may say nothing, and how long it has after a signal, in seconds
 SILENCE, GRACE = 900, 1
@@ -34,6 +37,14 @@ NEEDED = (
 MOST = 64
 # what reading a line of a child may raise
 WRONG = ValueError, TypeError, AttributeError, LookupError, RecursionError, ArithmeticError
+PATH = "/usr/local/sbin:/usr/local/bin:/usr/sbin:/usr/bin:/sbin:/bin"
+# the folder that lists the descriptors of a process, and the highest number that one can have
+DESCRIPTORS, LAST_DESCRIPTOR = "/proc/self/fd", (1 << 31) - 2
+# the number of the call `keyctl`, by the machine, for programs of 64 and of 32 bits
+OF_64_BITS = {"x86_64": 250, "aarch64": 219, "riscv64": 219, "loongarch64": 219, "ppc64": 271, "ppc64le": 271}
+OF_64_BITS.update({"s390x": 280, "mips64": 5241})
+OF_32_BITS = {"i386": 288, "i486": 288, "i586": 288, "i686": 288, "x86_64": 288, "armv7l": 311, "aarch64": 311}
+JOIN_SESSION_KEYRING = 1
 
 
 def load_for_children() -> None:
@@ -46,6 +57,33 @@ def load_for_children() -> None:
     folder_of("\u00e4")
     call_of_system()
     gc.freeze()
+
+
+def close_all_but(kept: Iterable[int]) -> None:
+    """Closes the descriptors of a process, except for its three streams and some others. If /proc is not mounted, which
+    lists them, they end at the hard limit, so this must not have been lowered since they were opened."""
+    try:
+        last = max(map(int, os.listdir(DESCRIPTORS)))
+    except OSError:
+        most = resource.getrlimit(resource.RLIMIT_NOFILE)[1]
+        last = LAST_DESCRIPTOR if most == resource.RLIM_INFINITY else most
+    first = 3
+    for number in [*sorted(kept), last + 1]:
+        os.closerange(first, number)
+        first = number + 1
+
+
+def joining() -> Callable[[], object]:
+    """Returns what a child calls while it is still root, since a user's quota of keys cannot prevent it then. A kernel
+    that has no keyrings, or refuses the call, does not let the child read keys either, so that is no fault."""
+    number = (OF_64_BITS if sys.maxsize > 1 << 32 else OF_32_BITS).get(os.uname().machine)
+    try:
+        # loaded only here, so that other commands do not wait for it, and before a child that may not read the module
+        ctypes = importlib.import_module("ctypes")
+        call, words = ctypes.CDLL(None).syscall, (ctypes.c_long(number or -1), JOIN_SESSION_KEYRING, None)
+    except (ImportError, OSError, AttributeError):
+        return lambda: None
+    return lambda: call(*words)
 
 
 class UsersChild(Child):
@@ -124,8 +162,25 @@ class Children(Crew):
             self.turn()
 
     def become(self, child: UsersChild, parent: Parent) -> None:
-        """Makes this process the one of a user."""
-        become(child.account, child.groups, (parent.told, parent.alive), self.join)
+        """Makes this process the one of a user, with a session keyring of its own. It makes no core dump, which would
+        hold mail."""
+        os.setsid()
+        self.join()
+        nothing, account = os.open(os.devnull, os.O_RDWR), child.account
+        for number in range(3):
+            os.dup2(nothing, number)
+        close_all_but({parent.told, parent.alive})
+        resource.setrlimit(resource.RLIMIT_CORE, (0, 0))
+        os.chdir("/")
+        os.umask(0o077)
+        os.setgroups(child.groups)
+        os.setgid(account.gid)
+        os.setuid(account.uid)
+        name, zone = os.fsdecode(account.name), {"TZ": os.environ["TZ"]} if "TZ" in os.environ else {}
+        os.environ.clear()
+        os.environ.update(PATH=PATH, HOME=os.fsdecode(account.home), USER=name, LOGNAME=name, **zone)
+        for number in ENDING:
+            signal.signal(number, INTERRUPTS.take)
 
     def take(self, child: UsersChild, line: bytes) -> None:
         """Takes a line. If it can't be read, it counts as a row of something that is left."""
@@ -160,12 +215,7 @@ class Children(Crew):
             return
         if not child.clerk:
             raise ValueError("nothing to ask for")
-        try:
-            child.clerk.serve(what, *words)
-        except Fault as why:
-            child.refuse(why)
-        else:
-            child.answer()
+        child.serve(child.clerk.serve, what, *words)
 
     def take_next(self, child: UsersChild, then: Any) -> None:
         """Takes what is to be done once all is done, of which one word counts."""

@@ -18,8 +18,8 @@ from ..mbox.mailbox import Mailbox
 from ..migration.outcomes import Fate, Observer
 from ..migration.trees import Tree
 from ..nexts import Runs
+from .clerks import MAKE, RELEASE, TAKE, InboxClerk, Inboxes
 from .homes import Migrant, Relay, Spool, is_recorded
-from .inboxes import MAKE, RELEASE, TAKE, InboxClerk, Inboxes
 from .spool import migrate_users
 
 
@@ -86,10 +86,9 @@ class Asking(Keeper):
         self.parent = parent
         self.places = {os.path.realpath(path): place for place, path in enumerate(boxes)}
 
-    def ask(self, what: str, path: bytes) -> Optional[Left]:
-        """Asks root for something that it does beside an inbox. Returns why it did not."""
-        refusal = self.parent.refusal(what, self.places[os.path.realpath(path)])
-        return Left(*refusal) if refusal else None
+    def refusal(self, what: str, path: bytes) -> Optional[Left]:
+        """Has root do something beside an inbox. Returns why it did not."""
+        return self.parent.refusal(what, self.places[os.path.realpath(path)])
 
     @contextlib.contextmanager
     def locked(self, mailbox: Mailbox, owner: bytes) -> Iterator[None]:
@@ -98,7 +97,7 @@ class Asking(Keeper):
             with super().locked(mailbox, owner):
                 yield
             return
-        said, refusal = len(mailbox.remarks), self.ask(TAKE, mailbox.path)
+        said, refusal = len(mailbox.remarks), self.refusal(TAKE, mailbox.path)
         if refusal and refusal.reason is Reason.LOCKED:
             look_for_lock_file(mailbox)
         # an old one counts for nothing
@@ -111,14 +110,14 @@ class Asking(Keeper):
             if number is not None:
                 os.close(number)
             if not refusal:
-                self.ask(RELEASE, mailbox.path)
+                self.refusal(RELEASE, mailbox.path)
 
     def make(self, path: bytes) -> None:
         """Makes a mailbox, if it is not there. Raises Left if root can't make it."""
         if os.path.realpath(path) not in self.places:
             super().make(path)
             return
-        refusal = self.ask(MAKE, path)
+        refusal = self.refusal(MAKE, path)
         if refusal:
             raise refusal
 

@@ -23,8 +23,7 @@ from ..nexts import Runs
 from ..program import Program
 from ..terminal import named, shown, text_of
 from .accounts import Account, why_no_home
-from .disks import sync_by_root
-from .inboxes import InboxClerk, Inboxes
+from .clerks import InboxClerk, Inboxes, sync_by_root
 
 
 class Found(NamedTuple):

@@ -1,19 +1,23 @@
-"""What root does for a child in the folder of the inboxes, in which users may make no files: it makes an inbox that is
-not there, and FILE.lock. A child never gets the rights for that, and names nothing: it says which of its own inboxes it
-means."""
+"""What root does for a child. In the folder of the inboxes, in which users may make no files, it makes an inbox that is
+not there, and FILE.lock. It syncs each disk once for all children who wait for it. A child never gets the rights for
+that, and names nothing: it says which of its own inboxes it means, or which folder that it has open."""
 import contextlib
+import errno
 import functools
 import os
 import stat
 from collections.abc import Sequence
 
-from ..faults import naming
+from ..faults import Left, Reason, naming
+from ..jobs.crew import Child, Parent
+from ..maildir.disk import call_of_system
 from ..mbox.lock_file import LOCK, Spot, drop_lock, release_lock, taken
 from ..migration.telling import number_of
 from .accounts import Account
 
-# what a child asks for
-MAKE, TAKE, RELEASE = "make", "lock", "unlock"
+# what a child asks for: a sync of the disk of a folder, and what is done with an inbox
+SYNC, MAKE, TAKE, RELEASE = "sync", "make", "lock", "unlock"
+FOLDER = os.O_RDONLY | os.O_DIRECTORY | os.O_CLOEXEC
 # the mode of a new mailbox, and the one that it gets if all others have it, for deliveries with the rights of its group
 OWN, SHARED = 0o600, 0o660
 
@@ -24,7 +28,7 @@ class Inboxes:
     def __init__(self, path: bytes) -> None:
         """Opens the folder, and removes the locks that a killed run left, whoever's they are."""
         self.path = os.path.abspath(path)
-        self.number = os.open(path, os.O_RDONLY | os.O_DIRECTORY | os.O_CLOEXEC)
+        self.number = os.open(path, FOLDER)
         for spot in self.spots():
             if spot.name.endswith(LOCK):
                 drop_lock(spot)
@@ -107,3 +111,58 @@ class InboxClerk:
         for lock in list(self.held):
             with contextlib.suppress(OSError):
                 self.release(lock)
+
+
+class Disks:
+    """Syncs disks for children, as root."""
+
+    def __init__(self) -> None:
+        # the disks for which children wait: a folder of each that is open, and these children
+        self.waiting: dict[int, tuple[int, list[Child]]] = {}
+        # the disks of which a sync failed, with why: the system reports each error only once
+        self.failed: dict[int, Left] = {}
+
+    def add(self, child: Child, number: int) -> None:
+        """Takes it that a child waits for the disk of a folder that it has open under a number. It need not be found by
+        a path, which the child's user could change."""
+        try:
+            folder = os.open("/proc/%d/fd/%d" % (child.pid, number), FOLDER)
+        except OSError:
+            # as in a file system of the user's own: the child syncs it
+            child.refuse(Left("root cannot open it", Reason.ERROR))
+            return
+        disk = os.fstat(folder).st_dev
+        if disk in self.waiting:
+            os.close(folder)
+        self.waiting.setdefault(disk, (folder, []))[1].append(child)
+
+    def sync(self) -> None:
+        """Syncs each disk for which a child waits, and answers. If a sync fails, or has failed before, that is the
+        answer to each who waits for that disk."""
+        waiting, self.waiting = self.waiting, {}
+        for disk, (folder, children) in waiting.items():
+            try:
+                if disk not in self.failed:
+                    call_of_system()(folder)
+            except OSError as error:
+                self.failed[disk] = Left(error.strerror, Reason.SYNC_FAILED)
+            finally:
+                os.close(folder)
+            for child in children:
+                if disk in self.failed:
+                    child.refuse(self.failed[disk])
+                else:
+                    child.answer()
+
+
+def sync_by_root(parent: Parent, path: bytes) -> None:
+    """Has root sync the disk of a folder for a child. Raises OSError if that failed."""
+    number = os.open(path, FOLDER)
+    try:
+        refusal = parent.refusal(SYNC, number)
+        if refusal and refusal.reason is Reason.SYNC_FAILED:
+            raise OSError(errno.EIO, str(refusal))
+        if refusal:
+            call_of_system()(number)
+    finally:
+        os.close(number)
