@@ -229,7 +229,7 @@ def wrong_remarks() -> Iterator[str]:
 def wrong_kinds() -> Iterator[str]:
     """The page of the manual has the kinds of files that are not mbox text, and of dates, in the companion's words."""
     others = importlib.import_module("mbox2maildir_admin.kinds.others").OTHERS
-    endings = importlib.import_module("mbox2maildir_admin.kinds.undated").Ending
+    endings = importlib.import_module("mbox2maildir_admin.kinds.starts").Ending
     section = " ".join(match_in(KINDS, text_of(MANUAL_OF_ADMIN))[1].split())
     kinds = {*(other.kind.removeprefix("no mail: ") for other in others), *(ending.value for ending in endings)}
     yield from (f"the page of the manual has no kind: {kind}" for kind in sorted(kinds) if kind not in section)

@@ -24,8 +24,8 @@ from ..migration.outcomes import Fate, Observer, Row
 from ..migration.options import Options
 from ..nexts import Todo, task
 from ..program import Program
+from ..readings.copies import copy_of, unnamed
 from ..readings.texts import disk_of
-from ..readings.unnamed import copy_of, unnamed
 from ..remarks import Says
 from ..terminal import first_of, named
 from ..units import Size, counted

@@ -7,6 +7,7 @@ from typing import Optional, Union
 
 from ..faults import Fault, Reason, complain_of
 from ..kinds.folders import is_maildir
+from ..kinds.look import Look
 from ..kinds.others import Holds
 from ..ledger.history import History, Note
 from ..ledger.record import Record
@@ -156,7 +157,7 @@ def left_out(path: bytes, maildir: bytes, record: History, tell: Observer) -> Op
     record a file that is not mbox text has none as long as it has its path and its bytes. Raises Fault if a packed file
     is not complete."""
     with Mailbox.open(path, tell.say(path)) as mailbox, content_of(mailbox, disk_of(maildir)) as text:
-        verdict = look_at(text, lambda look: look.read(lambda _: True)) if text.size else None
+        verdict = look_at(text, Look.read_begun) if text.size else None
         holds = verdict.holds if verdict else Holds.NO_MAIL
         is_noted = bool(verdict and verdict.recipe) and is_passed_over(record, mailbox)
     if holds != Holds.NO_MAIL and not is_noted:

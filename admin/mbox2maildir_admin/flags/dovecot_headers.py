@@ -10,9 +10,9 @@ from collections.abc import Iterable, Iterator
 from typing import NamedTuple, Optional
 
 from ..mbox.fields import VALUE, Header
+from ..mbox.inventory import NOTE
 from ..mbox.mailbox import Mailbox
 from ..mbox.pieces import LONGEST_NAME
-from ..mbox.plain import NOTE
 from ..patterns import pattern
 from ..remarks import Remark, Says
 from ..terminal import first_of

@@ -1,16 +1,22 @@
-"""Folders with a file for each message: Maildirs, and folders of MH. Each counts as one name."""
+"""Folders that mail programs write: those with a file for each message, Maildirs and folders of MH, of which each counts
+as one name; and Thunderbird's profiles, with the places of their mailboxes among folders."""
+import collections
 import os
 import re
 import stat
+from typing import NamedTuple, Optional
 
 from ..faults import Fault
-from ..looks import type_at
+from ..looks import is_file, is_folder, may_be, type_at
+from ..maildir.folders import INBOX, folder_on_disk
 from ..maildir.making import DRAFT, GOES_BACK, SUBFOLDERS
-from ..mbox.files import open_file
+from ..mbox.files import is_empty, open_file
 from ..mbox.pieces import FROM
 from ..nexts import Next, Template, Todo, run_next, task
 from ..patterns import pattern
-from ..terminal import operand, text_of
+from ..terminal import is_text, operand, text_of
+from .making import is_below
+from .named import BESIDE
 from .others import FROM_LINE, QUOTED
 from .starts import FIELD
 
@@ -35,6 +41,11 @@ FROM_MH = Template(
     "(cd {} && for n in $(ls | grep -xE '[0-9]+' | sort -n); do "
     "head -c 5 $n | grep -q '^From ' || { %s; %s $n; echo; }; done) >{rest}" % (FROM_LINE, QUOTED),
 )
+# the folders of a profile that have a folder for each account, what else each profile has, and what stands beside all
+OF_ACCOUNTS = (b"Mail", b"ImapMail")
+PREFERENCES, LIST = b"prefs.js", b"profiles.ini"
+# where profiles are below the folder with that list, on some systems
+PROFILES = b"Profiles"
 
 
 def is_maildir(path: bytes) -> bool:
@@ -84,3 +95,94 @@ def head_of(path: bytes) -> bytes:
 def next_of_mh(path: bytes, copy: bytes) -> Next:
     """The command that makes a mailbox of a folder of MH."""
     return run_next(FROM_MH, operand(path), operand(copy)) + task(Todo.MOVE_AWAY, text_of(path))
+
+
+class Place(NamedTuple):
+    """The place of a mailbox among folders: an account, with `/`, if it needs one, and its name; and whether it is an
+    Inbox with mail, and not the only one."""
+
+    account: bytes
+    name: bytes
+    is_inbox: bool = False
+
+
+class Profile:
+    """A profile, and which of its accounts have mail for which folders."""
+
+    def __init__(self, path: bytes) -> None:
+        self.path = os.path.abspath(path)
+        self.givers: collections.defaultdict[bytes, set[bytes]] = collections.defaultdict(set)
+        for top in OF_ACCOUNTS:
+            for folder, folders, names in os.walk(os.path.join(self.path, top)):
+                if {b"cur", b"tmp"} <= set(folders):
+                    # each message has a file
+                    folders.clear()
+                    continue
+                for file in (os.path.join(folder, name) for name in names):
+                    account, below = self.parted(file)
+                    if account and is_text(below) and head_of(file).startswith(FROM):
+                        self.givers[folder_on_disk(below)].add(account)
+
+    def parted(self, path: bytes) -> tuple[bytes, bytes]:
+        """The account of a mailbox, by its path in the profile, and the path below that."""
+        parts = os.path.relpath(path, self.path).split(b"/", 2)
+        return (b"/".join(parts[:2]), parts[2]) if len(parts) == 3 and parts[0] in OF_ACCOUNTS else (b"", b"")
+
+    def place(self, path: bytes) -> Place:
+        """The place of a mailbox."""
+        account, below = self.parted(path)
+        if not account:
+            return Place(b"", os.path.relpath(path, self.path))
+        folder = folder_on_disk(below) if is_text(below) else b""
+        if len(self.givers.get(folder, ())) < 2:
+            return Place(b"", below)
+        return Place(os.path.basename(account) + b"/", below, folder == INBOX and account in self.givers[folder])
+
+
+class Profiles:
+    """The profiles of a tree: those in it that were met, or the one that it is in."""
+
+    def __init__(self, old: bytes) -> None:
+        self.old = old
+        self.found: list[Profile] = []
+        above = os.path.abspath(old)
+        while above != os.path.dirname(above) and not is_profile(above):
+            above = os.path.dirname(above)
+        if is_profile(above):
+            self.found.append(Profile(above))
+
+    def parted(self, folder: bytes, entries: list[Entry]) -> tuple[list[Entry], list[Entry]]:
+        """The names in a folder that are looked at, and the rest, which holds no mail: of a profile, and of the folder
+        above the profiles. Takes a profile that is named by its parent. Raises OSError if a name can't be looked at."""
+        if is_profile(folder):
+            if os.path.dirname(folder) in (self.old, os.path.join(self.old, PROFILES)):
+                self.found.append(Profile(folder))
+            wanted = [one for one in entries if one.name in OF_ACCOUNTS]
+        elif any(one.name == LIST for one in entries):
+            wanted = [one for one in entries if one.name == PROFILES or may_be(is_profile, one.path)]
+        else:
+            wanted = []
+        return (wanted, [one for one in entries if one not in wanted]) if wanted else (entries, [])
+
+    def profile_of(self, path: bytes) -> Optional[Profile]:
+        """The profile in which a file is."""
+        return next((one for one in self.found if is_below(os.path.abspath(path), one.path)), None)
+
+    def place(self, path: bytes, top: bytes) -> Place:
+        """The place of a mailbox of the tree, which is that below a folder if it is in no profile."""
+        profile = self.profile_of(path)
+        return profile.place(os.path.abspath(path)) if profile else Place(b"", os.path.relpath(path, top))
+
+    def is_no_mail(self, path: bytes) -> bool:
+        """Whether a file of a profile stands beside mailboxes, or is an empty mailbox of an account without mail."""
+        profile = self.profile_of(path)
+        if not profile or head_of(path).startswith(FROM):
+            return False
+        is_beside = BESIDE.fullmatch(os.path.basename(path)) is not None
+        account, _ = profile.parted(os.path.abspath(path))
+        return is_beside or is_empty(path) and not any(account in givers for givers in profile.givers.values())
+
+
+def is_profile(path: bytes) -> bool:
+    """Whether a folder is a profile."""
+    return is_file(os.path.join(path, PREFERENCES)) and any(is_folder(os.path.join(path, one)) for one in OF_ACCOUNTS)

@@ -10,18 +10,15 @@ from ..flags.dovecot_headers import internal_head
 from ..mbox.dates import is_dated
 from ..mbox.fields import LENGTH, Header
 from ..mbox.files import LONG
-from ..mbox.inventory import may_hold_mail
+from ..mbox.inventory import NOTE, Marked, marked, may_hold_mail
 from ..mbox.lines import Lines, Reasons, Said
 from ..mbox.mailbox import Mailbox
 from ..mbox.pieces import FROM, Piece, header_of
-from ..mbox.plain import NOTE, Marked, marked
 from ..terminal import NAMED
 from ..units import Line, Offset
 from .doubts import CUT, DELETED, Doubts
-from .marks import ADDRESS, is_after_blank, joins_in, may_be_mail
 from .sorts import AGAINST, DOUBTFUL, KEEPING, MAY_BE_MAIL, SAID
-from .starts import FIELD, end_of_row
-from .undated import Ending, ending_of, shape_of
+from .starts import ADDRESS, FIELD, Ending, end_of_row, ending_of, is_after_blank, joins_in, may_be_mail, shape_of
 
 GIT = re.compile(rb"From [0-9a-f]{40,64} Mon Sep 17 00:00:00 2001\r?\Z")
 # what the header of a message has of which something is to be said, in lower case
@@ -64,12 +61,24 @@ class Look:
         # the last message that has a mark of a program
         self.last_marked: Optional[Offset] = None
 
-    def read(self, enough: Optional["Enough"] = None) -> "Look":
-        """Looks at the whole text, or only at its beginning if that is enough."""
+    def read(self) -> "Look":
+        """Looks at the whole text."""
         for _ in self.passed():
-            if enough and enough(self):
+            pass
+        return self
+
+    def read_begun(self) -> "Look":
+        """Looks at as much of the text as shows its format."""
+        for _ in self.passed():
+            if self.is_as_it_is:
                 break
         return self
+
+    @property
+    def is_as_it_is(self) -> bool:
+        """Whether no copy of the text is made unless a later From_ line ends in CR LF: a message has no right length."""
+        lacks_length = self.without or self.count("wrong")
+        return bool(not self.start and lacks_length and not self.count("CR LF"))
 
     def passed(self) -> Iterator[Marked]:
         """Looks at each piece of the text, and passes it on."""
@@ -317,6 +326,5 @@ class Look:
         return Reasons(found, self.count(sort))
 
 
-# whether a look at the beginning of a text is enough, and what looks at as much of a text as is wanted
-Enough = Callable[[Look], bool]
+# what looks at as much of a text as is wanted
 Read = Callable[[Look], Look]

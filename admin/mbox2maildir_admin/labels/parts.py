@@ -9,8 +9,8 @@ from ..maildir.checking import Check
 from ..maildir.folders import folder_path
 from ..mbox.fields import headers_at
 from ..mbox.inventory import Inventory
+from ..readings.copies import copy_of_some
 from ..readings.texts import ReadingOf, Text, disk_of, open_text
-from ..readings.unnamed import copy_of_some
 from ..units import Offset, Place, Say
 from .noted import Noted
 from .sorting import Sorting

@@ -127,21 +127,17 @@ class Table:
 
     def place_of(self, base: Optional[bytes]) -> Optional[Place]:
         """The place of the message that has this base; None if no message has it."""
-        return self.place_at(base[:DIGEST], int(base[DIGEST + 1 :])) if base else None
-
-    def place_at(self, digest: bytes, count: int) -> Optional[Place]:
-        """The same for a base by its digest and its count."""
-        place = self.slots[self.slot_at(digest, count)]
+        place = self.slots[self.slot_at(base[:DIGEST], int(base[DIGEST + 1 :]))] if base else FREE
         return None if place == FREE else Place(place)
 
     def places_of(self, digest: bytes) -> Iterator[Place]:
         """The places of the messages that were added with this digest, in their order."""
         for count in itertools.count(1):
-            place = self.place_at(digest, count)
-            if place is None:
+            place = self.slots[self.slot_at(digest, count)]
+            if place == FREE:
                 return
-            yield place
+            yield Place(place)
 
     def has(self, digest: bytes) -> bool:
         """Whether a message has this digest."""
-        return self.place_at(digest, 1) is not None
+        return self.slots[self.slot_at(digest, 1)] != FREE

@@ -57,12 +57,12 @@ def without(fields: re.Pattern[bytes], data: bytes, begin: int, end: int, begun:
     return data[:begin] + rest[1 + len(begun) * bool(kept[0]) :] + data[end:]
 
 
-def bared(piece: Piece, fields: re.Pattern[bytes] = HIDDEN_FIELD) -> bytes:
-    """The bare text of a piece, or that without other fields."""
+def bared(piece: Piece) -> bytes:
+    """The bare text of a piece."""
     if piece.field is None:
         return piece.data
     end, body = header_of(piece.data, piece.body)
-    text = without(fields, piece.data, piece.body, end, piece.field)
+    text = without(HIDDEN_FIELD, piece.data, piece.body, end, piece.field)
     if body - end < 2:
         return text
     # the empty line loses its CR

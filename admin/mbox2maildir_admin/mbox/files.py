@@ -92,10 +92,6 @@ class Reader:
     def __init__(self, number: int, offset: Offset = Offset(0), end: Optional[int] = None) -> None:
         self.number, self.offset, self.end = number, offset, end
 
-    def seek(self, offset: Offset) -> None:
-        """Goes on at an offset."""
-        self.offset = offset
-
     def read(self, count: int) -> bytes:
         """Reads the next bytes; fewer at the end."""
         if self.end is not None:

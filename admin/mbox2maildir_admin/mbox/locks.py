@@ -1,22 +1,26 @@
 """Opens a mailbox as delivery programs expect it: it waits for a quiet minute, and then locks it for reading, or for
-writing."""
+writing. One that programs write to is copied as it was at one moment, without keeping them waiting."""
 import contextlib
 import errno
 import fcntl
 import os
 import struct
 import time
-from typing import NamedTuple
+from typing import IO, Callable, NamedTuple
 
 from ..faults import Left, Reason, fault_of
 from ..units import WAITING, Say, silent
-from .digest import Digest
 from .files import has_holes, open_plain
 from .lock_file import look_for_lock_file
-from .mailbox import Mailbox
+from .mailbox import Digest, Mailbox
+from .pieces import FROM
 
 # in seconds: how long a mailbox must have been left alone, and how long to wait for that
 QUIET, PATIENCE = 60, 300
+# in seconds: for how long a mailbox is locked at most, and how long the lock of another program is waited for; and how
+# often a copy is tried
+LONGEST_LOCK, LONGEST_WAIT, TRIES = 10, 15, 3
+KEEPS_CHANGING = "it keeps changing: the next pass may find it at rest"
 # the errors that say that another program has the lock, and that a disk has no locks
 LOCKED, WITHOUT_LOCKS = (errno.EAGAIN, errno.EACCES), (errno.ENOLCK, errno.ENOSYS, errno.EOPNOTSUPP)
 
@@ -119,3 +123,42 @@ def seconds_to_wait(mailbox: Mailbox) -> float:
     nothing."""
     age = time.time() - mailbox.state.st_mtime
     return QUIET - age if age >= 0 else 0
+
+
+def snapshot(path: bytes, make: Callable[[int], IO[bytes]], say: Say = silent, follow: bool = False) -> Mailbox:
+    """A copy of a mailbox in a file without a name, which `make` makes for so many bytes. The mailbox is locked for ten
+    seconds at most. If mail was only appended after that, the copy ends where the mailbox ended. Raises Left if it
+    changed otherwise, each time."""
+    for _ in range(TRIES):
+        with open_soon(path, say, follow) as mailbox, make(mailbox.size) as file:
+            began, digest, reader, is_locked = time.monotonic(), Digest(), mailbox.again(), True
+            for block in reader.blocks():
+                file.write(block)
+                digest.update(block)
+                if is_locked and time.monotonic() > began + LONGEST_LOCK:
+                    unlock(mailbox.number)
+                    is_locked = False
+                if not is_locked:
+                    # who is told may sync a disk first, which takes its time
+                    mailbox.say("copying", reader.offset, mailbox.size)
+            file.flush()
+            # if a message begins where it ended before, it has only grown
+            if mailbox.has_changed() and os.pread(mailbox.number, len(FROM), mailbox.size) != FROM:
+                continue
+            copy = Mailbox(path, os.dup(file.fileno()), digest, say)
+            copy.remarks += mailbox.remarks
+            copy.copied, copy.took = mailbox.state, time.monotonic() - began
+            return copy
+    raise Left(KEEPS_CHANGING, Reason.CHANGED)
+
+
+def open_soon(path: bytes, say: Say, follow: bool) -> Mailbox:
+    """Opens a mailbox, and waits for a short time if another program has locked it."""
+    end = time.monotonic() + LONGEST_WAIT
+    while True:
+        try:
+            return open_mailbox(path, say, follow, False)
+        except Left as left:
+            if left.reason is not Reason.LOCKED or time.monotonic() > end:
+                raise
+            time.sleep(0.5)

@@ -1,12 +1,12 @@
-"""An open mailbox. It is read by `pread`, since the offset of its descriptor belongs to mbox2maildir alone."""
+"""An open mailbox, and its digest. It is read by `pread`, since the offset of its descriptor belongs to mbox2maildir alone."""
+import hashlib
 import os
 from collections.abc import Iterable, Iterator
-from typing import Optional
+from typing import Optional, Union
 
 from ..faults import Fault, Reason
 from ..remarks import Remark
 from ..units import Line, Offset, Say, Size, silent
-from .digest import Digest
 from .files import BLOCK, LONG, Reader, open_file, open_plain
 from .pieces import Piece, pieces_of
 
@@ -41,8 +41,34 @@ def lines_at(reader: Reader, offsets: Iterable[int]) -> Iterator[Line]:
         yield Line(number)
 
 
+class Digest:
+    """The SHA-256 of a text that is read once from its start, and those of its beginnings of some sizes."""
+
+    def __init__(self, sizes: Iterable[int] = ()) -> None:
+        self.place, self.hash = 0, hashlib.sha256()
+        self.sizes = sorted(sizes, reverse=True)
+        # the digests of beginnings, by their sizes
+        self.beginnings: dict[int, str] = {}
+
+    def update(self, block: Union[bytes, memoryview]) -> None:
+        """Takes the next bytes."""
+        while self.sizes and self.sizes[-1] <= self.place + len(block):
+            size = self.sizes.pop()
+            block = memoryview(block)
+            self.hash.update(block[: size - self.place])
+            block, self.place = block[size - self.place :], size
+            self.beginnings[size] = self.hash.hexdigest()
+        self.hash.update(block)
+        self.place += len(block)
+
+    def hexdigest(self) -> str:
+        """The digest of all bytes that were taken, in hexadecimal digits."""
+        return self.hash.hexdigest()
+
+
 class Watched(Reader):
-    """Reads a text up to its end. A digest takes each block. It also says how far the reading is."""
+    """Reads a text up to its end. A digest takes each block that is the next one for it. It also says how far the
+    reading is."""
 
     def __init__(self, number: int, end: Size, digest: Optional[Digest] = None, say: Say = silent) -> None:
         super().__init__(number, end=end)
@@ -55,8 +81,8 @@ class Watched(Reader):
         begins, block = self.offset, super().read(count)
         if block:
             self.block, self.begins = block, begins
-        if self.digest:
-            self.digest.add(self.offset - len(block), block)
+        if self.digest and begins == self.digest.place:
+            self.digest.update(block)
         self.say("reading", self.offset, self.size)
         return block
 
@@ -115,7 +141,7 @@ class Mailbox:
 
     def pieces(self, start: Offset) -> Iterator[Piece]:
         """The pieces of the text from an offset on. Digest and progress take note of them."""
-        self.file.seek(start)
+        self.file.offset = start
         return pieces_of(self.file.read, start)
 
     def line_at(self, offset: int) -> Line:
@@ -146,7 +172,7 @@ class Mailbox:
         """The size of the text and its SHA-256. Reads what was not read yet."""
         if self.digest is None:
             self.digest = self.file.digest = Digest()
-        self.file.seek(Offset(self.digest.place))
+        self.file.offset = Offset(self.digest.place)
         while self.file.read(BLOCK):
             pass
         return self.size, self.digest.hexdigest()

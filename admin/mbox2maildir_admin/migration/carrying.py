@@ -23,7 +23,7 @@ from ..maildir.disk import what_fails, why_not_listed
 from ..mbox.bases import base_in, before_info, is_own
 from ..mbox.mailbox import Mailbox, is_still
 from ..program import Converted, Failed, Program
-from ..readings.unnamed import copy_of_some
+from ..readings.copies import copy_of_some
 from ..remarks import Remark, Says
 from ..units import Offset, Place
 from .cut import want_none_cut

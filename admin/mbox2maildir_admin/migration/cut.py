@@ -12,8 +12,8 @@ from ..ledger.match import Match
 from ..maildir.files import mail_in
 from ..mbox.bases import before_info, own_base_in
 from ..mbox.core import beginning_of
-from ..mbox.digest import Digest
 from ..mbox.files import BLOCK, Reader, open_file
+from ..mbox.mailbox import Digest
 from ..nexts import Runs, run_next
 from ..terminal import operand
 from ..units import Offset

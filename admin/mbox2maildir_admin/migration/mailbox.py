@@ -13,6 +13,7 @@ from collections.abc import Callable, Iterator, Sequence
 from typing import IO, Any, Optional
 
 from ..faults import Fault, Left, Reason
+from ..kinds.look import Look
 from ..kinds.named import is_no_mail
 from ..labels.noted import line_of
 from ..ledger.gone import back_in, gone_before, gone_from, unexplained
@@ -23,16 +24,15 @@ from ..ledger.record import Record, unspelled
 from ..looks import is_folder
 from ..maildir.disk import Need, want_room, want_syncs
 from ..maildir.folders import folder_path, folder_shown
-from ..mbox.locks import open_mailbox
+from ..mbox.locks import open_mailbox, snapshot
 from ..mbox.mailbox import Mailbox
-from ..mbox.snapshot import snapshot
 from ..nexts import NOTHING, Answer, Does, Next, Phrase
 from ..program import Program
 from ..progress import Spent
-from ..readings.plans import NoMail, NotKnown, OtherKind, Question, read_begun
+from ..readings.copies import unnamed
+from ..readings.plans import NoMail, NotKnown, OtherKind, Question
 from ..readings.reading import UNDECIDED, Reading
 from ..readings.texts import Choice, choice_at_once, choice_of, disk_of, read_messages
-from ..readings.unnamed import unnamed
 from ..remarks import Remark, Says
 from ..terminal import first_of, named
 from ..units import Say, counted, silent
@@ -150,7 +150,7 @@ class Migration:
         """The row of a mailbox that is left for this reason, unless it is no mbox text. What may be asked about one is
         asked once this reason is gone."""
         mailbox = opened.mailbox
-        with contextlib.suppress(Question), choice_of(mailbox, self.disk, read_begun):
+        with contextlib.suppress(Question), choice_of(mailbox, self.disk, Look.read_begun):
             pass
         return row_left(mailbox.path, b"", why, None, mailbox.size)
 

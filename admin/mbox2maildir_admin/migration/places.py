@@ -7,8 +7,8 @@ from collections.abc import Callable, Container, Iterable, Sequence
 from typing import NamedTuple, Optional
 
 from ..faults import Fault, Left, Reason, fault_of
+from ..kinds.folders import Profiles
 from ..kinds.named import is_no_mail, name_of_folder
-from ..kinds.profiles import Profiles
 from ..ledger.history import History, Note, Step, names_of
 from ..ledger.record import Record, unspelled
 from ..looks import is_file

@@ -11,6 +11,7 @@ from ..kinds.folders import (
     MH,
     SEQUENCES,
     Entry,
+    Profiles,
     has_maildir,
     is_export,
     is_of_maildir,
@@ -19,7 +20,6 @@ from ..kinds.folders import (
 )
 from ..kinds.making import ASIDE
 from ..kinds.named import is_no_mail
-from ..kinds.profiles import Profiles
 from ..ledger.history import History, names_of
 from ..looks import is_folder, is_surely, is_there, may_be, real_path, state_at, type_at
 from ..maildir.folders import INBOX, LONGEST, folder_on_disk, folder_path, name_before

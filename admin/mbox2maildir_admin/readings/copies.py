@@ -1,24 +1,30 @@
-"""Copies of mailboxes, which appear complete or not at all."""
+"""Copies of mailboxes: those that appear complete or not at all, and texts without a name, which are on the Maildir's
+disk and are gone once they are closed."""
 import contextlib
 import os
 import stat
-from collections.abc import Container
-from typing import BinaryIO, Optional
+from collections.abc import Container, Iterable, Iterator, Sequence
+from typing import IO, BinaryIO, Optional
 
 from .. import ADMIN
-from ..faults import Fault, naming
+from ..faults import Fault, Left, Reason, naming
 from ..looks import is_there
+from ..maildir.disk import PREFIX
 from ..maildir.folders import COPY
 from ..mbox.files import BLOCK, Reader
+from ..mbox.inventory import Inventory
+from ..mbox.mailbox import Mailbox
 from ..mbox.pieces import from_lines_of
 from ..nexts import Todo, task
 from ..terminal import named
+from ..units import Place
 
 # the endings of compressed files, which may hold all of the mailbox beside them, as a copy may
 COMPRESSED = b".gz", b".bz2", b".xz", b".zst", b".lz4"
 ENDINGS = (COPY, *COMPRESSED)
 # the name of a copy until it is complete, if it must have a name
 UNFINISHED = b".%s-" % ADMIN.encode()
+CUT = "it was cut while it was read: stop the program that writes to it, and run this again"
 
 
 def stem_of(name: bytes, names: Container[bytes]) -> bytes:
@@ -103,3 +109,40 @@ def unfinished(folder: bytes) -> tuple[BinaryIO, Optional[bytes]]:
     except OSError:
         number, part = tempfile.mkstemp(prefix=UNFINISHED, dir=folder)
     return open(number, "w+b", BLOCK), part
+
+
+def unnamed(folder: bytes) -> IO[bytes]:
+    """Opens a file without a name on the disk of a folder."""
+    import tempfile
+
+    return tempfile.TemporaryFile(buffering=BLOCK, prefix=PREFIX, dir=folder)
+
+
+def copy_of(mailbox: Mailbox, given: Iterable[bytes], folder: bytes) -> Mailbox:
+    """What is given of a mailbox, as a text that is open. Raises Fault if the disk has not all of it."""
+    size = 0
+    with unnamed(folder) as file:
+        for data in given:
+            file.write(data)
+            size += len(data)
+        file.flush()
+        text = Mailbox(mailbox.path, os.dup(file.fileno()), None, mailbox.say)
+    if text.size != size:
+        raise Fault("the copy has %d of %d bytes" % (int(text.size), size), Reason.MISREAD)
+    return text
+
+
+def copy_of_some(mailbox: Mailbox, inventory: Inventory, places: Sequence[Place], folder: bytes) -> Mailbox:
+    """A text of some messages of another, as they are in it."""
+
+    def given() -> Iterator[bytes]:
+        for place in places:
+            end = inventory.offsets[place + 1]
+            reader = Reader(mailbox.number, inventory.offset(place), end)
+            for block in reader.blocks():
+                yield block
+                mailbox.say("copying", reader.offset, mailbox.size)
+            if reader.offset < end:
+                raise Left(CUT, Reason.CHANGED)
+
+    return copy_of(mailbox, given(), folder)

@@ -120,17 +120,6 @@ class Question(Left):
         return found if found.of and found.of in answer.of.split(",") else None
 
 
-def is_as_it_is(look: Look) -> bool:
-    """Whether no copy of a text is made unless a later From_ line ends in CR LF: a message has no right length."""
-    lacks_length = look.without or look.count("wrong")
-    return bool(not look.start and lacks_length and not look.count("CR LF"))
-
-
-def read_begun(look: Look) -> Look:
-    """Looks at as much of a text as shows its format."""
-    return look.read(is_as_it_is)
-
-
 def plan_of(mailbox: Mailbox, read: Read = Look.read, decision: Reading = UNDECIDED) -> Plan:
     """Looks at as much of a mailbox as is wanted. Raises Left if something would be a guess that was not decided."""
     verdict = look_at(mailbox, read)
@@ -140,9 +129,12 @@ def plan_of(mailbox: Mailbox, read: Read = Look.read, decision: Reading = UNDECI
         left, first = NotKnown if verdict.holds == Holds.UNKNOWN else OtherKind, next(iter(verdict.remarks), None)
         raise left(mailbox.path, first, verdict.recipe, REASONS[verdict.holds], verdict.kind)
     noted, decision = decision.noted, decision._replace(noted=None)
-    if noted and (decision == UNDECIDED or is_about(verdict, noted)):
-        verdict = with_noted(verdict, noted)
-        decision = UNDECIDED if noted.of or verdict.answers or not noted.word else noted
+    if noted:
+        ties = verdict.look.doubts.ties(verdict.kind)
+        # beside a decision on several mailboxes it counts if it was about what is asked now, or about the first lines
+        if decision == UNDECIDED or verdict.answers and noted.of in (ties.messages, *ties.first):
+            verdict = with_noted(verdict, noted)
+            decision = UNDECIDED if noted.of or verdict.answers or not noted.word else noted
     if decision.of:
         want_tied(verdict, decision)
     plan = planned(verdict, decision)
@@ -151,12 +143,6 @@ def plan_of(mailbox: Mailbox, read: Read = Look.read, decision: Reading = UNDECI
     order = {line: Line(number) for number, line in enumerate(verdict.doubtful(), 1)}
     answer = renumbered(decision.decided, order)._replace(of=verdict.tied(UNDECIDED).of, alone=decision.alone)
     return plan._replace(answer=answer)
-
-
-def is_about(verdict: Verdict, noted: Reading) -> bool:
-    """Whether something is asked, and what was decided before is about that, or about the first lines in question."""
-    ties = verdict.look.doubts.ties(verdict.kind)
-    return bool(verdict.answers) and noted.of in (ties.messages, *ties.first)
 
 
 def with_noted(verdict: Verdict, noted: Reading) -> Verdict:

@@ -84,7 +84,7 @@ class Quoter:
         breaks = [] if self.how.ends == CR else list(breaks_of(mailbox, self.how.begin))
         for one in [*breaks, Break(mailbox.end, mailbox.end)]:
             file = Watched(mailbox.number, Size(one.end), mailbox.digest, mailbox.say)
-            file.seek(start)
+            file.offset = start
             read = LineEnds(file).read if self.how.ends == CR else file.read
             blocks = itertools.chain(iter(functools.partial(read, BLOCK), b""), filter(None, [one.added]))
             pieces = pieces_of(lambda _, blocks=blocks: next(blocks, b""), start)  # type: ignore[misc]

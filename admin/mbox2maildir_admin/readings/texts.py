@@ -11,10 +11,9 @@ from typing import NamedTuple, Optional
 
 from ..faults import Fault, Left, Reason
 from ..flags.dovecot_headers import internal_head
-from ..kinds.damage import LIKE_MAIL, NOT_KNOWN
 from ..kinds.look import Look, Read
 from ..kinds.making import Makes, Recipe
-from ..kinds.others import ARCHIVE, Form, other_of
+from ..kinds.others import ARCHIVE, LIKE_MAIL, NOT_KNOWN, Form, other_of
 from ..kinds.starts import text_start
 from ..looks import is_folder
 from ..maildir.files import paths_of
@@ -27,10 +26,10 @@ from ..mbox.mailbox import Mailbox
 from ..mbox.pieces import pieces_of
 from ..program import Listing, Program
 from ..units import Line, Offset, Say, silent
-from .plans import NoMail, NotKnown, OtherKind, Plan, Question, is_as_it_is, plan_of, wants_copy
+from .copies import copy_of
+from .plans import NoMail, NotKnown, OtherKind, Plan, Question, plan_of, wants_copy
 from .quoting import Quoter
 from .reading import PLAIN, UNDECIDED, Reading
-from .unnamed import copy_of
 
 # how a mailbox was read when it was recorded, if it was; and where the messages of a text begin that are converted
 ReadingOf = Callable[[Mailbox], Reading]
@@ -168,8 +167,8 @@ class AtOnce:
 
     def read(self, look: Look) -> Look:
         """Looks at all of a text, and reads its messages if its beginning shows that no copy of it is made."""
-        first = Look(look.mailbox, look.start).read(is_as_it_is)
-        if not is_as_it_is(first):
+        first = Look(look.mailbox, look.start).read_begun()
+        if not first.is_as_it_is:
             return first
         pieces = look.passed()
         try:
@@ -251,21 +250,18 @@ def plan_of_packed(text: Mailbox, form: Form, read: Read, decision: Reading) -> 
         raise
     except Left as left:
         why = Said(Line(0), "its content is left: %s" % (left.kind or left))
-        recipe = recipe_for(left, form)
+        # what is to be done with its content, if that takes one command; else it is unpacked, or a human finds out
+        # first what it holds
+        recipe: Recipe = left.recipe if isinstance(left, OtherKind) else ()
+        if recipe in (NOT_KNOWN, LIKE_MAIL):
+            recipe = form.looks, *recipe[1:]
+        elif recipe == ARCHIVE.recipe and form.unpacks_tar:
+            recipe = (Makes(form.unpacks_tar, is_folder=True),)
+        else:
+            recipe = (Makes(form.unpacks),)
         kind = NotKnown if isinstance(left, NotKnown) else OtherKind
         raise kind(text.path, why, recipe, left.reason, joined(left.kind, form)) from left
     return plan._replace(kind=joined(plan.kind, form))
-
-
-def recipe_for(left: Left, form: Form) -> Recipe:
-    """What is to be done with a packed file: what is to be done with its content, if that takes one command; else it is
-    unpacked, or a human finds out first what it holds."""
-    recipe = left.recipe if isinstance(left, OtherKind) else ()
-    if recipe in (NOT_KNOWN, LIKE_MAIL):
-        return form.looks, *recipe[1:]
-    if recipe == ARCHIVE.recipe and form.unpacks_tar:
-        return (Makes(form.unpacks_tar, is_folder=True),)
-    return (Makes(form.unpacks),)
 
 
 def joined(kind: str, form: Form) -> str:

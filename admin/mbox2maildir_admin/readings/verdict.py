@@ -2,10 +2,9 @@
 from collections.abc import Sequence
 from typing import NamedTuple, Optional
 
-from ..kinds.damage import finding_of
 from ..kinds.look import Look, Read
 from ..kinds.making import Recipe
-from ..kinds.others import Holds
+from ..kinds.others import Holds, finding_of
 from ..kinds.sorts import MAY_BE_MAIL, WITHIN
 from ..kinds.starts import HEAD, text_start
 from ..mbox.dates import is_dated
@@ -124,7 +123,7 @@ def look_at(mailbox: Mailbox, read: Read = Look.read) -> Verdict:
         mailbox.check()
         return Verdict(look, found.kind, remarks=found.remarks, holds=found.holds, recipe=found.recipe)
     if b"\r" in mailbox.at(start, HEAD).split(b"\n")[0][:-1]:
-        mailbox.file.seek(start)
+        mailbox.file.offset = start
         count = from_lines_of(LineEnds(mailbox.file).read)
         mailbox.check()
         why = Reasons([Said(Line(0), "its lines end in CR alone")], 1)

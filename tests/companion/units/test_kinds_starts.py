@@ -2,7 +2,7 @@
 import itertools
 import unittest
 
-from mbox2maildir_admin.kinds.undated import shape_of
+from mbox2maildir_admin.kinds.starts import shape_of
 
 # lines of one shape each, as a program writes them
 WRITTEN = [
