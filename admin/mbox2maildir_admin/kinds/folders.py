@@ -1,5 +1,5 @@
-"""Folders that mail programs write: those with a file for each message, Maildirs and folders of MH, of which each counts
-as one name; and Thunderbird's profiles, with the places of their mailboxes among folders."""
+"""Folders that mail programs write: those with a file for each message, which are Maildirs and folders of MH, and count
+as one name each; and Thunderbird's profiles, with the places of their mailboxes among folders."""
 import collections
 import os
 import re

@@ -10,7 +10,7 @@ from ..flags.dovecot_headers import internal_head
 from ..mbox.dates import is_dated
 from ..mbox.fields import LENGTH, Header
 from ..mbox.files import LONG
-from ..mbox.inventory import NOTE, Marked, marked, may_hold_mail
+from ..mbox.inventory import NOTE, Marked, may_hold_mail, plain_of
 from ..mbox.lines import Lines, Reasons, Said
 from ..mbox.mailbox import Mailbox
 from ..mbox.pieces import FROM, Piece, header_of
@@ -70,20 +70,22 @@ class Look:
     def read_begun(self) -> "Look":
         """Looks at as much of the text as shows its format."""
         for _ in self.passed():
-            if self.is_as_it_is:
+            if self.needs_no_copy:
                 break
         return self
 
     @property
-    def is_as_it_is(self) -> bool:
-        """Whether no copy of the text is made unless a later From_ line ends in CR LF: a message has no right length."""
+    def needs_no_copy(self) -> bool:
+        """Whether no copy is made of the text unless a later From_ line ends in CR LF, since a message has no right
+        length."""
         lacks_length = self.without or self.count("wrong")
         return bool(not self.start and lacks_length and not self.count("CR LF"))
 
     def passed(self) -> Iterator[Marked]:
         """Looks at each piece of the text, and passes it on."""
         piece = None
-        for piece, plain in marked(self.mailbox.pieces(self.start)):
+        for piece in self.mailbox.pieces(self.start):
+            plain = plain_of(piece)
             if plain and piece.offset >= self.claimed and piece.offset > self.start:
                 # a plain message, but the first one
                 self.seen["dated"].count += 1

@@ -59,16 +59,13 @@ def name_of_folder(path: bytes) -> str:
 
 def is_spared(words: Sequence[bytes], tops: Sequence[bytes], path: bytes, is_known: bool) -> bool:
     """Whether a file that is not mbox text is to be passed over: one of the words is its whole path or, if its kind is
-    not known, a pattern for it."""
+    not known, a pattern for its path below one of these folders, or for its name."""
     whole = os.path.abspath(path)
-    return any(os.path.abspath(word) == whole for word in words) or not is_known and is_named(words, tops, path)
-
-
-def is_named(patterns: Sequence[bytes], tops: Sequence[bytes], path: bytes) -> bool:
-    """Whether a pattern matches a file, by its path below one of these folders, or by its name."""
+    if any(os.path.abspath(word) == whole for word in words):
+        return True
     above = next((top for top in tops if path.startswith(top.rstrip(b"/") + b"/")), os.path.dirname(path))
     below = text_of(os.path.relpath(path, above or b"."))
-    return any(fnmatch.fnmatchcase(below, text_of(pattern)) for pattern in patterns)
+    return not is_known and any(fnmatch.fnmatchcase(below, text_of(word)) for word in words)
 
 
 def is_no_mail(path: bytes) -> bool:

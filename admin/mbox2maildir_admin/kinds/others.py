@@ -1,5 +1,5 @@
-"""Files that do not begin with mbox text: the table of kinds, with what to do with each, and what is damaged, one mail or
-not known."""
+"""Files that do not begin with mbox text: the table of kinds, with what to do with each; and what is damaged, is one
+mail, or is not known."""
 import enum
 import os
 import re
@@ -78,13 +78,9 @@ class Other(NamedTuple):
     form: Optional[Form] = None
 
 
-def whole(mailbox: Mailbox) -> bytes:
-    """The whole text; nothing if it is too long."""
-    return mailbox.at(0, WHOLE) if mailbox.size <= WHOLE else b""
-
-
-def lines_of(text: bytes) -> list[bytes]:
-    """The lines of a text, if it ends with the end of a line."""
+def lines_of(mailbox: Mailbox) -> list[bytes]:
+    """The lines of a text; none if it is long, or does not end with the end of a line."""
+    text = mailbox.at(0, WHOLE) if mailbox.size <= WHOLE else b""
     return text[:-1].split(b"\n") if text.endswith(b"\n") else []
 
 
@@ -96,9 +92,9 @@ def is_emlx(mailbox: Mailbox) -> bool:
 
 
 def is_mailbox_log(mailbox: Mailbox) -> bool:
-    """Whether it has only records of Dovecot: a byte that is one of four, 16 bytes for a mailbox, and four for a
-    time."""
-    return LOG.match(whole(mailbox)) is not None
+    """Whether it has only records of Dovecot: a byte that is one of four, 16 bytes for a mailbox, and four for a time.
+    Of a long file only the beginning tells."""
+    return mailbox.size > WHOLE or LOG.match(mailbox.at(0, WHOLE)) is not None
 
 
 def is_uidvalidity(mailbox: Mailbox) -> bool:
@@ -108,7 +104,7 @@ def is_uidvalidity(mailbox: Mailbox) -> bool:
 
 def is_subscriptions(mailbox: Mailbox) -> bool:
     """Whether it has only names of folders, one per line; in the older form also the name of such a file."""
-    lines = lines_of(whole(mailbox))
+    lines = lines_of(mailbox)
     if lines[:1] and lines[0].startswith(b"V\t"):
         return all(TABBED_NAME.match(name) for name in lines[2:])
     is_named = os.path.basename(mailbox.path) in SUBSCRIPTIONS
@@ -117,7 +113,7 @@ def is_subscriptions(mailbox: Mailbox) -> bool:
 
 def is_filter_rules(mailbox: Mailbox) -> bool:
     """Whether each line is a word and a value for it."""
-    lines = lines_of(whole(mailbox))
+    lines = lines_of(mailbox)
     return bool(lines) and all(RULE.match(line) for line in lines)
 
 
@@ -292,9 +288,9 @@ class Finding(NamedTuple):
 def finding_of(look: Look) -> Finding:
     """Finds out what a file is that does not begin with mbox text."""
     mailbox, line_of = look.mailbox, look.mailbox.line_at
-    other = other_of(mailbox)
-    if other:
-        return Finding(other.kind, other.recipe, other.holds)
+    known = other_of(mailbox)
+    if known:
+        return Finding(known.kind, known.recipe, known.holds)
     marks = (piece for piece in pieces_of(mailbox.again().read) if piece.begins)
     begins = next((piece for piece in marks if look.sort_of(piece, *signs_of(mailbox, piece)) != "text"), None)
     found = [Said(line_of(begins.offset), BEGINS % (begins.offset + 1), shown(begins.from_line[:72]))] if begins else []

@@ -1,5 +1,6 @@
-"""Where mbox text and messages begin: the From_ line of a text, lines `From ` that may begin messages although something
-speaks against it, and the shapes of From_ lines without a date as most have it."""
+"""Where mbox text and messages begin: the From_ line of a text; lines `From ` that may begin messages although
+something speaks against it, within messages with right lengths or within lines; and the shapes of From_ lines
+without a date."""
 import enum
 import re
 from collections.abc import Iterator
@@ -178,7 +179,9 @@ def is_local(words: list[bytes]) -> bool:
 
 
 def shape_of(line: bytes) -> tuple[bytes, ...]:
-    """The shape of a line `From `: what each of its words is, apart from the letters and the digits in it."""
+    """The shape of a line `From `: what each of its words is, apart from the letters and the digits in it. A program
+    writes all of its From_ lines in one shape, so that another line `From ` may be text. Of a date in another form than
+    most have it only the numbers are of the shape."""
     ending, words = ending_of(line), HIDDEN_ADDRESS.sub(rb"\1@\2", line[len(FROM) :]).split()
     if ending is Ending.ISO or ending is Ending.GROUPS:
         return (ending.value.encode(),)

@@ -1,19 +1,25 @@
-"""Which folders each message of a Takeout goes into, by its labels."""
+"""The labels in the headers of messages of a Takeout, and which folders each message goes into by them."""
 import array
 import collections
 import functools
+import re
 from collections.abc import Container, Iterable, Mapping, Sequence
-from typing import NamedTuple
+from typing import NamedTuple, Optional
 
 from ..faults import Left, Reason
-from ..flags.clients import GMAIL, Kept
+from ..flags.clients import GMAIL, Kept, labels_in
 from ..flags.gmail import ARCHIVE, ENGLISH, ORDER, Own, letters_by, own_names
 from ..maildir.folders import INBOX, folder_of, on_disk, why_no_folder
+from ..mbox.fields import VALUE
 from ..nexts import Does, Phrase
+from ..remarks import Remark, Says
 from ..terminal import named
 from .choosing import FOLDER, NONE, ONE, READ, SOME, Choosing
-from .fields import field_of, labels_of
 
+# Google writes both fields before those that were sent; what a sender writes comes after them
+FIELD = re.compile(rb"(X-GM-THRID|X-Gmail-Labels)" + VALUE + rb"(?:\n|\Z)", re.I)
+# Gmail's folders that nobody looks for in INBOX
+SAID = {Own.JUNK: "Spam", Own.TRASH: "Trash", Own.SENT: "Sent", Own.DRAFTS: "Drafts"}
 # more folders than these are asked about
 MOST = 2000
 NO_LABELS = "message %d does not begin with X-GM-THRID and X-Gmail-Labels, as each message of a Takeout does"
@@ -23,6 +29,29 @@ IN_QUESTION = "more than half of the messages have %s, so it may be a mark of Gm
 TOO_MANY = "its labels give %d folders"
 
 Places = Sequence[int]
+
+
+def field_of(header: bytes) -> Optional[bytes]:
+    """The value of the first field with labels; None unless it and the number of the thread come before all others."""
+    first = FIELD.match(header)
+    second = FIELD.match(header, first.end()) if first else None
+    values = {one[1].lower(): one[2] for one in (first, second) if one}
+    return values[b"x-gmail-labels"] if len(values) == 2 else None
+
+
+def labels_of(field: bytes) -> Optional[tuple[str, ...]]:
+    """The labels that are the value of a field, each once; None if they cannot be read."""
+    labels = labels_in(field.decode("latin-1"))
+    return None if labels is None else tuple(dict.fromkeys(filter(None, labels)))
+
+
+def remarks_on_labels(headers: Iterable[bytes]) -> list[Remark]:
+    """How many of some messages have labels of Gmail's folders that are not INBOX."""
+    several = [set(labels_of(field_of(header) or b"") or ()) for header in headers]
+    own = own_names(several)
+    roles = collections.Counter(role for labels in several for role in {own.get(label) for label in labels})
+    counts = ["%s %d" % (name, roles[role]) for role, name in SAID.items() if roles[role]]
+    return [Says.LABELLED.of(", ".join(counts))] if counts else []
 
 
 class LabelsLeft(Left):

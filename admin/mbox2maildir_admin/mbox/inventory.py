@@ -54,16 +54,10 @@ class Plain(NamedTuple):
 Marked = tuple[Piece, Optional[Plain]]
 
 
-def marked(pieces: Iterable[Piece]) -> Iterator[Marked]:
-    """The pieces of a text, of which the plain messages are known."""
-    for piece in pieces:
-        yield piece, plain_of(piece) if piece.begins and piece.ends else None
-
-
 def plain_of(piece: Piece) -> Optional[Plain]:
-    """What is known of a whole message; None if it is not plain."""
+    """What is known of a piece that is a plain message; None if it is none."""
     data = piece.data
-    found = BEGINS.match(data)
+    found = BEGINS.match(data) if piece.begins and piece.ends else None
     if not found or b"\r" in data or not data.endswith(b"\n"):
         return None
     parts, body = found.groups(), found.end()
@@ -199,7 +193,7 @@ class Inventory:
         of each message that has a noted field."""
         self, held = cls(), int(start)
         try:
-            pieces = pieces or marked(mailbox.pieces(start))
+            pieces = pieces or ((piece, plain_of(piece)) for piece in mailbox.pieces(start))
             for number, message in enumerate(messages_in(mailbox.path, pieces, with_cores), 1):
                 base = self.table.add(message.digest)
                 if listing and not listing.has(number, base, message.size):

@@ -36,10 +36,6 @@ class Said(NamedTuple):
         """What is said, with the number of the line."""
         return "line %d: %s" % (self.line, self.says) if self.line and self.says else self.says
 
-    def quote(self) -> Optional[Quote]:
-        """The line that is shown, if it is."""
-        return Quote(self.line, self.text) if self.text else None
-
 
 class Reasons(NamedTuple):
     """What is said of the first lines because of which something is asked, and how many of them there are."""

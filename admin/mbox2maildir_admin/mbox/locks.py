@@ -67,24 +67,28 @@ def open_mailbox(
 def lock_quiet(mailbox: Mailbox, kind: Kind) -> None:
     """Locks a mailbox once it was left alone for a minute. Until then, deliveries find it unlocked. Raises Left if that
     has not happened after a while."""
-    end = time.monotonic() + PATIENCE
+    end, is_locked = time.monotonic() + PATIENCE, False
     while True:
         mailbox.take_state()
-        seconds = seconds_to_wait(mailbox)
+        # a time of change in the future counts for nothing
+        age = time.time() - mailbox.state.st_mtime
+        seconds = QUIET - age if age >= 0 else 0
+        if seconds <= 0 and is_locked:
+            return
         if seconds <= 0:
             lock(mailbox.number, kind)
-            mailbox.take_state()
-            if seconds_to_wait(mailbox) <= 0:
-                return
+            is_locked = True
+        elif is_locked:
             # mail was delivered before the lock was taken
             unlock(mailbox.number)
-            continue
-        if time.monotonic() > end:
+            is_locked = False
+        elif time.monotonic() > end:
             raise Left("it keeps changing: stop the program that writes to it, and run this again", Reason.CHANGED)
-        if seconds > 1:
-            # a shorter wait is over before anybody has read of it
-            mailbox.say(WAITING + " %d seconds, because it changed a moment ago" % (seconds + 1))
-        time.sleep(min(1, seconds + 0.01))
+        else:
+            if seconds > 1:
+                # a shorter wait is over before anybody has read of it
+                mailbox.say(WAITING + " %d seconds, because it changed a moment ago" % (seconds + 1))
+            time.sleep(min(1, seconds + 0.01))
 
 
 def lock(number: int, kind: Kind) -> None:
@@ -116,13 +120,6 @@ def unlock(number: int) -> None:
     for give, kind in ((lock_record, fcntl.F_UNLCK), (lock_file, fcntl.LOCK_UN)):
         with contextlib.suppress(OSError):
             give(number, kind)
-
-
-def seconds_to_wait(mailbox: Mailbox) -> float:
-    """In how many seconds a mailbox will have been left alone for a minute. A time of change in the future counts for
-    nothing."""
-    age = time.time() - mailbox.state.st_mtime
-    return QUIET - age if age >= 0 else 0
 
 
 def snapshot(path: bytes, make: Callable[[int], IO[bytes]], say: Say = silent, follow: bool = False) -> Mailbox:

@@ -1,4 +1,5 @@
-"""An open mailbox, and its digest. It is read by `pread`, since the offset of its descriptor belongs to mbox2maildir alone."""
+"""An open mailbox, and its digest. It is read by `pread`, since the offset of its descriptor belongs to mbox2maildir
+alone."""
 import hashlib
 import os
 from collections.abc import Iterable, Iterator

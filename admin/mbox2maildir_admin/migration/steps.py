@@ -237,7 +237,7 @@ class Extra:
         """What is to be said of flags that a program kept, and of labels that were not asked for."""
         remarks = kept.remarks(one.places)
         if kept.program == GMAIL and not self.by_labels:
-            from ..labels.fields import remarks_on_labels
+            from ..labels.sorting import remarks_on_labels
 
             remarks += remarks_on_labels(map(one.contents.header, map(Place, one.places)))
         return remarks

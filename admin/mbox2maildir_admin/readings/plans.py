@@ -12,7 +12,7 @@ from ..nexts import Answer, Command, Does, Phrase, Quote
 from ..remarks import Remark, Says
 from ..terminal import NAMED
 from ..units import Line, Offset
-from .quoting import Quoter, measured
+from .quoting import Quoter
 from .reading import BY_LENGTHS, CR, CRLF, MBOXCL2, MBOXO, MBOXRD, PLAIN, UNDECIDED, UNQUOTED, Reading, renumbered
 from .verdict import DROP_DELETED, Verdict, counted_by, is_against_lengths, is_answer, look_at, reading_of
 
@@ -86,8 +86,8 @@ class OtherKind(Left):
     """A file that is not mbox text: what is said of it, and what to do next."""
 
     def __init__(self, path: bytes, says: Optional[Said], recipe: Recipe, reason: Phrase, kind: str) -> None:
-        quote = says.quote() if says else None
-        super().__init__(says.sentence() if says else "", reason, quotes=[quote] if quote else [])
+        quotes = [Quote(says.line, says.text)] if says and says.text else []
+        super().__init__(says.sentence() if says else "", reason, quotes=quotes)
         self.path, self.recipe, self.kind = path, recipe, kind
         self.put(beside(path))
 
@@ -231,7 +231,10 @@ def decided(verdict: Verdict, decision: Reading) -> Optional[Reading]:
 
 def plan_by(verdict: Verdict, reading: Reading, decision: Reading, kind: str) -> Plan:
     """The plan of a mailbox that is read in this way. All of it is read for that; a copy is made if it would differ."""
-    counts = measured(reading, verdict.mailbox, verdict.start)
+    counts = Quoter(reading, verdict.mailbox, verdict.start)
+    for _ in counts.run():
+        pass
+    counts.check(counts.given, counts.messages)
     if reading.ends == CRLF and not counts.crlf:
         reading = reading._replace(ends="")
     says, without = verdict.remarks_on_text(), counts.messages - counts.marked

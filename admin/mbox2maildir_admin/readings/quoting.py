@@ -198,10 +198,3 @@ def write_copy(how: Reading, mailbox: Mailbox, start: Offset, wanted: int, copy:
     quoter.check(quoter.given - given + size, messages, wanted)
     copy.place(mailbox.state)
     return quoter
-
-
-def measured(how: Reading, mailbox: Mailbox, start: Offset) -> Quoter:
-    """What has counted what a text has by a reading. Nothing is written."""
-    quoter = Quoter(how, mailbox, start)
-    quoter.check(written(quoter, len), quoter.messages)
-    return quoter

@@ -168,7 +168,7 @@ class AtOnce:
     def read(self, look: Look) -> Look:
         """Looks at all of a text, and reads its messages if its beginning shows that no copy of it is made."""
         first = Look(look.mailbox, look.start).read_begun()
-        if not first.is_as_it_is:
+        if not first.needs_no_copy:
             return first
         pieces = look.passed()
         try:
@@ -200,18 +200,15 @@ def form_of(mailbox: Mailbox) -> Optional[Form]:
     return other.form if other else None
 
 
-@contextlib.contextmanager
-def content_of(mailbox: Mailbox, folder: bytes) -> Iterator[Mailbox]:
+def content_of(mailbox: Mailbox, folder: bytes) -> "contextlib.AbstractContextManager[Mailbox]":
     """The text that a mailbox is, or that it holds, which is unpacked on the disk of a folder. Raises Fault if it is
     packed and not complete."""
     form = form_of(mailbox)
     if not form:
-        yield mailbox
-        return
+        return contextlib.nullcontext(mailbox)
     from .unpacking import unpacked
 
-    with unpacked(mailbox, form, folder) as text:
-        yield text
+    return unpacked(mailbox, form, folder)
 
 
 @contextlib.contextmanager

@@ -49,8 +49,8 @@ class Member:
 
 
 class Format(NamedTuple):
-    """How streams of a form are read: what begins one, and its errors, with that of a stream that is incomplete; of how many NUL bytes a file may have any
-    multiple after one, as padding; and whether another stream may follow these."""
+    """How streams of a form are read: what begins one, and its errors, with that of one that is incomplete; of how many
+    NUL bytes a file may have any multiple after one, as padding; and whether another stream may follow these."""
 
     begin: Callable[[], Any]
     errors: tuple[type[Exception], ...]

@@ -31,7 +31,7 @@ STOPPED = getattr(os, "CLD_STOPPED", 5)
 # the modules that a child may need; those of the package load what else it may need of both
 NEEDED = (
     *("concurrent.futures.thread", "csv", "email.header", "email.utils", "encodings.utf_16", "encodings.utf_32"),
-    *("tempfile", "urllib.parse", "..labels.fields", "..migration.workers", "..readings.unpacking"),
+    *("tempfile", "urllib.parse", "..labels.sorting", "..migration.workers", "..readings.unpacking"),
 )
 # how many remarks, lines and commands a row may have
 MOST = 64
