@@ -90,7 +90,7 @@ def modules(home: Path) -> None:
         (["kind", "box"], {"commands.migrate", "migration.mailbox"}),
         (
             ["migrate", "--all", "--now", "M", "box"],
-            {"commands.kind", "migration.objects", "flags.gmail", "readings.streams"},
+            {"commands.kind", "migration.objects", "flags.gmail", "readings.unpacking"},
         ),
         (["verify", "M", "box"], {"commands.kind", "commands.migrate", "migration.mailbox"}),
     ):

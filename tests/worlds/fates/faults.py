@@ -82,7 +82,7 @@ RIGHT = (
     Right("version.version", "", "a path is taken as it is where it cannot be looked at"),
     Right("program.listing in readings.texts.read", "", "what the program does not list at once, it is asked again"),
     Right("mbox.inventory.read in readings.texts.read", "", "what cannot be read at once is read anew"),
-    Right("readings.unnamed.unnamed", "b'M'", "where no file without a name can be made, a name is removed at once"),
+    Right("readings.copies.unnamed", "b'M'", "where no file without a name can be made, a name is removed at once"),
     Right("commands.migrate.joined", "b'M tree'", "the words are looked at one by one"),
     Right("migration.several.refuse", "b'tree/tmp'", "whoever reads the tree sees whether it is a Maildir"),
     Right("migration.places.recorded", "", "no folder is wanted for what holds no mail"),
