@@ -1,10 +1,9 @@
 """What is to be done next, as a value: commands with what each is an answer to, and tasks for a human. It is printed in
-lines of its own, and as JSON. Nobody reads a sentence back. A command is told as words of a table and names, from which
-whoever prints it makes its line."""
+lines of its own, and as JSON. A process tells it as words of a table and names, from which whoever prints it makes its
+line: no code takes a sentence apart."""
 import functools
 import os
 import pwd
-import re
 from collections.abc import Iterable, Iterator, Sequence
 from typing import Any, NamedTuple, Optional, Union
 
@@ -181,16 +180,12 @@ class Part(NamedTuple):
         return () if PLACES.search(text) else (*text.split(" "), *self.names)
 
     def line(self) -> str:
-        """The part as a shell reads it. Raises IndexError if it lacks a name."""
-        return line_of(self.words) if self.words else PLACES.sub(self.filled, self.template.text)
-
-    def filled(self, place: "re.Match[str]") -> str:
-        """What stands in a place of its text."""
-        if place[0] == "{copy}":
-            return COPY
-        if place[0] == "{}":
-            return quoted(self.names[0])
-        return line_of(self.names[1:] if place[0] == "{rest}" else self.names)
+        """The part as a shell reads it. Raises KeyError if it lacks a name."""
+        if self.words:
+            return line_of(self.words)
+        stands = {"{copy}": COPY, "{all}": line_of(self.names), "{rest}": line_of(self.names[1:])}
+        stands.update({"{}": quoted(self.names[0])} if self.names else {})
+        return PLACES.sub(lambda place: stands[place[0]], self.template.text)
 
 
 class Command(NamedTuple):
