@@ -21,7 +21,7 @@ from ..patterns import compile_all
 from ..signals import ENDING, INTERRUPTS
 from ..terminal import named, shown
 from .clerks import SYNC, Disks
-from .homes import Migrant
+from .homes import Migrant, Relay
 
 # how long a child may say nothing, and how long it has after a signal, in seconds
 SILENCE, GRACE = 900, 1
@@ -138,6 +138,8 @@ class UsersChild(Child):
 
 class Children(Crew):
     """The children of several users that are at work at the same time."""
+
+    parent = Relay
 
     def __init__(self, jobs: int, reporter: Observer) -> None:
         super().__init__(jobs)

@@ -64,8 +64,8 @@ class Returner(Migrant):
         if not has_none or any(BASE.match(name) for folder in folders_in(root) for name, _ in mail_in(folder)):
             want_migrated(root)
         paths = [one for one in names if one not in self.user.others or is_recorded(root, one)]
-        names_back, keeper = Names(paths, self.tree, NO_INBOX), Asking(relay.parent, self.boxes)
-        relay.parent.tell("then", bring_all(self.program(relay), root, names_back, self.options, keeper, relay))
+        names_back, keeper = Names(paths, self.tree, NO_INBOX), Asking(relay, self.boxes)
+        relay.tell("then", bring_all(self.program(relay), root, names_back, self.options, keeper, relay))
 
 
 def is_bare(path: bytes) -> bool:

@@ -84,9 +84,9 @@ class Migrant:
         """What does for the child what only root can do in the folder of the inboxes; None if nothing."""
         return None
 
-    def work(self, parent: Parent) -> None:
+    def work(self, relay: "Relay") -> None:
         """Does the work of a child: the same as a `migrate` that its user runs."""
-        relay, left = Relay(parent, self), why_no_home(self.account)
+        relay.user, left = self.user, why_no_home(self.account)
         if left:
             # the home belongs to what is left of the spool; otherwise it is the user that has one row
             of_home = self.tree if self.user.is_left and self.tree else self.account.home
@@ -94,7 +94,7 @@ class Migrant:
                 relay.leave(path, left)
         else:
             self.work_on(list(self.names(relay)), relay)
-        parent.tell("end", relay.rows)
+        relay.tell("end", relay.rows)
 
     def of_spool(self) -> list[bytes]:
         """The paths in the spool."""
@@ -147,12 +147,12 @@ class Migrant:
     def run(self, names: list[bytes], relay: "Relay") -> None:
         """Migrates the mailboxes at these paths into the Maildir."""
         has_inbox = bool(self.mailbox) or self.user.is_left
-        home = UserHome(self.account.home, has_inbox, functools.partial(sync_by_root, relay.parent))
+        home = UserHome(self.account.home, has_inbox, functools.partial(sync_by_root, relay))
         run_all(self.options, self.root, names, relay, self.program(relay), home)
 
     def program(self, relay: "Relay") -> Program:
         """What runs mbox2maildir, as long as root is there."""
-        return Program(self.spool.program, relay.parent.alive)
+        return Program(self.spool.program, relay.alive)
 
 
 class Spool(NamedTuple):
@@ -189,30 +189,28 @@ def is_recorded(maildir: bytes, mailbox: bytes) -> bool:
         return bool(record.folders_of(mailbox))
 
 
-class Relay(Observer):
-    """Tells rows by the names that root prints after the user's name: none for the mailbox of the spool and for the
-    home, otherwise a name below the home."""
+class Relay(Parent, Observer):
+    """Tells root rows by the names that root prints after the user's name: none for the mailbox of the spool and for
+    the home, otherwise a name below the home."""
 
-    def __init__(self, parent: Parent, migrant: Migrant) -> None:
-        self.parent, self.user = parent, migrant.user
+    user: Found
+
+    def __init__(self, pipe: int, alive: int) -> None:
+        super().__init__(pipe, alive)
         # the paths that have a row, and how many rows were told
-        self.told: set[bytes] = set()
+        self.with_rows: set[bytes] = set()
         self.rows = 0
-
-    def progress(self, who: str, doing: str, place: Optional[int] = None, size: Optional[int] = None) -> None:
-        """Tells how far a mailbox is."""
-        self.parent.progress(who, doing, place, size)
 
     def row(self, row: Row) -> None:
         """Tells a row. The mailbox of a row may be gone from the spool."""
         home = self.user.account.home
         path = b"" if row.path in (self.user.place, home) else os.path.relpath(row.path, home)
         path = row.path if row.path in self.user.beside or path.startswith(b"../") else path
-        self.told.add(row.path)
+        self.with_rows.add(row.path)
         self.rows += 1
-        self.parent.tell("row", told(row._replace(path=path)))
+        self.tell("row", told(row._replace(path=path)))
 
     def leave_rest(self, names: list[bytes], fault: Union[Fault, OSError]) -> None:
         """Tells that each path without a row is left or, if all have one, the last."""
-        for name in [name for name in names if name not in self.told] or names[-1:]:
+        for name in [name for name in names if name not in self.with_rows] or names[-1:]:
             self.leave(name, fault)
