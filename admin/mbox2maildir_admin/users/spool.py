@@ -84,19 +84,17 @@ def unpacked(waiting: "collections.deque[bytes]") -> Iterator[Found]:
 def users_of(spool: Spool, reporter: Observer, is_by_size: bool) -> "tuple[collections.deque[bytes], list[Found]]":
     """The users whose mailboxes are migrated: those that were asked for, otherwise those of the spool, and all users if
     homes have a folder of mailboxes; and further mailboxes of theirs. Says which names are left."""
-    listed, accounts = frozenset(os.listdir(spool.path)), Accounts()
+    listed = frozenset(os.listdir(spool.path))
     want_entered(spool.path)
-    names = mailboxes_among(listed, spool)
-    sources = sources_of(spool, names, accounts)
+    users = Users(spool, listed, reporter)
     if spool.asked is None:
         counts, not_asked = {SPOOL: 0, ACCOUNTS: 0}, 0
-        for name in listed - names:
+        for name in listed - users.names:
             reporter.row(Row(b"", b"", "", None, Fate.NO_MAIL, user=shown(name)))
     else:
-        counts = dict.fromkeys(sources.values(), 0)
-        not_asked = len({stem_of(name, listed) for name in listed} - sources.keys())
-    users = Users(spool, names, sources, accounts, reporter)
-    for name, source, account in accounts_of(spool, sources, accounts):
+        counts = dict.fromkeys(spool.asked.values(), 0)
+        not_asked = len({stem_of(name, listed) for name in listed} - spool.asked.keys())
+    for name, source, account in users.looked_at():
         if isinstance(account, Left):
             users.leave(name, account)
             users.leave_beside(name)
@@ -126,9 +124,9 @@ def sums_of(counts: Mapping[str, int], not_asked: int) -> Iterator[str]:
 def list_users(spool: Spool) -> bool:
     """Prints the name of each user whom a run takes, where the name came from, and how many bytes the mailbox in the
     spool has, with tabs between them. Returns whether a list can hold all of these names."""
-    spool, accounts, can_hold = spool._replace(path=os.path.abspath(spool.path)), Accounts(), True
-    names = mailboxes_among(os.listdir(spool.path), spool) if spool.asked is None else frozenset()
-    for name, source, account in accounts_of(spool, sources_of(spool, names, accounts), accounts):
+    spool, can_hold = spool._replace(path=os.path.abspath(spool.path)), True
+    users = Users(spool, os.listdir(spool.path) if spool.asked is None else (), Observer())
+    for name, source, account in users.looked_at():
         if isinstance(account, Left) or source == ACCOUNTS and not may_have_mail(account, spool):
             continue
         if ENDS & {*name}:
@@ -178,69 +176,60 @@ def mailboxes_among(names: Iterable[bytes], spool: Spool) -> AbstractSet[bytes]:
     return frozenset(names) - passed
 
 
-def sources_of(spool: Spool, names: AbstractSet[bytes], accounts: Accounts) -> Sources:
-    """The users who are asked for, otherwise the names of a spool that may be mailboxes and, if homes have a folder of
-    mailboxes, those of all users."""
-    if spool.asked is not None:
-        return spool.asked
-    # a file that may be a copy goes with its mailbox
-    found = {name: SPOOL for name in names if stem_of(name, names) == name}
-    if spool.is_of_homes:
-        for account in filter(accounts.is_users, accounts.read()):
-            found.setdefault(account.name, ACCOUNTS)
-    return {name: found[name] for name in sorted(found)}
-
-
-def accounts_of(
-    spool: Spool, sources: Sources, accounts: Accounts
-) -> Iterator[tuple[bytes, str, Union[Account, Left]]]:
-    """The account of each name, with the source of the name, or why it is left."""
-    if len(sources) > MANY and not accounts.by_name:
-        accounts.read()
-    for name, source in sources.items():
-        try:
-            yield name, source, user_of(name, accounts, spool)
-        except Left as left:
-            yield name, source, left
-
-
-def user_of(name: bytes, accounts: Accounts, spool: Spool) -> Account:
-    """The account of a name. Raises Left if it is not a user's, and was not asked for by its name, with what would do
-    it."""
-    account = accounts.of_name(name)
-    if accounts.is_users(account) or spool.asked is not None and account.uid not in (0, *NOBODY):
-        return account
-    command, words, says = spool.kind.command, spool.words(), "a system account"
-    mailbox = operand(os.path.join(spool.path, account.name))
-    if account.uid == 0:
-        then = run_next(command, *words, operand(os.path.join(account.home, b"Maildir")), mailbox)
-    elif account.uid not in NOBODY and not why_no_home(account):
-        says += ", which must be named"
-        then = run_next(command, "--users", *words, operand(spool.path), operand(account.name))
-    else:
-        # whatever is at that place, it is no place for mail
-        says += " without a home of its own"
-        then = (Answer(Command.of(command, *words, "MAILDIR", mailbox, user=text_of(account.name))),)
-    raise Left(says, Reason.SYSTEM_ACCOUNT, then)
-
-
 class Users:
-    """The users that are migrated. Each account is there once, under the name of its mailbox."""
+    """The users that are migrated, and all names that are looked at for them: those that are asked for, otherwise the
+    mailboxes of the spool and, if homes have a folder of mailboxes, all users. Each account is there once, under the
+    name of its mailbox."""
 
-    def __init__(
-        self, spool: Spool, names: AbstractSet[bytes], sources: Sources, accounts: Accounts, reporter: Observer
-    ) -> None:
-        """Begins without users. `names` are those of the spool, and `sources` has all that are looked at."""
-        self.spool, self.names, self.sources, self.accounts, self.reporter = spool, names, sources, accounts, reporter
-        # the names that may be copies, by the names of their mailboxes
+    def __init__(self, spool: Spool, listed: Iterable[bytes], reporter: Observer) -> None:
+        """Begins without users, with the names that the spool has."""
+        self.spool, self.reporter, self.accounts = spool, reporter, Accounts()
+        self.names = mailboxes_among(listed, spool)
+        # the names that may be copies, by the names of their mailboxes, with which they go
         self.copies: dict[bytes, list[bytes]] = {}
-        for name in sorted(names):
-            stem = stem_of(name, names)
-            if stem != name:
+        found: dict[bytes, str] = {}
+        for name in sorted(self.names):
+            stem = stem_of(name, self.names)
+            if stem == name:
+                found[name] = SPOOL
+            else:
                 self.copies.setdefault(stem, []).append(name)
+        if spool.asked is None and spool.is_of_homes:
+            for account in filter(self.accounts.is_users, self.accounts.read()):
+                found.setdefault(account.name, ACCOUNTS)
+        self.sources: Sources = {name: found[name] for name in sorted(found)} if spool.asked is None else spool.asked
         self.found: dict[Key, Found] = {}
         # further mailboxes of the same accounts
         self.others: list[Found] = []
+
+    def looked_at(self) -> Iterator[tuple[bytes, str, Union[Account, Left]]]:
+        """Each name with where it came from, and its account, or why it is left."""
+        if len(self.sources) > MANY and not self.accounts.by_name:
+            self.accounts.read()
+        for name, source in self.sources.items():
+            try:
+                yield name, source, self.user_of(name)
+            except Left as left:
+                yield name, source, left
+
+    def user_of(self, name: bytes) -> Account:
+        """The account of a name. Raises Left if it is not a user's, and was not asked for by its name, with what would
+        do it."""
+        account, spool = self.accounts.of_name(name), self.spool
+        if self.accounts.is_users(account) or spool.asked is not None and account.uid not in (0, *NOBODY):
+            return account
+        command, words, says = spool.kind.command, spool.words(), "a system account"
+        mailbox = operand(os.path.join(spool.path, account.name))
+        if account.uid == 0:
+            then = run_next(command, *words, operand(os.path.join(account.home, b"Maildir")), mailbox)
+        elif account.uid not in NOBODY and not why_no_home(account):
+            says += ", which must be named"
+            then = run_next(command, "--users", *words, operand(spool.path), operand(account.name))
+        else:
+            # whatever is at that place, it is no place for mail
+            says += " without a home of its own"
+            then = (Answer(Command.of(command, *words, "MAILDIR", mailbox, user=text_of(account.name))),)
+        raise Left(says, Reason.SYSTEM_ACCOUNT, then)
 
     def leave(self, name: bytes, fault: Union[Fault, OSError]) -> None:
         """Reports why root itself leaves a user."""
