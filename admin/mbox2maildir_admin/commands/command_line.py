@@ -5,7 +5,7 @@ import gc
 import importlib
 import os
 import sys
-from collections.abc import Iterable, Mapping, Sequence
+from collections.abc import Iterable, Sequence
 from typing import Any, NoReturn
 
 from .. import ADMIN
@@ -20,16 +20,16 @@ WIDTH = 80
 # what follows the name of an operand that may be given several times
 SEVERAL = "..."
 HELP = Option("-h --help", "", "show this help message and exit")
-VERSION = Option("--version", "", "print the version, and end")
 
 
-class Parser:
-    """Reads the words of a command: its options, whose names must be complete and which may stand anywhere among the
-    operands. An error is a line that says what is wrong, and one with the command that says more."""
+class Command:
+    """A command, or the program without one, and its options, whose names must be complete and which may stand anywhere
+    among the operands. An error is a line that says what is wrong, and one with the command that says more."""
 
-    def __init__(self, prog: str, words: Words, groups: Mapping[str, Sequence[Option]]) -> None:
-        self.prog, self.words, self.groups = prog, words, groups
-        options = [HELP, *(one for several in groups.values() for one in several)]
+    def __init__(self, words: Words) -> None:
+        self.words, self.groups = words, options_of(words.name)
+        self.prog = ADMIN if words.name == ADMIN else "%s %s" % (ADMIN, words.name)
+        options = [HELP, *(one for several in self.groups.values() for one in several)]
         self.named = {name: one for one in options for name in one.names.split()}
 
     def help(self) -> str:
@@ -104,13 +104,6 @@ class Parser:
             setattr(given, one.key, value if one.value else True)
         return typed
 
-
-class Command(Parser):
-    """A command, and its options."""
-
-    def __init__(self, words: Words) -> None:
-        super().__init__("%s %s" % (ADMIN, words.name), words, options_of(words.name))
-
     def given(self, words: Iterable[str]) -> Given:
         """The options and operands that the words give, which go together."""
         given = self.read(words)
@@ -145,16 +138,16 @@ def run(words: Sequence[str]) -> int:
     if words and words[0] in commands:
         return Command(commands[words[0]]).run(words[1:])
     shorts = ["  %-9s %s" % (one.name, one.short) for one in COMMANDS]
-    parser = Parser(ADMIN, PROGRAM._replace(text="\n".join([PROGRAM.text, "", "commands:", *shorts])), {"": [VERSION]})
-    given = parser.read(words)
+    program = Command(PROGRAM._replace(text="\n".join([PROGRAM.text, "", "commands:", *shorts])))
+    given = program.read(words)
     if given.version:
         from ..version import version
 
         put("%s %s" % (ADMIN, version()))
         return Status.WELL
     for name in given.operands:
-        parser.error("%s: no such command%s" % (shown(name), like(os.fsdecode(name), commands)))
-    parser.error("the command is missing: %s" % ", ".join(commands))
+        program.error("%s: no such command%s" % (shown(name), like(os.fsdecode(name), commands)))
+    program.error("the command is missing: %s" % ", ".join(commands))
     return Status.LEFT
 
 

@@ -4,6 +4,7 @@ import os
 from types import SimpleNamespace
 from typing import Any, NamedTuple, Optional
 
+from .. import ADMIN
 from ..labels.choosing import GIVES, SOME, WORDS as WORDS_OF_LABELS, Choosing
 from ..looks import is_folder
 from ..readings.reading import UNDECIDED, WORDS, Reading, lines_named
@@ -68,6 +69,7 @@ class Option(NamedTuple):
 FILE, ONE = "a MAILBOX that is a file", "exactly one MAILBOX, which is a file"
 OPTIONS = {
     HOW: [
+        Option("--version", ADMIN, "print the version, and end"),
         Option("--dry-run", "migrate", "print what would be done, and write nothing"),
         Option("--dry-run", "back", "print what would go back, and write nothing"),
         Option(
