@@ -16,8 +16,7 @@ from ..mbox.mailbox import Mailbox
 from ..mbox.pieces import FROM, Piece, header_of
 from ..terminal import NAMED
 from ..units import Line, Offset
-from .doubts import CUT, DELETED, Doubts
-from .sorts import AGAINST, DOUBTFUL, KEEPING, MAY_BE_MAIL, SAID
+from .doubts import AGAINST, CUT, DELETED, DOUBTFUL, KEEPING, MAY_BE_MAIL, SAID, Doubts
 from .starts import ADDRESS, FIELD, Ending, end_of_row, ending_of, is_after_blank, joins_in, may_be_mail, shape_of
 
 GIT = re.compile(rb"From [0-9a-f]{40,64} Mon Sep 17 00:00:00 2001\r?\Z")

@@ -22,7 +22,7 @@ QUOTES, QUOTED = re.compile(rb"\n>+(?=From )"), b">From "
 BEGUN = re.compile(rb"(?:(?:^|\n)>+(?:F(?:r(?:om?)?)?)?|\r)\Z")
 
 
-def bare_of(text: bytes, begun: bytes = b"") -> bytes:
+def bare_of(text: bytes, begun: bytes) -> bytes:
     """The bare form of the beginning of a message, or of what goes on with what has begun in the header."""
     return without(NOTED_FIELD, text, 0, header_of(text, 0)[0], begun)
 

@@ -9,7 +9,7 @@ import time
 from typing import IO, Callable, NamedTuple
 
 from ..faults import Left, Reason, fault_of
-from ..units import WAITING, Say, silent
+from ..units import WAITING, Say
 from .files import has_holes, open_plain
 from .lock_file import look_for_lock_file
 from .mailbox import Digest, Mailbox
@@ -38,9 +38,7 @@ READING = Kind(os.O_RDONLY, fcntl.LOCK_SH, fcntl.F_RDLCK)
 WRITING = Kind(os.O_RDWR | os.O_APPEND, fcntl.LOCK_EX, fcntl.F_WRLCK)
 
 
-def open_mailbox(
-    path: bytes, say: Say = silent, follow: bool = False, quiet: bool = True, kind: Kind = READING
-) -> Mailbox:
+def open_mailbox(path: bytes, say: Say, follow: bool, quiet: bool, kind: Kind = READING) -> Mailbox:
     """Opens a mailbox, waits until it was left alone for a minute if `quiet` says so, and locks it. It is digested
     while it is read. Raises Left if it can't be opened or locked, or has large holes."""
     try:
@@ -122,7 +120,7 @@ def unlock(number: int) -> None:
             give(number, kind)
 
 
-def snapshot(path: bytes, make: Callable[[int], IO[bytes]], say: Say = silent, follow: bool = False) -> Mailbox:
+def snapshot(path: bytes, make: Callable[[int], IO[bytes]], say: Say, follow: bool) -> Mailbox:
     """A copy of a mailbox in a file without a name, which `make` makes for so many bytes. The mailbox is locked for ten
     seconds at most. If mail was only appended after that, the copy ends where the mailbox ended. Raises Left if it
     changed otherwise, each time."""

@@ -189,7 +189,7 @@ def written(quoter: Quoter, take: Callable[[bytes], object], is_bare: bool = Fal
     return given
 
 
-def write_copy(how: Reading, mailbox: Mailbox, start: Offset, wanted: int, copy: Copy, is_bare: bool = False) -> Quoter:
+def write_copy(how: Reading, mailbox: Mailbox, start: Offset, wanted: int, copy: Copy, is_bare: bool) -> Quoter:
     """Writes a copy without right lengths that has as many messages as wanted, bare or not, and gives it its name.
     Returns its Quoter."""
     quoter = Quoter(how, mailbox, start, keeps_lengths=False)

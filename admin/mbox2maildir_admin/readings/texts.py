@@ -25,7 +25,7 @@ from ..mbox.lines import Said
 from ..mbox.mailbox import Mailbox
 from ..mbox.pieces import pieces_of
 from ..program import Listing, Program
-from ..units import Line, Offset, Say, silent
+from ..units import Line, Offset, Say
 from .copies import copy_of
 from .plans import NoMail, NotKnown, OtherKind, Plan, Question, plan_of, wants_copy
 from .quoting import Quoter
@@ -267,9 +267,7 @@ def joined(kind: str, form: Form) -> str:
 
 
 @contextlib.contextmanager
-def open_text(
-    path: bytes, maildir: bytes, say: Say = silent, recorded: ReadingOf = lambda mailbox: UNDECIDED
-) -> Iterator[Text]:
+def open_text(path: bytes, maildir: bytes, say: Say, recorded: ReadingOf) -> Iterator[Text]:
     """Opens the text that is converted for a mailbox, without a lock, with all its header fields. It is read as it was
     when it was recorded. If the mailbox would be left, the text is the mailbox itself, or what it holds. Raises Fault
     if it is packed and not complete."""

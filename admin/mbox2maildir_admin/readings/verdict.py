@@ -2,10 +2,10 @@
 from collections.abc import Sequence
 from typing import NamedTuple, Optional
 
+from ..kinds.doubts import MAY_BE_MAIL, WITHIN
 from ..kinds.look import Look, Read
 from ..kinds.making import Recipe
 from ..kinds.others import Holds, finding_of
-from ..kinds.sorts import MAY_BE_MAIL, WITHIN
 from ..kinds.starts import HEAD, text_start
 from ..mbox.dates import is_dated
 from ..mbox.files import LineEnds
@@ -70,8 +70,8 @@ class Verdict(NamedTuple):
         return self._replace(answers=tuple(sorted(answers, key=lambda one: bool(one.drop == is_kept))))
 
     def doubtful(self) -> list[Line]:
-        """The lines that may begin messages."""
-        return self.look.doubts.numbers()
+        """The lines that may begin messages, in their order."""
+        return [line for line, _ in self.look.doubts.after(0)]
 
     @property
     def is_on_lines(self) -> bool:
