@@ -38,7 +38,6 @@ from .lines import (
     Brought,
     Head,
     Line,
-    Lines,
     Messages,
     State,
     append,
@@ -298,7 +297,9 @@ class Ledger:
 
     def entries(self, cores: Optional[Container[bytes]]) -> Iterator[Line]:
         """The lines of messages that have one of these cores; of all messages without them."""
-        ended: dict[str, Lines] = {}
+        # by their paths: what mailboxes have, by the messages, and what they had once
+        held: dict[str, collections.defaultdict[tuple[bytes, ...], list[Line]]] = {}
+        former: collections.defaultdict[str, list[Line]] = collections.defaultdict(list)
         states = {number: (path, State.HELD) for number, path in self.ended.items()}
         states.update((number, (path, State.UNDONE)) for number, path in self.undone.items())
         for number, its in self.open.items():
@@ -307,13 +308,18 @@ class Ledger:
             for at, one in several.counted(cores) if number in states else ():
                 line = Line(*states[number], one, number, at >= first)
                 if line.state is State.HELD:
-                    ended.setdefault(line.path, Lines()).take(line)
+                    same = held.setdefault(line.path, collections.defaultdict(list))[one[1:]]
+                    if one.word != LOST:
+                        same.append(line)
+                    elif same:
+                        # of several with a name, the last one has the file
+                        former[line.path].append(same.pop(0)._replace(state=State.FORMER))
                 elif one.word != LOST:
                     yield line
-        for path, lines in ended.items():
-            held = (one for same in lines.held.values() for one in same)
-            yield from (one._replace(state=State.OPEN) if path in self.leaving else one for one in held)
-            yield from lines.former
+        for path, its_lines in held.items():
+            for line in itertools.chain.from_iterable(its_lines.values()):
+                yield line._replace(state=State.OPEN) if path in self.leaving else line
+            yield from former[path]
 
     def last_end(self, path: str) -> int:
         """The number of the last batch of a mailbox that has ended; 0 if none has."""

@@ -41,8 +41,6 @@ BY_ANOTHER = (
 MESSAGE = pattern(
     rb"^([psfbl])\t((?=[0-9a-f]{32})[!-~]+(?=\t=)|[!-~]+(?=\t[0-9a-f]))\t(=|[0-9a-f]{32})(?:\t([0-9a-f]{32}))?\n", re.M
 )
-# a line of something else
-OTHER_LINE = pattern(rb"^(?![psfbl]\t).*\n", re.M)
 BATCH = pattern(
     rb"@\t(\d{1,18})\t(\d{1,18})\t(\d{1,18})\t(\d{1,18})\t(\d{1,18})\t((?:-?\d{1,19}(?:,-?\d{1,19})*)?)"
     rb"\t(\d{1,18})-([0-9a-f]{64})(?:-(\d{1,20}))?\t([!-~][ -~]*)\t([^\t]+)\Z"
@@ -53,8 +51,9 @@ MOVED = pattern(rb">\t([^\t]+)\t([^\t]+)\Z")
 UNDOING = pattern(rb"<\t([^\t]+)\Z")
 UNDONE = pattern(rb"-\t(\d{1,18})\t([^\t]+)\Z")
 FAILED = pattern(rb"!\t(\d{1,18})\Z")
-# the line that ends a batch, by its number
-END_LINE = b"=\t%d\n"
+# lines about a batch with a number: all of its messages have their files; it was verified, and is on the disk; a sync
+# of it failed, and nothing of it is to be believed
+PLACED_LINE, END_LINE, FAILED_LINE = b"+\t%d\n", b"=\t%d\n", b"!\t%d\n"
 # what ends a line that was cut: no line ends with a tab, so it becomes no other one
 CUT = b"\t"
 # how many bytes of lines are written at once, in whole lines: others append too
@@ -128,23 +127,6 @@ class Line(NamedTuple):
     was_nowhere: bool = False
 
 
-class Lines:
-    """The messages that lines of a mailbox have, while its batches are read in their order."""
-
-    def __init__(self) -> None:
-        self.held: collections.defaultdict[tuple[bytes, ...], list[Line]] = collections.defaultdict(list)
-        self.former: list[Line] = []
-
-    def take(self, line: Line) -> None:
-        """Takes a line of a batch that has ended."""
-        same = self.held[line.message[1:]]
-        if line.message.word != LOST:
-            same.append(line)
-        elif same:
-            # of several with a name, the last one has the file
-            self.former.append(same.pop(0)._replace(state=State.FORMER))
-
-
 # lines of messages that follow each other, with these; any other line by itself, with none
 Piece = tuple[bytes, Optional[Messages]]
 
@@ -193,7 +175,22 @@ def append(
         try:
             if since is not None:
                 want_alone(number, folder, since)
-            return append_to(number, path, lines, sync)
+            state = os.fstat(number)
+            want_trusted(path, state)
+            if state.st_size and os.pread(number, 1, state.st_size - 1) != b"\n":
+                write_all(number, CUT + b"\n")
+            piece = bytearray()
+            for line in lines:
+                piece += line
+                if len(piece) >= PIECE:
+                    write_all(number, bytes(piece))
+                    piece.clear()
+            write_all(number, bytes(piece))
+            # others may append meanwhile: what is of this size is on the disk then
+            size = os.fstat(number).st_size
+            if sync:
+                os.fsync(number)
+            return size
         finally:
             os.close(number)
 
@@ -209,44 +206,6 @@ def want_alone(number: int, folder: bytes, since: int) -> None:
     *lines, _ = os.pread(number, max(0, os.fstat(number).st_size - since), since).split(b"\n")
     if any(map(BATCH.match, lines)):
         raise Fault(AT_WORK % named(folder), Reason.LOCKED)
-
-
-def append_to(number: int, path: bytes, lines: Iterable[bytes], sync: bool) -> int:
-    """Appends lines to the open file of a path, as `append` does, and returns its size then."""
-    state = os.fstat(number)
-    want_trusted(path, state)
-    if state.st_size and os.pread(number, 1, state.st_size - 1) != b"\n":
-        write_all(number, CUT + b"\n")
-    pieces: list[bytes] = []
-    length = 0
-    for line in lines:
-        pieces.append(line)
-        length += len(line)
-        if length >= PIECE:
-            write_all(number, b"".join(pieces))
-            pieces, length = [], 0
-    write_all(number, b"".join(pieces))
-    # others may append meanwhile: what is of this size is on the disk then
-    size = os.fstat(number).st_size
-    if sync:
-        os.fsync(number)
-    return size
-
-
-def note_all_placed(folder: bytes, number: int) -> None:
-    """Notes that each message of a batch has its file. If a power cut takes this line, nothing is lost: then the times
-    of the disk show how far the batch came."""
-    append(folder, [b"+\t%d\n" % number], sync=False)
-
-
-def note_ends(folder: bytes, numbers: Iterable[int]) -> None:
-    """Notes that batches of the ledger of a folder were verified, and are on the disk."""
-    append(folder, [END_LINE % number for number in numbers])
-
-
-def note_batch_failed(folder: bytes, number: int) -> None:
-    """Notes that a sync failed of a batch of the ledger of a folder, of which nothing is to be believed."""
-    append(folder, [b"!\t%d\n" % number])
 
 
 def digest_at(digests: Union[bytes, bytearray], at: int) -> bytes:
@@ -291,20 +250,17 @@ def pieces_in(folder: bytes) -> Iterator[Piece]:
 
 def pieces_of(text: bytes) -> Iterator[Piece]:
     """The same of some whole lines."""
-    several, at = Messages.parse(text), 0
+    several = Messages.parse(text)
     if several:
         yield text, several
         return
-    for other in OTHER_LINE.finditer(text):
-        yield from pieces_of(text[at : other.start()])
-        yield other[0], None
-        at = other.end()
-    if at:
-        yield from pieces_of(text[at:])
-        return
-    # one of them only looks like that of a message
-    for line in text.split(b"\n")[:-1]:
-        yield line + b"\n", Messages.parse(line + b"\n")
+    lines = (line + b"\n" for line in text.split(b"\n")[:-1])
+    for are_messages, its in itertools.groupby(lines, lambda line: MESSAGE.match(line) is not None):
+        if are_messages:
+            piece = b"".join(its)
+            yield piece, Messages.parse(piece)
+        else:
+            yield from ((line, None) for line in its)
 
 
 def want_trusted(path: bytes, state: os.stat_result) -> None:

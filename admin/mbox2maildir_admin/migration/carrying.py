@@ -13,7 +13,7 @@ from typing import Optional
 from ..faults import Fault, Left, Reason, fault_of
 from ..ledger.gone import times_of
 from ..ledger.history import Note
-from ..ledger.lines import Head, note_all_placed, note_batch_failed, note_ends
+from ..ledger.lines import END_LINE, FAILED_LINE, PLACED_LINE, Head, append
 from ..ledger.match import Files
 from ..ledger.prepared import WHOLE, Prepared, finish_list, note_failed, remove_list
 from ..ledger.record import unspelled
@@ -143,7 +143,8 @@ def convert(steps: Steps, program: Program, batch: Optional[int] = None) -> int:
         raise explained(failed, steps, batch) from failed
     is_whole, wanted = ran.end == steps.contents.text.mailbox.end, len(steps.placing.nowhere)
     if batch and is_whole and 0 < wanted <= ran.placed:
-        note_all_placed(steps.opened.folder, batch)
+        # if a power cut takes this line, the times of the disk show how far the batch came
+        append(steps.opened.folder, [PLACED_LINE % batch], sync=False)
     if steps.opened.has_changed(steps.contents.text.mailbox):
         raise Left(CHANGED_WHILE_CONVERTED, Reason.CHANGED)
     return max(0, ran.placed - wanted) if is_whole else 0
@@ -238,7 +239,7 @@ def settled(several: Sequence[tuple[Outcome, Optional[OSError]]]) -> list[Row]:
                 finish_list(one.folder)
     for folder, its in ended.items():
         with leaving(rows, *its):
-            note_ends(folder, (one.batch for one in its.values() if one.batch))
+            append(folder, [END_LINE % one.batch for one in its.values() if one.batch])
             if any(one.ends_list for one in its.values()):
                 # if a power cut brings it back, the ledger shows that it is over
                 remove_list(folder, sync=False)
@@ -251,7 +252,7 @@ def sync_failed(folder: bytes, batch: Optional[int]) -> Left:
         note_failed(folder)
         return Left(PREPARED_SYNC_FAILED, Reason.SYNC_FAILED)
     try:
-        note_batch_failed(folder, batch)
+        append(folder, [FAILED_LINE % batch])
     except Fault as fault:
         noted = "%s; note this yourself, because the ledger could not be written: %s" % (SYNC_FAILED, fault)
         return Left(noted, Reason.SYNC_FAILED)
