@@ -49,22 +49,19 @@ def may_be_gone(folder: bytes, table: Table, before: tuple[int, ...]) -> list[in
         if place is not None:
             with contextlib.suppress(FileNotFoundError):
                 changes[place] = os.lstat(path).st_ctime_ns
-    return [place for place in range(came_to(folder, table, before, changes)) if not changes[place]]
-
-
-def came_to(folder: bytes, table: Table, before: tuple[int, ...], changes: Sequence[int]) -> int:
-    """The place before which it may have placed all messages."""
     times, placed = times_of(folder), [place for place, change in enumerate(changes) if change]
-    if before and times[:1] == before[:1] and times[0] % SECOND:
-        # it made no file; a disk whose times are whole seconds does not show that
-        return 0
     left = [table.own_place(name) for name in names_in(os.path.join(folder, SUBFOLDERS[0])) if is_own(name)]
     in_tmp = [place for place in left if place is not None and not changes[place]]
-    if in_tmp:
-        return max(in_tmp)
-    if times and is_untouched([changes[place] for place in placed], before, times):
-        return placed[-1] if placed else 0
-    return len(table)
+    # the place before which it may have placed all messages
+    end = len(table)
+    if before and times[:1] == before[:1] and times[0] % SECOND:
+        # it made no file; a disk whose times are whole seconds does not show that
+        end = 0
+    elif in_tmp:
+        end = max(in_tmp)
+    elif times and is_untouched([changes[place] for place in placed], before, times):
+        end = placed[-1] if placed else 0
+    return [place for place in range(end) if not changes[place]]
 
 
 def is_untouched(changes: Sequence[int], before: tuple[int, ...], times: tuple[int, ...]) -> bool:

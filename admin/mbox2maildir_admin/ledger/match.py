@@ -8,6 +8,7 @@ deleted counts for no message that is not.
 import array
 import bisect
 import collections
+import contextlib
 import enum
 import itertools
 from collections.abc import Callable, Container, Iterable, Iterator, Sequence
@@ -81,40 +82,29 @@ class Files:
         there = [table.counts[place] for place in table.places_of(digest) if self.there[place]]
         return sorted([*there, *self.counts.get(digest, ())])
 
-    def own_names(self, digest: bytes) -> Iterator[bytes]:
-        """The names of the files that have such a base."""
-        return (b"%s.%d" % (digest.hex().encode(), count) for count in self.counts_of(digest))
-
     def foreign(self, places: Sequence[int], known: Container[bytes], is_first: bool) -> dict[bytes, list[bytes]]:
         """The files that hold messages at these places, by their bare forms, but for those that are known. All are read
         if the mailbox has brought nothing so far; later, since people may have much mail there, only those of other
         programs that may have the bytes of a message as it is, and those that an undo may have kept."""
+        inventory, table = self.inventory, self.inventory.table
         found: collections.defaultdict[bytes, list[bytes]] = collections.defaultdict(list)
-        sizes = (
-            {self.inventory.sizes[place] for place in places}
-            if self.has_named or self.kept or is_first and self.has_strange
-            else set()
-        )
+        is_worthwhile = self.has_named or self.kept or is_first and self.has_strange
+        sizes = {inventory.sizes[place] for place in places} if is_worthwhile else set()
         for before, path in self.numbered() if sizes else ():
-            is_read = before in self.kept or is_first and self.inventory.table.own_place(before) is None
-            if (is_read or not is_own(before)) and before not in known:
-                bare = self.bare_in(path, None if is_read else sizes)
-                if bare:
-                    found[bare].append(before)
+            bare: Optional[bytes] = None
+            if before in known:
+                continue
+            if before in self.kept or is_first and table.own_place(before) is None:
+                forms = forms_in(path)
+                bare = forms[1] if forms else None
+            elif not is_own(before):
+                with contextlib.suppress(OSError):
+                    digest = digest_of(path, sizes)[0]
+                    place = table.place_of(digest + FIRST) if digest else None
+                    bare = None if place is None else inventory.bare(place)
+            if bare:
+                found[bare].append(before)
         return found
-
-    def bare_in(self, path: bytes, sizes: Optional[Container[int]]) -> Optional[bytes]:
-        """The bare form of the message in a file; of a file of one of these sizes, if it holds a message of the
-        text."""
-        if sizes is None:
-            forms = forms_in(path)
-            return forms[1] if forms else None
-        try:
-            digest = digest_of(path, sizes)[0]
-        except OSError:
-            return None
-        place = self.inventory.table.place_of(digest + FIRST) if digest else None
-        return None if place is None else self.inventory.bare(place)
 
     def by_core(self, known: Container[bytes]) -> dict[bytes, list[tuple[bytes, bytes]]]:
         """All files but those that are known, by the cores of what they hold, with its bare form. They are read."""
@@ -339,7 +329,8 @@ class Match:
         forms = dict.fromkeys((inventory.bare(place), inventory.table.digest(place)) for place in places)
         found: dict[tuple[bytes, bytes], None] = {}
         for bare, digest in forms:
-            several = itertools.chain(self.files.own_names(digest), self.strangers.get(bare, ()))
+            own = (b"%s.%d" % (digest.hex().encode(), count) for count in self.files.counts_of(digest))
+            several = itertools.chain(own, self.strangers.get(bare, ()))
             found.update(((bare, name), None) for name in several if name not in names and not self.is_mine(name))
         return by_form(found)
 

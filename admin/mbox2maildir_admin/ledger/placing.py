@@ -33,33 +33,27 @@ class Placing:
             rest = place
         # from here on all messages are nowhere
         self.rest = Place(rest)
-        for digest, places in self.special().items():
-            taken = set(match.files.counts_of(digest))
-            self.give_names(digest, places, taken)
-            if places[-1] >= self.rest and (taken or places[0] < self.rest):
-                self.rest = Place(len(self.inventory))
+        self.give_names()
 
-    def special(self) -> dict[bytes, list[int]]:
-        """The places of the messages that equal others, or files, by their digests."""
-        found: collections.defaultdict[bytes, list[int]] = collections.defaultdict(list)
+    def give_names(self) -> None:
+        """Gives messages that equal others, or files, the first names that are free. Before each, the program gets as
+        many copies as there are names to pass over, so that messages are placed in their order."""
         table, files = self.inventory.table, self.match.files
         has_files = bool(files.counts) or any(files.there)
+        same: collections.defaultdict[bytes, list[int]] = collections.defaultdict(list)
         for place in self.nowhere if has_files or table.repeats else ():
             digest = table.digest(place)
             if table.place_of(digest + FIRST) in table.repeats or has_files and files.has_digest(digest):
-                found[digest].append(place)
-        return found
-
-    def give_names(self, digest: bytes, places: Sequence[int], taken: set[int]) -> None:
-        """Gives equal messages the first names that are free. Before each, the program gets as many copies as there are
-        names to pass over, so that messages are placed in their order."""
-        free = (count for count in itertools.count(1) if count not in taken)
-        last = 0
-        for place, count in zip(places, free):
-            name = b"%s.%d" % (digest.hex().encode(), count)
-            if name != self.inventory.table.name(place):
-                self.names[place] = name
-            self.more[place], last = count - last - 1, count
+                same[digest].append(place)
+        for digest, places in same.items():
+            taken, last = set(files.counts_of(digest)), 0
+            for place, count in zip(places, (count for count in itertools.count(1) if count not in taken)):
+                name = b"%s.%d" % (digest.hex().encode(), count)
+                if name != table.name(place):
+                    self.names[place] = name
+                self.more[place], last = count - last - 1, count
+            if places[-1] >= self.rest and (taken or places[0] < self.rest):
+                self.rest = Place(len(self.inventory))
 
     def name(self, place: int) -> bytes:
         """The name that the file of a message gets."""
