@@ -5,7 +5,7 @@ import stat
 from collections.abc import Iterator, Mapping
 
 from ..faults import Fault, Left, Reason
-from ..ledger.history import names_of
+from ..ledger.history import Note, names_of
 from ..ledger.ledger import Ledger
 from ..ledger.record import unspelled
 from ..looks import is_folder, is_there, state_at
@@ -41,7 +41,7 @@ class Lists:
         old = {folder_of_old(name): name for name in reversed(self.old)}
         wanted = {folder_of(name): old.get(folder_of(name)) or self.name_of(name) for name in self.new}
         left = [name for name in self.old if folder_of_old(name) not in wanted]
-        if self.places.record.has_subscriptions():
+        if self.places.record.notes(Note.SUBSCRIBED, INBOX):
             left = [name for name in left if not is_folder(folder_path(self.root, folder_of_old(name)))]
         kept = [name for name in self.old if folder_of_old(name) in wanted or name in left]
         beside = [name for folder in dict.fromkeys([INBOX, *wanted]) for name in self.beside(folder)]

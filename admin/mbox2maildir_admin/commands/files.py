@@ -169,7 +169,7 @@ def reading_then(folder: bytes, mailbox: Mailbox) -> Reading:
     """How a mailbox was read when it was converted into a folder of a Maildir; nothing is decided unless the record has
     the mailbox as done."""
     record = record_of(folder)
-    done = record.done(*mailbox.key()) if mailbox.size in record.sizes_done() else None
+    done = record.done(*mailbox.key()) if mailbox.size in record.sizes else None
     return Reading.of_words(done.plan if done else None)
 
 

@@ -7,7 +7,6 @@ its folder's ledger, with the ledger's size and the number of the mailbox's last
 import collections
 import enum
 import functools
-import os
 from collections.abc import Container, Iterable, Iterator
 from typing import NamedTuple, Optional, Union
 
@@ -89,15 +88,17 @@ class Entry(NamedTuple):
         if not found or not what:
             return None
         folder, size, digest, messages, when, path, plan, ledger, length, number = found.groups()[1:]
-        self = cls(
+        return cls(
             what,
             Key(folder, Size(int(size)), digest.decode()),
             int(messages),
             when.decode(),
             path.decode("utf-8", "replace"),
+            plan.decode() if plan else None,
+            ledger.decode() if ledger else "",
+            int(length or 0),
+            int(number or 0),
         )
-        self = self._replace(plan=plan.decode()) if plan else self
-        return self._replace(ledger=ledger.decode(), size=int(length), number=int(number)) if ledger else self
 
     def line(self) -> bytes:
         """The line as bytes."""
@@ -218,7 +219,7 @@ class History:
         looked at."""
         names = names_of(path)
         folders = self.folders_with(names)
-        found = [one for one in folders if any(note.path in names for note in self._notes.get((Note.FOUND, one), []))]
+        found = [one for one in folders if any(note.path in names for note in self.notes(Note.FOUND, one))]
         return found if len(found) == len(folders) else []
 
     def last_of(self, folder: bytes, names: Container[str]) -> Optional[Entry]:
@@ -254,14 +255,13 @@ class History:
         lines = [one for one in self.lines_of(size, digest) if one.what is Step.DONE]
         return lines[-1] if lines else None
 
-    def sizes_done(self) -> set[int]:
-        """The sizes of the texts that are done."""
-        several = ((key[0], its.values()) for key, its in self._texts.items())
-        return {size for size, entries in several if any(one.what is Step.DONE for one in entries)}
+    def notes(self, note: Note, folder: bytes) -> list[Entry]:
+        """The lines that note this of a folder, in their order."""
+        return self._notes.get((note, folder), [])
 
     def numbered(self, folder: bytes) -> Optional[Entry]:
         """The line of the mailbox whose numbers a folder has, if it has any."""
-        notes = self._notes[Note.NUMBERED, folder]
+        notes = self.notes(Note.NUMBERED, folder)
         return notes[-1] if notes else None
 
     def has_numbered(self, paths: Container[str]) -> bool:
@@ -269,31 +269,14 @@ class History:
         notes = (notes for (note, _), notes in self._notes.items() if note is Note.NUMBERED)
         return any(one.path in paths for several in notes for one in several)
 
-    def has_written(self, folder: bytes, name: bytes, digest: str) -> bool:
-        """Whether a file of this name and SHA-256 was to be written into a folder."""
-        notes = self._notes[Note.WROTE, folder]
-        return any(note.key.digest == digest and os.path.basename(note.path) == os.fsdecode(name) for note in notes)
-
-    def longest_written(self, folder: bytes) -> int:
-        """The size of the largest file that was to be written into a folder."""
-        return max((note.key.size for note in self._notes[Note.WROTE, folder]), default=0)
-
     def noting(self, note: Note, folder: bytes, path: bytes) -> list[Entry]:
         """The lines that note this with a path, in their order."""
         name = spelled(path)
-        return [entry for entry in self._notes.get((note, folder), []) if entry.path == name]
+        return [entry for entry in self.notes(note, folder) if entry.path == name]
 
     def labelled(self) -> dict[str, Entry]:
         """The last lines that name the folders of mailboxes by their labels, by the paths of these mailboxes."""
-        return {entry.path: entry for entry in self._notes.get((Note.LABELS, INBOX), [])}
-
-    def has_subscriptions(self) -> bool:
-        """Whether any subscriptions were written."""
-        return bool(self._notes.get((Note.SUBSCRIBED, INBOX)))
-
-    def has_subscribed(self, key: Key) -> bool:
-        """Whether subscriptions of this digest were written."""
-        return any(note.key.digest == key.digest for note in self._notes[Note.SUBSCRIBED, key.folder])
+        return {entry.path: entry for entry in self.notes(Note.LABELS, INBOX)}
 
 
 @functools.lru_cache(maxsize=1 << 10)

@@ -15,6 +15,7 @@ from ..maildir.making import LEDGER
 from ..mbox.core import SHORT
 from ..mbox.files import write_all
 from ..mbox.locks import WITHOUT_LOCKS
+from ..nexts import Phrase
 from ..patterns import pattern
 from ..terminal import named
 
@@ -263,9 +264,10 @@ def pieces_of(text: bytes) -> Iterator[Piece]:
             yield from ((line, None) for line in its)
 
 
-def want_trusted(path: bytes, state: os.stat_result) -> None:
-    """Raises Fault unless the file of a path that has this state is a regular file of the owner of its folder that
-    others cannot write."""
-    is_ours = state.st_uid in (os.geteuid(), os.stat(os.path.dirname(path)).st_uid) and state.st_nlink == 1
+def want_trusted(path: bytes, state: os.stat_result, reason: Phrase = Reason.LEDGER, is_own: bool = False) -> None:
+    """Raises Fault unless the file of a path that has this state is a regular file that others cannot write, of the
+    owner of its folder or of the user who runs this; or of that one alone."""
+    owners = {os.geteuid()} if is_own else {os.geteuid(), os.stat(os.path.dirname(path)).st_uid}
+    is_ours = state.st_uid in owners and state.st_nlink == 1
     if not stat.S_ISREG(state.st_mode) or not is_ours or state.st_mode & 0o022:
-        raise Fault(NOT_TRUSTED, Reason.LEDGER, place=path)
+        raise Fault(NOT_TRUSTED, reason, place=path)

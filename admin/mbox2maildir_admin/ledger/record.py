@@ -10,9 +10,8 @@ import errno
 import fcntl
 import os
 import re
-import stat
 import time
-from collections.abc import Callable, Container, Iterator
+from collections.abc import Callable, Iterator
 from typing import Optional, Union
 
 from ..faults import Fault, Reason, fault_of
@@ -23,7 +22,7 @@ from ..terminal import named, spelled
 from ..units import Size
 from .history import TIME, Entry, History, Key, Note, Step, What
 from .ledger import Ledger, count_in
-from .lines import BY_ANOTHER, CUT, HEAD, NOT_TRUSTED, lines_in
+from .lines import BY_ANOTHER, CUT, HEAD, lines_in, want_trusted
 
 MADE_MEANWHILE = "another migrate has made %s meanwhile: run the same command again"
 UNREAD = (
@@ -120,7 +119,7 @@ class Record(History):
         if not self.is_open:
             return
         # a record that is only read may belong to the owner of the Maildir
-        self.check({os.geteuid()} if make else {os.geteuid(), os.stat(self.maildir).st_uid})
+        want_trusted(self.path, os.fstat(self.number), Reason.RECORD, is_own=make)
         if make:
             self.lock()
         self.read()
@@ -158,15 +157,6 @@ class Record(History):
             os.close(self._number)
             self._number = None
 
-    def check(self, owners: Container[int]) -> None:
-        """Raises Fault unless it is a regular file of one of these owners that others cannot write."""
-        state = os.fstat(self.number)
-        is_ours = state.st_uid in owners and not state.st_mode & 0o022 and state.st_nlink == 1
-        if not stat.S_ISREG(state.st_mode) or not is_ours:
-            raise Fault(NOT_TRUSTED, Reason.RECORD, place=self.path)
-        if state.st_size > MOST:
-            raise Fault("it is too large for a record: look at it, and move it away", Reason.RECORD, place=self.path)
-
     def lock(self) -> None:
         """Locks it, so that only one `migrate` is at work in its Maildir. Raises Fault if another one is."""
         try:
@@ -182,8 +172,11 @@ class Record(History):
             raise Fault("it cannot be locked: %s" % fault.strerror, Reason.RECORD, place=self.path) from fault
 
     def read(self) -> None:
-        """Reads its lines. Lines that were cut do not count. Raises Fault if another version has written it."""
+        """Reads its lines. Lines that were cut do not count. Raises Fault if another version has written it, or if
+        it is too large for a record."""
         data = os.pread(self.number, MOST + 1, 0)
+        if len(data) > MOST:
+            raise Fault("it is too large for a record: look at it, and move it away", Reason.RECORD, place=self.path)
         self.size, self.is_cut = len(data), bool(data) and not data.endswith(b"\n")
         several = data.split(b"\n")[:-1]
         lines = [line for line in several if not line.endswith(CUT) and b"\0" not in line]
@@ -267,12 +260,12 @@ class Record(History):
     def unknown_to(self, name: bytes, ledger: Ledger) -> list[Entry]:
         """The last line about each mailbox of a folder of which the ledger there lacks something: the folder had
         another one, or it was longer once."""
-
-        def is_unknown(one: Entry) -> bool:
+        unknown = []
+        for one in self.index_of(name):
             is_longer = ledger.lasts.get(one.path, 0) < one.number
-            return is_longer if one.ledger == ledger.number else one.what is not Step.UNDONE
-
-        return list(filter(is_unknown, self.index_of(name)))
+            if is_longer if one.ledger == ledger.number else one.what is not Step.UNDONE:
+                unknown.append(one)
+        return unknown
 
     def add_entry(self, *entries: Entry) -> None:
         """Appends lines at once, which are on the disk when this returns."""

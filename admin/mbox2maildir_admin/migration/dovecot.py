@@ -62,10 +62,6 @@ class Dovecot(Extra):
         head, end = internal_head(text, start)
         return end if head else start
 
-    def remarks_on_done(self, name: bytes) -> list[Remark]:
-        """What is to be said of a mailbox that was done before."""
-        return [] if self.record.numbered(name) else [DONE_WITHOUT]
-
     def hindrance(self, one: Steps) -> Optional[Left]:
         """Why the folder cannot get the numbers of the mailbox, if it can't."""
         try:
@@ -168,9 +164,12 @@ class Dovecot(Extra):
     def is_own(self, folder: bytes, path: bytes, name: bytes) -> bool:
         """Whether the record has a file as one that was written for a mailbox of the folder of this name, which is at
         this path."""
-        path, most = os.path.join(path, name), self.record.longest_written(folder)
-        text = content_of(path, most) if name in (KEYWORDS, LIST) else None
-        return text is not None and self.record.has_written(folder, name, hashlib.sha256(text).hexdigest())
+        notes = [
+            one for one in self.record.notes(Note.WROTE, folder) if os.path.basename(one.path) == os.fsdecode(name)
+        ]
+        most = max((one.key.size for one in notes), default=0)
+        text = content_of(os.path.join(path, name), most) if name in (KEYWORDS, LIST) else None
+        return text is not None and hashlib.sha256(text).hexdigest() in {one.key.digest for one in notes}
 
 
 def is_of(numbered: Entry, opened: Opened) -> bool:
@@ -255,7 +254,7 @@ def subscribe(root: bytes, old: bytes, record: Record, dry: bool) -> list[bytes]
     lines = [name.replace(b".", b"\t") for name in names]
     text = FORM + b"".join(line + b"\n" for line in lines)
     key = Key(INBOX, Size(len(text)), hashlib.sha256(text).hexdigest())
-    if not names or record.has_subscribed(key):
+    if not names or any(one.key == key for one in record.notes(Note.SUBSCRIBED, INBOX)):
         return []
     if is_there(path) and content_of(path, len(text)) != text:
         there, has_tabs = lines_of(path)
