@@ -36,13 +36,22 @@ FILE = pattern(
 )
 FINISHES = pattern(rb">\t(\d{1,18})\Z")
 TOOK = pattern(rb"t\t(\d{1,18})\Z")
+AS_READ = re.compile(rb"&\t(\d{1,18})\t(\d{1,18})\t([^\t\n]+)((?:\t[a-z-]+\t\d{1,18}\t[^\t\n]+)*)\Z")
 WHOLE, FAILED, MADE = b"=", b"!", b"/"
+# stands for a core that begins the name, and for a bare form that is the core
+SAME = b"="
 # the facts of a file that is read again, whatever its facts are
 READ_AGAIN = 0, 0, 0
 # the list that takes the place of the other one once the disk is synced
 NEXT_LIST = PREPARED + b".new"
 # what comes before the name of a folder while it is made or removed
 ASIDE = b"mbox2maildir-aside"
+# how a name of the list is found in its folder
+MISSING, OURS = 0, 1
+MOST_INODE = (1 << 64) - 1
+# how many times as long as a look at the files of a folder the work is that a last pass has with them
+LOOKS = 12
+LIST_DAMAGED = "line %d of it is damaged: nothing shows what was prepared"
 
 # an inode, a size and a ctime in nanoseconds
 Facts = tuple[int, int, int]
@@ -142,13 +151,6 @@ def has_list(folder: bytes) -> bool:
     return is_there(os.path.join(folder, PREPARED))
 
 
-AS_READ = re.compile(rb"&\t(\d{1,18})\t(\d{1,18})\t([^\t\n]+)((?:\t[a-z-]+\t\d{1,18}\t[^\t\n]+)*)\Z")
-# stands for a core that begins the name, and for a bare form that is the core
-SAME = b"="
-# how many times as long as a look at the files of a folder the work is that a last pass has with them
-LOOKS = 12
-
-
 class AsRead(NamedTuple):
     """What is known of a text: where it begins, how many messages it has, with one that is left out, what it is, and
     what is to be said of it."""
@@ -202,57 +204,9 @@ class ReadText(NamedTuple):
         )
 
 
-class Notes:
-    """What the lines of a list have of the messages of a text, in their order."""
-
-    def __init__(self, table: Table) -> None:
-        """Takes the table of the bases of the list."""
-        self.as_read: Optional[AsRead] = None
-        # how long it took to read the mailbox as a last pass does, and to look at its files, in milliseconds
-        self.reading = self.looking = 0
-        self.messages = Inventory()
-        self.messages.table, self.messages.lines = table, array.array("Q")
-
-    def foreseen(self) -> int:
-        """How many milliseconds a last pass would take for the mailbox as it is. It looks at the files several times:
-        it also lists them in the ledger, dates them, gives them flags and verifies them."""
-        return self.reading + LOOKS * self.looking
-
-    def take(self, place: int, core: bytes, bare: bytes, numbers: tuple[int, int, int]) -> None:
-        """Takes what a line has of a message, whose file has this place."""
-        one = self.messages
-        known = one.table.digest(place)[:SHORT] if core == SAME else bytes.fromhex(core.decode())
-        one.cores += known
-        one.bares += known if bare == SAME else bytes.fromhex(bare.decode())
-        for row, number in zip((one.offsets, one.lines, one.unquoted), numbers):
-            row.append(number)
-
-    def inventory(self, sizes: Sequence[int], end: int) -> Optional[Inventory]:
-        """The messages of the text, which has this end, by the sizes of their files, without dates; None if not each
-        file has its message, in the order of their bases."""
-        one, table = self.messages, self.messages.table
-        if len(one.lines) != len(table):
-            return None
-        for place in (place for place, count in enumerate(table.counts) if count > 1):
-            digest, count = table.digest(place), table.counts[place]
-            first, before = table.place_of(digest + FIRST), table.place_of(digest + b".%d" % (count - 1))
-            if first is None or before is None or before > place:
-                return None
-            # the table knows them as equal then
-            table.repeats[first] = count
-        one.sizes, one.dates = array.array("Q", sizes), array.array("q", [NO_DATE]) * len(one.lines)
-        one.offsets = array.array("Q", [*one.offsets[: len(one.lines)], end])
-        return one
-
-
-# how a name of the list is found in its folder
-MISSING, OURS = 0, 1
-MOST_INODE = (1 << 64) - 1
-LIST_DAMAGED = "line %d of it is damaged: nothing shows what was prepared"
-
-
 class Prepared:
-    """The files that were prepared in a folder, by their bases, and which of them are there and wanted."""
+    """The files that were prepared in a folder, by their bases, which of them are there and wanted, and what is noted
+    of the text that has their messages."""
 
     def __init__(self, folder: bytes) -> None:
         """Takes a folder without a list."""
@@ -266,8 +220,12 @@ class Prepared:
         self.origin: Optional[Origin] = None
         self.is_whole = self.has_failed = self.is_made = False
         self.batch: Optional[int] = None
-        # what is noted of the text
-        self.notes = Notes(self.table)
+        # what is known of the text, and of its messages in their order
+        self.as_read: Optional[AsRead] = None
+        self.messages = Inventory()
+        self.messages.table, self.messages.lines = self.table, array.array("Q")
+        # how long it took to read the mailbox as a last pass does, and to look at its files, in milliseconds
+        self.reading = self.looking = 0
         # by place: whether its file is there, and is ours; whether it was verified since it changed last; and whether a
         # message wants it
         self.files, self.verified, self.wanted = bytearray(), bytearray(), bytearray()
@@ -292,13 +250,13 @@ class Prepared:
             return self.take_file(file)
         begun, finishes, as_read, took = (one.match(line) for one in (BEGUN, FINISHES, AS_READ, TOOK))
         if begun:
-            self.origin, self.is_whole, self.notes.as_read = Origin.of(begun), False, None
+            self.origin, self.is_whole, self.as_read = Origin.of(begun), False, None
         elif finishes:
             self.batch = int(finishes[1])
         elif as_read:
-            self.notes.as_read = AsRead.of(as_read)
+            self.as_read = AsRead.of(as_read)
         elif took:
-            self.notes.reading = int(took[1])
+            self.reading = int(took[1])
         self.is_whole = self.is_whole or line == WHOLE
         self.has_failed = self.has_failed or line == FAILED
         self.is_made = self.is_made or line == MADE
@@ -314,7 +272,12 @@ class Prepared:
             self.set_facts(place, (int(file[2]), int(file[3]), int(file[4])))
             self.homes[place] = shared(file[5])
         if file[6]:
-            self.notes.take(place, file[6], file[7], (int(file[8]), int(file[9]), int(file[10])))
+            one = self.messages
+            known = self.table.digest(place)[:SHORT] if file[6] == SAME else bytes.fromhex(file[6].decode())
+            one.cores += known
+            one.bares += known if file[7] == SAME else bytes.fromhex(file[7].decode())
+            for row, number in zip((one.offsets, one.lines, one.unquoted), file.group(8, 9, 10)):
+                row.append(int(number))
         return True
 
     def note(self, base: bytes) -> int:
@@ -360,15 +323,32 @@ class Prepared:
             else:
                 self.files[place] = OURS
                 self.set_facts(place, facts_of(state))
-        self.verified, self.notes.looking = self.files[:], milliseconds_since(began)
+        self.verified, self.looking = self.files[:], milliseconds_since(began)
+
+    def foreseen(self) -> int:
+        """How many milliseconds a last pass would take for the mailbox as it is. It looks at the files several times:
+        it also lists them in the ledger, dates them, gives them flags and verifies them."""
+        return self.reading + LOOKS * self.looking
 
     def inventory(self, end: int) -> Optional[Inventory]:
-        """The messages of the text, which has this end, if all are noted, and the folder has their files, as the last
-        look has found them, and no other ones; otherwise None."""
-        if not self.origin or not self.is_whole or not self.origin.messages == len(self.table) > 0:
+        """The messages of the text, which has this end, without dates; None unless all are noted in the order of their
+        bases, and the folder has their files, as the last look has found them, and no other ones."""
+        one, table = self.messages, self.table
+        if not self.origin or not self.is_whole or not self.origin.messages == len(table) > 0:
             return None
         has_all = all(self.files) and sum(1 for _ in mail_in(self.folder)) == len(self.files)
-        return self.notes.inventory(self.facts[1::3], end) if has_all else None
+        if not has_all or len(one.lines) != len(table):
+            return None
+        for place in (place for place, count in enumerate(table.counts) if count > 1):
+            digest, count = table.digest(place), table.counts[place]
+            first, before = table.place_of(digest + FIRST), table.place_of(digest + b".%d" % (count - 1))
+            if first is None or before is None or before > place:
+                return None
+            # the table knows them as equal then
+            table.repeats[first] = count
+        one.sizes, one.dates = self.facts[1::3], array.array("q", [NO_DATE]) * len(one.lines)
+        one.offsets = array.array("Q", [*one.offsets[: len(one.lines)], end])
+        return one
 
     def hides(self, name: bytes) -> bool:
         """Whether a file of this name, without its info, was prepared and is ours."""
@@ -379,12 +359,8 @@ class Prepared:
         """How many files are there, and are wanted."""
         return sum(is_there and is_wanted for is_there, is_wanted in zip(self.files, self.wanted))
 
-    def unwanted(self) -> int:
-        """How many files are there that no message wants."""
-        return sum(self.files) - self.count()
-
-    def sizes_unwanted(self) -> list[int]:
-        """How many bytes each of these has."""
+    def unwanted(self) -> list[int]:
+        """How many bytes each file has that is there, and that no message wants."""
         rows = zip(self.files, self.wanted, self.facts[1::3])
         return [size for is_there, is_wanted, size in rows if is_there and not is_wanted]
 
@@ -443,7 +419,7 @@ class Prepared:
         """Writes the list anew beside the other one: what is wanted, with the facts of its files, what is known of the
         text, and how many milliseconds it took to read. It is on the disk when this returns, and counts once that of
         the files was synced."""
-        self.notes.reading = took
+        self.reading = took
         places = text.places_in(self.table, self.wanted) if text else None
         head, lines = [origin.line(), b"t\t%d\n" % took], map(self.line, range(len(self.table)))
         if text and places:
@@ -492,4 +468,4 @@ class Prepared:
                 self.verified[place] &= facts == tuple(looked_at[3 * place : 3 * place + 3])
                 if 0 < facts[2] < before and facts[2] % 10**9:
                     self.set_facts(place, facts)
-        self.notes.looking = milliseconds_since(began)
+        self.looking = milliseconds_since(began)

@@ -76,8 +76,8 @@ def note_state(first: FirstPass) -> None:
     """Notes that the file of a mailbox has another state, and the bytes that were prepared, so that the next first pass
     does not read it."""
     prepared, now = first.prepared, first.origin
-    if prepared.origin and prepared.origin.state != now.state and prepared.notes.as_read:
-        prepared.append(now.line(), prepared.notes.as_read.line(), WHOLE + b"\n")
+    if prepared.origin and prepared.origin.state != now.state and prepared.as_read:
+        prepared.append(now.line(), prepared.as_read.line(), WHOLE + b"\n")
 
 
 def prepare(steps: Steps, first: FirstPass, program: Program) -> list[Remark]:

@@ -426,7 +426,7 @@ class Transfer:
         nowhere, sizes, prepared = steps.placing.nowhere, steps.contents.inventory.sizes, steps.prepared
         wanted = [*(sizes[place] for place in nowhere), LONGEST_LINE * steps.placing.count_of_lines()]
         # what no message wants is removed first
-        freed = prepared.sizes_unwanted() if prepared else ()
+        freed = prepared.unwanted() if prepared else ()
         if len(nowhere):
             self.want_room(Need.of(self.opened.folder, wanted, freed=freed))
 
@@ -455,7 +455,7 @@ class Transfer:
         """What a first pass has spent on it so far, and what a last pass is going to spend."""
         if not self.prepared or self.how.dry:
             return None
-        return Spent(self.passed(), self.passed() if self.is_changed else self.prepared.notes.foreseen())
+        return Spent(self.passed(), self.passed() if self.is_changed else self.prepared.foreseen())
 
     def passed(self) -> int:
         """How many milliseconds were spent on it so far."""

@@ -325,8 +325,9 @@ def remarks_on_prepared(prepared: Prepared, how: Options, say: Say) -> list[Rema
         prepared.look(say)
         stays = sum(prepared.files) + len(prepared.edited)
         return [Says.PREPARED_STAYS.of(stays)] * bool(stays)
-    count, gone = prepared.count(), counted(prepared.unwanted(), "message")
-    its = Says.PREPARED_LESS.of(count, gone, dry=how.dry) if prepared.unwanted() else Says.PREPARED_BEFORE.of(count)
+    count, gone = prepared.count(), len(prepared.unwanted())
+    less = Says.PREPARED_LESS.of(count, counted(gone, "message"), dry=how.dry)
+    its = less if gone else Says.PREPARED_BEFORE.of(count)
     return [its] * any(prepared.files) + Says.KEPT_EDITED.of_any(len(prepared.edited), dry=how.dry)
 
 
@@ -340,7 +341,7 @@ def remove_prepared(record: Record, path: bytes, name: bytes, dry: bool, say: Sa
     if prepared.batch:
         one.take_back()
     prepared.look(say)
-    count = prepared.unwanted()
+    count = len(prepared.unwanted())
     if not dry:
         one.empty()
     removed = Says.REMOVED.of(counted(count, "message"), dry=dry)
@@ -352,7 +353,7 @@ def remove_prepared(record: Record, path: bytes, name: bytes, dry: bool, say: Sa
 def same_as_prepared(prepared: Prepared, how: Options, opened: Opened) -> Optional[Part]:
     """What stands for the text of a mailbox that has the bytes from which its folder was prepared, if the folder has
     all of that and nothing else; None for any other one."""
-    origin, as_read, mailbox = prepared.origin, prepared.notes.as_read, opened.mailbox
+    origin, as_read, mailbox = prepared.origin, prepared.as_read, opened.mailbox
     is_otherwise = how.again or how.again_rewritten or how.decision != UNDECIDED
     if not origin or not as_read or prepared.batch or is_otherwise:
         return None
@@ -393,5 +394,5 @@ def row_unchanged(record: Record, how: Options, path: bytes, name: bytes, folder
     dropped = Says.DELETED_LEFT_OUT.of_any(Reading.of_words(origin.words).dropped)
     says = Says.PREPARED_BEFORE.of(len(prepared.files))
     fate = Fate.WOULD_PREPARE if how.dry else Fate.PREPARED
-    spent = None if how.dry else Spent(milliseconds_since(began), prepared.notes.foreseen())
+    spent = None if how.dry else Spent(milliseconds_since(began), prepared.foreseen())
     return Row(path, name, "", origin.messages, fate, size=origin.key[0], remarks=(*dropped, says), spent=spent)
