@@ -105,25 +105,22 @@ class Undo:
 
     def run(self, path: bytes, say: Say = silent) -> Row:
         """Undoes a mailbox, and returns its row. `say` takes the progress."""
-        folder = folder_in(self.options)
-        name, size = folder or b"", None
+        folder, size = folder_in(self.options), None
+        name = folder or b""
         try:
-            name = self.folder_of(path) if folder is None else folder
+            if folder is None:
+                names = sorted(self.record.folders_of(path))
+                if len(names) > 1:
+                    # which folder is not asked about what is not there
+                    os.stat(path)
+                    where = ", ".join(map(folder_shown, names))
+                    raise Left(IN_SEVERAL % where, Reason.UNDO, task(Todo.NAME_FOLDER))
+                name = names[0] if names else INBOX
             with open_mailbox(path, say=say, follow=True, quiet=not self.options.now) as mailbox:
                 size = mailbox.size
                 return self.undo(Opened.into(self.root, self.record.name_now(name, path), mailbox))
         except (Fault, OSError) as fault:
             return row_left(path, name, fault, None, size)
-
-    def folder_of(self, path: bytes) -> bytes:
-        """The folder in which the record has a mailbox by its path; INBOX if it has none by that path. Raises OSError
-        if it is in several, and nothing is at the path."""
-        names = sorted(self.record.folders_of(path))
-        if len(names) > 1:
-            # which folder is not asked about what is not there
-            os.stat(path)
-            raise Left(IN_SEVERAL % ", ".join(map(folder_shown, names)), Reason.UNDO, task(Todo.NAME_FOLDER))
-        return names[0] if names else INBOX
 
     def undo(self, opened: Opened) -> Row:
         """Undoes an open mailbox."""
@@ -369,20 +366,15 @@ def undo_prepared(
     """Removes what was prepared from the mailbox of a path, which need not be there, or in a folder, and returns its
     row; None if nothing is prepared there, or a list that is there does not count."""
     try:
-        name = folder if folder is not None else prepared_from(root, path)
+        name, names = folder, names_of(path) if folder is None else ()
+        for place in folders_in(root) if names else ():
+            origin = Prepared.read(place).origin if has_list(place) else None
+            if origin and origin.path in names:
+                name = name_of(root, place)
+                break
         return None if name is None else remove_prepared(record, path, name, dry, say)
     except (Fault, OSError) as fault:
         return row_left(path, folder or b"", fault)
-
-
-def prepared_from(root: bytes, path: bytes) -> Optional[bytes]:
-    """The name of the folder that is prepared from the mailbox of a path."""
-    spelled = names_of(path)
-    for folder in folders_in(root):
-        origin = Prepared.read(folder).origin if has_list(folder) else None
-        if origin and origin.path in spelled:
-            return name_of(root, folder)
-    return None
 
 
 def remarks_on(counts: Counts, keepers: collections.Counter[str], dry: bool) -> Iterator[Remark]:
