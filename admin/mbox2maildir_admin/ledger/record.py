@@ -1,7 +1,8 @@
 """The record of a Maildir: a file with a line for each thing that is noted of a mailbox, and an index of its ledgers.
 
-The index is written from the ledgers when the record is opened and closed. It says where a folder is, and that a ledger
-is gone, or was longer once. All else the ledgers decide, and what the index lacks is found in them.
+The index is written from the ledgers when the record is opened and closed. It says which folders mailboxes have, where
+these are, and that a ledger is gone, or was longer once. What a mailbox has brought is read from the ledger, as long as
+that is there, and what the index lacks is found in the ledgers.
 
 The file belongs to the owner of the Maildir, and nothing in it is trusted that could harm anybody else.
 """
