@@ -9,7 +9,7 @@ from ..faults import Fault, Reason, complain_of
 from ..kinds.folders import is_maildir
 from ..kinds.look import Look
 from ..kinds.others import Holds
-from ..ledger.history import History, Note
+from ..ledger.history import History, Note, Step
 from ..ledger.record import Record
 from ..looks import is_folder, is_there, type_at
 from ..maildir.disk import trial_folder
@@ -168,9 +168,8 @@ def left_out(path: bytes, maildir: bytes, record: History, tell: Observer) -> Op
 def reading_then(folder: bytes, mailbox: Mailbox) -> Reading:
     """How a mailbox was read when it was converted into a folder of a Maildir; nothing is decided unless the record has
     the mailbox as done."""
-    record = record_of(folder)
-    done = record.done(*mailbox.key()) if mailbox.size in record.sizes else None
-    return Reading.of_words(done.plan if done else None)
+    lines = record_of(folder).lines_of(mailbox)
+    return Reading.of_words(next((one.plan for one in reversed(lines) if one.what is Step.DONE), None))
 
 
 def record_of(folder: bytes) -> History:

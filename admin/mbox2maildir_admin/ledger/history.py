@@ -12,6 +12,7 @@ from typing import NamedTuple, Optional, Union
 
 from ..looks import real_path
 from ..maildir.folders import INBOX
+from ..mbox.mailbox import Mailbox
 from ..patterns import pattern
 from ..terminal import shown, spelled
 from ..units import Size
@@ -246,14 +247,10 @@ class History:
         """The lines about the mailboxes of all folders."""
         return (entry for folder in self._index for entry in self.last_steps(folder))
 
-    def lines_of(self, size: int, digest: str) -> list[Entry]:
-        """The lines about the mailboxes that had this size and SHA-256, in any folder."""
-        return list(self._texts.get((size, digest), {}).values())
-
-    def done(self, size: int, digest: str) -> Optional[Entry]:
-        """The last line of a text of this size and SHA-256 that is done, in any folder."""
-        lines = [one for one in self.lines_of(size, digest) if one.what is Step.DONE]
-        return lines[-1] if lines else None
+    def lines_of(self, mailbox: Mailbox) -> list[Entry]:
+        """The lines about the mailboxes that had the bytes of this one, in any folder. It is not read to find this out
+        if none had its size."""
+        return [*self._texts.get(mailbox.key(), {}).values()] if mailbox.size in self.sizes else []
 
     def notes(self, note: Note, folder: bytes) -> list[Entry]:
         """The lines that note this of a folder, in their order."""

@@ -135,11 +135,6 @@ def remove_aside(path: bytes) -> None:
         os.rmdir(path)
 
 
-def note_failed(folder: bytes) -> None:
-    """Notes in the list of a folder that a sync failed."""
-    append(folder, [FAILED + b"\n"], name=PREPARED)
-
-
 def origin_in(folder: bytes) -> Optional[Origin]:
     """What the first pass has read that the list of a folder has."""
     found = next(filter(None, map(BEGUN.match, lines_in(folder, PREPARED))), None)

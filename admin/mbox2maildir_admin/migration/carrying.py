@@ -15,11 +15,12 @@ from ..ledger.gone import times_of
 from ..ledger.history import Note
 from ..ledger.lines import END_LINE, FAILED_LINE, PLACED_LINE, Head, append
 from ..ledger.match import Files
-from ..ledger.prepared import WHOLE, Prepared, finish_list, note_failed, remove_list
+from ..ledger.prepared import FAILED, WHOLE, Prepared, finish_list, remove_list
 from ..ledger.record import unspelled
 from ..maildir.checking import Check
 from ..maildir.dating import Dating
 from ..maildir.disk import what_fails, why_not_listed
+from ..maildir.making import PREPARED
 from ..mbox.bases import base_in, before_info, is_own
 from ..mbox.mailbox import Mailbox, is_still
 from ..program import Converted, Failed, Program
@@ -249,7 +250,7 @@ def settled(several: Sequence[tuple[Outcome, Optional[OSError]]]) -> list[Row]:
 def sync_failed(folder: bytes, batch: Optional[int]) -> Left:
     """What is said of a sync that failed. The ledger notes it or, for what is only prepared, its list."""
     if batch is None:
-        note_failed(folder)
+        append(folder, [FAILED + b"\n"], name=PREPARED)
         return Left(PREPARED_SYNC_FAILED, Reason.SYNC_FAILED)
     try:
         append(folder, [FAILED_LINE % batch])

@@ -107,8 +107,7 @@ class Known:
         if self.by_index or self.path in self.ledger.sources:
             return []
         beside, cores, found, mailbox = os.path.dirname(self.names[0]), None, self.in_others(), self.opened.mailbox
-        same = self.record.lines_of(*mailbox.key()) if mailbox.size in self.record.sizes else []
-        same = [line for line in same if is_gone(line.path) or is_replaced(line)]
+        same = [line for line in self.record.lines_of(mailbox) if is_gone(line.path) or is_replaced(line)]
         others = (one for one in self.record.gone(beside) if one not in same)
         for line in itertools.chain(same, others):
             is_same = line in same

@@ -167,9 +167,8 @@ class Takeouts(Migration):
         """Raises Left if the mailbox went into one folder before, with the command that undoes that."""
         mailbox = opened.mailbox
         folders = self.record.folders_of(mailbox.path)
-        if not folders and mailbox.size in self.record.sizes:
-            lines = self.record.lines_of(*mailbox.key())
-            folders = [one.key.folder for one in lines if is_gone(one.path)]
+        if not folders:
+            folders = [one.key.folder for one in self.record.lines_of(mailbox) if is_gone(one.path)]
         if folders:
             undo = self.how._replace(is_labelled=False).undo_command(self.root, opened._replace(name=folders[-1]))
             raise Left(WITHOUT_LABELS, Reason.ANOTHER_READING, (Answer(undo),))
