@@ -4,7 +4,7 @@ import contextlib
 import os
 import stat
 from collections.abc import Container, Iterable, Iterator, Sequence
-from typing import IO, BinaryIO, Optional
+from typing import IO, Optional
 
 from .. import ADMIN
 from ..faults import Fault, Left, Reason, naming
@@ -46,13 +46,22 @@ class Copy:
 
     def __init__(self, path: bytes) -> None:
         """Opens a copy to be written. Unless it was placed, nothing is left of it in the end."""
+        import tempfile
+
         self.path, self.folder = path, os.path.dirname(path) or b"."
+        self.part: Optional[bytes] = None
         with naming(path):
             is_taken = is_there(path)
         if is_taken:
             raise Fault("%s already exists" % named(path), then=task(Todo.OTHER_NAME))
         with naming(self.folder):
-            self.file, self.part = unfinished(self.folder)
+            try:
+                # where this is not there, a file without a name can get none later
+                os.stat("/proc/self/fd")
+                number = os.open(self.folder, os.O_RDWR | os.O_TMPFILE | os.O_CLOEXEC, 0o600)
+            except OSError:
+                number, self.part = tempfile.mkstemp(prefix=UNFINISHED, dir=self.folder)
+            self.file = open(number, "w+b", BLOCK)
 
     def __enter__(self) -> "Copy":
         return self
@@ -95,20 +104,6 @@ class Copy:
                 os.unlink(self.part)
         with contextlib.suppress(OSError):
             self.file.close()
-
-
-def unfinished(folder: bytes) -> tuple[BinaryIO, Optional[bytes]]:
-    """Opens a file without a name. If such a file can get no name later, it opens one with an odd name, and returns
-    that."""
-    import tempfile
-
-    part = None
-    try:
-        os.stat("/proc/self/fd")
-        number = os.open(folder, os.O_RDWR | os.O_TMPFILE | os.O_CLOEXEC, 0o600)
-    except OSError:
-        number, part = tempfile.mkstemp(prefix=UNFINISHED, dir=folder)
-    return open(number, "w+b", BLOCK), part
 
 
 def unnamed(folder: bytes) -> IO[bytes]:
