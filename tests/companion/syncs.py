@@ -24,10 +24,13 @@ INDEX = "write M/mbox2maildir-record"
 MADE, PLACED = ["sync M", "sync ."], ["write M/mbox2maildir-messages", "sync all of M"]
 LATER = ONE.replace(b"one", b"later").replace(b"\nSubject", b"\nX-UID: 4\nSubject")
 NUMBERED, RAISED = (ONE.replace(b"\nSubject", b"\nX-IMAPbase: 222 %d\nX-UID: 3\nSubject" % last) for last in (3, 4))
-LOCK = "M/dovecot-uidlist.lock"
+LOCK, UNNAMED = "M/dovecot-uidlist.lock", "M/.mbox2maildir.dovecot-uidlist.lock"
 PART = "M/tmp/mbox2maildir-admin-dovecot-uidlist"
 LISTED = [f"write {PART}", f"sync {PART}", "link M/dovecot-uidlist", f"remove {PART}", "sync M"]
-REPLACED = [f"write {LOCK}", f"sync {LOCK}", "rename M/dovecot-uidlist", "sync M"]
+REPLACED = [
+    *(f"write {UNNAMED}", f"sync {UNNAMED}", f"link {LOCK}", f"remove {UNNAMED}"),
+    *("rename M/dovecot-uidlist", "sync M"),
+]
 UIDS = "--dovecot M"
 # mail that goes back: the copy beside the mailbox, the ledger, the mailbox, each on the disk before the next one
 BESIDE, LIST = "M/.a/mbox2maildir-back", "mail/.subscriptions"

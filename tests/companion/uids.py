@@ -1,5 +1,6 @@
 """mbox2maildir-admin migrate --dovecot: the list of UIDs and the subscriptions that it writes, which Dovecot may have
 changed by the next run, or a kill have left. What the fields of headers give is in tests/tables/hidden_fields.py."""
+import fcntl
 import os
 import shutil
 import signal
@@ -94,6 +95,18 @@ def who_changes_the_list(home: Path) -> None:
     equal("the list", (path.read_text(), lock.exists()), (f"{before}12 :a\n".replace("N10", "N13"), False))
 
 
+def left_by_a_killed_run(home: Path) -> None:
+    """A lock that has a list in it is a run's. If that is no longer at work, the next run goes on at once."""
+    migrated(home, text_of(*FIELDS))
+    lock = mailbox(home / "M/dovecot-uidlist.lock", b"3 V222 N13\n5 :a", 0)
+    with lock.open("rb") as held:
+        fcntl.flock(held, fcntl.LOCK_SH)
+        ran = migrated(home, text_of(*FIELDS, FOURTH, base="222 12"))
+        equal("at work", (ran.status, ran.row["reason"], lock.exists()), (LATER, "locked", True))
+    equal("killed", by_json([*MIGRATE, "box"], home).status, 0)
+    equal("the list, and what is left", (listed(home)[0], lock.exists()), ("3 V222 N13", False))
+
+
 def begun(home: Path) -> None:
     """A run was killed before it was done. The next one writes the files as it finds the mailbox then, unless Dovecot
     has looked at the folder meanwhile."""
@@ -173,4 +186,4 @@ def subscriptions(home: Path) -> None:
 
 
 if __name__ == "__main__":
-    check_all(uids_given_meanwhile, who_changes_the_list, begun, another_list, subscriptions)
+    check_all(uids_given_meanwhile, who_changes_the_list, left_by_a_killed_run, begun, another_list, subscriptions)

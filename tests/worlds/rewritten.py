@@ -5,7 +5,6 @@ import shlex
 import time
 from collections.abc import Sequence
 
-from tests.support.checks import LATER
 from tests.support.ledgers import RECORD
 from tests.support.running import COMPANION, Row, Run
 from tests.worlds.history import INBOX, QUIET, Box, History
@@ -56,10 +55,8 @@ class Rewritten(History):
         self.is_damaged |= self.box.kind == "crlf" and not self.right(self.box)
 
     def check(self, ran: Run, rows: dict[str, Row]) -> None:
-        """If it is done, it is all there, as it is read in one way. A killed run may have left the lock of the list of
-        UIDs, which counts for two minutes, as one of Dovecot's does."""
-        is_locked = ran.status == LATER and (self.maildir / "dovecot-uidlist.lock").exists()
-        if ran.status not in (0, 1) and not is_locked:
+        """If it is done, it is all there, as it is read in one way."""
+        if ran.status not in (0, 1):
             self.wrong.append(f"status {ran.status}: {ran.output[-300:]}")
         row, ways = rows.get(INBOX), self.ways(self.box)
         if row and row["verdict"] in ENDED:

@@ -15,6 +15,7 @@ from ..maildir.making import sync_folder
 from ..mbox.bases import Table
 from ..mbox.files import open_file
 from ..mbox.inventory import Inventory
+from ..mbox.lock_file import Spot, drop_lock, make_held
 from ..terminal import named
 from ..units import Place
 from .dovecot_headers import Numbers, info_of, is_listed
@@ -69,26 +70,26 @@ def raised(text: bytes, validity: int, last: int) -> bytes:
 
 
 def replace(path: bytes, text: bytes, new: bytes) -> None:
-    """Puts another text in the place of a list, as Dovecot does it: its lock is written, and gets the name of the list.
-    Raises Left if Dovecot has the lock, or has changed the list."""
-    lock = path + LOCK
+    """Puts another text in the place of a list, as Dovecot does it: its lock gets the name of the list. Dovecot's own
+    lock has no list in it, so that one which a killed run left is known, and goes. Raises Left if Dovecot has the lock,
+    or has changed the list."""
+    lock = Spot(path + LOCK)
+    drop_lock(lock, content=FIRST)
     with contextlib.suppress(FileNotFoundError):
-        if os.lstat(lock).st_mtime < time.time() - STALE:
-            os.unlink(lock)
+        if os.lstat(lock.name).st_mtime < time.time() - STALE:
+            lock.unlink()
     try:
-        number = os.open(lock, os.O_WRONLY | os.O_CREAT | os.O_EXCL | os.O_CLOEXEC, 0o600)
+        number = make_held(lock, new, 0o600)
     except FileExistsError as fault:
         raise Left(CHANGED % named(path), Reason.LOCKED) from fault
     try:
-        with open(number, "wb") as file:
-            file.write(new)
-            file.flush()
-            os.fsync(number)
         with open_file(path) as old:
             if old.readall() != text:
                 raise Left(CHANGED % named(path), Reason.CHANGED)
-        os.rename(lock, path)
+        os.rename(lock.name, path)
     except BaseException:
-        os.unlink(lock)
+        lock.unlink()
         raise
+    finally:
+        os.close(number)
     sync_folder(os.path.dirname(path))

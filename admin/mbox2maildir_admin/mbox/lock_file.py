@@ -17,7 +17,7 @@ from ..faults import Left, Reason
 from ..looks import state_at
 from ..remarks import Says
 from ..terminal import named
-from .files import REGULAR
+from .files import REGULAR, write_all
 from .mailbox import Mailbox
 
 # the ending of its name, and from which age on it does not count, in seconds
@@ -77,16 +77,16 @@ def stands_for(owner: bytes) -> bytes:
 
 
 @contextlib.contextmanager
-def left_alone(spot: Spot, owner: Optional[bytes] = None) -> Iterator[bool]:
-    """Whether a run of the companion made a lock that is no longer at work. Then it is held meanwhile. On a disk
-    without `flock` only one of this owner is known: only one run at a time is at work for it."""
+def left_alone(spot: Spot, owner: Optional[bytes] = None, content: re.Pattern[bytes] = CONTENT) -> Iterator[bool]:
+    """Whether a run of the companion made a lock that is no longer at work, by its content. Then it is held meanwhile.
+    On a disk without `flock` only one of this owner is known: only one run at a time is at work for it."""
     try:
         number = spot.open(REGULAR)
     except OSError:
         yield False
         return
     try:
-        found = CONTENT.match(os.pread(number, MOST, 0)) if stat.S_ISREG(os.fstat(number).st_mode) else None
+        found = content.match(os.pread(number, MOST, 0)) if stat.S_ISREG(os.fstat(number).st_mode) else None
         of_owner = found is not None and owner is not None and found[1] == stands_for(owner)
         yield found is not None and is_free(number, of_owner) and spot.is_open_as(number)
     finally:
@@ -114,9 +114,9 @@ def hold(spot: Spot) -> Optional[int]:
     return number
 
 
-def drop_lock(spot: Spot, owner: Optional[bytes] = None) -> None:
+def drop_lock(spot: Spot, owner: Optional[bytes] = None, content: re.Pattern[bytes] = CONTENT) -> None:
     """Removes a lock that a killed run left, if this user may."""
-    with left_alone(spot, owner) as is_left:
+    with left_alone(spot, owner, content) as is_left:
         if is_left:
             # whoever looks at it meanwhile finds it held, and does not remove the next one
             with contextlib.suppress(OSError):
@@ -124,14 +124,19 @@ def drop_lock(spot: Spot, owner: Optional[bytes] = None) -> None:
 
 
 def make_lock(spot: Spot, owner: bytes) -> int:
+    """Makes a lock for an owner. Raises FileExistsError if it is there already."""
+    return make_held(spot, b"%d %s %s\n" % (os.getpid(), ADMIN.encode(), stands_for(owner)), 0o444)
+
+
+def make_held(spot: Spot, content: bytes, mode: int) -> int:
     """Makes a lock, which has its content, and is held, from the first moment. Returns its descriptor, which holds it
     until it is closed. Raises FileExistsError if it is there already."""
     beside = spot.beside()
     with contextlib.suppress(FileNotFoundError):
         beside.unlink()
-    number = beside.open(os.O_RDWR | os.O_CREAT | os.O_EXCL, 0o444)
+    number = beside.open(os.O_RDWR | os.O_CREAT | os.O_EXCL, mode)
     try:
-        os.write(number, b"%d %s %s\n" % (os.getpid(), ADMIN.encode(), stands_for(owner)))
+        write_all(number, content)
         # after a power cut, nobody knows whose a lock without its content is
         os.fsync(number)
         with contextlib.suppress(OSError):
