@@ -157,5 +157,17 @@ def by_hand(home: Path) -> None:
         equal("what it made", (file.read(len(ONE) - 1), os.fstat(file.fileno()).st_size), (ONE[:-1], len(text)))
 
 
+def what_dovecot_showed(home: Path) -> None:
+    """With --dovecot, a row names the lines that lose a `>`. Dovecot opens no packed mailbox as it is."""
+    text = ONE.replace(b"hello", b">From here on")
+    for name, data, why in (
+        ("plain", text, "Dovecot showed it"),
+        ("packed.gz", gzip.compress(text), "Dovecot shows it once unpacked"),
+    ):
+        mailbox(home / name, data)
+        row = by_json(["migrate", "--dovecot", "--dry-run", "--now", "M", name], home).row
+        equal(name, [one["says"] for one in row["remarks"]][:1], [f"`>From ` loses a `>` in 1 line ({why})"])
+
+
 if __name__ == "__main__":
-    check_all(whole, cut, each_byte, what_follows, other_reasons, by_hand)
+    check_all(whole, cut, each_byte, what_follows, other_reasons, by_hand, what_dovecot_showed)

@@ -25,6 +25,7 @@ from ..mbox.fields import headers_at
 from ..mbox.files import WHOLE, open_file, read_up_to
 from ..mbox.mailbox import Mailbox
 from ..nexts import Runs, run_next
+from ..readings.texts import form_of
 from ..remarks import Remark, Says
 from ..terminal import is_text, named, operand
 from ..units import Offset, Place, Size
@@ -109,7 +110,9 @@ class Dovecot(Extra):
         full = one.contents.full
         head, _ = internal_head(full.mailbox, full.start)
         lost = one.contents.unquoted(one.places)
-        says = Says.LOSES_QUOTE.of_any(lost, ">From", "Dovecot showed it")
+        # nothing shows a packed mailbox as it is
+        shows = "Dovecot shows it once unpacked" if form_of(one.opened.mailbox) else "Dovecot showed it"
+        says = Says.LOSES_QUOTE.of_any(lost, ">From", shows)
         says += [Says.WITHOUT_INTERNAL.of()] * bool(head)
         try:
             kept = self.kept_from(one)
