@@ -159,20 +159,29 @@ def as_objects(home: Path) -> None:
 
 def new_inboxes(home: Path) -> None:
     """An inbox that is not there is made: the user's, of the group of the spool. The group may write to it only if it
-    may write to all others but root's."""
+    may write to all others but root's. In a spool of root's group it gets that of the others or, if they have several,
+    its user's own."""
     with migrated(home):
         spool, group = home / "spool", pwd.getpwnam(GROUP).pw_gid
         mailbox(spool / "root", ONE).chmod(0o600)
-        for mode, wanted in ((0o660, 0o660), (0o600, 0o600)):
-            name = f"m61{wanted:o}"
+        # the groups of the folder and of another inbox, the mode of that, and the group of the new one, or its user's
+        for name, above, other, mode, its in (
+            ("m61four", group, group, 0o660, group),
+            ("m61five", group, group, 0o600, group),
+            ("m61six", 0, group, 0o600, group),
+            ("m61seven", 0, 0, 0o600, None),
+        ):
             with another_user(home, name):
+                os.chown(spool, 0, above)
+                os.chown(spool / "m61two", -1, other)
                 (spool / "m61two").chmod(mode)
                 says = f"INBOX -> {name}: mboxrd, messages 1: back\n2 mailboxes: 1 back, 1 nothing new; ...\n"
                 expect([*WORDS, name], home, 0, says + moves(home, name))
                 state = (spool / name).stat()
                 equal("the text", rest_of(b"", spool / name), BACK)
                 found = state.st_uid, state.st_gid, state.st_mode & 0o7777
-                equal("a new inbox", found, (pwd.getpwnam(name).pw_uid, group, wanted))
+                account = pwd.getpwnam(name)
+                equal("a new inbox", found, (account.pw_uid, account.pw_gid if its is None else its, mode))
                 equal("what is beside it", sorted(os.listdir(spool)), sorted([*NAMES, name, "root"]))
                 expect([*WORDS, name], home, 0, "2 mailboxes: 2 nothing new; ...\n" + moves(home, name))
             (spool / name).unlink()

@@ -45,22 +45,32 @@ class Inboxes:
     def mode(self) -> int:
         """The mode of a new inbox: its user's alone, unless all inboxes belong to the group of the folder, which may
         write to each."""
-        group = os.fstat(self.number).st_gid
-        states = [spot.state() for spot in self.spots() if not spot.name.endswith(LOCK)]
-        boxes = [one for one in states if one and stat.S_ISREG(one.st_mode) and one.st_uid != 0]
+        group, boxes = os.fstat(self.number).st_gid, self.boxes()
         are_shared = all(stat.S_IMODE(one.st_mode) == SHARED and one.st_gid == group for one in boxes)
         return SHARED if boxes and are_shared else OWN
 
+    def boxes(self) -> list[os.stat_result]:
+        """The states of the inboxes of users."""
+        states = [spot.state() for spot in self.spots() if not spot.name.endswith(LOCK)]
+        return [one for one in states if one and stat.S_ISREG(one.st_mode) and one.st_uid != 0]
+
+    def group_for(self, account: Account) -> int:
+        """The group of a new inbox: that of the folder or, if it is root's, the one of all inboxes of several users,
+        and otherwise its user's own."""
+        group, boxes = os.fstat(self.number).st_gid, self.boxes()
+        groups = {one.st_gid for one in boxes} if len({one.st_uid for one in boxes}) > 1 else set[int]()
+        return group or (groups.pop() if len(groups) == 1 else 0) or account.gid
+
     def make(self, spot: Spot, account: Account) -> None:
         """Makes the inbox of an account, unless something has its name. It gets its name, if that is free, once it
-        belongs to its user and to the group of the folder. It is on the disk then."""
+        belongs to its user, and has its group. It is on the disk then."""
         mode, beside = self.mode, spot.beside()
         if not spot.state():
             with contextlib.suppress(FileNotFoundError):
                 beside.unlink()
             number = beside.open(os.O_WRONLY | os.O_CREAT | os.O_EXCL, OWN)
             try:
-                os.fchown(number, account.uid, os.fstat(self.number).st_gid)
+                os.fchown(number, account.uid, self.group_for(account))
                 os.fchmod(number, mode)
                 os.fsync(number)
                 with contextlib.suppress(FileExistsError):
