@@ -101,7 +101,7 @@ def say_kind_in(mailbox: Mailbox, verdict: Verdict, tell: Observer, found: Found
             tell.row(row_found(path, plan.kind, as_it_is(found, plan.kind))._replace(messages=plan.messages))
     except Left as left:
         if isinstance(left, Question):
-            left.put(functools.partial(migrate, found, left.kind))
+            left.put(functools.partial(migrate, found, TAKEOUT if left.is_takeout else left.kind))
         elif isinstance(left, OtherKind):
             left.put(where(found))
         row = row_found(path, left.kind or verdict.kind, left.next)._replace(messages=left.messages, most=left.most)
@@ -115,7 +115,7 @@ def next_of(verdict: Verdict, found: Found) -> tuple[Next, Sequence[Quote]]:
     if verdict.is_as_it_is or verdict.reading:
         return as_it_is(found, verdict.kind), ()
     question = question_of(verdict)
-    question.put(functools.partial(migrate, found, verdict.kind))
+    question.put(functools.partial(migrate, found, TAKEOUT if question.is_takeout else question.kind))
     return question.next, question.quotes
 
 

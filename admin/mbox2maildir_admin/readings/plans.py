@@ -106,6 +106,7 @@ class Question(Left):
     def __init__(self, why: str, verdict: Verdict, quotes: list[Quote], answers: list[Choosable]) -> None:
         super().__init__(why, Reason.UNCLEAR, quotes=quotes)
         self.kind, self.messages, self.most = verdict.kind, verdict.messages, verdict.most
+        self.is_takeout = verdict.is_takeout
         self.answers, self.doubtful, self.is_on_lines = answers, verdict.doubtful(), verdict.is_on_lines
         # returns a decision that is tied to this question
         self.tied: Callable[[Reading], Reading] = lambda decision: decision

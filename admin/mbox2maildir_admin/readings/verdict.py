@@ -85,6 +85,12 @@ class Verdict(NamedTuple):
         """Whether it is converted as it is."""
         return self.reading == PLAIN and not self.start
 
+    @property
+    def is_takeout(self) -> bool:
+        """Whether each message is from Gmail, apart from those that may be text of others."""
+        gmail = self.look.count("Gmail")
+        return gmail > 0 and gmail + self.look.count(*DOUBTS) == self.look.messages
+
     def remarks_on_text(self) -> list[Remark]:
         """What is to be said of the text, however it is read."""
         nulls = [Says.AFTER_NULLS.of(self.start + 1)] * self.look.after_nulls
