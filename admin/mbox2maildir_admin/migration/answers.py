@@ -84,12 +84,6 @@ def answer_to(record: Record, opened: Opened, question: Question) -> Optional[Re
     return None
 
 
-def note_no_mail(record: Record, mailbox: Mailbox) -> None:
-    """Notes that a file that is not mbox text holds no mail by the command line."""
-    if not is_passed_over(record, mailbox):
-        record.add(Note.NO_MAIL, Key(INBOX, *mailbox.key()), 0, mailbox.path)
-
-
 def is_passed_over(record: History, mailbox: Mailbox) -> bool:
     """Whether it is noted that a file holds no mail, as long as it has its path and its bytes."""
     keys = {entry.key for entry in record.noting(Note.NO_MAIL, INBOX, mailbox.path)}
@@ -122,7 +116,7 @@ def as_before(opened: Opened, ledger: Ledger, path: str, by: By) -> Optional[tup
         contents = Contents(then, then.messages(), reading)
         match = Match(ledger, path, Files(ledger.folder, contents.inventory), contents.is_deleted)
         match.find_known()
-        return None if match.count_new() else (contents.words, remarks_on_lost(match))
+        return None if match.count_new() else (reading.words(), remarks_on_lost(match))
 
 
 def contradicted(how: Options, root: bytes, opened: Opened, line: Entry) -> tuple[list[Remark], Next]:

@@ -1,33 +1,42 @@
 """Carries out the steps of a mailbox, those of a first pass or of any other: what is not wanted is removed, what is
 going to be there is noted, mbox2maildir places messages, and these get dates and flags, and are verified. Once the
 disk was synced, it is noted what became of mailboxes.
+
+A message may be cut. Programs append to a mailbox, and whoever reads meanwhile gets a last message that is not
+complete. Its file holds the beginning of a message, and the complete message gets a file of another name. So the
+mailbox is left until the first file is gone.
 """
 import collections
 import contextlib
 import os
 import re
 import time
-from collections.abc import Iterator, Sequence
+from collections.abc import Container, Iterator, Sequence
 from typing import Optional
 
 from ..faults import Fault, Left, Reason, fault_of
 from ..ledger.gone import times_of
 from ..ledger.history import Note
-from ..ledger.lines import END_LINE, FAILED_LINE, PLACED_LINE, Head, append
-from ..ledger.match import Files
-from ..ledger.prepared import FAILED, WHOLE, Prepared, finish_list, remove_list
+from ..ledger.lines import END_LINE, FAILED_LINE, PLACED, PLACED_LINE, Head, append
+from ..ledger.match import Files, Match
+from ..ledger.prepared import FAILED, WHOLE, finish_list, remove_list
 from ..ledger.record import unspelled
 from ..maildir.checking import Check
 from ..maildir.dating import Dating
 from ..maildir.disk import what_fails, why_not_listed
+from ..maildir.files import mail_in
 from ..maildir.making import PREPARED
-from ..mbox.bases import base_in, before_info, is_own
-from ..mbox.mailbox import Mailbox, is_still
+from ..mbox.bases import base_in, before_info, is_own, own_base_in
+from ..mbox.core import beginning_of
+from ..mbox.files import BLOCK, Reader, open_file
+from ..mbox.mailbox import Digest, Mailbox, is_still
+from ..nexts import Runs, run_next
 from ..program import Converted, Failed, Program
 from ..readings.copies import copy_of_some
 from ..remarks import Remark, Says
+from ..terminal import operand
 from ..units import Offset, Place
-from .cut import want_none_cut
+from .known import Known
 from .outcomes import Fate, Outcome, Row
 from .steps import FirstPass, LaterPass, Steps
 
@@ -48,6 +57,10 @@ SYNCED = (2, 3)
 LATER = "removes a leftover, or writes or places a message"
 # the failures for which the program names no cause
 WITHOUT_CAUSE = re.compile(r"%s|cannot open the folder|could not be (?:read|written)" % FOLDER_CALL.pattern)
+CUT = "a message was read before it was complete, and the complete one is there now"
+# at the end of a beginning: line ends, and a From_ line that has just begun; and how much of an end is looked at
+UNFINISHED = re.compile(rb"(?:\n+(?:F(?:r(?:om?)?)?)?)?\Z")
+END = 64
 ONCE = "the system reported an error, but the same works now: read the system's log, and run this again"
 
 
@@ -55,30 +68,25 @@ def carry_out(steps: Steps, row: Row, program: Program) -> Outcome:
     """Does what was planned, and returns what became of the mailbox, with the row that says this and what else is to be
     said by then. Raises Left, Fault or OSError if something fails, or is not as it was any more."""
     own, opened, batch, ends_list = steps.own, steps.opened, None, False
+    if isinstance(own, FirstPass) and own.is_done(steps.placing):
+        before, as_read = own.prepared.origin, own.prepared.as_read
+        if before and before.state != own.origin.state and as_read:
+            # its file has another state, and the bytes that were prepared: the next first pass does not read it
+            own.prepared.append(own.origin.line(), as_read.line(), WHOLE + b"\n")
+        return Outcome(row)
+    # what was prepared and no message wants goes first
+    said = Says.KEPT_EDITED.of_any(own.prepared.remove_unwanted()) if own.prepared else []
     if isinstance(own, FirstPass):
-        if own.is_done(steps.placing):
-            note_state(own)
-            return Outcome(row)
-        said = [*cleared(own.prepared), *prepare(steps, own, program)]
+        said += prepare(steps, own, program)
     else:
-        said = cleared(own.prepared) if own.prepared else []
         batch, ends_list = begin(steps, own), own.ends_list
-        said += [] if own.has_nothing_new else complete(steps, own, program, batch)
+        if not own.has_nothing_new:
+            back = own.back + convert(steps, program, batch)
+            said += steps.extra.apply(steps)
+            said += date_and_verify(steps, back)
+            want_none_cut(steps, own.may_be_cut)
     row, its = row._replace(remarks=(*row.remarks, *said)), (unspelled(steps.known.path), opened.mailbox.state)
     return Outcome(row, opened.folder, batch, ends_list, *its)
-
-
-def cleared(prepared: Prepared) -> list[Remark]:
-    """Removes what was prepared and no message wants, and returns what is to be said of that."""
-    return Says.KEPT_EDITED.of_any(prepared.remove_unwanted())
-
-
-def note_state(first: FirstPass) -> None:
-    """Notes that the file of a mailbox has another state, and the bytes that were prepared, so that the next first pass
-    does not read it."""
-    prepared, now = first.prepared, first.origin
-    if prepared.origin and prepared.origin.state != now.state and prepared.as_read:
-        prepared.append(now.line(), prepared.as_read.line(), WHOLE + b"\n")
 
 
 def prepare(steps: Steps, first: FirstPass, program: Program) -> list[Remark]:
@@ -91,13 +99,13 @@ def prepare(steps: Steps, first: FirstPass, program: Program) -> list[Remark]:
     known.record.make(steps.opened.make_folder)
     before = known.record.prepared(steps.opened.name)
     if not before or (before.key, before.path) != (known.key, known.path):
-        words = len(contents.inventory), unspelled(known.path), contents.words
-        known.record.add(Note.PREPARED, known.key, *words)
+        words = contents.reading.words()
+        known.record.add(Note.PREPARED, known.key, len(contents.inventory), unspelled(known.path), words)
     back = convert(steps, program)
     # a date changes a file's ctime
     Dating(contents.text.mailbox, steps.files).give_all(steps.opened.folder)
     prepared.note_facts()
-    said = [*date_and_verify(steps), *came_back(steps, back)]
+    said = date_and_verify(steps, back)
     prepared.write_whole(first.origin, first.text, first.took)
     return said
 
@@ -112,25 +120,10 @@ def begin(steps: Steps, own: LaterPass) -> int:
         prepared.make_folder()
         prepared.append(*([origin.line()] if origin else []), *prepared.names(), b">\t%d\n" % (ledger.last + 1))
     record.make(opened.make_folder, ledger.make)
-    words, inode, now = steps.contents.words, mailbox.state.st_ino, int(time.time())
+    words, inode, now = steps.contents.reading.words(), mailbox.state.st_ino, int(time.time())
     its = times_of(opened.folder), mailbox.key(), words, known.path, inode, now
     head = Head(steps.placing.count_of_lines(), len(steps.placing.nowhere), own.back, *its)
     return ledger.begin(head, steps.placing.lines())
-
-
-def complete(steps: Steps, own: LaterPass, program: Program, batch: int) -> list[Remark]:
-    """Places what is nowhere, gives files their flags and dates, and verifies them. Returns what is to be said of
-    that."""
-    back = own.back + convert(steps, program, batch)
-    of_extra = steps.extra.apply(steps)
-    said = [*date_and_verify(steps), *of_extra]
-    want_none_cut(steps, own.may_be_cut)
-    return [*said, *came_back(steps, back)]
-
-
-def came_back(steps: Steps, count: int) -> list[Remark]:
-    """What is to be said of so many messages that may have come back."""
-    return Says.CAME_BACK.of_any(min(count, len(steps.contents.inventory)))
 
 
 def convert(steps: Steps, program: Program, batch: Optional[int] = None) -> int:
@@ -170,7 +163,7 @@ def place_messages(steps: Steps, program: Program) -> Converted:
     if placing.rest < len(inventory):
         ran = place(text, inventory.offset(placing.rest))
         return ran._replace(placed=placed + ran.placed)
-    if not before and (not steps.prepared or any(map(base_in, os.listdir(os.path.join(folder, b"tmp"))))):
+    if not before and (not steps.own.prepared or any(map(base_in, os.listdir(os.path.join(folder, b"tmp"))))):
         # for a text without mail, the program removes its own names from `tmp`: a power cut may have kept files there
         # that it also kept in `new` or `cur`
         with open(os.devnull, "rb") as nothing:
@@ -197,8 +190,9 @@ def explained(failed: Failed, steps: Steps, batch: Optional[int]) -> Left:
     return Left("; ".join(filter(None, [says, cause, counts])), Reason.CONVERT_FAILED)
 
 
-def date_and_verify(one: Steps) -> list[Remark]:
-    """Dates what was brought, and returns what is to be said of that. Raises Left unless each message is there once."""
+def date_and_verify(one: Steps, back: int) -> list[Remark]:
+    """Dates what was brought, and returns what is to be said of that, and of so many messages that may have come back.
+    Raises Left unless each message is there once."""
     text = one.contents.text.mailbox
     check, dating = Check(one.files, say=one.opened.mailbox.say), Dating(text, one.files)
 
@@ -219,7 +213,7 @@ def date_and_verify(one: Steps) -> list[Remark]:
         raise Left(check.report(), Reason.NOT_VERIFIED)
     if one.opened.has_changed(text):
         raise Left(CHANGED_MEANWHILE, Reason.CHANGED)
-    return dating.remarks()
+    return [*dating.remarks(), *Says.CAME_BACK.of_any(min(back, len(one.contents.inventory)))]
 
 
 def settled(several: Sequence[tuple[Outcome, Optional[OSError]]]) -> list[Row]:
@@ -269,3 +263,63 @@ def leaving(rows: list[Row], *places: int) -> Iterator[None]:
         for place in places:
             fault = fault_of(error, rows[place].path)
             rows[place] = rows[place]._replace(fate=Fate.LEFT, why=str(fault), reason=fault.reason, remarks=())
+
+
+def names_that_may_be_cut(known: Known, match: Match) -> set[bytes]:
+    """The names of files that may hold the beginning of a message: those that the mailbox placed last when it was read,
+    and that stand for no message of it any more; and those that no line has. The mailbox was written to, so a run that
+    was killed may have read more of it than the lines that it had begun have."""
+    ledger, path, begun_at = known.ledger, known.path, known.ledger.begun.get(known.path, 0)
+    lost = {one.name for one in [*match.dropped, *ledger.intended(path)]}
+    lost.difference_update(one.name for one in match.found.values())
+    numbers = {number for number, its in ledger.ended.items() if its == path}
+    numbers.update(number for number, batch in ledger.open.items() if batch.path == path)
+    # of each batch
+    last = {number: one for number, one in ledger.messages(numbers if lost else ()) if one.word == PLACED}
+    several = [one for one in last.values() if one.name in lost]
+    cores = set(map(match.inventory.core, range(len(match.inventory)))) if several else set()
+    names: set[bytes] = set()
+    for name, file in mail_in(ledger.folder) if known.is_begun else ():
+        base = own_base_in(name)
+        # files that were dated have the dates of their From_ lines
+        if base and match.inventory.table.place_of(base) is None and os.lstat(file).st_mtime >= begun_at:
+            names.add(before_info(name))
+    if names:
+        names.difference_update(one.name for _, one in ledger.messages({*ledger.ended, *ledger.open}))
+    return names | {one.name for one in several if one.core not in cores}
+
+
+def want_none_cut(one: Steps, names: Container[bytes]) -> None:
+    """Raises Left if a file of one of these names holds the beginning of a new message, whoever has rewritten it."""
+    listed = mail_in(one.opened.folder) if names else ()
+    found = (path for name, path in listed if before_info(name) in names)
+    paths = {beginning_in(path): path for path in found}
+    text, inventory = one.contents.text.mailbox, one.contents.inventory
+    for place in one.placing.match.new if paths else ():
+        digest = Digest({size for size, _ in paths})
+        start = text.at(inventory.offsets[place], BLOCK).find(b"\n") + 1
+        reader = Reader(text.number, Offset(inventory.offsets[place] + start), inventory.offsets[place + 1])
+        for piece in beginning_of(reader.read) if start else ():
+            digest.update(piece)
+        for beginning in digest.beginnings.items():
+            if beginning in paths:
+                raise Left(CUT, Reason.CUT, run_next(Runs.REMOVE, operand(paths[beginning])))
+
+
+def beginning_in(path: bytes) -> tuple[int, str]:
+    """The size and the SHA-256 of the core of the beginning of a message in a file. No symbolic link is followed."""
+    size, end = 0, b""
+    for piece in core_pieces_in(path):
+        size, end = size + len(piece), (end + piece)[-END:]
+    found = UNFINISHED.search(end)
+    size -= len(found[0]) if found else 0
+    digest = Digest([size])
+    for piece in core_pieces_in(path):
+        digest.update(piece)
+    return size, digest.beginnings.get(size, "")
+
+
+def core_pieces_in(path: bytes) -> Iterator[bytes]:
+    """The core of the beginning of a message in a file."""
+    with open_file(path, os.O_NOFOLLOW) as file:
+        yield from beginning_of(file.read)

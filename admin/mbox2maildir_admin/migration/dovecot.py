@@ -15,7 +15,7 @@ from ..faults import Fault, Left, Reason
 from ..flags.dovecot_headers import LETTERS, Reading, fields_of, first_head, info_of, internal_head, is_listed, marks_of
 from ..flags.dovecot_list import list_of, name_by, raised, rename, replace
 from ..flags.renaming import add_flags
-from ..ledger.history import Entry, Key, Note, names_of
+from ..ledger.history import Key, Note, names_of
 from ..ledger.record import Record
 from ..looks import is_there
 from ..maildir.files import names_in
@@ -72,13 +72,11 @@ class Dovecot(Extra):
             return left
         return None
 
-    def foresee(self, one: Steps) -> list[Remark]:
-        """What `apply` would say. Nothing is written."""
-        return self.look(one)[0]
-
-    def apply(self, one: Steps) -> list[Remark]:
-        """Writes the files, each once, and returns what is to be said of it."""
+    def apply(self, one: Steps, dry: bool = False) -> list[Remark]:
+        """Writes the files, each once, unless nothing may be written. Returns what is to be said of it."""
         says, reading = self.look(one)
+        if dry:
+            return says
         for name in (KEYWORDS, LIST):
             remove_part(one.opened.folder, name)
         if reading:
@@ -147,7 +145,7 @@ class Dovecot(Extra):
         """What is to be said if the folder keeps the numbers that it has; None if it gets some now."""
         opened = one.opened
         numbered = self.record.numbered(opened.name)
-        if numbered and not is_of(numbered, opened):
+        if numbered and numbered.path not in names_of(opened.mailbox.path):
             says = OF_ANOTHER % folder_shown(opened.name)
             if one.places and first_head(one.contents.full.mailbox, one.contents.full.start):
                 raise Left(AFTER_THOSE % says, Reason.NUMBERED)
@@ -175,17 +173,12 @@ class Dovecot(Extra):
         return text is not None and hashlib.sha256(text).hexdigest() in {one.key.digest for one in notes}
 
 
-def is_of(numbered: Entry, opened: Opened) -> bool:
-    """Whether a line of the record is about the numbers of a mailbox."""
-    return numbered.path in names_of(opened.mailbox.path)
-
-
 def remove_lists(record: Record, opened: Opened) -> None:
     """Removes the files that were written for a mailbox, unless somebody has changed them since."""
-    numbered, own = record.numbered(opened.name), Dovecot(record)
-    there = names_in(opened.folder)
+    numbered, own, there = record.numbered(opened.name), Dovecot(record), names_in(opened.folder)
+    is_its_own = numbered is not None and numbered.path in names_of(opened.mailbox.path)
     for name in (LIST, KEYWORDS):
-        if numbered and is_of(numbered, opened) and name in there and own.is_own(opened.name, opened.folder, name):
+        if is_its_own and name in there and own.is_own(opened.name, opened.folder, name):
             os.unlink(os.path.join(opened.folder, name))
     sync_folder(opened.folder)
 

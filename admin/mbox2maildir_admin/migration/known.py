@@ -106,8 +106,14 @@ class Known:
         path by now of one with the same bytes. A run that was killed could not say this."""
         if self.by_index or self.path in self.ledger.sources:
             return []
-        beside, cores, found, mailbox = os.path.dirname(self.names[0]), None, self.in_others(), self.opened.mailbox
+        mailbox, cores, found = self.opened.mailbox, None, list[Elsewhere]()
+        for folder in self.record.folders_with(self.names):
+            # as far as the ledger there still has it
+            last = self.record.last_of(folder, self.names) if folder != self.opened.name else None
+            if last and last.path in Ledger(folder_path(self.record.maildir, folder)).paths():
+                found.append((last, True))
         same = [line for line in self.record.lines_of(mailbox) if is_gone(line.path) or is_replaced(line)]
+        beside = os.path.dirname(self.names[0])
         others = (one for one in self.record.gone(beside) if one not in same)
         for line in itertools.chain(same, others):
             is_same = line in same
@@ -119,16 +125,6 @@ class Known:
             if is_same or ledger.is_in(line.path, cores):
                 found.append((line, is_gone(line.path) and (is_same or line.path in moved_in(ledger, mailbox))))
         return found
-
-    def in_others(self) -> list[Elsewhere]:
-        """The other folders into which the mailbox of its path went, as far as the ledgers there still have it."""
-        lines = (self.record.last_of(folder, self.names) for folder in self.record.folders_with(self.names))
-        others = (one for one in lines if one and one.key.folder != self.opened.name)
-        return [
-            (one, True)
-            for one in others
-            if one.path in Ledger(folder_path(self.record.maildir, one.key.folder)).paths()
-        ]
 
     def joined(self, given: Container[bytes]) -> list[bytes]:
         """The paths of the mailboxes whose mail the folder has, and that are not gone, if a mailbox of a tree gets its

@@ -17,13 +17,14 @@ from ..kinds.look import Look
 from ..kinds.named import is_no_mail
 from ..labels.noted import line_of
 from ..ledger.gone import back_in, gone_before, gone_from, unexplained
+from ..ledger.history import Key, Note
 from ..ledger.ledger import Ledger, count_in, has_failed
 from ..ledger.match import Files, Match, Stand
 from ..ledger.prepared import in_milliseconds, milliseconds_since
 from ..ledger.record import Record, unspelled
 from ..looks import is_folder
 from ..maildir.disk import Need, want_room, want_syncs
-from ..maildir.folders import folder_path, folder_shown
+from ..maildir.folders import INBOX, folder_path, folder_shown
 from ..mbox.locks import open_mailbox, snapshot
 from ..mbox.mailbox import Mailbox
 from ..nexts import NOTHING, Answer, Does, Next, Phrase
@@ -44,16 +45,16 @@ from .answers import (
     is_passed_over,
     note_answer,
     note_empty,
-    note_no_mail,
     noted_last,
     want_same_reading,
 )
-from .carrying import CHANGED_MEANWHILE, SYNC_FAILED, carry_out
-from .cut import names_that_may_be_cut
-from .known import Elsewhere, Known, Opened
+from .carrying import CHANGED_MEANWHILE, SYNC_FAILED, carry_out, names_that_may_be_cut
+from .dovecot import DONE_WITHOUT
+from .known import Known, Opened
 from .options import Options
 from .outcomes import Fate, Outcome, Row, row_left
 from .preparing import (
+    TENTH,
     Preparation,
     mend,
     origin_now,
@@ -80,8 +81,8 @@ from .steps import (
 WITH_LABELS = "it was migrated with --labels, so its mail is in the folders of its labels"
 # how many bytes a line of the ledger may have that names a file of this program
 LONGEST_LINE = 140
-# of what the ledger has of a mailbox, the least part, and the least number, that was edited as a whole
-TENTH, FEW = 10, 3
+# besides a tenth of it, the least of what the ledger has of a mailbox that was edited as a whole
+FEW = 3
 EDITED = "%s that it brought are gone from it, and as many are new: it was edited as a whole, or it is another mailbox"
 PARTLY_THERE = "%d of its messages are there, and no ledger says why: the ledger is older than its folder, or was lost"
 NOT_SHOWN = "the ledger of its folder is %s, so nothing shows which of its messages were placed"
@@ -121,15 +122,15 @@ class Migration:
                 try:
                     return Outcome(self.judge(opened, why)) if why else self.migrate_opened(opened)
                 except OtherKind as left:
-                    if self.how.is_spared(path, not isinstance(left, NotKnown)):
-                        note_no_mail(self.record, mailbox)
-                        return Outcome(Row(path, b"", left.kind, None, Fate.NO_MAIL, remarks=(Says.BY_NO_MAIL.of(),)))
-                    if is_passed_over(self.record, mailbox):
-                        return Outcome(
-                            Row(path, b"", left.kind, None, Fate.NO_MAIL, remarks=(Says.NO_MAIL_NOTED.of(),))
-                        )
-                    left.put(self.how.where(self.root, opened))
-                    raise
+                    is_spared = self.how.is_spared(path, not isinstance(left, NotKnown))
+                    is_noted = is_passed_over(self.record, mailbox)
+                    if not (is_spared or is_noted):
+                        left.put(self.how.where(self.root, opened))
+                        raise
+                    if not is_noted:
+                        self.record.add(Note.NO_MAIL, Key(INBOX, *mailbox.key()), 0, mailbox.path)
+                    said = Says.BY_NO_MAIL if is_spared else Says.NO_MAIL_NOTED
+                    return Outcome(Row(path, b"", left.kind, None, Fate.NO_MAIL, remarks=(said.of(),)))
         except NoMail as found:
             return Outcome(Row(path, b"", found.kind, None, Fate.NO_MAIL))
         except (Fault, OSError) as fault:
@@ -208,8 +209,6 @@ class Transfer:
     def bring_rest(self) -> Outcome:
         """Does what is left to do, and returns what became of the mailbox. If a human must decide about it, that may be
         known from before."""
-        if not self.how.again:
-            self.known.take_place_by_bytes()
         row = None if self.how.again else self.row_if_done()
         is_wanted = not row and self.is_wanted()
         while not row:
@@ -218,16 +217,20 @@ class Transfer:
                     ended = self.try_to_bring(part) if is_wanted else Outcome(self.row(part))
                     return ended._replace(row=ended.row._replace(tie=self.tie))
             except Question as question:
-                row = None if self.how.again else self.row_as_before()
-                if not row and not self.take_answer(question):
+                by = self.disk, self.how.extra.start_of
+                before = None if self.how.again else as_before(self.opened, self.ledger, self.path, by)
+                if before:
+                    row = self.row_before(before[0], count_in(self.ledger, self.path), before[1])
+                elif not self.take_answer(question):
                     self.how.put_commands(self.root, self.opened, question)
                     raise
         return Outcome(row)
 
     def row_if_done(self) -> Optional[Row]:
         """The row of a mailbox that is done by its bytes. A line may be about other messages of a Takeout."""
+        self.known.take_place_by_bytes()
         line = self.known.done()
-        if not line or self.part and Reading.of_words(line.plan).part != self.part.plan.reading.part:
+        if not line or self.part and Reading.of_words(line.plan).part != self.part.choice.plan.reading.part:
             return None
         more, then = ([], NOTHING) if self.how.prepare else contradicted(self.how, self.root, self.opened, line)
         return self.row_before(line.plan, line.messages, more)._replace(next=then)
@@ -243,15 +246,10 @@ class Transfer:
         want_free(self.preparation, self.known)
         return True
 
-    def row_as_before(self) -> Optional[Row]:
-        """The row of a mailbox about which there is a question, if it was done as it was read then."""
-        before = as_before(self.opened, self.ledger, self.path, (self.disk, self.how.extra.start_of))
-        return self.row_before(before[0], count_in(self.ledger, self.path), before[1]) if before else None
-
     def row_before(self, words: Optional[str], messages: Optional[int], more: Sequence[Remark]) -> Row:
         """The row of a mailbox of so many messages that was done before by the words of a plan; what else is said."""
         mailbox, name = self.opened.mailbox, self.opened.name
-        of_uids = self.how.extra.remarks_on_done(name) if mailbox.size else []
+        has_no_uids = self.how.dovecot and mailbox.size > 0 and not self.record.numbered(name)
         dropped = Says.DELETED_LEFT_OUT.of_any(Reading.of_words(words).dropped)
         of_folder = back_in(self.ledger) + gone_from(self.ledger)
         by_index = self.known.by_index
@@ -260,7 +258,7 @@ class Transfer:
             of_folder = [Says.LEDGER_OLDER.of(counted(missing, "message"))]
         elif by_index:
             of_folder = [(Says.LEDGER_GONE if is_folder(self.opened.folder) else Says.FOLDER_GONE).of()]
-        says = (*of_uids, *dropped, *of_folder, *more)
+        says = (*[DONE_WITHOUT] * has_no_uids, *dropped, *of_folder, *more)
         return Row(mailbox.path, name, "", messages, Fate.BEFORE, size=mailbox.size, remarks=says)
 
     def take_answer(self, question: Question) -> bool:
@@ -306,17 +304,21 @@ class Transfer:
                     raise
             return self.bring(part, True)
         except (Fault, OSError) as fault:
-            return Outcome(row_left(mailbox.path, self.opened.name, fault, part.plan, mailbox.size))
+            return Outcome(row_left(mailbox.path, self.opened.name, fault, part.choice.plan, mailbox.size))
 
     def bring(self, part: Part, again: bool) -> Outcome:
         """Brings what is new, once it is chosen which text stands for the mailbox, or all that is nowhere. Raises what
         keeps it from being done."""
         if self.preparation and not again:
             want_usable(self.preparation, self.how, self.opened)
-        if part.plan.is_empty:
+        if part.choice.plan.is_empty:
             return Outcome(self.bring_nothing(part, again))
         said = want_syncs(self.opened.folder, self.how.any_disk)
-        self.want_ended(again)
+        if self.path in self.ledger.leaving:
+            undo = self.how.undo_command(self.root, self.opened)
+            raise Left("its undo was interrupted", Reason.UNDO, (Answer(undo),))
+        if self.has_failed() and not again:
+            raise Left(SYNC_FAILED, Reason.SYNC_FAILED)
         with part.read() as contents:
             steps, row = (self.first_steps if self.how.prepare else self.steps)(part, contents, again, said)
             if self.how.dry:
@@ -367,7 +369,7 @@ class Transfer:
         ends_list = again or prepared is not None
         if known.path in known.ledger.sources and not match.count_new():
             steps = Steps.of(known, contents, match, how.extra, LaterPass(again, ends_list, has_nothing_new=True))
-            return steps, self.row_before(contents.words, len(contents.inventory), remarks_on_lost(match))
+            return steps, self.row_before(contents.reading.words(), len(contents.inventory), remarks_on_lost(match))
         origin = origin_now(known, contents, how.names) if prepared and not prepared.origin else None
         back = 0 if again else self.may_come_back(match)
         own = LaterPass(again, ends_list, prepared, origin, back, names_that_may_be_cut(known, match))
@@ -381,15 +383,28 @@ class Transfer:
         return steps, self.row_of(part, steps, said)
 
     def row_of(self, part: Part, steps: Steps, said: Sequence[Remark]) -> Row:
-        """The row of a mailbox that brings something, or would."""
-        contents, match = steps.contents, steps.match
+        """The row of a mailbox that brings something, or would; with what is to be said of other folders, into which
+        mail of it went, and of other mailboxes."""
         # a message of a Takeout may be in many folders
-        elsewhere = [] if self.part else self.known.elsewhere(contents.inventory)
-        said = [*said, *remarks_on(steps, self.how.dry), *self.remarks_on_others(elsewhere)]
-        then = self.command(Does.BRINGS_BACK, again=True) if sum(match.seen.gone.values()) else NOTHING
-        there = (self.opened._replace(name=line.key.folder) for line, is_moved in elsewhere if is_moved)
-        then += tuple(Answer(self.how.undo_command(self.root, one), Does.UNDO_THERE) for one in there)
-        return self.row(part, [*said, *(self.how.extra.foresee(steps) if self.how.dry else ())], then)
+        elsewhere = [] if self.part else self.known.elsewhere(steps.contents.inventory)
+        said = [*said, *remarks_on(steps, self.how.dry), *back_in(self.ledger)]
+        is_gone = sum(steps.placing.match.seen.gone.values()) > 0
+        then = self.command(Does.BRINGS_BACK, again=True) if is_gone else NOTHING
+        for line, is_moved in elsewhere:
+            its = counted(line.messages, "message"), folder_shown(line.key.folder)
+            is_other = line.path not in self.known.names
+            said.append(
+                Says.ELSEWHERE_FROM.of(*its, named(unspelled(line.path))) if is_other else Says.ELSEWHERE.of(*its)
+            )
+            if is_moved:
+                undo = self.how.undo_command(self.root, self.opened._replace(name=line.key.folder))
+                then += (Answer(undo, Does.UNDO_THERE),)
+        joined = self.known.joined(self.how.names)
+        if joined:
+            said.append(Says.JOINED.of(first_of(joined, most=1)))
+        if self.how.dry:
+            said += self.how.extra.apply(steps, dry=True)
+        return self.row(part, said, then)
 
     def matched(self, part: Part, contents: Contents, again: bool) -> Match:
         """The messages of the text, with what is there of them; what was prepared counts for those that nothing else
@@ -413,7 +428,7 @@ class Transfer:
         if part.is_as_prepared and match.count(Stand.NOWHERE):
             raise Left(CHANGED_MEANWHILE, Reason.CHANGED)
         if Says.AS_BROUGHT.of() not in self.remarks:
-            note_answer(self.record, self.opened, part.plan)
+            note_answer(self.record, self.opened, part.choice.plan)
         return match
 
     def matched_again(self, ledger: Ledger, contents: Contents) -> Match:
@@ -423,28 +438,17 @@ class Transfer:
 
     def want_room_for(self, steps: Steps) -> None:
         """Raises Left if the disk has no room for what is placed, and for the lines about it."""
-        nowhere, sizes, prepared = steps.placing.nowhere, steps.contents.inventory.sizes, steps.prepared
+        nowhere, sizes, prepared = steps.placing.nowhere, steps.contents.inventory.sizes, steps.own.prepared
         wanted = [*(sizes[place] for place in nowhere), LONGEST_LINE * steps.placing.count_of_lines()]
         # what no message wants is removed first
         freed = prepared.unwanted() if prepared else ()
         if len(nowhere):
             self.want_room(Need.of(self.opened.folder, wanted, freed=freed))
 
-    def remarks_on_others(self, elsewhere: Sequence[Elsewhere]) -> Iterator[Remark]:
-        """What is to be said of other folders, into which mail of the mailbox went, and of other mailboxes."""
-        for line, _ in elsewhere:
-            its = counted(line.messages, "message"), folder_shown(line.key.folder)
-            is_other = line.path not in self.known.names
-            yield Says.ELSEWHERE_FROM.of(*its, named(unspelled(line.path))) if is_other else Says.ELSEWHERE.of(*its)
-        yield from back_in(self.ledger)
-        joined = self.known.joined(self.how.names)
-        if joined:
-            yield Says.JOINED.of(first_of(joined, most=1))
-
     def row(self, part: Part, said: Sequence[Remark] = (), then: Next = NOTHING) -> Row:
         """The row of a mailbox that is done or prepared, or would be; what else is said of it, and what is to be done
         next."""
-        plan, done, would, spent = part.plan, Fate.DONE, Fate.WOULD, None
+        plan, done, would, spent = part.choice.plan, Fate.DONE, Fate.WOULD, None
         if self.how.prepare:
             done, would, spent = Fate.PREPARED, Fate.WOULD_PREPARE, self.spent()
         its = self.opened.name, plan.kind, plan.messages, would if self.how.dry else done
@@ -465,14 +469,6 @@ class Transfer:
         """Whether a sync of an earlier run failed, or of a pass."""
         is_failed = self.prepared is not None and (self.prepared.has_failed or has_failed(self.ledger))
         return is_failed or has_failed(self.ledger, self.path)
-
-    def want_ended(self, again: bool) -> None:
-        """Raises Left if an undo was interrupted, or if a sync failed."""
-        if self.path in self.ledger.leaving:
-            undo = self.how.undo_command(self.root, self.opened)
-            raise Left("its undo was interrupted", Reason.UNDO, (Answer(undo),))
-        if self.has_failed() and not again:
-            raise Left(SYNC_FAILED, Reason.SYNC_FAILED)
 
     def go_by_ledger(self, contents: Contents, again: bool) -> bool:
         """Raises Left if the ledger is damaged, or lacks something that the index has of the mailbox. If all that is

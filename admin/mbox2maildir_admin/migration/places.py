@@ -15,10 +15,9 @@ from ..looks import is_file
 from ..maildir.files import mail_in
 from ..maildir.folders import COPY, INBOX, folder_on_disk, folder_path, folder_shown, words_of
 from ..maildir.disk import SyncOne
-from ..nexts import Answer, Command, Does, Next, Part, Phrase, Runs, Todo, run_next, task
+from ..nexts import Answer, Command, Does, Next, Part, Runs, Todo, run_next, task
 from ..readings.copies import COMPRESSED
 from ..readings.reading import UNDECIDED, Reading
-from ..readings.texts import is_mbox
 from ..terminal import is_text, named, operand, option
 from .options import Options
 
@@ -51,11 +50,6 @@ class Planned(NamedTuple):
     def folder_in(self, maildir: bytes) -> bytes:
         """The path of its folder in a Maildir."""
         return folder_path(maildir, self.folder)
-
-    @property
-    def reason(self) -> Optional[Phrase]:
-        """Why it goes nowhere, as a word."""
-        return self.why.reason if self.why else None
 
     def left(self, why: Fault) -> "Planned":
         """The same mailbox, which goes nowhere."""
@@ -108,14 +102,6 @@ def with_own_folders(
         why = "another mailbox goes into %s too" % folder_shown(folder)
         several += [one if is_free and one in mail else one.left_to_human(why, words) for one in found]
     return several
-
-
-def make_record(plan: Iterable[Planned], record: Record) -> bool:
-    """Makes the record, which several processes need from the beginning, if a mailbox can be read. Returns whether
-    there is one; a dry run needs none."""
-    if any(is_mbox(one.target or one.path) for one in plan):
-        record.make()
-    return record.is_dry or record.is_open
 
 
 class Pairs(NamedTuple):

@@ -1,6 +1,7 @@
 """What is only prepared in a folder, from a mailbox that people still use: whether it can be, or be finished, who reads
 there, which of its files a mailbox wants, and how it is taken back or removed. The folder says what is prepared in it,
-wherever the mailbox is by then.
+wherever the mailbox is by then. And what becomes of such a folder though trees were migrated: the mailbox was renamed
+or removed since, or another command migrates it.
 
 All passes do the same:
 
@@ -25,15 +26,16 @@ stands for the text, which is not taken apart again. Dates still come from the F
 changed, and flags and UIDs from the headers.
 """
 import array
+import collections
 import contextlib
 import enum
 import functools
 import os
 import time
-from collections.abc import Container, Iterable
-from typing import Optional
+from collections.abc import Container, Iterable, Iterator, Sequence
+from typing import NamedTuple, Optional
 
-from ..faults import Left, Reason
+from ..faults import Fault, Left, Reason
 from ..flags.renaming import sync_names
 from ..ledger.history import Note, Step, names_of
 from ..ledger.ledger import Ledger, has_failed
@@ -41,6 +43,7 @@ from ..ledger.lines import PLACED
 from ..ledger.match import Match
 from ..ledger.placing import Placing
 from ..ledger.prepared import (
+    ASIDE,
     NEXT_LIST,
     AsRead,
     Origin,
@@ -50,37 +53,45 @@ from ..ledger.prepared import (
     has_list,
     home_of,
     milliseconds_since,
+    origin_in,
     remove_aside,
     remove_list,
 )
 from ..ledger.record import Record, unspelled
-from ..looks import is_folder, is_there, real_path
+from ..looks import is_folder, is_there, may_be, real_path
 from ..maildir.files import digest_of, mail_in, names_in
-from ..maildir.folders import INBOX, folder_path
+from ..maildir.folders import INBOX, folder_path, folders_in, name_of, words_of
 from ..maildir.making import LEDGER, MARK, PREPARED, SUBFOLDERS, sync_folder
 from ..mbox.bases import base_in, before_info, own_base_in
 from ..mbox.dates import seconds_of
 from ..mbox.inventory import NO_DATE
-from ..nexts import NOTHING, Answer, Does, Next
+from ..nexts import NOTHING, Answer, Does, Next, Runs, Todo, run_next, task
 from ..progress import Spent
 from ..readings.plans import Plan
 from ..readings.reading import UNDECIDED, Reading
 from ..readings.texts import Choice, Text
 from ..remarks import Remark, Says
-from ..terminal import named, spelled
+from ..terminal import named, operand, spelled, text_of
 from ..units import Offset, Say, counted, silent
 from .carrying import PREPARED_SYNC_FAILED, SYNC_FAILED
 from .dovecot import KEYWORDS, LIST, Dovecot, remove_part
 from .known import Known, Opened
 from .options import Options
-from .outcomes import Fate, Row
+from .outcomes import Fate, Row, row_left
+from .places import Planned
 from .steps import Contents, Part
 
 NOT_FREE = "mail of a mailbox is in its folder already, and migrate brings the rest"
 READ = "somebody reads in its folder already: %s"
 ANOTHER = "%s is prepared in its folder, and only one mailbox can be"
 OTHERWISE = "it was prepared %s --dovecot"
+MANY_GONE = "its mailbox is gone, as are %d of the %d of its tree that were prepared"
+NOT_MET = "it is only prepared, and no mailbox of this command goes there"
 LIST_GONE = "the list of what was prepared in its folder is gone, so nothing shows which files are only copies"
+
+
+# of what is known, the least part that is much if it is gone
+TENTH = 10
 
 
 class Stage(enum.Enum):
@@ -285,7 +296,7 @@ def origin_now(known: Known, contents: Contents, names: Iterable[bytes]) -> Orig
     """What is read of a mailbox now, for the list. It may be in a tree of one of these names."""
     mailbox = known.opened.mailbox
     tree = tree_above(real_path(mailbox.path), map(real_path, names))
-    its = len(contents.inventory), contents.words, spelled(tree) if tree else "", known.path
+    its = len(contents.inventory), contents.reading.words(), spelled(tree) if tree else "", known.path
     return Origin(mailbox.key(), signs_of(mailbox.copied or mailbox.state), *its)
 
 
@@ -396,3 +407,90 @@ def row_unchanged(record: Record, how: Options, path: bytes, name: bytes, folder
     fate = Fate.WOULD_PREPARE if how.dry else Fate.PREPARED
     spent = None if how.dry else Spent(milliseconds_since(began), prepared.foreseen())
     return Row(path, name, "", origin.messages, fate, size=origin.key[0], remarks=(*dropped, says), spent=spent)
+
+
+class Listed(NamedTuple):
+    """A folder that was prepared before a run: its name, the path of its mailbox then, and that of its tree."""
+
+    name: bytes
+    path: str
+    tree: str
+
+    def path_in(self, tree: bytes) -> bytes:
+        """The path of the mailbox in the tree as it is named now."""
+        return os.path.join(tree, unspelled(self.path[len(self.tree) + 1 :]))
+
+
+class Leftovers:
+    """The folders that were prepared before a run, and what becomes of those into which no mailbox of it went. What was
+    prepared from a tree is that tree's if one of its folders is: it may have another path by now."""
+
+    def __init__(self, record: Record, root: bytes, names: Sequence[bytes], options: Options) -> None:
+        """Takes the names that a run migrates."""
+        self.record, self.root, self.options = record, root, options
+        self.trees = [real_path(name) for name in names if is_folder(name)]
+        self.listed: list[Listed] = []
+        for folder in folders_in(root):
+            origin = origin_in(folder) if has_list(folder) else None
+            if origin:
+                self.listed.append(Listed(name_of(root, folder), origin.path, origin.tree))
+        # the first pass may have been killed before the record had it
+        record.has_prepared = record.has_prepared or any(map(has_list, folders_in(root)))
+
+    def rows(self, plan: Iterable[Planned]) -> Iterator[Row]:
+        """The rows of these folders. Where the mailbox is gone, everything that was prepared is removed if no more than
+        a tenth of its tree is gone. All others are left: nobody is to read there."""
+        went = {one.folder: one.path for one in plan if one.folder}
+        self.clear_unused(went)
+        left = []
+        for one in self.listed:
+            try:
+                if one.name not in went:
+                    ledger = Ledger(folder_path(self.root, one.name))
+                    left += [one] * Preparation(self.record, one.name, ledger).is_open
+            except (Fault, OSError) as fault:
+                yield row_left(unspelled(one.path), one.name, fault)
+        now = {tree: unspelled(tree) for tree in map(spelled, self.trees)}
+        met = {one.tree: real_path(went[one.name]) for one in self.listed if one.tree and one.name in went}
+        for tree, path in met.items():
+            now[tree] = tree_above(path, self.trees)
+        absent = [one for one in left if now.get(one.tree) and not is_there(one.path_in(now[one.tree]))]
+        many, all_of = (collections.Counter(one.tree for one in several) for several in (absent, self.listed))
+        for one in left:
+            if one not in absent:
+                yield self.left(one, NOT_MET, unspelled(one.path))
+            elif many[one.tree] * TENTH <= all_of[one.tree]:
+                row = remove_prepared(self.record, unspelled(one.path), one.name, self.options.dry)
+                if row:
+                    yield row._replace(remarks=(Says.MAILBOX_GONE.of(), *row.remarks))
+            else:
+                yield self.left(one, MANY_GONE % (many[one.tree], all_of[one.tree]), one.path_in(now[one.tree]))
+
+    def left(self, one: Listed, why: str, place: bytes) -> Row:
+        """The row of a folder that stays only prepared, whose mailbox is to be at this place: that is migrated or, if
+        it is not there, brought back first. What is not wanted any more is undone."""
+        path, options = unspelled(one.path), self.options.of_next()
+        folder = [*([] if one.name == INBOX else words_of(one.name)), operand(self.root)]
+        then = task(Todo.BRING_BACK, text_of(place))
+        if may_be(is_there, place):
+            then = run_next(Runs.MIGRATE, *options.words(), *folder, operand(place))
+        undo = [*Options(dry=options.dry, now=options.now, undo=True).words(), *folder, operand(path)]
+        then += run_next(Runs.MIGRATE, *undo, does=Does.UNDO_PREPARED)
+        return row_left(path, one.name, Left(why, Reason.PREPARED, then))
+
+    def clear_unused(self, went: Container[bytes]) -> None:
+        """Removes the lists that passes have left that were killed before they placed anything, and the folders that
+        were made for these, or were removed."""
+        if self.options.dry:
+            return
+        for name in names_in(self.root):
+            with contextlib.suppress(OSError):
+                if name.startswith(ASIDE):
+                    # a killed pass was making or removing it
+                    remove_aside(os.path.join(self.root, name))
+        for folder in folders_in(self.root):
+            name = name_of(self.root, folder)
+            with contextlib.suppress(Fault, OSError):
+                # what cannot be read stays
+                if name not in went and has_list(folder) and not origin_in(folder):
+                    Preparation(self.record, name, Ledger(folder)).empty()

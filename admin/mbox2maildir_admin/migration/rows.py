@@ -125,7 +125,7 @@ class Reporter(Observer):
         if row.left_for:
             self.reasons[row.left_for] += 1
         if row.fate == Fate.NOT_WHOLE:
-            self.faults.update(one.word for one in with_looks(row).remarks)
+            self.faults.update(one.word for one in row.remarks if one.word in LOOK)
         for remark in row.remarks:
             self.stand[remark.word] += remark.stands
         self.messages[row.fate] += row.messages or 0
@@ -153,7 +153,10 @@ class Reporter(Observer):
             return
         if row.fate != Fate.LEFT:
             self.kept.noted.update({one.word for one in row.remarks if one.word in COUNTED})
-        row = with_looks(row)
+        # what asks for a look
+        dropped = {one.word for one in row.remarks if one.word not in LOOK}
+        remarks = tuple(one for one in row.remarks if one.word in LOOK)
+        row = row._replace(remarks=remarks, details=tuple(one for one in row.details if one.word not in dropped))
         if self.shows.is_of_users:
             self.kept.users.setdefault(row.user or "", collections.Counter())[row.fate] += 1
         elif (self.total == 1 or row.fate in UNDONE) and row.is_said():
@@ -187,7 +190,7 @@ class Reporter(Observer):
         sums[0] += ", of %s" % counted(len(users), "user") if users else ""
         if INTERRUPTED in more and self.total and not sum(self.counts.values()):
             sums = ["0 of %d done" % self.total]
-        line = "; ".join([*sums, *self.work(), *self.standing(), *more])
+        line = "; ".join([*sums, *self.work(), *more])
         if not self.shows.is_silent:
             self.print_sums(line)
         # a report is last: it has its sums once, even if the output takes no more
@@ -198,23 +201,22 @@ class Reporter(Observer):
         return Status.after(self.reasons)
 
     def work(self) -> list[str]:
-        """How much was done, would be done, or was checked, and in which time; nothing if there was no mailbox."""
-        if not any(self.counts[fate] for fate in SUMMED):
-            return []
-        there = ", %d of them there already" % self.there if self.there else ""
-        messages, size = self.amounts(*SUMMED)
-        work = "%s, %s in %s" % (counted(messages, "message") + there, length(size), duration(self.seconds()))
-        last = self.last_pass()
-        return [work, *(["a last pass would now take some %s" % duration(math.ceil(last))] if last is not None else [])]
+        """How much was done, would be done, or was checked, and in which time; and how many messages mailboxes still
+        have that were deleted or changed in the Maildir."""
+        work, last = list[str](), self.last_pass()
+        if any(self.counts[fate] for fate in SUMMED):
+            there = ", %d of them there already" % self.there if self.there else ""
+            messages, size = self.amounts(*SUMMED)
+            its = counted(messages, "message"), there, length(size), duration(self.seconds())
+            work.append("%s%s, %s in %s" % its)
+            work += [] if last is None else ["a last pass would now take some %s" % duration(math.ceil(last))]
+        stands = ["%s %s" % (counted(count, "message"), word) for word, count in self.stand.items() if count]
+        work += ["the mailboxes still have %s in the Maildir" % " and ".join(sorted(stands))] * bool(stands)
+        return work
 
     def amounts(self, *fates: str) -> tuple[int, int]:
         """How many messages and bytes the mailboxes have of which this became."""
         return sum(self.messages[fate] for fate in fates), sum(self.sizes[fate] for fate in fates)
-
-    def standing(self) -> list[str]:
-        """How many messages mailboxes still have that were deleted or changed in the Maildir; nothing if none."""
-        found = ["%s %s" % (counted(count, "message"), word) for word, count in self.stand.items() if count]
-        return ["the mailboxes still have %s in the Maildir" % " and ".join(sorted(found))] * bool(found)
 
     def last_pass(self) -> Optional[float]:
         """How many seconds a last pass would take now, if this is a first one."""
@@ -240,13 +242,6 @@ class Reporter(Observer):
             for below in lines_of([*several]):
                 put(below)
         flush()
-
-
-def with_looks(row: Row) -> Row:
-    """A row with only that which asks for a look."""
-    sorts = {one.word for one in row.remarks if one.word not in LOOK}
-    remarks = tuple(one for one in row.remarks if one.word not in sorts)
-    return row._replace(remarks=remarks, details=tuple(one for one in row.details if one.word not in sorts))
 
 
 def sums_of(counts: collections.Counter[str], faults: Mapping[str, int] = MappingProxyType({})) -> list[str]:

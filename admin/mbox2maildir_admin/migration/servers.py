@@ -90,22 +90,18 @@ def want_unread(place: Place, several: Optional[Sequence[str]], is_said: bool) -
     is unread; or if mail is delivered there."""
     if several is None and not is_said:
         raise Fault(NO_DOVECONF, Reason.PREPARED)
+    maildir, in_home = os.path.abspath(place.maildir), os.path.join(place.home, FOUND_ALONE)
     for location in several or ():
-        why = why_found(place, location)
-        if why:
+        driver, sign, rest = location.partition(":")
+        is_found, why = False, LOOKS % named(place.maildir)
+        if not sign or driver in AUTOMATIC:
+            is_found = maildir == os.path.abspath(in_home) or names(os.fsencode(location), place)
+        elif driver == "maildir":
+            path, why = os.fsencode(rest.split(":")[0]), READS % (named(location), named(place.maildir))
+            is_found = names(path, place)
+        if is_found:
             raise Fault(why, Reason.PREPARED, run_next(Runs.DOVECONF))
     want_not_delivered(place)
-
-
-def why_found(place: Place, location: str) -> Optional[str]:
-    """Why Dovecot would find a Maildir by a location; None if it would not."""
-    driver, sign, rest = location.partition(":")
-    path = os.fsencode(rest.split(":")[0])
-    if not sign or driver in AUTOMATIC:
-        in_home = os.path.join(place.home, FOUND_ALONE)
-        is_found = os.path.abspath(place.maildir) == os.path.abspath(in_home) or names(os.fsencode(location), place)
-        return LOOKS % named(place.maildir) if is_found else None
-    return READS % (named(location), named(place.maildir)) if driver == "maildir" and names(path, place) else None
 
 
 def names(path: bytes, place: Place) -> bool:

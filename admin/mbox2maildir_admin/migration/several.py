@@ -18,14 +18,15 @@ from ..mbox.files import is_empty
 from ..nexts import NOTHING, Runs, Todo, run_next, task
 from ..program import Program, find_program
 from ..progress import Beat
+from ..readings.texts import is_mbox
 from ..remarks import Says
 from ..terminal import named, operand, text_of
 from .dovecot import OLD_SUBSCRIPTIONS, SUBSCRIPTIONS, Dovecot, subscribe
-from .leftovers import Leftovers
 from .carrying import settled
 from .mailbox import Migration
 from .outcomes import Fate, Observer, Outcome, Row, row_left, seen
-from .places import Pairs, Planned, UserHome, as_inbox, as_named, into_inbox, make_record, recorded
+from .places import Pairs, Planned, UserHome, as_inbox, as_named, into_inbox, recorded
+from .preparing import Leftovers
 from .servers import Place, locations, want_unread
 from .options import Options
 from .steps import Extra
@@ -129,7 +130,7 @@ class Several:
 
     def migrate_all(self, folder: Optional[str]) -> Sequence[Planned]:
         """Migrates each mailbox; those that are files go into this folder. Returns which hold mail."""
-        how, plan = self.migration.how, list(self.plan(folder))
+        how, record, plan = self.migration.how, self.migration.record, list(self.plan(folder))
         if not folder:
             # the mailbox of a spool is its user's inbox, whatever its name is; an exported mailbox counts as its file
             files = [one for one in self.names if is_file(one) and (not self.own or is_below(one, how.home))]
@@ -141,7 +142,11 @@ class Several:
         groups = groups_of(folders)
         jobs, rows = min(jobs_of(how.jobs, len(groups)), len(groups)), InOrder(self.observer.row)
         try:
-            if jobs > 1 and make_record(plan, self.migration.record):
+            if jobs > 1 and any(is_mbox(one.target or one.path) for one in plan):
+                # several processes need it from the beginning
+                record.make()
+            # a dry run needs none
+            if jobs > 1 and (record.is_dry or record.is_open):
                 self.observer.at_once = jobs
                 self.migrate_at_once(plan, largest_first(groups, [one.target or one.path for one in plan]), jobs, rows)
             else:
@@ -260,14 +265,11 @@ class Several:
             row = row._replace(remarks=(*row.remarks, Says.NAME_BEFORE.of(named(one.before))))
         if others and row.is_said():
             row = row._replace(remarks=(*row.remarks, Says.ALSO_NAMED.of(" and ".join(map(named, others)))))
-        if one.is_inbox and row.fate in (Fate.DONE, Fate.BEFORE, Fate.WOULD) and self.is_inbox_free():
+        is_done = row.fate in (Fate.DONE, Fate.BEFORE, Fate.WOULD)
+        if one.is_inbox and is_done and INBOX not in self.taken and not self.migration.record.last_steps(INBOX):
             then = into_inbox(one, row.folder, self.migration.how, self.migration.record)
             row = row._replace(next=(*row.next, *then))
         return ended._replace(row=row)
-
-    def is_inbox_free(self) -> bool:
-        """Whether no mailbox has INBOX, or gets it."""
-        return INBOX not in self.taken and not self.migration.record.last_steps(INBOX)
 
     def run_one(self, one: Planned) -> Outcome:
         """Migrates a mailbox, unless it may not go into its folder."""
@@ -276,7 +278,8 @@ class Several:
                 want_own(one.folder_in(self.migration.root))
             except Fault as fault:
                 return Outcome(row_left(one.path, one.folder, fault))
-        if one.reason is Reason.NO_FOLDER and is_empty(one.path):
+        reason = one.why.reason if one.why else None
+        if reason is Reason.NO_FOLDER and is_empty(one.path):
             return Outcome(Row(one.path, b"", "", None, Fate.NO_MAIL))
         if one.target and one.why:
             return Outcome(row_left(one.path, b"", one.why))
@@ -284,27 +287,25 @@ class Several:
         follow = one.path in self.links
         ended = self.migration.migrate_path(one.target or one.path, one.folder, say, follow, one.why)
         row = ended.row._replace(path=one.path)
-        if one.why and one.reason is Reason.COPY and row.fate == Fate.LEFT:
+        if one.why and reason is Reason.COPY and row.fate == Fate.LEFT:
             # whatever its text is, this reason comes first
-            row = row._replace(why=str(one.why), reason=one.reason, quotes=(), next=one.why.next)
+            row = row._replace(why=str(one.why), reason=reason, quotes=(), next=one.why.next)
         return ended._replace(row=row)
 
     def subscribe(self) -> None:
-        """Writes the subscriptions of trees. Those that can't be written are left."""
-        for path in [one for one in self.subscriptions if one in self.found]:
-            try:
-                self.write_subscriptions(self.subscriptions[path])
-            except (Fault, OSError) as fault:
-                self.observer.row(row_left(path, b"", fault)._replace(reason=Reason.SUBSCRIPTIONS))
-            else:
-                self.observer.row(self.found[path])
-
-    def write_subscriptions(self, tree: bytes) -> None:
-        """Writes the subscriptions of a tree. Raises Left if a file that is there lacks some of their lines."""
+        """Writes the subscriptions of trees. Those that can't be written are left, and so is a file that is there and
+        lacks some of their lines."""
         migration, root = self.migration, self.pairs.root
-        lines = subscribe(root, tree, migration.record, migration.how.dry or not migration.record.is_open)
-        file = os.path.join(root, SUBSCRIPTIONS)
-        if lines:
-            escaped = [text_of(line.replace(b"\\", b"\\\\").replace(b"\t", b"\\t")) for line in lines]
-            then = run_next(Runs.ADD_LINES, operand(file), *escaped)
-            raise Left("%s already exists" % named(file), Reason.SUBSCRIPTIONS, then)
+        dry, file = migration.how.dry or not migration.record.is_open, os.path.join(root, SUBSCRIPTIONS)
+        for path in [one for one in self.subscriptions if one in self.found]:
+            row = self.found[path]
+            try:
+                lines = subscribe(root, self.subscriptions[path], migration.record, dry)
+            except (Fault, OSError) as fault:
+                row = row_left(path, b"", fault)._replace(reason=Reason.SUBSCRIPTIONS)
+            else:
+                if lines:
+                    escaped = [text_of(line.replace(b"\\", b"\\\\").replace(b"\t", b"\\t")) for line in lines]
+                    then = run_next(Runs.ADD_LINES, operand(file), *escaped)
+                    row = row_left(path, b"", Left("%s already exists" % named(file), Reason.SUBSCRIPTIONS, then))
+            self.observer.row(row)

@@ -22,7 +22,6 @@ from ..mbox.bases import BASE
 from ..mbox.fields import Header
 from ..mbox.inventory import Inventory
 from ..mbox.mailbox import Mailbox
-from ..readings.plans import Plan
 from ..readings.reading import PLAIN, Reading
 from ..readings.texts import Choice, Text
 from ..remarks import Remark, Says
@@ -37,11 +36,6 @@ class Contents(NamedTuple):
     text: Text
     inventory: Inventory
     reading: Reading = PLAIN
-
-    @property
-    def words(self) -> str:
-        """How it is read, in words."""
-        return self.reading.words()
 
     @property
     def full(self) -> Text:
@@ -84,11 +78,6 @@ class Part(NamedTuple):
     kept: Optional[Kept] = None
     cores: Optional[collections.Counter[bytes]] = None
     remarks: tuple[Remark, ...] = ()
-
-    @property
-    def plan(self) -> Plan:
-        """What the text is, and how it is read."""
-        return self.choice.plan
 
 
 class FirstPass(NamedTuple):
@@ -157,35 +146,27 @@ class Steps(NamedTuple):
         return cls(known, contents, placing, extra, own, places, files, *before)
 
     @property
-    def prepared(self) -> Optional[Prepared]:
-        """What was only prepared in the folder, unless it stays as it is."""
-        return self.own.prepared
-
-    @property
     def opened(self) -> Opened:
         """The mailbox, and its folder."""
         return self.known.opened
 
-    @property
-    def match(self) -> Match:
-        """What was found of its messages."""
-        return self.placing.match
-
     def is_unread(self, place: Place) -> bool:
         """Whether nobody but this program has given the file of a message its name: this run places it, or it was
         prepared."""
-        at, is_placed = self.place_prepared(place), self.match.states[self.places[place]] == Stand.NOWHERE
-        return is_placed or self.prepared is not None and at is not None and bool(self.prepared.files[at])
+        at, prepared = self.place_prepared(place), self.own.prepared
+        is_placed = self.placing.match.states[self.places[place]] == Stand.NOWHERE
+        return is_placed or prepared is not None and at is not None and bool(prepared.files[at])
 
     def place_prepared(self, place: Place) -> Optional[int]:
         """The place of the file of a message among those that were prepared; None if it was not."""
-        return self.prepared.table.place_of(self.files.table.base(place)) if self.prepared else None
+        prepared = self.own.prepared
+        return prepared.table.place_of(self.files.table.base(place)) if prepared else None
 
     def digest_by(self, place: Place, number: int, state: os.stat_result) -> Optional[bytes]:
         """The digest of an open file of this state, if it is known that it has the bytes of one of its messages."""
-        at = self.place_prepared(place)
+        at, prepared = self.place_prepared(place), self.own.prepared
         # what was prepared, and is as it was verified then, is not read again
-        if self.prepared and at is not None and self.prepared.verified[at]:
+        if prepared and at is not None and prepared.verified[at]:
             return self.files.table.digest(place)
         return self.contents.inventory.digest_by(self.contents.text.mailbox, self.places[place], number, state)
 
@@ -205,58 +186,47 @@ class Extra:
         del text
         return start
 
-    def remarks_on_done(self, name: bytes) -> list[Remark]:
-        """What is to be said of a mailbox that was done before into the folder of this name."""
-        del name
-        return []
-
     def hindrance(self, one: Steps) -> Optional[Left]:  # pylint: disable=useless-return
         """Why `apply` could not do it, if it can't. It is asked before anything is placed."""
         del one
         return None
 
-    def kept(self, one: Steps) -> Optional[Kept]:
-        """The flags that a mail program kept, if one did."""
-        return self.by_labels or kept_in(one.contents.text.mailbox, one.contents.inventory)
-
-    def foresee(self, one: Steps) -> list[Remark]:
-        """What `apply` would say, if nothing may be made."""
-        kept = self.kept(one)
-        return self.remarks_on(kept, one) if kept else []
-
-    def apply(self, one: Steps) -> list[Remark]:
-        """Does it once all is placed, before files get dates and are verified. Returns what is to be said of it."""
-        kept = self.kept(one)
+    def apply(self, one: Steps, dry: bool = False) -> list[Remark]:
+        """Does it once all is placed, before files get dates and are verified, unless nothing may be made. Returns what
+        is to be said of it: of flags that a program kept, and of labels that were not asked for."""
+        contents = one.contents
+        kept = self.by_labels or kept_in(contents.text.mailbox, contents.inventory)
         if not kept:
             return []
-        letters = [kept.letters[place] for place in one.places]
-        add_flags(one.opened.folder, one.files, letters, one.is_unread)
-        return self.remarks_on(kept, one)
-
-    def remarks_on(self, kept: Kept, one: Steps) -> list[Remark]:
-        """What is to be said of flags that a program kept, and of labels that were not asked for."""
+        if not dry:
+            add_flags(one.opened.folder, one.files, [kept.letters[place] for place in one.places], one.is_unread)
         remarks = kept.remarks(one.places)
         if kept.program == GMAIL and not self.by_labels:
             from ..labels.sorting import remarks_on_labels
 
-            remarks += remarks_on_labels(map(one.contents.header, map(Place, one.places)))
+            remarks += remarks_on_labels(map(contents.header, map(Place, one.places)))
         return remarks
 
 
 def remarks_on(one: Steps, dry: bool) -> Iterator[Remark]:
     """What is to be said of what is new, what is there, and what is gone."""
-    match, ledger = one.match, one.known.ledger
+    match, ledger = one.placing.match, one.known.ledger
+    seen, foreign = match.seen, len(match.seen.foreign)
     if isinstance(one.own, LaterPass) and one.own.is_again:
         yield Says.PLACED.of(counted(match.count(Stand.NOWHERE), "message"), dry=dry)
     else:
         yield from remarks_on_lost(match)
         others = [unspelled(path) for path, source in ledger.sources.items() if source.count()]
         if match.path in ledger.sources:
-            yield from (*Says.GREW.of_any(match.count_new()), *Says.REGAINED.of_any(match.seen.regained))
-        elif others and one.opened.name == INBOX and not match.seen.shared:
+            yield from (*Says.GREW.of_any(match.count_new()), *Says.REGAINED.of_any(seen.regained))
+        elif others and one.opened.name == INBOX and not seen.shared:
             yield Says.JOINS.of(first_of(others, most=1))
-    yield from remarks_on_shared(match)
-    seen, foreign = match.seen, len(match.seen.foreign)
+    # what other mailboxes brought
+    paths = [unspelled(path) for path, _ in seen.shared.most_common()]
+    yield from Says.SHARED.of_any(sum(seen.shared.values()), first_of(paths, most=1), there=sum(seen.shared.values()))
+    for path, count in seen.gone.items():
+        if count:
+            yield Says.GONE_ELSEWHERE.of(count, named(unspelled(path)))
     yield from (*Says.OTHER_FORM.of_any(seen.other_form), *Says.MARKED.of_any(seen.marked))
     yield from Says.THERE_ALREADY.of_any(foreign, there=foreign)
     yield from Says.OTHER_PROGRAMS.of_any(match.files.others)
@@ -266,7 +236,7 @@ def remarks_on(one: Steps, dry: bool) -> Iterator[Remark]:
 def remarks_on_flags_that_differ(one: Steps) -> Iterator[Remark]:
     """What is to be said of messages whose files, which others brought, lack flags."""
     by_labels = one.extra.by_labels
-    found = ((place, BASE.match(its.name)) for place, its in one.match.found.items() if its.word != PLACED)
+    found = ((place, BASE.match(its.name)) for place, its in one.placing.match.found.items() if its.word != PLACED)
     places = {base[0]: Place(place) for place, base in found if base}
 
     def flags_of(base: bytes) -> str:
@@ -285,12 +255,3 @@ def remarks_on_lost(match: Match) -> list[Remark]:
     killed."""
     lost = Says.LOST.of_any(match.count_lost() + left_by_killed(match))
     return Says.UNLABELLED.of_any(sum(match.unlabelled.values())) + lost
-
-
-def remarks_on_shared(match: Match) -> Iterator[Remark]:
-    """What is to be said of messages that other mailboxes brought."""
-    paths, total = [unspelled(path) for path, _ in match.seen.shared.most_common()], sum(match.seen.shared.values())
-    yield from Says.SHARED.of_any(total, first_of(paths, most=1), there=total)
-    for path, count in match.seen.gone.items():
-        if count:
-            yield Says.GONE_ELSEWHERE.of(count, named(unspelled(path)))

@@ -1,6 +1,6 @@
 """What a process tells its parent of a row. If it is that of a user, root trusts none of it, and prints it escaped."""
 from collections.abc import Callable, Mapping, Sequence
-from typing import Any, NamedTuple, Optional, Union
+from typing import Any, NamedTuple, Optional
 
 from ..faults import REASONS
 from ..jobs.crew import spelled
@@ -68,36 +68,32 @@ def value_of(kind: Any, value: Any) -> Any:
 
 
 def next_of(steps: Sequence[Any], path: bytes, whose: Optional[Whose]) -> Next:
-    """Reads what a process told of what is to be done with a path."""
-    return tuple(step_of(one, path, whose) for one in steps)
-
-
-def step_of(words: Sequence[Any], path: bytes, whose: Optional[Whose]) -> Union[Answer, Task]:
     """Reads what a process told of what is to be done with a path. Whoever it says is to do that, root runs nothing of
-    a user's but with the rights of that user. What only root can do is made here, for a path that root knows."""
-    what, *rest = words
-    if isinstance(what, str):
-        names, user = rest
-        return task_of(TODOS[what], names, user, path, whose)
-    (parts, user), (word, messages) = what, rest
-    does, count = DOES[word], value_of(Optional[int], messages)
-    if not parts:
+    a user's but with the rights of that user."""
+    return tuple(
+        task_of(path, whose, *one) if isinstance(one[0], str) else answer_of(path, whose, *one) for one in steps
+    )
+
+
+def answer_of(path: bytes, whose: Optional[Whose], words: Sequence[Any], does: str, messages: Any) -> Answer:
+    """Reads a command for a path that a process told, and what it answers. Raises an error if the table has no part of
+    its word, or names are missing in one. What only root can do is made here, for a path that root knows."""
+    parts, user = words
+    command = Command(tuple(Part(Template.all[one], tuple(map(name_in, names))) for one, names in parts), user)
+    if not parts or not all(one.line() for one in command.parts):
         raise ValueError("no command")
-    command = Command(tuple(part_of(*one) for one in parts), whose.user if whose else user)
-    mailbox = whose.mailboxes.get(path) if whose and does is Does.MAKE_ELSEWHERE else None
-    return Answer(with_aside(command, mailbox) if mailbox else command, does, count)
+    answer = Answer(command, DOES[does], value_of(Optional[int], messages))
+    if whose:
+        command = command._replace(user=whose.user)
+        mailbox = whose.mailboxes.get(path) if answer.does is Does.MAKE_ELSEWHERE else None
+        answer = answer._replace(command=with_aside(command, mailbox) if mailbox else command)
+    return answer
 
 
-def part_of(word: str, names: Sequence[str]) -> Part:
-    """Reads a part of a command. Raises an error if the table has none of this word, or names are missing in it."""
-    part = Part(Template.all[word], tuple(map(name_in, names)))
-    assert part.line()
-    return part
-
-
-def task_of(todo: Phrase, names: list[str], user: Optional[str], path: bytes, whose: Optional[Whose]) -> Task:
+def task_of(path: bytes, whose: Optional[Whose], word: str, names: Sequence[str], user: Optional[str]) -> Task:
     """Reads a task for a path that a process told. What is done with files of a user is done as that user, but only
     root can move what is in the spool."""
+    todo = TODOS[word]
     if whose:
         is_roots = todo is Todo.COPY_AWAY and path in whose.mailboxes
         user = whose.user if isinstance(todo, OfFiles) and not is_roots else None
