@@ -20,7 +20,7 @@ from ..mbox.mailbox import Mailbox
 from ..nexts import NOTHING, Answer, Does, Next
 from ..readings.plans import Plan, Question, plan_of
 from ..readings.reading import MBOXO, UNDECIDED, UNQUOTED, Reading, renumbered, with_deleted
-from ..readings.texts import Choice, StartOf, choice_of, content_of, disk_of, text_then
+from ..readings.texts import Choice, choice_of, content_of, disk_of, text_then
 from ..readings.verdict import look_at
 from ..remarks import Remark, Says
 from ..units import Line, counted
@@ -98,51 +98,51 @@ BEGUN_OTHERWISE = (
     "its conversion was begun with another reading: %d of %d messages are there as it was read then, %d of %d as it is "
     "read now"
 )
-# a folder on the disk where copies are made, and where the messages of a text begin that are converted
-By = tuple[bytes, StartOf]
 
 
-def as_before(opened: Opened, ledger: Ledger, path: str, by: By) -> Optional[tuple[str, list[Remark]]]:
+def as_before(how: Options, known: Known) -> Optional[tuple[str, list[Remark]]]:
     """The words by which a mailbox was read, and what is to be said of it, if nothing is new in it as it is read so;
     None if something is, or if it cannot be read so any more."""
-    source = ledger.sources.get(path)
-    if not source or ledger.pending(path) is not None:
+    source, disk = known.ledger.sources.get(known.path), disk_of(known.opened.root, how.dry)
+    if not source or known.is_begun:
         return None
     # mail that is marked as deleted by now, and was not brought, is new
     reading = with_deleted(Reading.of_words(source.words))
-    with content_of(opened.mailbox, by[0]) as text, text_then(text, reading, *by) as then:
+    with content_of(known.opened.mailbox, disk) as text, text_then(text, reading, disk, how.extra.start_of) as then:
         if not then:
             return None
         contents = Contents(then, then.messages(), reading)
-        match = Match(ledger, path, Files(ledger.folder, contents.inventory), contents.is_deleted)
+        files = Files(known.ledger.folder, contents.inventory)
+        match = Match(known.ledger, known.path, files, contents.is_deleted)
         match.find_known()
         return None if match.count_new() else (reading.words(), remarks_on_lost(match))
 
 
-def contradicted(how: Options, root: bytes, opened: Opened, line: Entry) -> tuple[list[Remark], Next]:
+def contradicted(how: Options, opened: Opened, line: Entry) -> tuple[list[Remark], Next]:
     """What is to be said of a mailbox that is done if a decision that is given now gives other messages, and the
     command that undoes it."""
-    if not contradicts(opened.mailbox, line, how.decision, (disk_of(root, how.dry), how.extra.start_of)):
+    if not contradicts(how, opened, line):
         return [], NOTHING
     its = Reading.of_words(line.plan).of_text.words(), " ".join(how.decision.options())
     # a word for several mailboxes is about those that are not done
-    then = (Answer(how.undo_command(root, opened), Does.UNDO),) if how.decision.alone else NOTHING
+    then = (Answer(how.undo_command(opened), Does.UNDO),) if how.decision.alone else NOTHING
     return [Says.CONTRADICTED.of(*its)], then
 
 
-def contradicts(mailbox: Mailbox, line: Entry, decision: Reading, by: By) -> bool:
+def contradicts(how: Options, opened: Opened, line: Entry) -> bool:
     """Whether a decision gives other messages of a mailbox than those that it had when it was done."""
-    if decision._replace(alone=True) == UNDECIDED:
+    if how.decision._replace(alone=True) == UNDECIDED:
         return False
+    by = disk_of(opened.root, how.dry), how.extra.start_of
     try:
-        with choice_of(mailbox, by[0], decision=decision) as choice:
+        with choice_of(opened.mailbox, by[0], decision=how.decision) as choice:
             then, now = Reading.of_words(line.plan)._replace(bare=False), choice.plan.reading
             if then.of_text == now.of_text:
                 return False
             with text_then(choice.mailbox, then, *by) as was, text_then(choice.mailbox, now, *by) as is_now:
                 return bool(was and is_now and was.messages().table.digests != is_now.messages().table.digests)
     except Fault:
-        mailbox.check()
+        opened.mailbox.check()
         return False
 
 
@@ -184,14 +184,15 @@ class Before(NamedTuple):
 
 def want_same_reading(how: Options, known: Known, choice: Choice, contents: Contents) -> None:
     """Raises Left if more of what the ledger has of a mailbox is in it as it was read then, with what to run."""
-    before, root, opened = Before.of(known, contents.reading), known.record.maildir, known.opened
-    command = how.command(root, opened, again=how.again, dovecot=before.reading.bare)
+    before, opened = Before.of(known, contents.reading), known.opened
+    disk = disk_of(opened.root, how.dry)
+    command = how.command(opened, again=how.again, dovecot=before.reading.bare)
     if before.reading.bare != contents.reading.bare and not how.again and has_begun(known):
         says = "its conversion was begun %s --dovecot" % ("with" if before.reading.bare else "without")
         raise Left(says, Reason.ANOTHER_READING, (Answer(command),))
     if before.reading.of_text == contents.reading.of_text:
         return
-    with text_then(choice.mailbox, before.reading, disk_of(root, how.dry), how.extra.start_of) as text:
+    with text_then(choice.mailbox, before.reading, disk, how.extra.start_of) as text:
         if not text:
             return
         inventory = text.messages()
@@ -205,10 +206,10 @@ def want_same_reading(how: Options, known: Known, choice: Choice, contents: Cont
     is_done = bool(before.source and before.source.key == tuple(opened.mailbox.key()))
     # what a human says of single lines holds by the other reading too
     decision = decision_by(choice.mailbox, before.reading, how.decision)
-    if how.decision.word and is_done or not is_enough(choice.mailbox, decision, disk_of(root, how.dry)):
-        command = how.undo_command(root, opened)
+    if how.decision.word and is_done or not is_enough(choice.mailbox, decision, disk):
+        command = how.undo_command(opened)
     else:
-        command = how.command(root, opened, again=how.again, decision=decision)
+        command = how.command(opened, again=how.again, decision=decision)
     raise Left(says, Reason.ANOTHER_READING, (Answer(command),))
 
 
@@ -223,7 +224,7 @@ def decision_by(mailbox: Mailbox, then: Reading, given: Reading) -> Reading:
 def has_begun(known: Known) -> bool:
     """Whether something is there of what a killed run was to place, or a list of Dovecot's. Else another run may do it
     in another way."""
-    if known.ledger.pending(known.path) is None:
+    if not known.is_begun:
         return False
     names, folder = {one.name for one in known.ledger.intended(known.path)}, known.opened.folder
     is_numbered = any(name.startswith(b"dovecot") for name in names_in(folder))
@@ -259,7 +260,7 @@ def answer_shown(how: Options, known: Known, question: Question) -> Optional[Rea
     had = Before.of(known, how.decision).had()
     if not had or not question.is_on_lines:
         return None
-    with content_of(known.opened.mailbox, disk_of(known.record.maildir, how.dry)) as text:
+    with content_of(known.opened.mailbox, disk_of(known.opened.root, how.dry)) as text:
         by = [how._replace(decision=answer.decision) for answer in question.answers]
         given = [given_by(one, known, text, had, question.doubtful) for one in by]
     most = max((one.brought for one in given), default=0)
@@ -270,7 +271,7 @@ def answer_shown(how: Options, known: Known, question: Question) -> Optional[Rea
 def given_by(how: Options, known: Known, text: Mailbox, had: Had, lines: Iterable[Line]) -> Given:
     """What the answer gives by which this mailbox would be migrated, of what it has brought."""
     choice = Choice(text, plan_of(text, decision=how.decision))
-    with choice.text(disk_of(known.record.maildir, how.dry)) as whole:
+    with choice.text(disk_of(known.opened.root, how.dry)) as whole:
         part = whole.begun_by(how.extra.start_of)
         contents = Contents(part, part.messages(), choice.plan.bared(how.extra.IS_BARE).reading)
         is_shown = are_brought(had, contents.inventory, lines)

@@ -17,16 +17,18 @@ from ..mbox.mailbox import Mailbox
 
 
 class Opened(NamedTuple):
-    """A mailbox that is open and locked, and the folder that it goes into: its name on the disk, and its path."""
+    """A mailbox that is open and locked, and the folder of a Maildir that it goes into: its name on the disk, and its
+    path."""
 
     mailbox: Mailbox
+    root: bytes
     name: bytes
     folder: bytes
 
     @classmethod
     def into(cls, root: bytes, name: bytes, mailbox: Mailbox) -> "Opened":
         """A mailbox that goes into the folder of this name in a Maildir."""
-        return cls(mailbox, name, folder_path(root, name))
+        return cls(mailbox, root, name, folder_path(root, name))
 
     def make_folder(self, sync: SyncNames = sync_folder) -> None:
         """Makes the folder if it is missing. `sync` syncs its names."""

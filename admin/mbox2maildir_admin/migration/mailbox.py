@@ -91,8 +91,8 @@ NOT_SHOWN = "the ledger of its folder is %s, so nothing shows which of its messa
 class Migration:
     """Migrates mailboxes into the folders of a Maildir. One is done once the disk of its folder was synced as well."""
 
-    def __init__(self, program: Program, root: bytes, record: Record, how: Options) -> None:
-        self.program, self.root, self.record, self.how = program, root, record, how
+    def __init__(self, program: Program, record: Record, how: Options) -> None:
+        self.program, self.record, self.how = program, record, how
         # raises Left if the disk has no space for a mailbox; others at work may count on the same space
         self.want_room: Callable[[Need], None] = want_room
         # the batches of each folder's ledger that were verified, and whose disk is not synced yet; and the last ledger,
@@ -103,7 +103,7 @@ class Migration:
     @property
     def disk(self) -> bytes:
         """A folder on the disk where copies are made."""
-        return disk_of(self.root, self.how.dry)
+        return disk_of(self.record.maildir, self.how.dry)
 
     def migrate_path(
         self, path: bytes, name: bytes, say: Say = silent, follow: bool = False, why: Optional[Fault] = None
@@ -114,18 +114,18 @@ class Migration:
             if is_no_mail(path):
                 return Outcome(Row(path, b"", "", None, Fate.NO_MAIL))
             if self.how.prepare and not why:
-                row = row_unchanged(self.record, self.how, path, name, folder_path(self.root, name), say)
+                row = row_unchanged(self.record, self.how, path, name, say)
                 if row:
                     return Outcome(row)
             with self.opened(path, say, follow, not (why or self.how.now)) as mailbox:
-                opened = Opened.into(self.root, name, mailbox)
+                opened = Opened.into(self.record.maildir, name, mailbox)
                 try:
                     return Outcome(self.judge(opened, why)) if why else self.migrate_opened(opened)
                 except OtherKind as left:
                     is_spared = self.how.is_spared(path, not isinstance(left, NotKnown))
                     is_noted = is_passed_over(self.record, mailbox)
                     if not (is_spared or is_noted):
-                        left.put(self.how.where(self.root, opened))
+                        left.put(self.how.where(opened))
                         raise
                     if not is_noted:
                         self.record.add(Note.NO_MAIL, Key(INBOX, *mailbox.key()), 0, mailbox.path)
@@ -158,7 +158,7 @@ class Migration:
     def migrate_opened(self, opened: Opened) -> Outcome:
         """Does what is left to do, and returns what became of the mailbox."""
         if not self.how.is_labelled and line_of(self.record, opened.mailbox):
-            undo = self.how._replace(is_labelled=True).undo_command(self.root, opened)
+            undo = self.how._replace(is_labelled=True).undo_command(opened)
             left = Left(WITH_LABELS, Reason.ANOTHER_READING, (Answer(undo),))
             return Outcome(row_left(opened.mailbox.path, b"", left, None, opened.mailbox.size))
         return self.transfer(opened)
@@ -190,8 +190,8 @@ class Transfer:
     ) -> None:
         """Takes what is only prepared in the folder, if mail is not placed there for good at once; and what goes there,
         if that is not all of the mailbox."""
-        self.program, self.root, self.record = migration.program, migration.root, migration.record
-        self.how, self.want_room, self.disk = migration.how, migration.want_room, migration.disk
+        self.program, self.record, self.how = migration.program, migration.record, migration.how
+        self.want_room, self.disk = migration.want_room, migration.disk
         self.opened, self.ledger, self.part = opened, ledger, part
         self.preparation, self.prepared = preparation, preparation.prepared if preparation else None
         ledger.is_dry = ledger.is_dry or self.how.prepare
@@ -217,12 +217,11 @@ class Transfer:
                     ended = self.try_to_bring(part) if is_wanted else Outcome(self.row(part))
                     return ended._replace(row=ended.row._replace(tie=self.tie))
             except Question as question:
-                by = self.disk, self.how.extra.start_of
-                before = None if self.how.again else as_before(self.opened, self.ledger, self.path, by)
+                before = None if self.how.again else as_before(self.how, self.known)
                 if before:
                     row = self.row_before(before[0], count_in(self.ledger, self.path), before[1])
                 elif not self.take_answer(question):
-                    self.how.put_commands(self.root, self.opened, question)
+                    self.how.put_commands(self.opened, question)
                     raise
         return Outcome(row)
 
@@ -232,7 +231,7 @@ class Transfer:
         line = self.known.done()
         if not line or self.part and Reading.of_words(line.plan).part != self.part.choice.plan.reading.part:
             return None
-        more, then = ([], NOTHING) if self.how.prepare else contradicted(self.how, self.root, self.opened, line)
+        more, then = ([], NOTHING) if self.how.prepare else contradicted(self.how, self.opened, line)
         return self.row_before(line.plan, line.messages, more)._replace(next=then)
 
     def is_wanted(self) -> bool:
@@ -315,7 +314,7 @@ class Transfer:
             return Outcome(self.bring_nothing(part, again))
         said = want_syncs(self.opened.folder, self.how.any_disk)
         if self.path in self.ledger.leaving:
-            undo = self.how.undo_command(self.root, self.opened)
+            undo = self.how.undo_command(self.opened)
             raise Left("its undo was interrupted", Reason.UNDO, (Answer(undo),))
         if self.has_failed() and not again:
             raise Left(SYNC_FAILED, Reason.SYNC_FAILED)
@@ -397,7 +396,7 @@ class Transfer:
                 Says.ELSEWHERE_FROM.of(*its, named(unspelled(line.path))) if is_other else Says.ELSEWHERE.of(*its)
             )
             if is_moved:
-                undo = self.how.undo_command(self.root, self.opened._replace(name=line.key.folder))
+                undo = self.how.undo_command(self.opened._replace(name=line.key.folder))
                 then += (Answer(undo, Does.UNDO_THERE),)
         joined = self.known.joined(self.how.names)
         if joined:
@@ -499,7 +498,7 @@ class Transfer:
 
     def command(self, does: Phrase, messages: Optional[int] = None, **changes: Any) -> Next:
         """The command that migrates this mailbox with these changes of the options, and how many messages it gives."""
-        return (Answer(self.how.command(self.root, self.opened, **changes), does, messages),)
+        return (Answer(self.how.command(self.opened, **changes), does, messages),)
 
     @contextlib.contextmanager
     def read(self, choice: Choice) -> Iterator[Contents]:
@@ -514,7 +513,7 @@ class Transfer:
 
     def want_sure(self, contents: Contents, match: Match) -> None:
         """Raises Left if nobody knows what the files of the folder are, or whether it is the same mailbox."""
-        strangers = unexplained(self.root, match) if match.count(Stand.NOWHERE) else []
+        strangers = unexplained(self.opened.root, match) if match.count(Stand.NOWHERE) else []
         if strangers:
             left = Left(PARTLY_THERE % len(strangers), Reason.PARTLY_THERE)
             if self.how.prepare:

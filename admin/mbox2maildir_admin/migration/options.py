@@ -75,8 +75,8 @@ class Options(NamedTuple):
         stay = stay._replace(prepare=self.prepare, unread=self.unread)
         return stay._replace(dry=self.dry, dovecot=self.dovecot, no_mail=self.no_mail, now=self.now)
 
-    def where(self, root: bytes, opened: Opened) -> Where:
-        """Where the next command puts a file of which it makes a mailbox for a folder of this Maildir."""
+    def where(self, opened: Opened) -> Where:
+        """Where the next command puts a file of which it makes a mailbox for this folder."""
         path = opened.mailbox.path
         top = next((name for name in self.names if path != name and is_below(path, name)), b"")
         home = self.home or os.fsencode(os.path.expanduser("~"))
@@ -84,27 +84,26 @@ class Options(NamedTuple):
         # what a symbolic link leads to is outside of what was named
         if (top or path in self.names) and may_write(os.path.dirname(path) or b"."):
             return where
-        names = self.command(root, opened, decision=UNDECIDED).parts[0].names[:-1]
+        names = self.command(opened, decision=UNDECIDED).parts[0].names[:-1]
         return where._replace(migrate=names, is_dry=self.dry)
 
-    def command(self, root: bytes, opened: Opened, path: bytes = b"", **changes: Any) -> Command:
-        """The command for a mailbox of a folder of this Maildir, or for the one at a path, with the options that were
-        given, and their changes."""
+    def command(self, opened: Opened, path: bytes = b"", **changes: Any) -> Command:
+        """The command for a mailbox, or for the one at a path, with the options that were given, and their changes."""
         given: dict[str, Any] = {"decision": self.decision, **changes}
         options = self.of_next()._replace(**given)
         # with labels, a mailbox has all of its folders
         folder = [] if self.is_labelled or opened.name == INBOX else words_of(opened.name)
-        paths = operand(root), operand(path or opened.mailbox.path)
+        paths = operand(opened.root), operand(path or opened.mailbox.path)
         return Command.of(Runs.MIGRATE, *options.words(), *folder, *paths)
 
-    def put_commands(self, root: bytes, opened: Opened, question: Question) -> None:
+    def put_commands(self, opened: Opened, question: Question) -> None:
         """Sets the commands of the answers to what a human must decide."""
-        question.put(lambda decision: self.command(root, opened, decision=decision))
+        question.put(lambda decision: self.command(opened, decision=decision))
 
-    def undo_command(self, root: bytes, opened: Opened, path: bytes = b"") -> Command:
+    def undo_command(self, opened: Opened, path: bytes = b"") -> Command:
         """The command that undoes a mailbox, or the one at a path."""
         given = {"decision": UNDECIDED, "dovecot": False, "no_mail": (), "any_disk": False, "labels": None}
-        return self.command(root, opened, path, undo=True, **given)
+        return self.command(opened, path, undo=True, **given)
 
 
 def may_write(folder: bytes) -> bool:

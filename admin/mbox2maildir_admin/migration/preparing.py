@@ -253,7 +253,7 @@ def want_free(one: Preparation, known: Known) -> None:
 def want_usable(one: Preparation, how: Options, opened: Opened) -> None:
     """Raises Left if what is prepared cannot be finished, with the command that keeps what is there, and stores what is
     nowhere. A first pass prints none: what is there may be mail by then."""
-    stage, command = one.stage, functools.partial(how.command, one.record.maildir, opened)
+    stage, command = one.stage, functools.partial(how.command, opened)
     then: Next = NOTHING
     if not how.prepare:
         if stage is Stage.FREE:
@@ -389,10 +389,10 @@ def is_by_word(reading: Reading) -> bool:
     return bool(reading.word) and reading == Reading(reading.word, bare=reading.bare)
 
 
-def row_unchanged(record: Record, how: Options, path: bytes, name: bytes, folder: bytes, say: Say) -> Optional[Row]:
+def row_unchanged(record: Record, how: Options, path: bytes, name: bytes, say: Say) -> Optional[Row]:
     """The row of a mailbox that is prepared, and whose file has not changed since; None if it is to be read. Nothing
     counts as done by that."""
-    began, prepared = time.monotonic(), Prepared.read(folder)
+    began, prepared = time.monotonic(), Prepared.read(folder_path(record.maildir, name))
     origin = prepared.origin
     if not origin or not prepared.is_whole or prepared.batch or prepared.has_failed or how.decision != UNDECIDED:
         return None

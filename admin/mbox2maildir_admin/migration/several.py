@@ -97,7 +97,7 @@ def run_all(
         spared = functools.partial(is_spared, options.no_mail, [home.path] if home else names)
         extra = Dovecot(record) if options.dovecot else Extra()
         how = options._replace(extra=extra, is_spared=spared, names=names, home=home.path if home else b"")
-        several = Several(Migration(program, root, record, how), observer, home)
+        several = Several(Migration(program, record, how), observer, home)
         # a first pass leaves nothing over
         leftovers = None if how.prepare else Leftovers(record, root, names, options)
         plan = several.migrate_all(options.folder)
@@ -121,7 +121,7 @@ class Several:
         # the subscriptions of trees that are to be written, and the rows of files without mail
         trees = filter(self.is_tree, names) if how.dovecot and not how.prepare else ()
         self.subscriptions = {os.path.join(tree.rstrip(b"/") or b"/", OLD_SUBSCRIPTIONS): tree for tree in trees}
-        self.pairs = Pairs(migration.record, migration.root, how.of_next(), names if self.own else None)
+        self.pairs = Pairs(migration.record, migration.record.maildir, how.of_next(), names if self.own else None)
         self.found: dict[bytes, Row] = {}
         # a name that is given has its fate by that name, even if a tree has the same file; the other names of files
         self.met: NamesMet = {}
@@ -138,7 +138,9 @@ class Several:
             plan = self.pairs.without_folders_in_inbox(plan, files + exports)
         self.observer.total += len(plan)
         # a symbolic link may give a folder two names, and it has one ledger
-        folders = [one.folder and real_path(one.folder_in(self.migration.root)) for one in plan if how.jobs != 1]
+        folders = [
+            one.folder and real_path(one.folder_in(self.migration.record.maildir)) for one in plan if how.jobs != 1
+        ]
         groups = groups_of(folders)
         jobs, rows = min(jobs_of(how.jobs, len(groups)), len(groups)), InOrder(self.observer.row)
         try:
@@ -275,7 +277,7 @@ class Several:
         """Migrates a mailbox, unless it may not go into its folder."""
         if self.own and one.folder not in (INBOX, b""):
             try:
-                want_own(one.folder_in(self.migration.root))
+                want_own(one.folder_in(self.migration.record.maildir))
             except Fault as fault:
                 return Outcome(row_left(one.path, one.folder, fault))
         reason = one.why.reason if one.why else None

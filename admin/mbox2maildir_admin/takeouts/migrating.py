@@ -55,7 +55,7 @@ def migrate_takeouts(root: bytes, names: Sequence[bytes], options: Options, obse
     os.umask(0o077)
     with Record.to_migrate(root, options.dry) as record:
         how = options._replace(names=names, is_labelled=True)
-        takeouts = Takeouts(root, record, how, observer)
+        takeouts = Takeouts(record, how, observer)
         observer.total += len(names)
         for name in names:
             takeouts.report(name)
@@ -84,8 +84,8 @@ class Takeout:
 class Takeouts(Migration):
     """Migrates Takeouts into the folders of their labels."""
 
-    def __init__(self, root: bytes, record: Record, how: Options, observer: Observer) -> None:
-        super().__init__(Program(find_program()), root, record, how)
+    def __init__(self, record: Record, how: Options, observer: Observer) -> None:
+        super().__init__(Program(find_program()), record, how)
         self.observer, self.syncs = observer, Syncs(Several.settle)
         # the labels of the messages that were read
         self.labels: set[str] = set()
@@ -146,21 +146,21 @@ class Takeouts(Migration):
                     self.observer.begin()
                 return self.bring_into(folders[-1], takeout, opened)
         except LabelsLeft as left:
-            command = functools.partial(self.how.command, self.root, opened)
+            command = functools.partial(self.how.command, opened)
             left.next = tuple(Answer(command(labels=choosing), does) for choosing, does in left.says)
             raise
         except Question as question:
-            self.how.put_commands(self.root, opened, question)
+            self.how.put_commands(opened, question)
             raise
 
     def want_none_prepared(self, opened: Opened) -> None:
         """Raises Left if a folder is only prepared, with the command that removes what is there."""
-        for folder in filter(has_list, folders_in(self.root)):
-            one = Preparation(self.record, name_of(self.root, folder), Ledger(folder))
+        for folder in filter(has_list, folders_in(self.record.maildir)):
+            one = Preparation(self.record, name_of(self.record.maildir, folder), Ledger(folder))
             # before a list has what a pass reads, nothing is placed
             if one.prepared.origin and one.is_open:
                 how, path = self.how._replace(is_labelled=False), unspelled(one.prepared.origin.path)
-                undo = how.undo_command(self.root, opened._replace(name=one.name), path)
+                undo = how.undo_command(opened._replace(name=one.name), path)
                 raise Left(ONLY_PREPARED % named(folder), Reason.PREPARED, (Answer(undo),))
 
     def want_labelled(self, opened: Opened) -> None:
@@ -170,7 +170,7 @@ class Takeouts(Migration):
         if not folders:
             folders = [one.key.folder for one in self.record.lines_of(mailbox) if is_gone(one.path)]
         if folders:
-            undo = self.how._replace(is_labelled=False).undo_command(self.root, opened._replace(name=folders[-1]))
+            undo = self.how._replace(is_labelled=False).undo_command(opened._replace(name=folders[-1]))
             raise Left(WITHOUT_LABELS, Reason.ANOTHER_READING, (Answer(undo),))
 
     def chosen(self, opened: Opened, noted: Noted) -> Choosing:
@@ -180,7 +180,7 @@ class Takeouts(Migration):
             return before
         is_other = noted.folders and (before.word == ONE) != (now.word == ONE)
         if is_other or any(before.gives(label) not in ("", gives) for label, gives in now.given):
-            undo = self.how.undo_command(self.root, opened)
+            undo = self.how.undo_command(opened)
             says = OTHERWISE % " ".join(map(quoted, before.words()))
             raise Left(says, Reason.ANOTHER_READING, (Answer(undo),))
         return before.with_given(*now.given)._replace(word=now.word or before.word)
@@ -219,7 +219,7 @@ class Takeouts(Migration):
     def bring_into(self, folder: bytes, takeout: Takeout, opened: Opened) -> Outcome:
         """Brings the messages of one folder."""
         try:
-            return self.transfer(Opened.into(self.root, folder, opened.mailbox), self.part(folder, takeout))
+            return self.transfer(Opened.into(self.record.maildir, folder, opened.mailbox), self.part(folder, takeout))
         except (Fault, OSError) as fault:
             return Outcome(row_left(opened.mailbox.path, folder, fault))
 

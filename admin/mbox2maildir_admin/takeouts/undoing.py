@@ -11,6 +11,7 @@ from ..ledger.record import Record
 from ..maildir.folders import folder_path
 from ..maildir.making import real_place
 from ..mbox.locks import open_mailbox
+from ..mbox.mailbox import Mailbox
 from ..migration.outcomes import Fate, Observer, Row, row_left
 from ..migration.several import refuse
 from ..migration.known import Opened
@@ -45,7 +46,7 @@ class TakeoutUndo(Undo):
         try:
             with open_mailbox(path, say=say, follow=True, quiet=not self.options.now) as mailbox:
                 line, is_left, count = line_of(self.record, mailbox), False, 0
-                for opened in self.folders_of(Opened(mailbox, b"", b""), line):
+                for opened in self.folders_of(mailbox, line):
                     try:
                         row = self.undo(opened)
                     except (Fault, OSError) as fault:
@@ -60,16 +61,16 @@ class TakeoutUndo(Undo):
         except (Fault, OSError) as fault:
             yield row_left(path, b"", fault)
 
-    def folders_of(self, opened: Opened, line: Optional[Entry]) -> Iterator[Opened]:
+    def folders_of(self, mailbox: Mailbox, line: Optional[Entry]) -> Iterator[Opened]:
         """The folders that have or had something of it, wherever they are now."""
-        path = opened.mailbox.path
+        path = mailbox.path
         paths = {*names_of(path), *([line.path] if line else [])}
         for name in dict.fromkeys([*Noted.of(line).folders, *self.record.folders_with(paths)]):
             folder = self.record.name_now(name, path)
             last = self.record.last_of(folder, paths)
             ledger = Ledger(folder_path(self.root, folder))
             if last or ledger.damage or paths & set(ledger.paths()):
-                yield Opened.into(self.root, folder, opened.mailbox)
+                yield Opened.into(self.root, folder, mailbox)
 
     def cores_now(self, opened: Opened, ledger: Ledger, path: str) -> "collections.Counter[bytes]":
         """How often the Takeout has each core now, which is counted once."""
