@@ -7,7 +7,7 @@ from collections.abc import Iterable
 from typing import NamedTuple, Optional
 
 from ..faults import Fault, Left, Reason
-from ..ledger.ledger import Batch, Ledger, Source
+from ..ledger.ledger import Batch, Source
 from ..ledger.history import Entry, History, Key, Note
 from ..ledger.lines import counted_in
 from ..ledger.match import Files, Match, cores_of
@@ -24,23 +24,22 @@ from ..readings.texts import Choice, choice_of, content_of, disk_of, text_then
 from ..readings.verdict import look_at
 from ..remarks import Remark, Says
 from ..units import Line, counted
-from .known import Known
-from .known import Opened
+from .known import Known, Opened
 from .options import Options
 from .steps import Contents, remarks_on_lost
 
 
-def note_empty(record: Record, opened: Opened, ledger: Ledger, path: str) -> list[Remark]:
+def note_empty(known: Known) -> list[Remark]:
     """Notes that a mailbox has no mail, and, if it has no byte, that it has its folder. Returns what is to be said of
     what it had."""
-    name, mailbox, said = opened.name, opened.mailbox, list[Remark]()
-    if ledger.pending(path) is not None:
+    ledger, mailbox, said = known.ledger, known.opened.mailbox, list[Remark]()
+    if known.is_begun:
         # a run was killed that had begun with it
         nothing = Files(ledger.folder, Inventory())
-        said += remarks_on_lost(Match.of(ledger, path, nothing, lambda place: False))
-    ledger.note_empty(path, mailbox.key(), mailbox.state.st_ino)
+        said += remarks_on_lost(Match.of(ledger, known.path, nothing, lambda place: False))
+    ledger.note_empty(known.path, mailbox.key(), mailbox.state.st_ino)
     if not mailbox.size:
-        record.add(Note.EMPTY, Key(name, *mailbox.key()), 0, mailbox.path)
+        known.record.add(Note.EMPTY, known.key, 0, mailbox.path)
     return said
 
 

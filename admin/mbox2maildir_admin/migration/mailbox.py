@@ -341,7 +341,7 @@ class Transfer:
                 preparation.prepared.remove_unwanted()
             preparation.forget()
         self.record.make(self.opened.make_folder)
-        return self.row(part, note_empty(self.record, self.opened, self.ledger, self.path))
+        return self.row(part, note_empty(self.known))
 
     def first_steps(self, part: Part, contents: Contents, again: bool, said: Sequence[Remark]) -> tuple[Steps, Row]:
         """What a first pass does by what it finds of the messages, and the row that says so."""
