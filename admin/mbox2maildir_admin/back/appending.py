@@ -1,4 +1,5 @@
 """One mailbox, and the mail of its folder that goes back into it: what is appended is planned, and then carried out."""
+import collections
 import contextlib
 import itertools
 import os
@@ -10,7 +11,7 @@ from ..labels.noted import line_of
 from ..ledger.history import Key, Note
 from ..ledger.ledger import Ledger
 from ..ledger.lines import END_LINE, RETURNED, Brought, Head
-from ..ledger.match import cores_of
+from ..ledger.match import Stand, stands_by
 from ..ledger.record import Record
 from ..looks import is_file, is_there
 from ..maildir.making import DRAFT
@@ -130,11 +131,11 @@ class Way(NamedTuple):
 
 class Plan(NamedTuple):
     """What goes back into a mailbox: the messages that are appended, which are in a draft of this size; those that it
-    has already, and those that it cannot hold; and whether it has more than the Maildir."""
+    has already, with their places; those that it cannot hold; and whether it has more than the Maildir."""
 
     entries: Sequence[Appended]
     size: int
-    there: Sequence[Mail]
+    there: Sequence[tuple[Mail, int]]
     refused: Sequence[Mail]
     has_more: bool
 
@@ -172,7 +173,9 @@ class Appending:
                 blocks = itertools.chain(self.mailbox.again().blocks(), Reader(draft.number, end=draft.size).blocks())
                 with copy_of(self.mailbox, blocks, self.way.disk) as text:
                     self.want_right(text, plan.entries, reading_now(self.mailbox))
-        self.numbering.end([*self.target.returned, *plan.there, *(one.mail for one in plan.entries)], dry)
+        self.numbering.end(
+            [*self.target.returned, *(mail for mail, _ in plan.there), *(one.mail for one in plan.entries)], dry
+        )
         row = self.row(plan)
         if plan.refused and not plan.entries and was_empty:
             # what goes into none of the same form either
@@ -183,24 +186,27 @@ class Appending:
 
     def planned(self, draft: Draft) -> Plan:
         """What becomes of the mail. What is appended is in the draft then."""
-        source = self.known.ledger.sources.get(self.known.path)
-        # how often the mailbox has each core, and no ledger says why
-        extra = cores_of(self.inventory)
-        extra.subtract(source.has() if source else ())
-        there: list[Mail] = []
+        # what the mailbox did not bring is there already, wherever it comes from
+        states, _ = stands_by(self.known.ledger.sources.get(self.known.path), self.inventory)
+        new: collections.defaultdict[bytes, list[int]] = collections.defaultdict(list)
+        for place, stand in enumerate(states):
+            if stand == Stand.NOWHERE:
+                new[self.inventory.core(place)].append(place)
+        there: list[tuple[Mail, int]] = []
         rest: list[Mail] = []
         for mail in self.target.mails:
-            has_it = extra[mail.core] > 0
-            extra[mail.core] -= has_it
-            (there if has_it else rest).append(mail)
+            if new[mail.core]:
+                there.append((mail, new[mail.core].pop(0)))
+            else:
+                rest.append(mail)
         refused: list[Mail] = []
-        entries = self.drafted(draft, rest)
-        bad = self.unheld(draft, entries)
-        while bad:
-            refused += bad
-            entries = self.drafted(draft, [one.mail for one in entries if one.mail not in bad])
+        while True:
+            entries = self.drafted(draft, rest)
             bad = self.unheld(draft, entries)
-        return Plan(entries, draft.size if entries else 0, there, refused, bool(+extra))
+            if not bad:
+                return Plan(entries, draft.size if entries else 0, there, refused, any(new.values()))
+            refused += bad
+            rest = [one.mail for one in entries if one.mail not in bad]
 
     def drafted(self, draft: Draft, mails: Sequence[Mail]) -> list[Appended]:
         """Writes messages as the mailbox is to have them. What was removed meanwhile is left out."""
@@ -271,8 +277,7 @@ class Appending:
     def begin(self, plan: Plan, key: tuple[int, str]) -> int:
         """Notes in the ledger what goes back, and what is there already. Returns the number of the batch."""
         inventory = self.inventory
-        places = {inventory.core(place): place for place in range(len(inventory))} if plan.there else {}
-        lines = [Brought(RETURNED, one.before, one.core, inventory.bare(places[one.core])) for one in plan.there]
+        lines = [Brought(RETURNED, mail.before, mail.core, inventory.bare(place)) for mail, place in plan.there]
         lines += [Brought(RETURNED, one.mail.before, one.mail.core, one.bares[-1]) for one in plan.entries]
         # a mailbox that has more than the Maildir is not done, whatever its bytes are
         key = NO_KEY if plan.has_more else key

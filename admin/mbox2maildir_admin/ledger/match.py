@@ -22,7 +22,7 @@ from ..mbox.inventory import Inventory
 from ..units import Place, Say, silent
 from .assign import BROUGHT, File, Offer, Unnamed, Why, by_form, files_of, nobodys, offers_of, says_whose
 from .lines import FOREIGN, NAMELESS, NOBODYS, PLACED, SHARED, Brought, Line, State, counted_in
-from .ledger import Ledger
+from .ledger import Ledger, Source
 
 # tells whether a file of this name, without its info, counts for nothing
 Hides = Callable[[bytes], bool]
@@ -213,29 +213,8 @@ class Match:
         return self
 
     def find_known(self) -> None:
-        """Finds what the mailbox did not have before, and what it no longer has. Messages in their old form come
-        first."""
-        source = self.ledger.sources.get(self.path)
-        if not source:
-            return
-        first = source.same_start(self.inventory.cores, self.inventory.bares)
-        cores, bares = source.has(first), counted_in(source.bares[first * SHORT :])
-        self.states[:first] = bytes([Stand.KNOWN]) * first
-        rest = array.array("Q")
-        for place in range(first, len(self.inventory)):
-            core, bare = self.inventory.core(place), self.inventory.bare(place)
-            if cores[core] > 0 and bares[bare] > 0:
-                cores[core] -= 1
-                bares[bare] -= 1
-                self.states[place] = Stand.KNOWN
-            else:
-                rest.append(place)
-        for place in rest:
-            core = self.inventory.core(place)
-            if cores[core] > 0:
-                cores[core] -= 1
-                self.states[place] = Stand.KNOWN
-        self.lost = +cores
+        """Finds what the mailbox did not have before, and what it no longer has."""
+        self.states, self.lost = stands_by(self.ledger.sources.get(self.path), self.inventory)
 
     def find_mine(self) -> None:
         """Finds what a run that was killed has placed under the bases of this text. Most of it needs no more
@@ -426,6 +405,32 @@ class Match:
     def count_lost(self) -> int:
         """How many messages the mailbox no longer has that it brought."""
         return sum(self.lost.values()) - sum(self.unlabelled.values())
+
+
+def stands_by(source: Optional[Source], inventory: Inventory) -> tuple[bytearray, collections.Counter[bytes]]:
+    """How each message of a mailbox stands by what it has brought: KNOWN or, if it is new, NOWHERE. And how often it no
+    longer has a core. Messages in their old form come first."""
+    states = bytearray(len(inventory))
+    if not source:
+        return states, collections.Counter()
+    first = source.same_start(inventory.cores, inventory.bares)
+    cores, bares = source.has(first), counted_in(source.bares[first * SHORT :])
+    states[:first] = bytes([Stand.KNOWN]) * first
+    rest = array.array("Q")
+    for place in range(first, len(inventory)):
+        core, bare = inventory.core(place), inventory.bare(place)
+        if cores[core] > 0 and bares[bare] > 0:
+            cores[core] -= 1
+            bares[bare] -= 1
+            states[place] = Stand.KNOWN
+        else:
+            rest.append(place)
+    for place in rest:
+        core = inventory.core(place)
+        if cores[core] > 0:
+            cores[core] -= 1
+            states[place] = Stand.KNOWN
+    return states, +cores
 
 
 def cores_of(inventory: Inventory) -> collections.Counter[bytes]:
