@@ -7,15 +7,17 @@ from collections.abc import Iterator, Sequence
 from typing import NamedTuple
 
 from ..faults import Left, Reason
+from ..kinds.starts import text_start
 from ..labels.noted import line_of
-from ..ledger.history import Key, Note
+from ..ledger.history import Key, Note, names_of
 from ..ledger.ledger import Ledger
 from ..ledger.lines import END_LINE, RETURNED, Brought, Head
 from ..ledger.match import Stand, stands_by
-from ..ledger.record import Record
+from ..ledger.record import Record, is_gone
 from ..looks import is_file, is_there
 from ..maildir.making import DRAFT
 from ..maildir.disk import Need, want_room
+from ..mbox.dates import is_dated
 from ..mbox.files import Reader
 from ..mbox.inventory import Inventory
 from ..mbox.locks import READING, WRITING, open_mailbox
@@ -31,17 +33,19 @@ from ..remarks import Says
 from ..terminal import first_of, named
 from ..units import Size, counted
 from .beside import Beside, Draft
-from .dialect import Client, Appended, Letter, Style, are_at, forms_of_letter, reading_now, styles_of
+from .dialect import Appended, Client, Letter, Style, are_at, forms_of_letter, reading_now, styles_of
 from .mails import Mail, Target
-from .numbers import Numbering, say_numbers
+from .numbers import Listed, Numbering
 from .places import Keeper, Places
 
 FILE_CHANGED = "%s was changed meanwhile: stop the program that did it, and run this again"
 MISREAD = "what was appended is not read back as it is, so it was taken back"
 REPLACED = "another file has its place meanwhile: run this again"
 NOT_HELD = "it cannot hold %s, which %s in the Maildir alone: %s"
+# the first message of a text is never in question, so others are tried behind this one
+ANOTHER = b"Subject: another\n\nyes\n"
 # the size and the SHA-256 of no mailbox
-NO_KEY = 0, "0" * 64
+NO_KEY = Size(0), "0" * 64
 # the row of a mailbox, and the mail that it cannot hold
 Returned = tuple[Row, Sequence[Mail]]
 
@@ -74,9 +78,18 @@ class Way(NamedTuple):
     def say_numbers(self, target: Target, mailbox: Mailbox) -> tuple[Numbering, Known]:
         """Has an open mailbox say which UIDs were given, before it gets mail: if that is interrupted, some are never
         given. Returns what it says from now on, and what is known of it."""
-        opened, name = Opened.into(self.root, target.folder, mailbox), self.places.name_of(target.path, target.folder)
-        numbering = say_numbers(opened, self.record, target, name, self.how)
-        return numbering, Known(self.record, Ledger(opened.folder, dry=self.how.dry), opened)
+        opened = Opened.into(self.root, target.folder, mailbox)
+        ledger = Ledger(opened.folder, dry=self.how.dry)
+        # the numbers of its folder, whatever the names of both are now
+        is_numbered = self.record.has_numbered({*filter(is_gone, ledger.paths()), *names_of(mailbox.path)})
+        if self.how.dovecot:
+            name = self.places.name_of(target.path, target.folder)
+            numbering = Numbering(name, Listed.of(opened.folder), is_numbered)
+            numbering.say(mailbox, target, self.how.dry)
+        else:
+            numbering = Numbering()
+            numbering.remarks += [Says.UIDS_UNKNOWN.of()] * is_numbered
+        return numbering, Known(self.record, ledger, opened)
 
     @contextlib.contextmanager
     def opened(self, path: bytes) -> Iterator[Mailbox]:
@@ -149,7 +162,9 @@ class Appending:
         self.opened, self.mailbox, self.client = known.opened, known.opened.mailbox, Client()
         self.inventory = style.messages(self.mailbox, way.program, self.look)
         known.take_place_by_cores(self.inventory)
-        if style.has_no_dates(self.mailbox, self.inventory):
+        start = text_start(self.mailbox) if len(self.inventory) > 1 and not style.is_asked else None
+        # once one of its From_ lines has a date, the others may be text
+        if start is not None and not is_dated(self.mailbox.from_line_at(start)):
             raise NotAsItIs(MISREAD, Reason.MISREAD)
 
     def look(self, text: Mailbox, inventory: Inventory) -> None:
@@ -229,13 +244,21 @@ class Appending:
         return entries
 
     def unheld(self, draft: Draft, entries: Sequence[Appended]) -> list[Mail]:
-        """The messages of a draft that the mailbox cannot hold. Raises NotAsItIs if it holds each of them, but not
-        all."""
-        is_empty = not self.mailbox.size
+        """The messages of a draft that the mailbox does not give back, each behind another one, as it is going to
+        stand. Raises NotAsItIs if it gives each of them back, but not all."""
+        style, bad = self.style, list[Mail]()
+        # in an empty mailbox, the first one of these is the first of all
+        before = style.dialect.spelled(Letter(ANOTHER)) if self.mailbox.size else b""
         with Mailbox(draft.path, os.dup(draft.number)) as text:
-            are_held = not entries or self.style.gives(text, entries)
-            # nothing is asked about the first message of a text, which is not the first one of the mailbox
-            bad = list(self.style.unheld(text, entries[: not is_empty] if are_held else entries, is_empty))
+            are_held = not entries or style.gives(text, entries)
+            # nothing was asked about the first message of this text, which may not be the first one of the mailbox
+            for one in entries[: bool(before)] if are_held else entries:
+                its = text.at(one.start, one.size)
+                with copy_of(text, [before, its], style.disk) as alone:
+                    if not style.gives(alone, [one], bool(before)):
+                        bad.append(one.mail)
+                    else:
+                        before = before or its
         if not bad and not are_held:
             raise NotAsItIs(MISREAD, Reason.MISREAD)
         return bad
@@ -246,16 +269,12 @@ class Appending:
         if not plan.entries:
             if plan.there:
                 os.fsync(mailbox.number)
-                ledger.note(END_LINE % self.begin(plan, mailbox.key()))
+                ledger.note(END_LINE % self.begin(plan, draft))
             return
         want_room(Need.of(os.path.dirname(mailbox.path), [], plan.size))
         reads = reading_now(mailbox)
         beside = Beside.made(draft, self.opened.folder, mailbox, [one.start for one in plan.entries])
-        key = self.key_after(beside)
-        number = self.begin(plan, key)
-        if self.numbering.first:
-            # a further run knows the numbers of the Maildir as those of the mailbox
-            self.way.record.add(Note.NUMBERED, Key(self.opened.name, *key), len(plan.entries), mailbox.path)
+        number = self.begin(plan, draft)
         beside.append_to(mailbox)
         try:
             self.want_right(mailbox, plan.entries, reads)
@@ -266,23 +285,25 @@ class Appending:
         beside.remove()
         ledger.note(END_LINE % number)
 
-    def key_after(self, beside: Beside) -> tuple[Size, str]:
-        """The size and the SHA-256 of the mailbox once all is appended."""
-        assert self.mailbox.digest, "it is digested while it is read"
-        hashed = self.mailbox.digest.hash.copy()
-        for block in Reader(beside.number, end=beside.size).blocks():
+    def begin(self, plan: Plan, draft: Draft) -> int:
+        """Notes in the ledger what goes back, and what is there already, by the size and the SHA-256 that the mailbox
+        has then. Returns the number of the batch."""
+        mailbox, inventory = self.mailbox, self.inventory
+        size, _ = mailbox.key()
+        assert mailbox.digest, "its SHA-256 is that of a digest"
+        hashed = mailbox.digest.hash.copy()
+        for block in Reader(draft.number, end=plan.size).blocks():
             hashed.update(block)
-        return Size(self.mailbox.size + beside.size), hashed.hexdigest()
-
-    def begin(self, plan: Plan, key: tuple[int, str]) -> int:
-        """Notes in the ledger what goes back, and what is there already. Returns the number of the batch."""
-        inventory = self.inventory
+        # a mailbox that has more than the Maildir is not done, whatever its bytes are
+        key = NO_KEY if plan.has_more else (Size(size + plan.size), hashed.hexdigest())
         lines = [Brought(RETURNED, mail.before, mail.core, inventory.bare(place)) for mail, place in plan.there]
         lines += [Brought(RETURNED, one.mail.before, one.mail.core, one.bares[-1]) for one in plan.entries]
-        # a mailbox that has more than the Maildir is not done, whatever its bytes are
-        key = NO_KEY if plan.has_more else key
-        head = Head(len(lines), 0, 0, (), key, self.style.words, self.known.path, self.mailbox.state.st_ino, 0)
-        return self.known.ledger.begin(head, lines)
+        head = Head(len(lines), 0, 0, (), key, self.style.words, self.known.path, mailbox.state.st_ino, 0)
+        number = self.known.ledger.begin(head, lines)
+        if self.numbering.first:
+            # a further run knows the numbers of the Maildir as those of the mailbox
+            self.way.record.add(Note.NUMBERED, Key(self.opened.name, *key), len(plan.entries), mailbox.path)
+        return number
 
     def want_right(self, text: Mailbox, entries: Sequence[Appended], reads: str) -> None:
         """Raises NotAsItIs if a message of the mailbox with what was appended, which is this text, is not as it is to

@@ -78,37 +78,25 @@ class Beside(NamedTuple):
             return None
         except Fault as fault:
             raise Left(NO_FILE % named(path), Reason.NO_FILE) from fault
-        if FOOT_OF_ANOTHER.search(end_in(number)):
+        total = os.fstat(number).st_size
+        end = os.pread(number, LONGEST_FOOT, max(0, total - LONGEST_FOOT))
+        if FOOT_OF_ANOTHER.search(end):
             os.close(number)
             raise Left(BY_ANOTHER % named(path), Reason.OTHER)
-        found = cls.of(path, number)
-        if not found:
-            os.close(number)
-            os.unlink(path)
-        return found
-
-    @classmethod
-    def of(cls, path: bytes, number: int) -> Optional["Beside"]:
-        """What an open file is, if it is whole."""
-        found = FOOT_HERE.search(end_in(number))
-        if not found:
-            return None
-        inode, before, digest_before, mailbox, length, digest, more = (one.decode() for one in found.groups())
-        starts = [int(start) for start in os.pread(number, int(more), int(length)).split(b",") if start]
-        self = cls(path, number, int(inode), int(before), digest_before, mailbox, int(length), digest, starts)
-        has_all = os.fstat(number).st_size == self.size + int(more) + len(found[0])
-        return self if has_all and digest_of(number, self.size) == digest else None
+        found = FOOT_HERE.search(end)
+        if found:
+            inode, before, digest_before, mailbox, size, digest, listed = (one.decode() for one in found.groups())
+            starts = [int(start) for start in os.pread(number, int(listed), int(size)).split(b",") if start]
+            has_all = total == int(size) + int(listed) + len(found[0])
+            if has_all and digest_of(number, int(size)) == digest:
+                return cls(path, number, int(inode), int(before), digest_before, mailbox, int(size), digest, starts)
+        os.close(number)
+        os.unlink(path)
+        return None
 
     def is_whole_in(self, mailbox: Mailbox) -> bool:
         """Whether a mailbox is as it was before, with all that was to be appended, and nothing else."""
         return self.is_begun_by(mailbox) and mailbox.size - self.before == self.same(mailbox) == self.size
-
-    def is_alone_in(self, mailbox: Mailbox) -> bool:
-        """Whether a mailbox is as it was before, with no more than the beginning of what was to be appended, perhaps
-        with holes. A repair of a disk may give a file all of its blocks, with NULs."""
-        is_ours = self.same(mailbox, True) == min(mailbox.size - self.before, self.size)
-        rest = Reader(mailbox.number, Offset(self.before + self.size), mailbox.size)
-        return is_ours and self.is_begun_by(mailbox) and not any(block.strip(b"\0") for block in rest.blocks())
 
     def is_begun_by(self, mailbox: Mailbox) -> bool:
         """Whether a mailbox begins with what it was before."""
@@ -136,8 +124,13 @@ class Beside(NamedTuple):
         start = max((start for start in self.starts if start < count + has_hole), default=None)
         if start is None or count == self.size:
             return None
-        begins = Offset(self.before + start)
-        is_cut = has_hole or is_torn(mailbox.at(begins, MOST_LOOKED_AT), count - start)
+        begins, has = Offset(self.before + start), count - start
+        text = mailbox.at(begins, MOST_LOOKED_AT)
+        # the From_ line of any mail may begin like that of this message: it has more, or nothing else, or another
+        # message follows
+        has_more = has > text.find(b"\n") + 1 > 0 or has >= len(text)
+        other = OTHER_MAIL.search(text[: has + len(b"\r\nFrom ")], 1)
+        is_cut = has_hole or has_more or other is not None and other.start() <= has
         return mailbox.line_at(begins) if is_cut else None
 
     def append_to(self, mailbox: Mailbox) -> None:
@@ -162,11 +155,15 @@ class Beside(NamedTuple):
             raise
 
     def take_back(self, mailbox: Mailbox) -> bool:
-        """Cuts a mailbox back to how it was, if all that follows is what was being appended, in the same file. Returns
-        whether it is as it was. This is gone then."""
+        """Cuts a mailbox back to how it was, if nothing follows in the same file but the beginning of what was to be
+        appended, perhaps with holes. Returns whether it is as it was. This is gone then."""
         mailbox.take_state()
         has_more = mailbox.size != self.before
-        if not self.is_alone_in(mailbox) or has_more and mailbox.state.st_ino != self.inode:
+        is_ours = self.same(mailbox, True) == min(mailbox.size - self.before, self.size)
+        # a repair of a disk may give a file all of its blocks, with NULs
+        rest = Reader(mailbox.number, Offset(self.before + self.size), mailbox.size)
+        is_alone = is_ours and not any(block.strip(b"\0") for block in rest.blocks()) and self.is_begun_by(mailbox)
+        if not is_alone or has_more and mailbox.state.st_ino != self.inode:
             return False
         if has_more:
             os.ftruncate(mailbox.number, self.before)
@@ -196,23 +193,9 @@ class Beside(NamedTuple):
         sync_folder(os.path.dirname(self.path))
 
 
-def end_in(number: int) -> bytes:
-    """The end of an open file."""
-    return os.pread(number, LONGEST_FOOT, max(0, os.fstat(number).st_size - LONGEST_FOOT))
-
-
 def filled(text: bytes, other: bytes) -> bytes:
     """A text that has the bytes of another one in the place of each NUL."""
     return HOLE.sub(lambda hole: other[hole.start() : hole.end()], text)
-
-
-def is_torn(text: bytes, count: int) -> bool:
-    """Whether a text begins with a message that was appended in part, of which it has so many bytes: more than its
-    From_ line, or nothing else, or another message follows. The From_ line of any mail may begin like that of this
-    message."""
-    line = text.find(b"\n") + 1
-    found = OTHER_MAIL.search(text[: count + len(b"\r\nFrom ")], 1)
-    return count > line > 0 or count >= len(text) or found is not None and found.start() <= count
 
 
 class Draft:

@@ -18,7 +18,7 @@ from ..kinds.starts import FIELD, text_start
 from ..maildir.files import mail_in
 from ..mbox.bases import before_info
 from ..mbox.core import forms_of
-from ..mbox.dates import TOO_LATE, is_dated
+from ..mbox.dates import TOO_LATE
 from ..mbox.fields import HIDDEN, headers_at, pattern_of
 from ..mbox.files import open_file
 from ..mbox.inventory import Inventory
@@ -57,8 +57,6 @@ Look = Callable[[Mailbox, Inventory], object]
 ASKED = "?"
 # how many bytes at the end of a mailbox show whether its last message has ended
 ENDS = 3
-# the first message of a text is never in question, so others are tried behind this one
-ANOTHER = b"Subject: another\n\nyes\n"
 
 
 class Letter(NamedTuple):
@@ -232,12 +230,6 @@ class Style(NamedTuple):
                 look(text.mailbox, inventory)
             return inventory
 
-    def has_no_dates(self, mailbox: Mailbox, inventory: Inventory) -> bool:
-        """Whether the From_ lines of a mailbox have no date, and nothing is asked about them. Once one has a date, the
-        others may be text."""
-        start = text_start(mailbox) if len(inventory) > 1 and not self.is_asked else None
-        return start is not None and not is_dated(mailbox.from_line_at(start))
-
     def gives(self, text: Mailbox, entries: Sequence[Appended], first: int = 0) -> bool:
         """Whether a text has exactly these messages from a place on, and nobody would be asked how it is read."""
         try:
@@ -245,18 +237,6 @@ class Style(NamedTuple):
             return is_clear and are_at(entries, self.messages(text), first)
         except Fault:
             return False
-
-    def unheld(self, draft: Mailbox, entries: Sequence[Appended], is_empty: bool) -> Iterator[Mail]:
-        """The mail of those entries of a draft that a mailbox does not give back, each behind another one, as it is
-        going to stand. If the mailbox is empty, that is the first one of these."""
-        before = b"" if is_empty else self.dialect.spelled(Letter(ANOTHER))
-        for one in entries:
-            its = draft.at(one.start, one.size)
-            with copy_of(draft, [before, its], self.disk) as text:
-                if not self.gives(text, [one], bool(before)):
-                    yield one.mail
-                else:
-                    before = before or its
 
 
 def styles_of(known: Known, disk: bytes) -> Iterator[Style]:

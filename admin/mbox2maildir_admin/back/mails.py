@@ -4,6 +4,7 @@ A message that a mailbox brought has one file, in its folder or where people hav
 one: IMAP keeps some names and changes others. Any further file is new, also a copy of such a message.
 """
 import collections
+import itertools
 import os
 from collections.abc import Callable, Iterable, Iterator, Sequence
 from typing import NamedTuple, TypeVar
@@ -145,33 +146,23 @@ def lines_about(root: bytes) -> Iterator[tuple[bytes, list[Line]]]:
         if ledger.damage:
             raise Fault(DAMAGED % (folder_shown(folder), ledger.damage), Reason.LEDGER)
         is_prepared = has_list(path)
-        # what is only to go back has no file of its own
-        begun = [one for one in ledger.paths() if is_begun(ledger, one)]
+        # a run was killed that may have placed something; what is only to go back has no file of its own
+        batches = (ledger.open.get(ledger.pending(one) or 0) for one in ledger.paths())
+        begun = [one.path for one in batches if one and set(one.letters) - set(RETURNED)]
         if is_prepared or begun:
             then = run_next(Runs.MIGRATE, operand(root), *begun[:1] or ["MAILBOX"])
             raise Fault(NOT_DONE % folder_shown(folder), Reason.PREPARED if is_prepared else Reason.OTHER, then)
         yield folder, [line for line in ledger.entries(None) if line.state is not State.UNDONE]
 
 
-def is_begun(ledger: Ledger, path: str) -> bool:
-    """Whether a run was killed that may have placed something of a mailbox."""
-    number = ledger.pending(path)
-    return number is not None and bool(set(ledger.open[number].letters) - set(RETURNED))
-
-
 def mails_of(root: bytes, say: Say) -> Iterator[Mail]:
-    """The files of mail in all folders of a Maildir. Each is read."""
-    for path in folders_in(root):
-        if all(is_folder(os.path.join(path, sub)) for sub in SUBFOLDERS[1:]):
-            yield from mails_in(name_of(root, path), path, say)
-
-
-def mails_in(folder: bytes, place: bytes, say: Say) -> Iterator[Mail]:
-    """The files of mail in one folder, each once, though programs may rename them meanwhile. The core is that of the
-    message as a mailbox would have it: its last line has ended."""
-    met: set[bytes] = set()
-    for listing in listings_of(place):
-        for number, (name, path) in enumerate(listing, 1):
+    """The files of mail in all folders of a Maildir, each once, though programs may rename them meanwhile. The core is
+    that of the message as a mailbox would have it: its last line has ended."""
+    for place in folders_in(root):
+        folder, met = name_of(root, place), set[bytes]()
+        is_whole = all(is_folder(os.path.join(place, sub)) for sub in SUBFOLDERS[1:])
+        listings = (enumerate(listing, 1) for listing in listings_of(place)) if is_whole else ()
+        for number, (name, path) in itertools.chain.from_iterable(listings):
             say("looking at file %d of %s" % (number, folder_shown(folder)))
             if before_info(name) in met:
                 continue

@@ -31,9 +31,6 @@ from ..flags.dovecot_headers import (
 )
 from ..flags.dovecot_list import FIRST
 from ..kinds.starts import text_start
-from ..ledger.history import names_of
-from ..ledger.ledger import Ledger
-from ..ledger.record import Record, is_gone
 from ..mbox.bases import before_info
 from ..mbox.fields import Header, headers_at
 from ..mbox.files import BLOCK, open_file
@@ -41,8 +38,6 @@ from ..mbox.inventory import Inventory
 from ..mbox.mailbox import Mailbox
 from ..mbox.pieces import LONGEST_NAME
 from ..migration.dovecot import KEYWORDS, LIST
-from ..migration.options import Options
-from ..migration.known import Opened
 from ..nexts import NOTHING, Does, Next, Runs, run_next
 from ..remarks import Remark, Says
 from ..terminal import first_of, text_of
@@ -333,17 +328,3 @@ def ranges_of(uids: Iterable[int]) -> str:
         else:
             ranges.append([uid, uid])
     return ",".join("%d" % low if low == high else "%d:%d" % (low, high) for low, high in ranges)
-
-
-def say_numbers(opened: Opened, record: Record, target: Target, name: str, how: Options) -> Numbering:
-    """Has an open mailbox, which Dovecot knows by this name, say what it is to say before its mail is appended. Returns
-    its numbers and those of its folder, whatever their names are now."""
-    gone = filter(is_gone, Ledger(opened.folder).paths())
-    is_numbered = record.has_numbered({*gone, *names_of(opened.mailbox.path)})
-    if not how.dovecot:
-        numbering = Numbering()
-        numbering.remarks += [Says.UIDS_UNKNOWN.of()] * is_numbered
-        return numbering
-    numbering = Numbering(name, Listed.of(opened.folder), is_numbered)
-    numbering.say(opened.mailbox, target, how.dry)
-    return numbering

@@ -71,19 +71,16 @@ class Places:
     def planned(self, name: bytes) -> Planned:
         """A mailbox that was named, with its folder."""
         one = recorded(Planned(name, INBOX), self.record)
-        is_known = bool(self.record.folders_given(name)) or not is_file(name)
-        return one if is_known else one._replace(folder=self.folder_of_moved(name))
-
-    def folder_of_moved(self, path: bytes) -> bytes:
-        """The folder of a mailbox that the record does not know by its path: the one whose ledger shows that it is the
-        file of a mailbox that is gone from its path; else INBOX. It is not read for that: a mailbox on another disk
-        is not known."""
-        inode = os.stat(path).st_ino
+        if self.record.folders_given(name) or not is_file(name):
+            return one
+        # the record does not know its path: a ledger may show that it is the file of a mailbox that is gone from
+        # another path. It is not read for that, so a mailbox on another disk is not known
+        inode = os.stat(name).st_ino
         for place in folders_in(self.root):
-            ledger = Ledger(place)
-            if any(source.inode == inode and is_gone(one) for one, source in ledger.sources.items()):
-                return name_of(self.root, place)
-        return INBOX
+            sources = Ledger(place).sources.items()
+            if any(source.inode == inode and is_gone(path) for path, source in sources):
+                return one._replace(folder=name_of(self.root, place))
+        return one._replace(folder=INBOX)
 
     def name_of(self, path: bytes, folder: bytes) -> str:
         """The name by which Dovecot knows the mailbox of a folder: that of its path below a tree."""
