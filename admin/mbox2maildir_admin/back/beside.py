@@ -27,8 +27,8 @@ NOT_CUT = "no room is left on its disk, not even to cut off what was appended in
 # its last line, before which is where each message begins
 FOOT = b"\nmbox2maildir-back 1\t%d\t%d\t%s\t%s\t%d\t%s\t%d\n"
 FOOT_HERE = re.compile(
-    rb"\nmbox2maildir-back 1\t(\d{1,20})\t(\d{1,18})\t([0-9a-f]{64})\t([^\t\n]+)"
-    rb"\t(\d{1,18})\t([0-9a-f]{64})\t(\d{1,18})\n\Z"
+    rb"\nmbox2maildir-back 1\t(?P<inode>\d{1,20})\t(?P<before>\d{1,18})\t(?P<digest_before>[0-9a-f]{64})"
+    rb"\t(?P<mailbox>[^\t\n]+)\t(?P<size>\d{1,18})\t(?P<digest>[0-9a-f]{64})\t(?P<listed>\d{1,18})\n\Z"
 )
 FOOT_OF_ANOTHER = re.compile(rb"\nmbox2maildir-back (?!1\t)[^\n]*\n\Z")
 LONGEST_FOOT = 1 << 15
@@ -85,11 +85,11 @@ class Beside(NamedTuple):
             raise Left(BY_ANOTHER % named(path), Reason.OTHER)
         found = FOOT_HERE.search(end)
         if found:
-            inode, before, digest_before, mailbox, size, digest, listed = (one.decode() for one in found.groups())
-            starts = [int(start) for start in os.pread(number, int(listed), int(size)).split(b",") if start]
-            has_all = total == int(size) + int(listed) + len(found[0])
-            if has_all and digest_of(number, int(size)) == digest:
-                return cls(path, number, int(inode), int(before), digest_before, mailbox, int(size), digest, starts)
+            size, digest, listed = int(found["size"]), found["digest"].decode(), int(found["listed"])
+            of_mailbox = int(found["before"]), found["digest_before"].decode(), found["mailbox"].decode()
+            starts = [int(start) for start in os.pread(number, listed, size).split(b",") if start]
+            if total == size + listed + len(found[0]) and digest_of(number, size) == digest:
+                return cls(path, number, int(found["inode"]), *of_mailbox, size, digest, starts)
         os.close(number)
         os.unlink(path)
         return None

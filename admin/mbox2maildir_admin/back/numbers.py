@@ -137,13 +137,12 @@ class Base(NamedTuple):
         if self.rest:
             return header
         header = without_blanks(header, len(header) - len(self.header)) or b""
-        return header if header and (len(text) == len(value) or self.is_in_one_sector(header)) else None
-
-    def is_in_one_sector(self, header: bytes) -> bool:
-        """Whether a header of the same size differs within one sector of the disk alone."""
+        if not header or len(text) == len(value):
+            return header or None
+        # all that differs is in one sector of the disk
         first = len(os.path.commonprefix([header, self.header]))
         last = len(header) - 1 - len(os.path.commonprefix([header[::-1], self.header[::-1]]))
-        return (self.offset + first) // SECTOR == (self.offset + last) // SECTOR
+        return header if (self.offset + first) // SECTOR == (self.offset + last) // SECTOR else None
 
     def write(self, mailbox: Mailbox, header: bytes) -> None:
         """Writes what is new of the header, by one call, and syncs it. Raises Left if that is not what is read then."""
@@ -199,32 +198,41 @@ class Numbering:
     def say(self, mailbox: Mailbox, target: Target, is_dry: bool) -> None:
         """Has the mailbox say what it is to say of its UIDs and keywords, before mail is appended: if that is
         interrupted, some UIDs are never given."""
-        base = Base.of(mailbox) if mailbox.size else None
+        base, new = Base.of(mailbox) if mailbox.size else None, list[bytes]()
         if base:
-            self.raise_numbers(mailbox, base, target.mails, is_dry)
+            self.known = set(map(bytes.lower, base.head.keywords))
+            new = self.raise_numbers(mailbox, base, self.unknown(target.mails), is_dry)
         elif mailbox.size:
             self.why = NO_BASE
         elif self.listed:
-            numbers, names = (self.listed.validity, self.listed.following - 1), self.unknown(target.mails)
-            self.first, self.is_same = b" ".join([b"X-IMAPbase: %d %010d" % numbers, *names]), True
-            self.know(names)
+            numbers, new = (self.listed.validity, self.listed.following - 1), self.unknown(target.mails)
+            self.first, self.is_same = b" ".join([b"X-IMAPbase: %d %010d" % numbers, *new]), True
+        self.known.update(map(bytes.lower, new))
         self.is_incomplete = bool(self.unknown([*target.returned, *target.mails]))
 
-    def raise_numbers(self, mailbox: Mailbox, base: Base, mails: Sequence[Mail], is_dry: bool) -> None:
-        """Has the first message say all that it has room for."""
-        self.know(base.head.keywords)
-        wanted = self.wanted(base.head)
-        header = base.header_with(wanted, [])
-        new: list[bytes] = []
-        for one in self.unknown(mails):
-            longer = base.header_with(wanted, [*new, one])
+    def raise_numbers(self, mailbox: Mailbox, base: Base, names: Sequence[bytes], is_dry: bool) -> list[bytes]:
+        """Has the first message say all that it has room for; of the rest, says what has Dovecot write it. Returns the
+        keywords among these for which there is room."""
+        wanted, head = self.wanted(base.head), base.head
+        header, new = base.header_with(wanted, []), list[bytes]()
+        for name in names:
+            longer = base.header_with(wanted, [*new, name])
             if longer:
-                header, new = longer, [*new, one]
-        self.know(new)
+                header, new = longer, [*new, name]
         self.is_same, self.given = self.listed is not None and self.listed.validity == wanted.validity, wanted.last
-        self.tell(base.head, wanted, bool(header))
+        more: list[str] = []
+        if wanted.last > head.last:
+            self.remarks.append(Says.UIDS_RAISED.of(wanted.last + 1))
+            more += ["--min-next-uid", str(wanted.last + 1)]
+        if wanted.validity != head.validity:
+            self.remarks.append(Says.UIDS_ANEW.of("its UIDVALIDITY is %d now" % wanted.validity))
+            more += ["--uid-validity", str(wanted.validity)]
+        if more and not header:
+            self.remarks = [Says.UIDS_NOT_RAISED.of()]
+            self.next = run_next(Runs.UPDATE_MAILBOX, *of_this_user(), *more, self.name)
         if header and header != base.header and not is_dry:
             base.write(mailbox, header)
+        return new
 
     def wanted(self, head: Head) -> Head:
         """What a mailbox with this head is to say."""
@@ -236,23 +244,6 @@ class Numbering:
             validity = max(moment, used + 1)
             return head._replace(validity=validity if validity <= MOST_VALIDITY else moment)
         return head
-
-    def tell(self, head: Head, wanted: Head, has_room: bool) -> None:
-        """Says what is new; of what has no room, what has Dovecot write it."""
-        more: list[str] = []
-        if wanted.last > head.last:
-            self.remarks.append(Says.UIDS_RAISED.of(wanted.last + 1))
-            more += ["--min-next-uid", str(wanted.last + 1)]
-        if wanted.validity != head.validity:
-            self.remarks.append(Says.UIDS_ANEW.of("its UIDVALIDITY is %d now" % wanted.validity))
-            more += ["--uid-validity", str(wanted.validity)]
-        if more and not has_room:
-            self.remarks = [Says.UIDS_NOT_RAISED.of()]
-            self.next = run_next(Runs.UPDATE_MAILBOX, *of_this_user(), *more, self.name)
-
-    def know(self, names: Iterable[bytes]) -> None:
-        """The mailbox names these keywords."""
-        self.known.update(map(bytes.lower, names))
 
     def keywords(self, mail: Mail) -> list[bytes]:
         """The keywords of a file."""

@@ -80,7 +80,7 @@ class Places:
             sources = Ledger(place).sources.items()
             if any(source.inode == inode and is_gone(path) for path, source in sources):
                 return one._replace(folder=name_of(self.root, place))
-        return one._replace(folder=INBOX)
+        return one
 
     def name_of(self, path: bytes, folder: bytes) -> str:
         """The name by which Dovecot knows the mailbox of a folder: that of its path below a tree."""
