@@ -81,13 +81,6 @@ class Letter(NamedTuple):
                 return cls(file.readall(), flags, os.path.basename(os.path.dirname(path)) == b"cur", mail.time)
         return None
 
-    def fields(self, line_end: bytes) -> bytes:
-        """The further ones, and the fields for its flags. A Takeout's messages begin with Gmail's."""
-        status = b"R" * ("S" in self.flags) + b"O" * self.is_old
-        others = b"".join(value for flag, value in X_STATUS.items() if flag in self.flags)
-        flags = [b"Status: " + status] * bool(status) + [b"X-Status: " + others] * bool(others)
-        return b"".join(field + line_end for field in (*self.notes, *flags))
-
 
 class Dialect(NamedTuple):
     """How a mailbox is written: by the word of its reading, and whether its lines end in CR LF."""
@@ -110,10 +103,14 @@ class Dialect(NamedTuple):
         sender = RETURN_PATH.search(header)
         from_line = b"From %s %s\n" % (sender[1] if sender else NOBODY, date_of(letter.time))
         header, body = self.quoted(header), self.quoted(body)
-        end = b"\r\n" if header.endswith(b"\r\n") else b"\n"
-        fields = letter.fields(end)
+        status = b"R" * ("S" in letter.flags) + b"O" * letter.is_old
+        others = b"".join(value for flag, value in X_STATUS.items() if flag in letter.flags)
+        # a Takeout's messages begin with Gmail's
+        several = [*letter.notes, *[b"Status: " + status] * bool(status), *[b"X-Status: " + others] * bool(others)]
         if self.word in BY_LENGTHS:
-            fields += b"Content-Length: %d%s" % (len(body) + body.count(b"\n") * self.crlf, end)
+            several.append(b"Content-Length: %d" % (len(body) + body.count(b"\n") * self.crlf))
+        end = b"\r\n" if header.endswith(b"\r\n") else b"\n"
+        fields = b"".join(field + end for field in several)
         # a line that begins with a blank would go on with a field; what no field follows is not certainly a From_ line
         if header.startswith((b" ", b"\t")):
             header += fields

@@ -139,7 +139,7 @@ class Folders:
                 # one that the record knows by another path has the place of the first one
                 counts.update([one for one in paths if names[one] & slot.paths] or paths[:1])
             for path, count in counts.items():
-                is_sure = not may_be(lambda one: size_at(one) not in sizes, path)
+                is_sure = not may_be(lambda one: (os.path.getsize(one) if is_file(one) else 0) not in sizes, path)
                 unless = "" if is_sure else UNLESS % ("it" if count == 1 else "them")
                 remarks[path] += (*says.of_any(count, unless, stands=count if is_sure else 0),)
         return remarks
@@ -234,8 +234,3 @@ def left(target: Target, fault: Union[Fault, OSError]) -> Row:
         fault = Left(DISK_FULL, Reason.NO_ROOM)
     row = row_left(target.path, target.folder, fault)
     return row._replace(messages=len(target.mails), remarks=target.remarks, is_back=True)
-
-
-def size_at(path: bytes) -> int:
-    """How many bytes the file at a path has; 0 if there is none."""
-    return os.path.getsize(path) if is_file(path) else 0

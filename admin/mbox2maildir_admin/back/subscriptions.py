@@ -73,11 +73,18 @@ class Lists:
         names = (tuple(os.path.relpath(path, tree).split(b"/")) for tree in trees)
         return next((name for name in names if name[0] != b".."), ())
 
-    def text(self, names: list[Name]) -> bytes:
-        """The list of the tree, in the form that it has, or in that of Dovecot."""
+    def write(self, path: bytes, names: list[Name]) -> None:
+        """Puts the list of the tree, in the form that it has, or in that of Dovecot, in the place of a plain file, or
+        of nothing, whatever ends a run. Its mode stays."""
+        state = state_at(path, False)
+        if state and not stat.S_ISREG(state.st_mode):
+            raise Left("it is no plain file", Reason.SUBSCRIPTIONS)
         has_tabs = self.has_tabs or not self.old
         lines = [(b"\t" if has_tabs else b"/").join(name) + b"\n" for name in names]
-        return FORM * has_tabs + b"".join(lines)
+        with Draft.at(path + PART) as draft:
+            draft.add(FORM * has_tabs + b"".join(lines))
+            os.fchmod(draft.number, stat.S_IMODE(state.st_mode) if state else 0o600)
+            draft.put(path)
 
 
 def names_in(path: bytes, between: bytes) -> tuple[list[Name], bool]:
@@ -108,20 +115,9 @@ def rows_of(places: Places, is_dry: bool, would: Mapping[bytes, bytes]) -> Itera
         if set(names) == set(lists.old):
             return
         if not is_dry:
-            write(path, lists.text(names))
+            lists.write(path, names)
     except (Fault, OSError) as fault:
         yield row_left(path, b"", fault)._replace(reason=Reason.SUBSCRIPTIONS, is_back=True)
         return
     says = Says.SUBSCRIPTIONS.of(counted(len(names), "folder"))
     yield Row(path, b"", "subscriptions", None, Fate.WOULD_BACK if is_dry else Fate.BACK, remarks=(says,), is_back=True)
-
-
-def write(path: bytes, text: bytes) -> None:
-    """Puts a text in the place of a plain file, or of nothing, whatever ends a run. Its mode stays."""
-    state = state_at(path, False)
-    if state and not stat.S_ISREG(state.st_mode):
-        raise Left("it is no plain file", Reason.SUBSCRIPTIONS)
-    with Draft.at(path + PART) as draft:
-        draft.add(text)
-        os.fchmod(draft.number, stat.S_IMODE(state.st_mode) if state else 0o600)
-        draft.put(path)
