@@ -6,6 +6,7 @@ taken out only there: elsewhere they may be its sender's.
 """
 import contextlib
 import io
+import itertools
 import os
 import re
 import time
@@ -73,7 +74,8 @@ class Letter(NamedTuple):
     @classmethod
     def of(cls, folder: bytes, mail: Mail) -> Optional["Letter"]:
         """The message of a file, which programs may have renamed; None if it was removed meanwhile."""
-        for name, path in [(mail.name, mail.path), *mail_in(folder)]:
+        # the folder is listed only if the name has changed
+        for name, path in itertools.chain([(mail.name, mail.path)], mail_in(folder)):
             if before_info(name) != mail.before:
                 continue
             with contextlib.suppress(FileNotFoundError), open_file(path, os.O_NOFOLLOW) as file:
