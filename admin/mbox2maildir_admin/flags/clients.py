@@ -66,12 +66,6 @@ def letters_of_evolution(header: bytes) -> Optional[str]:
     return letters_of(evolution_flags(header), EVOLUTION)
 
 
-def field_of_takeout(header: bytes) -> Optional[str]:
-    """The field with Gmail's labels; None if the message is not from Gmail. What they say, the labels of all messages
-    show."""
-    return None if gmail_thread(header) is None else gmail_labels(header) or ""
-
-
 def labels_in(text: str) -> Optional[list[str]]:
     """The labels of a field, each byte of which is a letter, and whose words may be encoded; None if it can't be
     read."""
@@ -95,10 +89,12 @@ def decoded_words(words: re.Match[str]) -> str:
 
 
 MOZILLA, GMAIL = "Thunderbird", "Gmail"
-CLIENTS = {
+# what a program has in the header of each message: its flags or, since only the labels of all messages show these,
+# Gmail's labels; None if a message is not from it
+CLIENTS: dict[str, Callable[[bytes], Optional[str]]] = {
     MOZILLA: lambda header: letters_of(mozilla_status(header), THUNDERBIRD),
     "Evolution": letters_of_evolution,
-    GMAIL: field_of_takeout,
+    GMAIL: lambda header: None if gmail_thread(header) is None else gmail_labels(header) or "",
 }
 
 

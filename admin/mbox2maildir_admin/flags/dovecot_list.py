@@ -7,7 +7,7 @@ import io
 import os
 import re
 import time
-from collections.abc import Callable, Sequence
+from collections.abc import Sequence
 from typing import Optional
 
 from ..faults import Left, Reason
@@ -17,7 +17,6 @@ from ..mbox.files import open_file
 from ..mbox.inventory import Inventory
 from ..mbox.lock_file import Spot, drop_lock, make_held
 from ..terminal import named
-from ..units import Place
 from .dovecot_headers import Numbers, info_of, is_listed
 from .renaming import flagged_in, sync_names
 
@@ -42,21 +41,15 @@ def rename(folder: bytes, inventory: Inventory, marks: Sequence[int]) -> Infos:
     return infos
 
 
-def name_by(table: Table, infos: Infos, place: Place) -> Optional[bytes]:
-    """The name of the file of a message by its info; None if there is no file."""
-    info = infos[place]
-    return None if info is None else table.name(place) + info
-
-
-def list_of(numbers: Numbers, name_of: Callable[[Place], Optional[bytes]]) -> bytes:
-    """The text of `dovecot-uidlist`. `name_of` gives the name of a message's file, if there is one."""
+def list_of(numbers: Numbers, table: Table, infos: Infos) -> bytes:
+    """The text of `dovecot-uidlist`, by the bases of messages and the infos of their files."""
     validity, following, order = numbers
     text = io.BytesIO()
     text.write(b"3 V%d N%d\n" % (validity, following))
     for uid, place in order:
-        name = name_of(place)
-        if name is not None:
-            text.write(b"%d :%s\n" % (uid, name))
+        info = infos[place]
+        if info is not None:
+            text.write(b"%d :%s\n" % (uid, table.name(place) + info))
     return text.getvalue()
 
 

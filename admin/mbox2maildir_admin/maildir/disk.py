@@ -182,46 +182,33 @@ class Doubt(NamedTuple):
     instead: Optional[Phrase] = None
 
 
-class Mount(NamedTuple):
-    """A file system: its kind, what it was mounted from, and its options."""
-
-    kind: bytes
-    source: bytes
-    options: frozenset[bytes]
-
-    @classmethod
-    def parse(cls, line: bytes) -> "Mount":
-        """The file system of a line of mountinfo. WSL shows options of 9p with blanks in them."""
-        kind, source, options = line.rstrip(b"\n").partition(b" - ")[2].split(b" ", 2)
-        return cls(kind, source, frozenset(options.split(b",")))
-
-    @classmethod
-    def of(cls, folder: bytes) -> "Optional[Mount]":
-        """The file system of a folder; None if the system does not say, as for a part of a btrfs, or without /proc."""
-        number = os.stat(folder).st_dev
-        device = b"%d:%d" % (os.major(number), os.minor(number))
-        try:
-            with open("/proc/self/mountinfo", "rb") as file:
-                return next((cls.parse(line) for line in file if line.split(b" ")[2] == device), None)
-        except FileNotFoundError:
-            return None
-
-    def doubt(self) -> Optional[Doubt]:
-        """Why a sync of a folder may not reach the disk there; None if it does."""
-        if self.kind == b"overlay" and self.options & VOLATILE:
-            return Doubt("overlayfs is mounted volatile", Todo.MOUNT_OTHERWISE)
-        if self.kind == b"fuse.mergerfs":
-            return Doubt(NOT_PASSED_ON % "mergerfs", Todo.NAME_BELOW)
-        if self.kind == b"fuse.bindfs" or self.kind == b"fuse" and self.is_of_folder():
-            return Doubt(NOT_PASSED_ON % "bindfs", Todo.NAME_BELOW)
-        if self.kind in UNTRIED or self.kind.startswith(b"fuse."):
-            return Doubt("%s was not tried" % named(self.kind))
+def mount_of(folder: bytes) -> Optional[bytes]:
+    """The line of mountinfo about the file system of a folder; None if the system does not say, as for a part of a
+    btrfs, or without /proc."""
+    number = os.stat(folder).st_dev
+    device = b"%d:%d" % (os.major(number), os.minor(number))
+    try:
+        with open("/proc/self/mountinfo", "rb") as file:
+            return next((line for line in file if line.split(b" ")[2] == device), None)
+    except FileNotFoundError:
         return None
 
-    def is_of_folder(self) -> bool:
-        """Whether it was mounted from a folder, as bindfs is, which gives no name of its own. A path that cannot be
-        seen from here may be one."""
-        return self.source.startswith(b"/") and may_be(lambda path: is_folder(path) or not is_there(path), self.source)
+
+def doubt_of(mount: bytes) -> Optional[Doubt]:
+    """Why a sync of a folder may not reach the disk of a file system with this line of mountinfo; None if it does."""
+    # WSL shows options of 9p with blanks in them
+    kind, source, options = mount.rstrip(b"\n").partition(b" - ")[2].split(b" ", 2)
+    if kind == b"overlay" and not VOLATILE.isdisjoint(options.split(b",")):
+        return Doubt("overlayfs is mounted volatile", Todo.MOUNT_OTHERWISE)
+    if kind == b"fuse.mergerfs":
+        return Doubt(NOT_PASSED_ON % "mergerfs", Todo.NAME_BELOW)
+    # bindfs may give no name of its own, and is mounted from a folder. A path that cannot be seen from here may be one
+    is_unnamed = kind == b"fuse" and source.startswith(b"/")
+    if kind == b"fuse.bindfs" or is_unnamed and may_be(lambda path: is_folder(path) or not is_there(path), source):
+        return Doubt(NOT_PASSED_ON % "bindfs", Todo.NAME_BELOW)
+    if kind in UNTRIED or kind.startswith(b"fuse."):
+        return Doubt("%s was not tried" % named(kind))
+    return None
 
 
 def want_syncs(maildir: bytes, any_disk: bool) -> list[Remark]:
@@ -229,7 +216,8 @@ def want_syncs(maildir: bytes, any_disk: bool) -> list[Remark]:
     what does. Raises Left if it is known that they do not reach the disk, unless any disk will do."""
     # symbolic links may put its mail on other disks
     folders = {folder_there(os.path.join(maildir, sub)) for sub in (b"", b"new", b"cur")}
-    doubts = sorted({doubt for doubt in (mount.doubt() for mount in map(Mount.of, folders) if mount) if doubt})
+    mounts = filter(None, map(mount_of, folders))
+    doubts = sorted(set(filter(None, map(doubt_of, mounts))))
     for doubt in doubts:
         if doubt.instead and not any_disk:
             raise Left(Says.POWER_CUT.of(doubt.why).says, Reason.NO_SYNC, task(doubt.instead))

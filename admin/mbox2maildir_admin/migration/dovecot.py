@@ -4,7 +4,6 @@ Dovecot reads them when it first looks at the folder, so they are written before
 file.
 """
 import contextlib
-import functools
 import hashlib
 import os
 import stat
@@ -13,7 +12,7 @@ from typing import Optional
 
 from ..faults import Fault, Left, Reason
 from ..flags.dovecot_headers import LETTERS, Reading, fields_of, first_head, info_of, internal_head, is_listed, marks_of
-from ..flags.dovecot_list import list_of, name_by, raised, rename, replace
+from ..flags.dovecot_list import list_of, raised, rename, replace
 from ..flags.renaming import add_flags
 from ..ledger.history import Key, Note, names_of
 from ..ledger.record import Record
@@ -134,8 +133,8 @@ class Dovecot(Extra):
             text = b"".join(b"%d %s\n" % pair for pair in enumerate(reading.keywords[:LETTERS]))
             place_file(opened.folder, KEYWORDS, text, self.writer(opened.name))
         infos = rename(opened.folder, whole, reading.marks)
-        name_of = functools.partial(name_by, whole.table, infos)
-        place_file(opened.folder, LIST, list_of(reading.numbers(one.begun_at), name_of), self.writer(opened.name))
+        text = list_of(reading.numbers(one.begun_at), whole.table, infos)
+        place_file(opened.folder, LIST, text, self.writer(opened.name))
 
     def writer(self, name: bytes) -> NoteFile:
         """Returns the function that records a file of a folder before it is written."""

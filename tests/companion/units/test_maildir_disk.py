@@ -2,7 +2,7 @@
 tests/world/unsynced.py mounts some of them."""
 import unittest
 
-from mbox2maildir_admin.maildir.disk import Doubt, Mount
+from mbox2maildir_admin.maildir.disk import Doubt, doubt_of
 from mbox2maildir_admin.nexts import Todo
 
 FUSE = "rw,user_id=0,group_id=0,default_permissions,allow_other"
@@ -42,4 +42,4 @@ SHOWN = {
 class DoubtTest(unittest.TestCase):
     def test_what_is_shown(self) -> None:
         for shown, doubt in SHOWN.items():
-            self.assertEqual(Mount.parse((LINE % shown).encode()).doubt(), doubt, shown)
+            self.assertEqual(doubt_of((LINE % shown).encode()), doubt, shown)
