@@ -29,7 +29,6 @@ from ..flags.dovecot_headers import (
     head_of,
     internal_head,
 )
-from ..flags.dovecot_list import FIRST
 from ..kinds.starts import text_start
 from ..mbox.bases import before_info
 from ..mbox.fields import Header, headers_at
@@ -37,7 +36,7 @@ from ..mbox.files import BLOCK, open_file
 from ..mbox.inventory import Inventory
 from ..mbox.mailbox import Mailbox
 from ..mbox.pieces import LONGEST_NAME
-from ..migration.dovecot import KEYWORDS, LIST
+from ..migration.dovecot import FIRST, KEYWORDS, LIST
 from ..nexts import NOTHING, Does, Next, Runs, run_next
 from ..remarks import Remark, Says
 from ..terminal import first_of, text_of

@@ -3,7 +3,7 @@ import array
 import contextlib
 import os
 from collections.abc import Callable, Container, Iterator, Sequence
-from typing import NamedTuple
+from typing import NamedTuple, Optional
 
 from ..looks import is_there
 from ..maildir.files import mail_in
@@ -11,9 +11,13 @@ from ..maildir.making import sync_folder
 from ..mbox.bases import OWN, before_info
 from ..mbox.inventory import Inventory
 from ..units import Place
+from .dovecot_headers import info_of, is_listed
 
 # what follows the base in a name, before the letters of its flags
 INFO = b":2,"
+# by place: what follows the base in the name of a message's file, since names would take much memory; None without a
+# file
+Infos = list[Optional[bytes]]
 
 
 class Flagged(NamedTuple):
@@ -68,6 +72,19 @@ def add_flags(
             with contextlib.suppress(FileNotFoundError):
                 file.give(folder, "".join(sorted({*file.letters, *letters[file.place]})), file.place in listed)
     sync_names(folder)
+
+
+def rename(folder: bytes, inventory: Inventory, marks: Sequence[int]) -> Infos:
+    """Gives each message the flags and keywords of its marks, which Dovecot's mbox driver knew. Returns the infos of
+    the files by their places."""
+    infos: Infos = [None] * len(inventory)
+    known: dict[bytes, bytes] = {}
+    for file in flagged_in(folder, inventory):
+        its = marks[file.place]
+        info = file.give(folder, info_of(its, file.letters), is_listed(its))[len(file.base) :]
+        infos[file.place] = known.setdefault(info, info)
+    sync_names(folder)
+    return infos
 
 
 def lacking_flags(folder: bytes, flags_of: Callable[[bytes], str]) -> int:

@@ -5,15 +5,17 @@ file.
 """
 import contextlib
 import hashlib
+import io
 import os
+import re
 import stat
+import time
 from collections.abc import Callable
 from typing import Optional
 
 from ..faults import Fault, Left, Reason
 from ..flags.dovecot_headers import LETTERS, Reading, fields_of, first_head, info_of, internal_head, is_listed, marks_of
-from ..flags.dovecot_list import list_of, raised, rename, replace
-from ..flags.renaming import add_flags
+from ..flags.renaming import add_flags, rename
 from ..ledger.history import Key, Note, names_of
 from ..ledger.record import Record
 from ..looks import is_there
@@ -22,6 +24,7 @@ from ..maildir.folders import INBOX, folder_of_place, folder_shown
 from ..maildir.making import sync_folder
 from ..mbox.fields import headers_at
 from ..mbox.files import WHOLE, open_file, read_up_to
+from ..mbox.lock_file import Spot, drop_lock, make_held
 from ..mbox.mailbox import Mailbox
 from ..nexts import Runs, run_next
 from ..readings.texts import form_of
@@ -33,8 +36,13 @@ from .steps import Steps, Extra
 
 KEYWORDS, LIST, SUBSCRIPTIONS = b"dovecot-keywords", b"dovecot-uidlist", b"subscriptions"
 OLD_SUBSCRIPTIONS, FORM = b".subscriptions", b"V\t2\n\n"
+# the first line of a list of UIDs: its form, UIDVALIDITY and the next UID
+FIRST = re.compile(rb"3 (?:[^\n]* )?V([0-9]{1,10}) (?:[^\n]* )?N([0-9]{1,10})(?=[ \n])")
+# the ending of the lock of a list, and after how many seconds it counts for nothing, as for Dovecot
+LOCK, STALE = b".lock", 120
 # how long a list may be that is looked at: this is some 5,000,000 lines
 LONGEST_LIST = 1 << 29
+CHANGED = "Dovecot is changing %s: stop Dovecot, and run this again"
 NUMBERED_BY_DOVECOT = "Dovecot has looked at this folder and keeps the UIDs that it gave"
 OF_ANOTHER = "%s has the UIDs of another mailbox"
 AFTER_THOSE = "%s, and Dovecot gives these messages UIDs after those"
@@ -95,9 +103,11 @@ class Dovecot(Extra):
     def raise_next(self, one: Steps) -> None:
         """Has the list of a folder give what is new no UID that the mailbox has given since."""
         head, folder = first_head(one.contents.full.mailbox, one.contents.full.start), one.opened.folder
-        text = content_of(os.path.join(folder, LIST), LONGEST_LIST)
-        new = raised(text, head.validity, head.last) if head and text else text
-        if text is not None and new is not None and new != text:
+        text = content_of(os.path.join(folder, LIST), LONGEST_LIST) or b""
+        found = FIRST.match(text)
+        # a list with another UIDVALIDITY is about other numbers
+        if head and found and int(found[1]) == head.validity and int(found[2]) <= head.last:
+            new = text[: found.start(2)] + b"%d" % (head.last + 1) + text[found.end(2) :]
             if self.is_own(one.opened.name, folder, LIST):
                 self.writer(one.opened.name)(LIST, len(new), hashlib.sha256(new).hexdigest())
             replace(os.path.join(folder, LIST), text, new)
@@ -133,8 +143,14 @@ class Dovecot(Extra):
             text = b"".join(b"%d %s\n" % pair for pair in enumerate(reading.keywords[:LETTERS]))
             place_file(opened.folder, KEYWORDS, text, self.writer(opened.name))
         infos = rename(opened.folder, whole, reading.marks)
-        text = list_of(reading.numbers(one.begun_at), whole.table, infos)
-        place_file(opened.folder, LIST, text, self.writer(opened.name))
+        validity, following, order = reading.numbers(one.begun_at)
+        listed = io.BytesIO()
+        listed.write(b"3 V%d N%d\n" % (validity, following))
+        for uid, place in order:
+            info = infos[place]
+            if info is not None:
+                listed.write(b"%d :%s\n" % (uid, whole.table.name(place) + info))
+        place_file(opened.folder, LIST, listed.getvalue(), self.writer(opened.name))
 
     def writer(self, name: bytes) -> NoteFile:
         """Returns the function that records a file of a folder before it is written."""
@@ -205,6 +221,32 @@ def place_file(folder: bytes, name: bytes, text: bytes, note: NoteFile) -> None:
         finally:
             os.unlink(part)
     sync_folder(folder)
+
+
+def replace(path: bytes, text: bytes, new: bytes) -> None:
+    """Puts another text in the place of a list, as Dovecot does it: its lock gets the name of the list. Dovecot's own
+    lock has no list in it, so that one which a killed run left is known, and goes. Raises Left if Dovecot has the lock,
+    or has changed the list."""
+    lock = Spot(path + LOCK)
+    drop_lock(lock, content=FIRST)
+    with contextlib.suppress(FileNotFoundError):
+        if os.lstat(lock.name).st_mtime < time.time() - STALE:
+            lock.unlink()
+    try:
+        number = make_held(lock, new, 0o600)
+    except FileExistsError as fault:
+        raise Left(CHANGED % named(path), Reason.LOCKED) from fault
+    try:
+        with open_file(path) as old:
+            if old.readall() != text:
+                raise Left(CHANGED % named(path), Reason.CHANGED)
+        os.rename(lock.name, path)
+    except BaseException:
+        lock.unlink()
+        raise
+    finally:
+        os.close(number)
+    sync_folder(os.path.dirname(path))
 
 
 def part_path(folder: bytes, name: bytes) -> bytes:
