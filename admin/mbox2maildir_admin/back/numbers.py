@@ -17,15 +17,14 @@ from typing import NamedTuple, Optional
 
 from ..faults import Fault, Left, Reason
 from ..flags.dovecot_headers import (
-    FIELD,
     HEAD,
     LETTERS,
     LONGEST_KEYWORD,
     MOST_VALIDITY,
     NO_KEYWORD,
-    Field,
     Head,
     Reading,
+    fields_of,
     head_of,
     internal_head,
 )
@@ -35,7 +34,6 @@ from ..mbox.fields import Header, headers_at
 from ..mbox.files import BLOCK, open_file
 from ..mbox.inventory import Inventory
 from ..mbox.mailbox import Mailbox
-from ..mbox.pieces import LONGEST_NAME
 from ..migration.dovecot import FIRST, KEYWORDS, LIST
 from ..nexts import NOTHING, Does, Next, Runs, run_next
 from ..remarks import Remark, Says
@@ -111,12 +109,12 @@ class Base(NamedTuple):
         if start is None:
             return None
         header = Header.at(mailbox, start)
-        for found in FIELD.finditer(header.text):
-            head = head_of(Field(found[1].lower(), found[3]))
-            if head and found.start(3) - found.start() <= LONGEST_NAME:
+        for field in fields_of(header.text):
+            head = head_of(field)
+            if head:
                 own, end = internal_head(mailbox, start)
                 rest = mailbox.at(header.offset + len(header.text), BLOCK) if own and end == mailbox.end else b""
-                return cls(head, header.offset, header.text, found.start(3), found.end(3), rest)
+                return cls(head, header.offset, header.text, field.begin, field.begin + len(field.value), rest)
         return None
 
     def header_with(self, wanted: Head, keywords: Sequence[bytes]) -> Optional[bytes]:
@@ -164,10 +162,10 @@ class Base(NamedTuple):
 def without_blanks(header: bytes, count: int) -> Optional[bytes]:
     """A header with so many blanks fewer at the ends of the fields in which Dovecot keeps something; None if it has too
     few."""
-    for field in reversed(list(FIELD.finditer(header))):
-        value = field[3].rstrip(b"\r")
+    for field in reversed(fields_of(header)):
+        value = field.value.rstrip(b"\r")
         blanks = min(count, len(value) - len(value.rstrip(b" ")))
-        end = field.start(3) + len(value)
+        end = field.begin + len(value)
         header, count = header[: end - blanks] + header[end:], count - blanks
     return None if count else header
 

@@ -56,17 +56,19 @@ class Head(NamedTuple):
 
 
 class Field(NamedTuple):
-    """A field that Dovecot writes: its name in lower case, its value, and whether blanks stand before the colon."""
+    """A field that Dovecot writes: its name in lower case, its value, whether blanks stand before the colon, and where
+    the value begins in the header."""
 
     name: bytes
     value: bytes
-    is_spaced: bool = False
+    is_spaced: bool
+    begin: int
 
 
 def fields_of(header: bytes) -> list[Field]:
     """The fields of a header that count, in their order: hidden ones whose colon is near enough."""
     found = (field for field in FIELD.finditer(header) if field.start(3) - field.start() <= LONGEST_NAME)
-    return [Field(field[1].lower(), field[3], bool(field[2])) for field in found]
+    return [Field(field[1].lower(), field[3], bool(field[2]), field.start(3)) for field in found]
 
 
 def head_of(field: Field) -> Optional[Head]:

@@ -29,12 +29,12 @@ class Flagged(NamedTuple):
     base: bytes
     letters: str
 
-    def give(self, folder: bytes, letters: str, is_listed: bool = False) -> bytes:
+    def give(self, folder: bytes, letters: str, was_listed: bool = False) -> bytes:
         """Gives the file these letters in place of its own, but never in place of another file. Returns the name that
         it has then. A message that was listed is not new, and leaves `new`."""
         new = self.base + INFO + letters.encode("latin-1")
         target = os.path.join(folder, b"cur", new)
-        is_so = letters == self.letters and (self.sub == b"cur" or not is_listed)
+        is_so = letters == self.letters and (self.sub == b"cur" or not was_listed)
         if is_so or is_there(target):
             return self.name
         os.rename(os.path.join(folder, self.sub, self.name), target)
