@@ -251,8 +251,10 @@ class Appending:
         before = style.dialect.spelled(Letter(ANOTHER)) if self.mailbox.size else b""
         with Mailbox(draft.path, os.dup(draft.number)) as text:
             are_held = not entries or style.gives(text, entries)
-            # nothing was asked about the first message of this text, which may not be the first one of the mailbox
-            for one in entries[: bool(before)] if are_held else entries:
+            if are_held:
+                # nothing was asked about the first one here, which is not the first one of a mailbox that has some
+                entries = entries[:1] if before else []
+            for one in entries:
                 its = text.at(one.start, one.size)
                 with copy_of(text, [before, its], style.disk) as alone:
                     if not style.gives(alone, [one], bool(before)):
