@@ -298,7 +298,8 @@ class Ledger:
     def entries(self, cores: Optional[Container[bytes]]) -> Iterator[Line]:
         """The lines of messages that have one of these cores; of all messages without them."""
         # by their paths: what mailboxes have, by the messages, and what they had once
-        held: dict[str, collections.defaultdict[tuple[bytes, ...], list[Line]]] = {}
+        held: collections.defaultdict[str, collections.defaultdict[tuple[bytes, ...], list[Line]]]
+        held = collections.defaultdict(lambda: collections.defaultdict(list))
         former: collections.defaultdict[str, list[Line]] = collections.defaultdict(list)
         states = {number: (path, State.HELD) for number, path in self.ended.items()}
         states.update((number, (path, State.UNDONE)) for number, path in self.undone.items())
@@ -308,7 +309,7 @@ class Ledger:
             for at, one in several.counted(cores) if number in states else ():
                 line = Line(*states[number], one, number, at >= first)
                 if line.state is State.HELD:
-                    same = held.setdefault(line.path, collections.defaultdict(list))[one[1:]]
+                    same = held[line.path][one[1:]]
                     if one.word != LOST:
                         same.append(line)
                     elif same:

@@ -42,6 +42,8 @@ BY_ANOTHER = (
 MESSAGE = pattern(
     rb"^([psfbl])\t((?=[0-9a-f]{32})[!-~]+(?=\t=)|[!-~]+(?=\t[0-9a-f]))\t(=|[0-9a-f]{32})(?:\t([0-9a-f]{32}))?\n", re.M
 )
+# a line of something else
+OTHER_LINE = pattern(rb"^((?![psfbl]\t).*\n)", re.M)
 BATCH = pattern(
     rb"@\t(\d{1,18})\t(\d{1,18})\t(\d{1,18})\t(\d{1,18})\t(\d{1,18})\t((?:-?\d{1,19}(?:,-?\d{1,19})*)?)"
     rb"\t(\d{1,18})-([0-9a-f]{64})(?:-(\d{1,20}))?\t([!-~][ -~]*)\t([^\t]+)\Z"
@@ -251,17 +253,14 @@ def pieces_in(folder: bytes) -> Iterator[Piece]:
 
 def pieces_of(text: bytes) -> Iterator[Piece]:
     """The same of some whole lines."""
-    several = Messages.parse(text)
-    if several:
-        yield text, several
-        return
-    lines = (line + b"\n" for line in text.split(b"\n")[:-1])
-    for are_messages, its in itertools.groupby(lines, lambda line: MESSAGE.match(line) is not None):
-        if are_messages:
-            piece = b"".join(its)
-            yield piece, Messages.parse(piece)
-        else:
-            yield from ((line, None) for line in its)
+    for part in filter(None, OTHER_LINE.split(text)):
+        several = Messages.parse(part)
+        if several or part.count(b"\n") == 1:
+            yield part, several
+            continue
+        # one of them only looks like that of a message
+        for line in part.split(b"\n")[:-1]:
+            yield line + b"\n", Messages.parse(line + b"\n")
 
 
 def want_trusted(path: bytes, state: os.stat_result, reason: Phrase = Reason.LEDGER, is_own: bool = False) -> None:
