@@ -13,7 +13,7 @@ from tests.worlds.oracle import Oracle, Shelf
 from tests.worlds.stage import Stage
 
 NAMES = ["A", "B", "C", "D", "E"]
-FIELDS = [b"", RO, b"X-UID: 3\n", b"X-Evolution: 00000001-0010\n", b"X-Mozilla-Status: 0001\n"]
+FIELDS = [b"", RO, b"X-UID: 3\n", b"X-Evolution: 00000001-0010\n", b"X-Mozilla-Keys: old\n"]
 
 
 class Way(NamedTuple):
