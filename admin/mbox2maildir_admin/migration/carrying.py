@@ -261,8 +261,9 @@ def leaving(rows: list[Row], *places: int) -> Iterator[None]:
         yield
     except (Fault, OSError) as error:
         for place in places:
-            fault = fault_of(error, rows[place].path)
-            rows[place] = rows[place]._replace(fate=Fate.LEFT, why=str(fault), reason=fault.reason, remarks=())
+            row, fault = rows[place], fault_of(error, rows[place].path)
+            row = row._replace(fate=Fate.LEFT, why=str(fault), reason=fault.reason, remarks=(), next=fault.next)
+            rows[place] = row
 
 
 def names_that_may_be_cut(known: Known, match: Match) -> set[bytes]:
