@@ -27,7 +27,6 @@ from ..mbox.mailbox import Mailbox
 from ..mbox.pieces import header_of
 from ..migration.known import Known, moved_in
 from ..program import Program
-from ..readings.copies import copy_of
 from ..readings.plans import plan_of
 from ..readings.reading import BY_LENGTHS, CR, CRLF, MBOXCL2, MBOXO, MBOXRD, UNQUOTED, Reading
 from ..readings.texts import form_of, text_then

@@ -24,7 +24,7 @@ from ..ledger.prepared import in_milliseconds, milliseconds_since
 from ..ledger.record import Record, unspelled
 from ..looks import is_folder
 from ..maildir.disk import Need, want_room, want_syncs
-from ..maildir.folders import INBOX, folder_path, folder_shown
+from ..maildir.folders import INBOX, folder_shown
 from ..mbox.locks import open_mailbox, snapshot
 from ..mbox.mailbox import Mailbox
 from ..nexts import NOTHING, Answer, Does, Next, Phrase
