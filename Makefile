@@ -2,7 +2,7 @@
 # make run        deliver the example mailboxes to a fresh Maildir under build/, and show what it holds: by what is compiled
 #                 for this run where build/mbox2maildir is not there, or older than the sources
 # make test       prove the crates, all or what the kit has not proved here before, and test everything: the gate
-# make quick      test within a minute what a change most often breaks, by the program that is there
+# make quick      test within two minutes what a change most often breaks, by the program that is there
 # make install    copy the program, its companion, their pages and completions below PREFIX
 # make uninstall  remove what install has copied there
 # make release    make what a user takes, in build/release: a Debian package, an RPM, a tarball, the sources, SHA256SUMS
@@ -42,7 +42,7 @@ test:
 	cp $(CRATE)/out/mbox2maildir $(PROGRAM)
 	tests/run units program tables companion world
 
-# What is seen within a minute, of a program that is there.
+# What is seen within two minutes, of a program that is there.
 quick:
 	tests/run --quick
 

@@ -33,7 +33,7 @@ TO_DO = {
         "replace it by its file. If the link stands for a Maildir or a folder of mailboxes, name the real one by "
         "`--maildir` or `--tree`"
     ),
-    Reason.MISSING: "Correct the name. For `back --users`, see [BACK.md](BACK.md)",
+    Reason.MISSING: "Correct the name. For `back`, put back what the line names",
     Reason.WORDS: "Put the path in quotes. To name the files `a` and `b` beside a file `a b`, write `./a ./b`",
     Reason.NO_FILE: "Remove it: a FIFO or a socket holds no mail",
     Reason.HOLES: "Find a complete copy",
