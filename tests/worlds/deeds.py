@@ -227,7 +227,7 @@ def renamed(tree: History) -> None:
     """Somebody gives a mailbox another name, maybe one that another one had."""
     box = tree.draw.choice(tree.boxes)
     name = tree.draw.choice([tree.new_name(), "a", "b"])
-    if box.path != INBOX and not (tree.home / "mail" / name).exists():
+    if box.path != INBOX and not any((tree.home / "mail" / f"{name}{end}").exists() for end in ("", ".gz")):
         put(tree, box, f"mail/{name}{'.gz' * box.path.endswith('.gz')}")
 
 
