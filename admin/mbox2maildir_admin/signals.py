@@ -8,13 +8,9 @@ import os
 import signal
 import subprocess
 from collections.abc import Iterator, Sequence
-from typing import Any, Optional, TYPE_CHECKING, Union
+from typing import Any, Optional, Union
 
-if TYPE_CHECKING:
-    Process = subprocess.Popen[bytes]
-else:
-    # before Python 3.9 Popen takes no type
-    Process = subprocess.Popen
+Process = subprocess.Popen[bytes]
 
 # the signals that end a program, except those that no program sees, and those of its own errors
 NAMES = "HUP INT QUIT TERM ALRM VTALRM PROF USR1 USR2 XCPU PWR POLL STKFLT"

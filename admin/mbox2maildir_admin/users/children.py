@@ -26,8 +26,6 @@ from .homes import Migrant, Relay
 # how long a child may say nothing, and how long it has after a signal, in seconds
 SILENCE, GRACE = 900, 1
 UNREADABLE = Left("could not read what its process reported", Reason.PROCESS, task(Todo.LOOK_AT_MAILDIR))
-# for waitid; the module os has this name since Python 3.9
-STOPPED = getattr(os, "CLD_STOPPED", 5)
 # the modules that a child may need; those of the package load what else it may need of both
 NEEDED = (
     *("concurrent.futures.thread", "csv", "email.header", "email.utils", "encodings.utf_16", "encodings.utf_32"),
@@ -123,7 +121,7 @@ class UsersChild(Child):
         ended."""
         state = os.waitid(os.P_PID, self.pid, os.WEXITED | os.WSTOPPED | os.WNOHANG | os.WNOWAIT)
         now = time.monotonic()
-        if state and state.si_code == STOPPED:
+        if state and state.si_code == os.CLD_STOPPED:
             self.kill("its user stopped its process")
         elif state:
             # it is still in the table of processes, so that no other group can have its number
