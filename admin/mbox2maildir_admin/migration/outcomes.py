@@ -220,8 +220,8 @@ class Observer:
     then: Next = NOTHING
     notes: tuple[str, ...] = ()
 
-    def begin(self, count: int = 1) -> None:
-        """Notes that this many more have begun."""
+    def begin(self) -> None:
+        """Notes that one more has begun."""
 
     def progress(self, who: str, doing: str, place: Optional[int] = None, size: Optional[int] = None) -> None:
         """Takes how far one is: what is done with it and, if that is known, the place in a text and the size of that

@@ -94,9 +94,9 @@ class Reporter(Observer):
         # what programs read besides, or instead
         self.objects: "list[Objects]" = []
 
-    def begin(self, count: int = 1) -> None:
-        """Notes that this many more have begun."""
-        self.begun += count
+    def begin(self) -> None:
+        """Notes that one more has begun."""
+        self.begun += 1
 
     def progress(self, who: str, doing: str, place: Optional[int] = None, size: Optional[int] = None) -> None:
         """Says how far one is."""
