@@ -1,1 +1,1 @@
-"""Several mailboxes at once: how many, and the processes that migrate them."""
+"""Several tasks at once: how many, and the processes that do them."""

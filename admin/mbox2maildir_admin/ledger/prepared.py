@@ -211,7 +211,7 @@ class Prepared:
         # where each file was when it was verified, `new` or `cur`, with its info
         self.homes: list[Optional[bytes]] = []
         # what the last pass has read, and whether it was whole; whether a sync failed, and whether the folder was made
-        # for this or was done before; and in which batch it is finished
+        # for this; and in which batch it is finished
         self.origin: Optional[Origin] = None
         self.is_whole = self.has_failed = self.is_made = False
         self.batch: Optional[int] = None

@@ -1,1 +1,1 @@
-"""A Takeout of Gmail by its labels: its way into folders, its undo, and whether each message is there."""
+"""A Takeout of Gmail by its labels: its way into folders, and its undo."""
