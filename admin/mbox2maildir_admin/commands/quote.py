@@ -23,8 +23,8 @@ def do_quote(given: Given) -> int:
     if not given.output:
         raise WrongOptions("-o COPY is missing: the name of the copy, or - for standard output")
     decision, output = decision_of(given, True), os.fsencode(given.output)
-    has_numbers = bool(given.dovecot)
-    return Status.of(each(given.operands, lambda file: quote_file(decision, file, output, has_numbers), Complaints()))
+    is_bare = bool(given.dovecot)
+    return Status.of(each(given.operands, lambda file: quote_file(decision, file, output, is_bare), Complaints()))
 
 
 def quote_file(decision: Reading, file: bytes, output: bytes, is_bare: bool) -> bool:
