@@ -100,7 +100,7 @@ def run_all(
         several = Several(Migration(program, record, how), observer, home)
         # a first pass leaves nothing over
         leftovers = None if how.prepare else Leftovers(record, root, names, options)
-        plan = several.migrate_all(options.folder)
+        plan = several.migrate_all()
         for row in leftovers.rows(plan) if leftovers else ():
             observer.row(row)
         several.subscribe()
@@ -128,10 +128,10 @@ class Several:
         self.others: dict[bytes, list[bytes]] = {}
         self.trees: dict[bytes, Tree] = {}
 
-    def migrate_all(self, folder: Optional[str]) -> Sequence[Planned]:
-        """Migrates each mailbox; those that are files go into this folder. Returns which hold mail."""
-        how, record, plan = self.migration.how, self.migration.record, list(self.plan(folder))
-        if not folder:
+    def migrate_all(self) -> Sequence[Planned]:
+        """Migrates each mailbox; those that are files go into the folder that is asked for. Returns which hold mail."""
+        how, record, plan = self.migration.how, self.migration.record, list(self.plan())
+        if not how.folder:
             # the mailbox of a spool is its user's inbox, whatever its name is; an exported mailbox counts as its file
             files = [one for one in self.names if is_file(one) and (not self.own or is_below(one, how.home))]
             exports = [tree.export for tree in self.trees.values() if tree.export]
@@ -219,9 +219,10 @@ class Several:
         """Whether a name is that of a folder of mailboxes. A symbolic link is not one if none is followed."""
         return is_folder(name) and not (self.own and is_link(name))
 
-    def plan(self, folder: Optional[str]) -> Iterator[Planned]:
+    def plan(self) -> Iterator[Planned]:
         """The mailboxes in their order, with their folders. Reports the rows of what is not migrated."""
         names: dict[bytes, bytes] = {}
+        folder = self.migration.how.folder
         for name in self.names:
             names.setdefault(os.path.abspath(name), name)
         for name in names.values():
