@@ -59,11 +59,10 @@ class NotAsItIs(Left):
 
 
 class Way(NamedTuple):
-    """The way back out of a Maildir: the program, the Maildir and its record, the options, the mailboxes of its
+    """The way back out of a Maildir: the program, the record of the Maildir, the options, the mailboxes of its
     folders, who makes what is missing there, and who is told."""
 
     program: Program
-    root: bytes
     record: Record
     how: Options
     places: Places
@@ -73,12 +72,12 @@ class Way(NamedTuple):
     @property
     def disk(self) -> bytes:
         """A folder on the disk where copies are made."""
-        return disk_of(self.root, self.how.dry)
+        return disk_of(self.record.maildir, self.how.dry)
 
     def say_numbers(self, target: Target, mailbox: Mailbox) -> tuple[Numbering, Known]:
         """Has an open mailbox say which UIDs were given, before it gets mail: if that is interrupted, some are never
         given. Returns what it says from now on, and what is known of it."""
-        opened = Opened.into(self.root, target.folder, mailbox)
+        opened = Opened.into(self.record.maildir, target.folder, mailbox)
         ledger = Ledger(opened.folder, dry=self.how.dry)
         # the numbers of its folder, whatever the names of both are now
         is_numbered = self.record.has_numbered({*filter(is_gone, ledger.paths()), *names_of(mailbox.path)})
@@ -107,7 +106,7 @@ class Way(NamedTuple):
             if mailbox.state.st_uid != os.geteuid():
                 raise Left("it belongs to another user", Reason.OTHER_OWNER, task(Todo.AS_OWNER))
             if not dry:
-                stack.enter_context(self.keeper.locked(mailbox, os.path.realpath(self.root)))
+                stack.enter_context(self.keeper.locked(mailbox, os.path.realpath(self.record.maildir)))
                 mailbox.take_state()
             if not os.path.samestat(os.stat(path), mailbox.state):
                 raise Left(REPLACED, Reason.CHANGED)

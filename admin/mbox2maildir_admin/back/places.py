@@ -52,8 +52,8 @@ class Names(NamedTuple):
 class Places:
     """The mailboxes of the folders of a Maildir, among those at some paths."""
 
-    def __init__(self, root: bytes, record: Record, names: Names) -> None:
-        self.root, self.record, self.names = root, record, names
+    def __init__(self, record: Record, names: Names) -> None:
+        self.record, self.names, root = record, names, record.maildir
         trees = {name: Tree(name, root).read() for name in filter(is_folder, names.paths)}
         # in its own, Thunderbird alone knows where it would look for a new mailbox
         self.trees = [name for name, tree in trees.items() if not tree.profiles.found]
@@ -76,10 +76,10 @@ class Places:
         # the record does not know its path: a ledger may show that it is the file of a mailbox that is gone from
         # another path. It is not read for that, so a mailbox on another disk is not known
         inode = os.stat(name).st_ino
-        for place in folders_in(self.root):
+        for place in folders_in(self.record.maildir):
             sources = Ledger(place).sources.items()
             if any(source.inode == inode and is_gone(path) for path, source in sources):
-                return one._replace(folder=name_of(self.root, place))
+                return one._replace(folder=name_of(self.record.maildir, place))
         return one
 
     def name_of(self, path: bytes, folder: bytes) -> str:
@@ -91,7 +91,7 @@ class Places:
     def of(self, folder: bytes) -> list[bytes]:
         """The mailboxes of a folder, of which the first one that takes mail gets it; those that brought mail come
         first. Raises Left if there is none, and none can be made."""
-        paths = Ledger(folder_path(self.root, folder)).paths()
+        paths = Ledger(folder_path(self.record.maildir, folder)).paths()
         found = self.found.get(folder, [])
         there = sorted(filter(is_there, found), key=lambda one: not set(names_of(one)) & set(paths))
         if there:
@@ -120,7 +120,7 @@ class Places:
         if folder == INBOX and self.trees and os.path.relpath(path, self.trees[0]).startswith(b"../"):
             path = os.path.join(self.trees[0], b"inbox")
         path = next((path[: -len(end)] for end in COMPRESSED if path.endswith(end)), path)
-        return self.first_free(path + BESIDE, Ledger(folder_path(self.root, folder)).paths(), tried)
+        return self.first_free(path + BESIDE, Ledger(folder_path(self.record.maildir, folder)).paths(), tried)
 
     def first_free(self, path: bytes, paths: Sequence[str], tried: Sequence[bytes] = ()) -> bytes:
         """The first of the names for a new mailbox that is free, and was not tried."""

@@ -55,7 +55,7 @@ def bring_all(program: Program, root: bytes, names: Names, how: Options, keeper:
     """Does it by a program, whoever runs this, and whatever was migrated."""
     os.umask(0o077)
     with Record.open(root, not how.dry) as record:
-        return Folders(Way(program, root, record, how, Places(root, record, names), keeper, observer)).run()
+        return Folders(Way(program, record, how, Places(record, names), keeper, observer)).run()
 
 
 class Folders:
@@ -69,7 +69,7 @@ class Folders:
     def run(self) -> Next:
         """Brings back the mail of each folder, and tells its row. Returns what moves the Maildir aside, once all of its
         mail is back."""
-        root, observer = self.way.root, self.way.observer
+        root, observer = self.way.record.maildir, self.way.observer
         found = sorted_mail(root, observer.say(root))
         observer.rest(named(root))
         if not self.is_dry:
@@ -104,20 +104,20 @@ class Folders:
         that all is back, nothing may go back there any more, and nobody else would remove them."""
         noted = {unspelled(line.path) for line in self.way.record.lines()}
         paths = noted.union(*self.places.found.values())
-        self.way.keeper.drop_locks(sorted(paths), os.path.realpath(self.way.root))
+        self.way.keeper.drop_locks(sorted(paths), os.path.realpath(self.way.record.maildir))
 
     def folders(self, found: Sorted) -> Iterator[bytes]:
         """The folders with mail that goes back, or with a mailbox, and those about which something is to be said."""
         wanted = {*found.new, *found.moved, *found.changed, *found.deleted, *self.places.found}
-        for path in folders_in(self.way.root):
-            folder = name_of(self.way.root, path)
+        for path in folders_in(self.way.record.maildir):
+            folder = name_of(self.way.record.maildir, path)
             if folder in wanted or is_there(os.path.join(path, GOES_BACK)):
                 yield folder
 
     def target(self, found: Sorted, folder: bytes) -> Target:
         """The mail of a folder that goes back, wherever it goes to, and what is said of messages that people moved
         there."""
-        path = next(iter(self.places.found.get(folder, ())), folder_path(self.way.root, folder))
+        path = next(iter(self.places.found.get(folder, ())), folder_path(self.way.record.maildir, folder))
         remarks = list[Remark]()
         for other, count in collections.Counter(found.moved.get(folder, ())).items():
             remarks += Says.MOVED.of_any(count, folder_shown(other))
@@ -131,7 +131,7 @@ class Folders:
             return {}
         names = {path: set(names_of(path)) for path in paths}
         # in one that had another size when it was read last, nobody knows what it has now
-        sizes = {source.key[0] for source in Ledger(folder_path(self.way.root, folder)).sources.values()}
+        sizes = {source.key[0] for source in Ledger(folder_path(self.way.record.maildir, folder)).sources.values()}
         remarks: collections.defaultdict[bytes, Remarks] = collections.defaultdict(tuple)
         for says, slots in ((Says.DELETED, found.deleted), (Says.CHANGED, found.changed)):
             counts: collections.Counter[bytes] = collections.Counter()
@@ -154,7 +154,7 @@ class Folders:
                 return
             several = self.places.of(target.folder)
         except (Fault, OSError) as fault:
-            yield left(target._replace(path=folder_path(self.way.root, target.folder)), fault)
+            yield left(target._replace(path=folder_path(self.way.record.maildir, target.folder)), fault)
             return
         for path in several:
             found = self.brought(target._replace(path=path))
@@ -167,7 +167,7 @@ class Folders:
 
     def recovered(self, folder: bytes) -> Iterator[Row]:
         """Takes back what a killed run appended in part. The row of a mailbox in which a message stays cut."""
-        beside = None if self.is_dry else Beside.left_in(folder_path(self.way.root, folder))
+        beside = None if self.is_dry else Beside.left_in(folder_path(self.way.record.maildir, folder))
         if not beside:
             return
         try:

@@ -29,7 +29,7 @@ class Lists:
     the paths of their mailboxes."""
 
     def __init__(self, places: Places, would: Mapping[bytes, bytes]) -> None:
-        self.root, self.tree, self.places, self.would = places.root, places.trees[0], places, would
+        self.root, self.tree, self.places, self.would = places.record.maildir, places.trees[0], places, would
         self.old, self.has_tabs = names_in(os.path.join(self.tree, OLD_SUBSCRIPTIONS), b"/")
         self.new, _ = names_in(os.path.join(self.root, SUBSCRIPTIONS), b".")
 
@@ -108,7 +108,7 @@ def rows_of(places: Places, is_dry: bool, would: Mapping[bytes, bytes]) -> Itera
     folders would go back to the mailboxes at these paths."""
     path = os.path.join(places.trees[0], OLD_SUBSCRIPTIONS)
     try:
-        if not is_there(os.path.join(places.root, SUBSCRIPTIONS)):
+        if not is_there(os.path.join(places.record.maildir, SUBSCRIPTIONS)):
             return
         lists = Lists(places, would)
         names = lists.names()

@@ -425,17 +425,17 @@ class Leftovers:
     """The folders that were prepared before a run, and what becomes of those into which no mailbox of it went. What was
     prepared from a tree is that tree's if one of its folders is: it may have another path by now."""
 
-    def __init__(self, record: Record, root: bytes, names: Sequence[bytes], options: Options) -> None:
+    def __init__(self, record: Record, names: Sequence[bytes], options: Options) -> None:
         """Takes the names that a run migrates."""
-        self.record, self.root, self.options = record, root, options
+        self.record, self.root, self.options = record, record.maildir, options
         self.trees = [real_path(name) for name in names if is_folder(name)]
         self.listed: list[Listed] = []
-        for folder in folders_in(root):
+        for folder in folders_in(self.root):
             origin = origin_in(folder) if has_list(folder) else None
             if origin:
-                self.listed.append(Listed(name_of(root, folder), origin.path, origin.tree))
+                self.listed.append(Listed(name_of(self.root, folder), origin.path, origin.tree))
         # the first pass may have been killed before the record had it
-        record.has_prepared = record.has_prepared or any(map(has_list, folders_in(root)))
+        record.has_prepared = record.has_prepared or any(map(has_list, folders_in(self.root)))
 
     def rows(self, plan: Iterable[Planned]) -> Iterator[Row]:
         """The rows of these folders. Where the mailbox is gone, everything that was prepared is removed if no more than

@@ -99,7 +99,7 @@ def run_all(
         how = options._replace(extra=extra, is_spared=spared, names=names, home=home.path if home else b"")
         several = Several(Migration(program, record, how), observer, home)
         # a first pass leaves nothing over
-        leftovers = None if how.prepare else Leftovers(record, root, names, options)
+        leftovers = None if how.prepare else Leftovers(record, names, options)
         plan = several.migrate_all()
         for row in leftovers.rows(plan) if leftovers else ():
             observer.row(row)

@@ -27,7 +27,7 @@ def undo_takeout(root: bytes, path: bytes, options: Options, observer: Observer)
     root = real_place(root)
     refuse(root, [path], Options(options.dry, now=options.now, undo=True))
     with Record.open(root, not options.dry) as record:
-        for row in TakeoutUndo(root, record, options).rows(path, observer.say(path)):
+        for row in TakeoutUndo(record, options).rows(path, observer.say(path)):
             observer.total += 1
             observer.begin()
             observer.row(row._replace(is_part=bool(row.folder)))
@@ -36,8 +36,8 @@ def undo_takeout(root: bytes, path: bytes, options: Options, observer: Observer)
 class TakeoutUndo(Undo):
     """Undoes a Takeout, whose messages are the same for each folder."""
 
-    def __init__(self, root: bytes, record: Record, options: Options) -> None:
-        super().__init__(root, record, options)
+    def __init__(self, record: Record, options: Options) -> None:
+        super().__init__(record, options)
         # how often it has each core as it was read
         self.known: dict[Reading, collections.Counter[bytes]] = {}
 
@@ -68,9 +68,9 @@ class TakeoutUndo(Undo):
         for name in dict.fromkeys([*Noted.of(line).folders, *self.record.folders_with(paths)]):
             folder = self.record.name_now(name, path)
             last = self.record.last_of(folder, paths)
-            ledger = Ledger(folder_path(self.root, folder))
+            ledger = Ledger(folder_path(self.record.maildir, folder))
             if last or ledger.damage or paths & set(ledger.paths()):
-                yield Opened.into(self.root, folder, mailbox)
+                yield Opened.into(self.record.maildir, folder, mailbox)
 
     def cores_now(self, opened: Opened, ledger: Ledger, path: str) -> "collections.Counter[bytes]":
         """How often the Takeout has each core now, which is counted once."""

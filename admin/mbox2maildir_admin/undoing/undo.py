@@ -100,8 +100,8 @@ class Planned(NamedTuple):
 class Undo:
     """Undoes mailboxes of a Maildir."""
 
-    def __init__(self, root: bytes, record: Record, options: Options) -> None:
-        self.root, self.record, self.options = root, record, options
+    def __init__(self, record: Record, options: Options) -> None:
+        self.record, self.options = record, options
 
     def run(self, path: bytes, say: Say = silent) -> Row:
         """Undoes a mailbox, and returns its row. `say` takes the progress."""
@@ -118,7 +118,7 @@ class Undo:
                 name = names[0] if names else INBOX
             with open_mailbox(path, say=say, follow=True, quiet=not self.options.now) as mailbox:
                 size = mailbox.size
-                return self.undo(Opened.into(self.root, self.record.name_now(name, path), mailbox))
+                return self.undo(Opened.into(self.record.maildir, self.record.name_now(name, path), mailbox))
         except (Fault, OSError) as fault:
             return row_left(path, name, fault, None, size)
 
@@ -138,7 +138,7 @@ class Undo:
             raise Left(OLDER % named(unspelled(newer.path)), Reason.UNDO)
         plan = plan_of(ledger, path, self.cores_now(opened, ledger, path))
         # without lines of its files, the ledger is older than its folder: another mailbox may have what would go
-        names = without_line(self.root, opened.folder) if any(one.why is Why.REMOVED for one in plan) else ()
+        names = without_line(self.record.maildir, opened.folder) if any(one.why is Why.REMOVED for one in plan) else ()
         if names:
             raise Left(WITHOUT_LINE % counted(len(names), "message"), Reason.LEDGER)
         messages = count_in(ledger, path)
@@ -159,7 +159,7 @@ class Undo:
 
     def cores_now(self, opened: Opened, ledger: Ledger, path: str) -> Cores:
         """How often the mailbox has each core now, as it was read when it was migrated."""
-        words, disk = ledger.last_read(path).words, disk_of(self.root, self.options.dry)
+        words, disk = ledger.last_read(path).words, disk_of(self.record.maildir, self.options.dry)
         reading = Reading.of_words(words)
         extra = Dovecot(self.record) if reading.bare else Extra()
         # it still has what was marked as deleted since
@@ -200,8 +200,8 @@ def undo_own(root: bytes, path: bytes, options: Options, observer: Observer) -> 
     with Record.open(root, not options.dry) as record:
         observer.begin()
         say = functools.partial(observer.progress, named(path))
-        row = undo_prepared(root, record, path, folder_in(options), options.dry, say)
-        observer.row(row or Undo(root, record, options).run(path, say))
+        row = undo_prepared(record, path, folder_in(options), options.dry, say)
+        observer.row(row or Undo(record, options).run(path, say))
 
 
 def plan_of(ledger: Ledger, path: str, has: Cores) -> list[Planned]:
@@ -360,17 +360,15 @@ def alone_in(folder: bytes) -> Iterator[None]:
         os.close(number)
 
 
-def undo_prepared(
-    root: bytes, record: Record, path: bytes, folder: Optional[bytes], dry: bool, say: Say
-) -> Optional[Row]:
+def undo_prepared(record: Record, path: bytes, folder: Optional[bytes], dry: bool, say: Say) -> Optional[Row]:
     """Removes what was prepared from the mailbox of a path, which need not be there, or in a folder, and returns its
     row; None if nothing is prepared there, or a list that is there does not count."""
     try:
         name, names = folder, names_of(path) if folder is None else ()
-        for place in folders_in(root) if names else ():
+        for place in folders_in(record.maildir) if names else ():
             origin = Prepared.read(place).origin if has_list(place) else None
             if origin and origin.path in names:
-                name = name_of(root, place)
+                name = name_of(record.maildir, place)
                 break
         return None if name is None else remove_prepared(record, path, name, dry, say)
     except (Fault, OSError) as fault:
