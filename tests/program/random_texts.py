@@ -108,8 +108,8 @@ def check_read(modules: Readers, dice: random.Random, text: bytes, file: Path) -
         module.BLOCK, module.LONG = block, long
     _, mailbox_module, inventory_module = modules
     with mailbox_module.Mailbox.open(file) as source:
-        found = list(inventory_module.messages_of(source))
-        whole = inventory_module.Inventory.read(source, 0)
+        found = list(inventory_module.messages_of(source, 0))
+        whole = inventory_module.Inventory.read(source, 0, None)
         lines = list(whole.lines)
     digests = [(len(body), hashlib.sha256(body).digest()) for _, body in messages_of(io.BytesIO(text))]
     what = f"what the companion reads of {text!r} in blocks of {block}"

@@ -74,7 +74,7 @@ class Sorted(NamedTuple):
 class Sorting:
     """The labels of the messages of a Takeout."""
 
-    def __init__(self, headers: Iterable[bytes], choosing: Choosing, before: Container[bytes] = ()) -> None:
+    def __init__(self, headers: Iterable[bytes], choosing: Choosing, before: Container[bytes]) -> None:
         """Takes the headers of the messages, and the folders that have mail of them since an earlier run. Raises
         LabelsLeft if one has no labels, or if they cannot be read."""
         self.choosing = choosing

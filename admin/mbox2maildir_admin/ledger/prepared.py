@@ -23,7 +23,7 @@ from ..mbox.core import SHORT
 from ..mbox.inventory import NO_DATE, Inventory
 from ..remarks import SAYS, Remark
 from ..patterns import pattern
-from ..units import Say, silent
+from ..units import Say
 from .lines import CUT, FIRST_LINE, append, lines_in
 
 BEGUN = pattern(
@@ -304,7 +304,7 @@ class Prepared:
             if place is not None:
                 yield place, name, path
 
-    def look(self, say: Say = silent) -> None:
+    def look(self, say: Say) -> None:
         """Looks which files are there and are ours: those with the facts of the list, and others with the bytes of
         their bases."""
         self.files, self.edited, began = bytearray(len(self.table)), set(), time.monotonic()

@@ -87,7 +87,7 @@ def synced_once() -> Iterator[SyncNames]:
         sync_folder(folder)
 
 
-def make_maildir(folder: bytes, is_root: bool, sync: SyncNames = sync_folder) -> None:
+def make_maildir(folder: bytes, is_root: bool, sync: SyncNames) -> None:
     """Makes a Maildir, or a folder of one with its mark, if it is missing. Its names are on the disk then, if `sync`
     does that."""
     made = False

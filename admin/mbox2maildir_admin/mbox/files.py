@@ -55,7 +55,7 @@ def has_holes(number: int, size: int) -> bool:
     return holes > MOST_HOLES
 
 
-def open_plain(path: bytes, flags: int = 0) -> int:
+def open_plain(path: bytes, flags: int) -> int:
     """Opens a regular file for reading, and returns its descriptor. Raises Fault for anything else."""
     try:
         number = os.open(path, REGULAR | flags)

@@ -157,7 +157,7 @@ def messages_in(path: bytes, pieces: Iterable[Marked], with_cores: bool = False)
             yield begun.message()
 
 
-def messages_of(mailbox: Mailbox, start: Offset = Offset(0), is_bare: bool = False) -> Iterator[Message]:
+def messages_of(mailbox: Mailbox, start: Offset, is_bare: bool = False) -> Iterator[Message]:
     """The messages of a text that begins at an offset, or those of its bare text."""
     pieces = pieces_of(Reader(mailbox.number, start, mailbox.size).read, start)
     return messages_in(mailbox.path, ((piece, None) for piece in (bare_pieces(pieces) if is_bare else pieces)))
@@ -184,7 +184,7 @@ class Inventory:
         cls,
         mailbox: Mailbox,
         start: Offset,
-        listing: Optional[Listing] = None,
+        listing: Optional[Listing],
         with_cores: bool = True,
         pieces: Optional[Iterable[Marked]] = None,
     ) -> "Inventory":

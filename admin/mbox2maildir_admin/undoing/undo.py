@@ -43,7 +43,7 @@ from ..readings.reading import Reading, with_deleted
 from ..readings.texts import content_of, disk_of, text_then
 from ..remarks import Remark, Says
 from ..terminal import first_of, named
-from ..units import Say, counted, silent
+from ..units import Say, counted
 
 NOT_RECORDED = "no ledger has it, so nothing shows which files are its own"
 UNREADABLE = "it can no longer be read as it was read when it was migrated (%s)"
@@ -103,7 +103,7 @@ class Undo:
     def __init__(self, record: Record, options: Options) -> None:
         self.record, self.options = record, options
 
-    def run(self, path: bytes, say: Say = silent) -> Row:
+    def run(self, path: bytes, say: Say) -> Row:
         """Undoes a mailbox, and returns its row. `say` takes the progress."""
         folder, size = folder_in(self.options), None
         name = folder or b""
