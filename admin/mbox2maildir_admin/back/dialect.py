@@ -86,8 +86,8 @@ class Letter(NamedTuple):
 class Dialect(NamedTuple):
     """How a mailbox is written: by the word of its reading, and whether its lines end in CR LF."""
 
-    word: str = MBOXRD
-    crlf: bool = False
+    word: str
+    crlf: bool
 
     @classmethod
     def of_words(cls, words: str) -> Optional["Dialect"]:

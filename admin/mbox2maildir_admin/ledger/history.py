@@ -75,7 +75,7 @@ class Entry(NamedTuple):
     messages: int
     when: str
     path: str
-    plan: Optional[str] = None
+    plan: Optional[str]
     # the number of the ledger, how many bytes that had, and the last number of the mailbox in it
     ledger: str = ""
     size: int = 0

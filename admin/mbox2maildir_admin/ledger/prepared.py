@@ -153,7 +153,7 @@ class AsRead(NamedTuple):
     start: int
     messages: int
     kind: str
-    remarks: tuple[Remark, ...] = ()
+    remarks: tuple[Remark, ...]
 
     @classmethod
     def of(cls, found: re.Match[bytes]) -> "AsRead":

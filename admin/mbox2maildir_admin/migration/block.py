@@ -43,7 +43,7 @@ class Typed(NamedTuple):
 
     options: Sequence[str]
     operands: Sequence[bytes]
-    takes_users: bool = False
+    takes_users: bool
 
     def command(self, options: Iterable[str], users: Iterable[str] = ()) -> Command:
         """The same command with more options, for some users."""

@@ -31,7 +31,7 @@ class UserHome(NamedTuple):
 
     path: bytes
     has_inbox: bool
-    sync_one: Optional[SyncOne] = None
+    sync_one: Optional[SyncOne]
 
 
 class Planned(NamedTuple):

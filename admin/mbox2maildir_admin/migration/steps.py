@@ -22,7 +22,7 @@ from ..mbox.bases import BASE
 from ..mbox.fields import Header
 from ..mbox.inventory import Inventory
 from ..mbox.mailbox import Mailbox
-from ..readings.reading import PLAIN, Reading
+from ..readings.reading import Reading
 from ..readings.texts import Choice, Text
 from ..remarks import Remark, Says
 from ..terminal import first_of, named
@@ -35,7 +35,7 @@ class Contents(NamedTuple):
 
     text: Text
     inventory: Inventory
-    reading: Reading = PLAIN
+    reading: Reading
 
     @property
     def full(self) -> Text:

@@ -24,8 +24,8 @@ class Whose(NamedTuple):
 
     name: str
     user: str
-    mailboxes: Mapping[bytes, bytes] = {}
-    is_back: bool = False
+    mailboxes: Mapping[bytes, bytes]
+    is_back: bool
 
 
 def fields_of(row: Row) -> dict[str, Any]:

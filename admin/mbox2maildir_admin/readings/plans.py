@@ -33,8 +33,8 @@ class Plan(NamedTuple):
 
     kind: str
     messages: int
-    start: Offset = Offset(0)
-    reading: Reading = PLAIN
+    start: Offset
+    reading: Reading
     is_copied: bool = False
     # what is to be said of the mailbox
     remarks: tuple[Remark, ...] = ()

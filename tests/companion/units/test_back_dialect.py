@@ -51,10 +51,10 @@ PARTS = [
 GAPS = [(b"", b""), (b"x\n\n", b""), (b"\n\r\n", b""), (b"yx\n", b"\n"), (b"xyz", b"\n\n")]
 # the dialects of readings, by the words of these
 READINGS: list[tuple[str, Optional[Dialect]]] = [
-    ("mboxrd", Dialect("mboxrd")),
+    ("mboxrd", Dialect("mboxrd", False)),
     ("mboxo crlf", Dialect("mboxo", True)),
-    ("mboxcl2 dropped=2 drop-deleted", Dialect("mboxcl2")),
-    ("mboxrd dovecot", Dialect("mboxrd")),
+    ("mboxcl2 dropped=2 drop-deleted", Dialect("mboxcl2", False)),
+    ("mboxrd dovecot", Dialect("mboxrd", False)),
     *((words, None) for words in ("unquoted", "mboxrd text=7", "mboxrd begin=7", "mboxrd cr", "mboxcl2 start=3")),
     *((words, None) for words in ("mboxrd labels=Sent", "?unclear")),
 ]
@@ -68,14 +68,14 @@ class DialectTest(unittest.TestCase):
 
     def test_the_sender(self) -> None:
         for field, wanted in SENDERS:
-            text = Dialect().spelled(Letter(b"A: b\n" + field + b"\nReturn-Path: <body@x>\n"))
+            text = Dialect("mboxrd", False).spelled(Letter(b"A: b\n" + field + b"\nReturn-Path: <body@x>\n"))
             self.assertEqual(text.split(b" ")[1], wanted, field)
 
     def test_parts_and_gaps(self) -> None:
         for text, parts in PARTS:
             self.assertEqual(parted(text), parts)
         for end, gap in GAPS:
-            self.assertEqual(Dialect().gaps_after(end), (gap,))
+            self.assertEqual(Dialect("mboxrd", False).gaps_after(end), (gap,))
         self.assertEqual(Dialect("mboxrd", True).gaps_after(b"x\r\n"), (b"\r\n",))
 
     def test_readings(self) -> None:

@@ -78,7 +78,7 @@ ROWS: tuple[tuple[Callable[[bytes], object], Any, bytes], ...] = (
     (Entry.parse, PLAIN._replace(what=Note.ANSWERED), b"answered\t" + NOTED + b"\tmboxo text=7,9"),
     (Entry.parse, PLAIN._replace(what=Note.NO_MAIL, plan=None), b"no-mail\t" + NOTED),
     (origin_of, ORIGIN, BEGAN),
-    (as_read_of, AsRead(3, 2, "mboxrd or mboxo"), b"&\t3\t2\tmboxrd or mboxo"),
+    (as_read_of, AsRead(3, 2, "mboxrd or mboxo", ()), b"&\t3\t2\tmboxrd or mboxo"),
     (
         as_read_of,
         AsRead(0, 2, "mboxrd", REMARKS),
