@@ -145,7 +145,7 @@ class Places:
 class Keeper:
     """Who makes what is missing at the place of a mailbox: here, this process, with its own rights."""
 
-    def locked(self, mailbox: Mailbox, owner: bytes) -> "AbstractContextManager[None]":
+    def locked(self, mailbox: Mailbox, owner: bytes) -> AbstractContextManager[None]:
         """Holds FILE.lock for an open mailbox. `owner` is the Maildir whose mail goes back. Raises Left if another
         program has it."""
         return lock_file_of(mailbox, owner)

@@ -75,7 +75,7 @@ class Command:
             sys.exit(0)
         return given
 
-    def take(self, word: str, rest: "collections.deque[str]", given: Given) -> list[str]:
+    def take(self, word: str, rest: collections.deque[str], given: Given) -> list[str]:
         """Takes an option with its value, which may be the next word, and returns its words. It is an error if there is
         none of this name. After one that needs no value, a word that is none of its values is an operand."""
         name, sign, value = word.partition("=")

@@ -105,7 +105,7 @@ class Choice(NamedTuple):
     # the messages of the text itself, if they were read when it was looked at
     known: Optional[Inventory] = None
 
-    def text(self, folder: bytes) -> "contextlib.AbstractContextManager[Text]":
+    def text(self, folder: bytes) -> contextlib.AbstractContextManager[Text]:
         """The text itself. A copy is made on the disk of a folder."""
         plan = self.plan
         reading = plan.reading if plan.is_copied else PLAIN._replace(bare=plan.reading.bare)
@@ -200,7 +200,7 @@ def form_of(mailbox: Mailbox) -> Optional[Form]:
     return other.form if other else None
 
 
-def content_of(mailbox: Mailbox, folder: bytes) -> "contextlib.AbstractContextManager[Mailbox]":
+def content_of(mailbox: Mailbox, folder: bytes) -> contextlib.AbstractContextManager[Mailbox]:
     """The text that a mailbox is, or that it holds, which is unpacked on the disk of a folder. Raises Fault if it is
     packed and not complete."""
     form = form_of(mailbox)

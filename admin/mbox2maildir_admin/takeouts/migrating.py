@@ -72,7 +72,7 @@ class Takeout:
     sorted: Sorted
 
     @functools.cached_property
-    def cores(self) -> "collections.Counter[bytes]":
+    def cores(self) -> collections.Counter[bytes]:
         """How often each core is among its messages."""
         return cores_of(self.inventory)
 

@@ -72,7 +72,7 @@ class TakeoutUndo(Undo):
             if last or ledger.damage or paths & set(ledger.paths()):
                 yield Opened.into(self.record.maildir, folder, mailbox)
 
-    def cores_now(self, opened: Opened, ledger: Ledger, path: str) -> "collections.Counter[bytes]":
+    def cores_now(self, opened: Opened, ledger: Ledger, path: str) -> collections.Counter[bytes]:
         """How often the Takeout has each core now, which is counted once."""
         reading = Reading.of_words(ledger.last_read(path).words).of_text
         if reading not in self.known:

@@ -75,13 +75,13 @@ def migrate_users(spool: Spool, reporter: Observer) -> None:
             children.wait()
 
 
-def unpacked(waiting: "collections.deque[bytes]") -> Iterator[Found]:
+def unpacked(waiting: collections.deque[bytes]) -> Iterator[Found]:
     """The users who wait, each once its turn has come."""
     while waiting:
         yield Found.unpacked(waiting.popleft())
 
 
-def users_of(spool: Spool, reporter: Observer, is_by_size: bool) -> "tuple[collections.deque[bytes], list[Found]]":
+def users_of(spool: Spool, reporter: Observer, is_by_size: bool) -> tuple[collections.deque[bytes], list[Found]]:
     """The users whose mailboxes are migrated: those that were asked for, otherwise those of the spool, and all users if
     homes have a folder of mailboxes; and further mailboxes of theirs. Says which names are left."""
     listed = frozenset(os.listdir(spool.path))
