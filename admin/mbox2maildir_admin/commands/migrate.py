@@ -54,9 +54,9 @@ def task_of(given: Given) -> Telling:
 
     def task(reporter: Reporter) -> None:
         if given.users:
-            from ..users.spool import migrate_users
+            from ..users.spool import for_users
 
-            migrate_users(spool_of(given, options), reporter)
+            for_users(spool_of(given, options), reporter)
         elif given.undo:
             undo(target, names[0], options, reporter)
         elif not leave_unquoted(given.operands, options, reporter):

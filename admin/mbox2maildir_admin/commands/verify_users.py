@@ -10,8 +10,8 @@ from ..migration.places import Pairs, Planned, recorded
 from ..migration.options import Options
 from ..migration.trees import Tree, link_left
 from ..nexts import Runs
-from ..users.homes import Migrant, Relay
-from ..users.spool import migrate_users
+from ..users.homes import UserWork, Relay
+from ..users.spool import for_users
 from .files import for_planned
 from .options import Given, jobs_in
 from .running import Telling, spool_of
@@ -21,10 +21,10 @@ from .verify import verify_file
 def verifying_users(given: Given) -> Telling:
     """What compares the mailboxes of users with their Maildirs."""
     spool = spool_of(given, Options(jobs=jobs_in(given)))
-    return functools.partial(migrate_users, spool._replace(kind=Verifier))
+    return functools.partial(for_users, spool._replace(kind=Verifier))
 
 
-class Verifier(Migrant):
+class Verifier(UserWork):
     """A user whose mailboxes are compared with the Maildir in the home."""
 
     command = Runs.VERIFY

@@ -21,7 +21,7 @@ from ..patterns import compile_all
 from ..signals import ENDING, INTERRUPTS
 from ..terminal import named, shown
 from .clerks import SYNC, Disks
-from .homes import Migrant, Relay
+from .homes import UserWork, Relay
 
 # how long a child may say nothing, and how long it has after a signal, in seconds
 SILENCE, GRACE = 900, 1
@@ -87,9 +87,9 @@ def joining() -> Callable[[], object]:
 class UsersChild(Child):
     """A child as root sees it: what it tells is only printed, and never trusted."""
 
-    def __init__(self, migrant: Migrant) -> None:
+    def __init__(self, user_work: UserWork) -> None:
         super().__init__()
-        self.whose, self.account, self.clerk = migrant.whose(), migrant.account, migrant.clerk()
+        self.whose, self.account, self.clerk = user_work.whose(), user_work.account, user_work.clerk()
         # a system may read much to find them, and each child would do that anew
         self.groups = os.getgrouplist(os.fsdecode(self.account.name), self.account.gid)
         # how many rows came, how often it told what is next, and how many rows it says it told: -1 before it ends
@@ -151,10 +151,10 @@ class Children(Crew):
             self.reporter = Observer()
         super().__exit__(kind, *rest)
 
-    def add(self, migrant: Migrant) -> None:
+    def add(self, user_work: UserWork) -> None:
         """Starts the child of a user, once fewer than as many as allowed are at work."""
         self.wait(self.jobs - 1)
-        self.start(UsersChild(migrant), migrant.work)
+        self.start(UsersChild(user_work), user_work.work)
 
     def wait(self, most: int = 0) -> None:
         """Waits until no more than this many are at work."""

@@ -19,15 +19,15 @@ from ..migration.outcomes import Fate, Observer
 from ..migration.trees import Tree
 from ..nexts import Runs
 from .clerks import MAKE, RELEASE, TAKE, InboxClerk, Inboxes
-from .homes import Migrant, Relay, Spool, is_recorded
-from .spool import migrate_users
+from .homes import UserWork, Relay, Spool, is_recorded
+from .spool import for_users
 
 
 # what is said of the mail of an inbox whose mailbox root has left
 NO_INBOX = "the mailbox of the spool is left"
 
 
-class Returner(Migrant):
+class Returner(UserWork):
     """A user whose mail goes back."""
 
     command, is_back = Runs.BACK, True
@@ -132,6 +132,6 @@ def back_users(spool: Spool, observer: Observer) -> None:
         if not spool.options.dry:
             with naming(spool.path):
                 spool = spool._replace(inboxes=stack.enter_context(contextlib.closing(Inboxes(spool.path))))
-        migrate_users(spool._replace(kind=Returner), observer)
+        for_users(spool._replace(kind=Returner), observer)
         # users end in any order
         observer.then = tuple(sorted(observer.then, key=str))

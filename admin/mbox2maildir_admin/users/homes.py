@@ -54,10 +54,10 @@ class Found(NamedTuple):
         return cls(name, Account(*account), *rest)
 
 
-class Migrant:
-    """A user whose mailboxes are migrated: the one in the spool, if there is one, with the files beside it that may be
-    copies of it, and those in the home. Root may have left what the spool has. If there is a reason why not, the
-    mailbox only goes on if the record has it."""
+class UserWork:
+    """What a command does for one user. It is to migrate mailboxes: the one in the spool, if there is one, with the
+    files beside it that may be copies of it, and those in the home. Root may have left what the spool has. If there is
+    a reason why not, the mailbox only goes on if the record has it."""
 
     # the command that does this, and whether mail is on the way back: then each home is looked at, even if the spool
     # has nothing of its user
@@ -165,7 +165,7 @@ class Spool(NamedTuple):
     tree: bytes
     options: Options
     asked: Optional[Mapping[bytes, str]] = None
-    kind: type[Migrant] = Migrant
+    kind: type[UserWork] = UserWork
     # the path of mbox2maildir
     program: bytes = b""
     # where Dovecot looks for mail, if that was asked for

@@ -52,9 +52,9 @@ def asked_for(names: Sequence[bytes], path: Optional[bytes]) -> Optional[Sources
     return asked
 
 
-def migrate_users(spool: Spool, reporter: Observer) -> None:
-    """Migrates the mailboxes of a spool, and a folder of mailboxes of each home, user by user; or does something else
-    with them."""
+def for_users(spool: Spool, reporter: Observer) -> None:
+    """Does the work of a command on the mailboxes of a spool, and on a folder of mailboxes of each home, user by
+    user."""
     options = spool.options
     spool = spool._replace(path=os.path.abspath(spool.path), program=os.path.abspath(find_program()))
     if options.prepare:
