@@ -20,7 +20,7 @@ from tests.support.archives import texts_of
 from tests.support.homes import mail_below
 from tests.support.running import Row
 from tests.support.splitter import WORDS, is_from, split
-from tests.worlds.letters import INTERNAL, content, id_of, without
+from tests.worlds.letters import INTERNAL, OF_PROGRAMS, content, id_of, without
 
 Counts = typing.Counter[bytes]
 INBOX = "INBOX"
@@ -131,15 +131,16 @@ class Shelf:
         self.taken.clear()
         self.seen, self.left = now, now.copy()
 
-    def undoes(self, now: Counts, mailboxes: Sequence[int], is_over: bool) -> typing.Counter[str]:
+    def undoes(self, now: Counts, mailboxes: Sequence[int], is_over: bool, apart: Counts) -> typing.Counter[str]:
         """Mailboxes are undone. Returns how much of others went away, and how much of these is still there when it is
-        over. What only these had, and people had taken away, may come again then."""
+        over, besides what lies apart. What only these had, and people had taken away, may come again then."""
         others = union([self.foreign, *(its for mailbox, its in self.sure.items() if mailbox not in mailboxes)])
         told = Counter(gone=sum(((self.seen & others) - now - self.edited - self.unkept).values()))
         if is_over:
             mine = union(self.had.pop(mailbox, Counter()) for mailbox in mailboxes)
             self.sure = {mailbox: its for mailbox, its in self.sure.items() if mailbox not in mailboxes}
-            kept = (now & mine) - union([self.foreign, self.most])
+            apart = self.foreign & apart
+            kept = ((now - apart) & mine) - union([self.foreign - apart, self.most])
             told["kept"] = sum(kept.values())
             self.foreign += kept
             self.taken &= union(self.sure.values())
@@ -199,6 +200,23 @@ class Oracle:
                 here[name][content(mail)] += 1
                 ids[id_of(mail)] += 1
         return here, ids
+
+    def apart(self) -> dict[str, Counts]:
+        """How often each folder has a message in files of other programs that stand for none of a mailbox: runs have
+        placed it too, and each time in another form, as with other quotes before `From `."""
+        placed: collections.defaultdict[tuple[str, bytes], set[bytes]] = collections.defaultdict(set)
+        others: list[tuple[str, bytes, bytes]] = []
+        for name, path, mail in self.mail():
+            what, form = content(mail), without(mail, OF_PROGRAMS)
+            if CONVERTED.match(path.name):
+                placed[name, what].add(form)
+            else:
+                others.append((name, what, form))
+        found: collections.defaultdict[str, Counts] = collections.defaultdict(Counter)
+        for name, what, form in others:
+            forms = placed[name, what]
+            found[name][what] += bool(forms) and form not in forms
+        return found
 
     def look(self) -> None:
         """People have changed what is there."""
@@ -274,9 +292,11 @@ class Oracle:
         """Mailboxes are undone. When that is over, a row says what is kept: also as nobody's, if another program may
         have renamed what killed runs had placed."""
         here, ids = self.counts()
+        apart = self.apart()
         told: typing.Counter[str] = Counter()
         for name in {*here, *self.shelves}:
-            told += self.shelves[name].undoes(here.get(name, Counter()), mailboxes, row is not None)
+            now = here.get(name, Counter())
+            told += self.shelves[name].undoes(now, mailboxes, row is not None, apart.get(name, Counter()))
         if told["gone"]:
             yield f"{told['gone']} removed that others have"
         remarks = row["remarks"] if row else []
@@ -284,7 +304,7 @@ class Oracle:
         said = " ".join(one["says"] for one in remarks if one["remark"] in words)
         if told["kept"] > sum(map(int, re.findall(r"\d+", said))):
             yield f"{told['kept']} still there of what was undone, unsaid"
-        self.all.undoes(ids, mailboxes, row is not None)
+        self.all.undoes(ids, mailboxes, row is not None, Counter())
         if row:
             self.owed.clear()
 
