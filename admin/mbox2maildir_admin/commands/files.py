@@ -135,7 +135,7 @@ def of_folder(folder: bytes, maildir: bytes, path: bytes, record: History) -> It
     except FileNotFoundError as fault:
         if not type_at(path) or is_folder(os.path.join(folder, b"new")):
             raise
-        is_bare = any(Reading.of_words(line.plan).bare for line in record.lines())
+        is_bare = any(Reading.of_words(line.words).bare for line in record.lines())
         then = run_next(Runs.MIGRATE, *["--dovecot"] * is_bare, operand(maildir), operand(path))
         raise Fault("it was not migrated: %s is no Maildir" % named(folder), Reason.NO_MAILDIR, then) from fault
 
@@ -169,7 +169,7 @@ def reading_then(folder: bytes, mailbox: Mailbox) -> Reading:
     """How a mailbox was read when it was converted into a folder of a Maildir; nothing is decided unless the record has
     the mailbox as done."""
     lines = record_of(folder).lines_of(mailbox)
-    return Reading.of_words(next((one.plan for one in reversed(lines) if one.what is Step.DONE), None))
+    return Reading.of_words(next((one.words for one in reversed(lines) if one.what is Step.DONE), None))
 
 
 def record_of(folder: bytes) -> History:

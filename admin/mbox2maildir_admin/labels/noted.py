@@ -31,7 +31,7 @@ class Noted(NamedTuple):
         """Reads the words of a line; without one, nothing was noted."""
         from urllib.parse import unquote_to_bytes
 
-        pairs = [word.partition("=")[::2] for word in (line.plan or "" if line else "").split(" ")]
+        pairs = [word.partition("=")[::2] for word in (line.words or "" if line else "").split(" ")]
         given = tuple((os.fsdecode(unquote_to_bytes(label)), gives) for gives, label in pairs if gives in GIVES)
         folders = tuple(unquote_to_bytes(name) for what, name in pairs if what == "in")
         return cls(Choosing(dict(pairs).get("word", ""), given), folders)
@@ -47,7 +47,7 @@ def quoted(name: bytes) -> str:
 def line_of(record: History, mailbox: Mailbox) -> Optional[Entry]:
     """The line about an open mailbox, which may have been moved, that names the folders of its labels; None if it went
     into none."""
-    lines = {path: line for path, line in record.labelled().items() if line.plan != NOTHING}
+    lines = {path: line for path, line in record.labelled().items() if line.words != NOTHING}
     here = (lines[name] for name in (names_of(mailbox.path) if lines else ()) if name in lines)
     gone = (one for one in lines.values() if one.key.size == mailbox.size and one.key[1:] == mailbox.key())
     return next(itertools.chain(here, (one for one in gone if is_gone(one.path))), None)
@@ -57,7 +57,7 @@ def note(record: Record, mailbox: Mailbox, noted: Noted, messages: int) -> None:
     """Notes what goes into which folders, unless that is the last that was noted."""
     before, key = line_of(record, mailbox), Key(INBOX, *mailbox.key())
     is_here = before is not None and before.path in names_of(mailbox.path)
-    if not is_here or before is None or (before.key, before.plan) != (key, noted.words()):
+    if not is_here or before is None or (before.key, before.words) != (key, noted.words()):
         record.add(Note.LABELS, key, messages, mailbox.path, noted.words())
     if before and not is_here:
         note_nothing(record, before)

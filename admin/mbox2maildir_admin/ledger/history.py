@@ -75,7 +75,7 @@ class Entry(NamedTuple):
     messages: int
     when: str
     path: str
-    plan: Optional[str]
+    words: Optional[str]
     # the number of the ledger, how many bytes that had, and the last number of the mailbox in it
     ledger: str = ""
     size: int = 0
@@ -88,14 +88,14 @@ class Entry(NamedTuple):
         what = BY_WORD.get(found.group(1).decode()) if found else None
         if not found or not what:
             return None
-        folder, size, digest, messages, when, path, plan, ledger, length, number = found.groups()[1:]
+        folder, size, digest, messages, when, path, words, ledger, length, number = found.groups()[1:]
         return cls(
             what,
             Key(folder, Size(int(size)), digest.decode()),
             int(messages),
             when.decode(),
             path.decode("utf-8", "replace"),
-            plan.decode() if plan else None,
+            words.decode() if words else None,
             ledger.decode() if ledger else "",
             int(length or 0),
             int(number or 0),
@@ -104,14 +104,14 @@ class Entry(NamedTuple):
     def line(self) -> bytes:
         """The line as bytes."""
         folder, size, digest = self.key
-        words = [self.what.value, shown(folder), str(size), digest, str(self.messages), self.when, self.path]
-        words += [] if self.plan is None else [self.plan]
-        words += ["%s-%d-%d" % (self.ledger, self.size, self.number)] if self.ledger else []
-        return "\t".join(words).encode() + b"\n"
+        fields = [self.what.value, shown(folder), str(size), digest, str(self.messages), self.when, self.path]
+        fields += [] if self.words is None else [self.words]
+        fields += ["%s-%d-%d" % (self.ledger, self.size, self.number)] if self.ledger else []
+        return "\t".join(fields).encode() + b"\n"
 
     def says(self) -> tuple[object, ...]:
         """What it says of a mailbox, whenever it was written."""
-        return self.what, self.key, self.messages, self.path, self.plan, self.ledger, self.number
+        return self.what, self.key, self.messages, self.path, self.words, self.ledger, self.number
 
 
 class History:

@@ -195,9 +195,9 @@ class Record(History):
             self._gone[place] = [line for line in lines if is_gone(line.path)]
         return self._gone[place]
 
-    def add(self, what: What, key: Key, messages: int, path: bytes, plan: Optional[str] = None) -> None:
+    def add(self, what: What, key: Key, messages: int, path: bytes, words: Optional[str] = None) -> None:
         """Appends a line, which is on the disk when this returns."""
-        self.add_entry(Entry(what, key, messages, time.strftime(TIME, time.gmtime()), spelled(path), plan))
+        self.add_entry(Entry(what, key, messages, time.strftime(TIME, time.gmtime()), spelled(path), words))
 
     def look(self) -> None:
         """Looks which folders have which ledgers."""

@@ -48,7 +48,7 @@ def note_answer(record: Record, opened: Opened, plan: Plan) -> None:
     anyhow."""
     name, mailbox = opened.name, opened.mailbox
     before = record.noting(Note.ANSWERED, name, mailbox.path)
-    last = Reading.of_words(before[-1].plan) if before else UNDECIDED
+    last = Reading.of_words(before[-1].words) if before else UNDECIDED
     # an answer for several mailboxes that says the same takes nothing away
     if plan.answer and plan.answer not in (last, last._replace(alone=False)):
         record.add(Note.ANSWERED, Key(name, *mailbox.key()), plan.messages, mailbox.path, plan.answer.words())
@@ -65,7 +65,7 @@ def noted_last(record: Record, opened: Opened, given: Reading) -> Optional[Readi
     """What was decided last about a mailbox, with its lines by their order among those that were doubtful. Beside what
     is given now for several mailboxes, it counts if it was decided about this one, and otherwise."""
     several = answers_for(record, opened)
-    last = Reading.of_words(several[-1].plan) if several else UNDECIDED
+    last = Reading.of_words(several[-1].words) if several else UNDECIDED
     is_other = last.alone and last._replace(of=given.of, alone=False) != given
     return last if last != UNDECIDED and (given == UNDECIDED or not given.alone and is_other) else None
 
@@ -75,7 +75,7 @@ def answer_to(record: Record, opened: Opened, question: Question) -> Optional[Re
     tie = question.tied(UNDECIDED).of
     lines = {Line(number): line for number, line in enumerate(question.doubtful, 1)}
     for entry in reversed(answers_for(record, opened)):
-        answer = Reading.of_words(entry.plan)
+        answer = Reading.of_words(entry.words)
         names = answer.text | answer.begin
         is_whole = answer._replace(alone=True) == answer.decided and (answer.word or answer.drop and not names)
         if is_whole and answer.of == tie and names <= set(lines):
@@ -122,7 +122,7 @@ def contradicted(how: Options, opened: Opened, line: Entry) -> tuple[list[Remark
     command that undoes it."""
     if not contradicts(how, opened, line):
         return [], NOTHING
-    its = Reading.of_words(line.plan).of_text.words(), " ".join(how.decision.options())
+    its = Reading.of_words(line.words).of_text.words(), " ".join(how.decision.options())
     # a word for several mailboxes is about those that are not done
     then = (Answer(how.undo_command(opened), Does.UNDO),) if how.decision.alone else NOTHING
     return [Says.CONTRADICTED.of(*its)], then
@@ -135,7 +135,7 @@ def contradicts(how: Options, opened: Opened, line: Entry) -> bool:
     by = disk_of(opened.root, how.dry), how.extra.start_of
     try:
         with choice_of(opened.mailbox, by[0], decision=how.decision) as choice:
-            then, now = Reading.of_words(line.plan)._replace(bare=False), choice.plan.reading
+            then, now = Reading.of_words(line.words)._replace(bare=False), choice.plan.reading
             if then.of_text == now.of_text:
                 return False
             with text_then(choice.mailbox, then, *by) as was, text_then(choice.mailbox, now, *by) as is_now:

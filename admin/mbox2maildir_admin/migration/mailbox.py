@@ -229,10 +229,10 @@ class Transfer:
         """The row of a mailbox that is done by its bytes. A line may be about other messages of a Takeout."""
         self.known.take_place_by_bytes()
         line = self.known.done()
-        if not line or self.part and Reading.of_words(line.plan).part != self.part.choice.plan.reading.part:
+        if not line or self.part and Reading.of_words(line.words).part != self.part.choice.plan.reading.part:
             return None
         more, then = ([], NOTHING) if self.how.prepare else contradicted(self.how, self.opened, line)
-        return self.row_before(line.plan, line.messages, more)._replace(next=then)
+        return self.row_before(line.words, line.messages, more)._replace(next=then)
 
     def is_wanted(self) -> bool:
         """Whether anything is done with it. A first pass does nothing with one that is empty, where another one has
@@ -246,7 +246,7 @@ class Transfer:
         return True
 
     def row_before(self, words: Optional[str], messages: Optional[int], more: Sequence[Remark]) -> Row:
-        """The row of a mailbox of so many messages that was done before by the words of a plan; what else is said."""
+        """The row of a mailbox of so many messages that was done before by the words of a reading; what else is said."""
         mailbox, name = self.opened.mailbox, self.opened.name
         has_no_uids = self.how.dovecot and mailbox.size > 0 and not self.record.numbered(name)
         dropped = Says.DELETED_LEFT_OUT.of_any(Reading.of_words(words).dropped)

@@ -188,7 +188,7 @@ def as_inbox(one: Planned) -> Planned:
 def into_inbox(one: Planned, folder: bytes, how: Options, record: Record) -> Next:
     """The command that puts one of several Inboxes, which has this folder, into INBOX instead, as it was answered."""
     noted = record.noting(Note.ANSWERED, folder, one.path)
-    answer = Reading.of_words(noted[-1].plan).decided if noted else UNDECIDED
+    answer = Reading.of_words(noted[-1].words).decided if noted else UNDECIDED
     # the record does not have the numbers of lines, about which a human is asked again
     decision = UNDECIDED if answer.text or answer.begin else answer
     options, paths = how.of_next()._replace(decision=decision), [operand(record.maildir), operand(one.path)]

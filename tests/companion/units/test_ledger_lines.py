@@ -76,7 +76,7 @@ ROWS: tuple[tuple[Callable[[bytes], object], Any, bytes], ...] = (
     (head_of, TEXT._replace(times=(), inode=0), BEGINS.replace(b"7,8,-9", b"").replace(b"c-5", b"c")),
     (Entry.parse, STEP, DONE),
     (Entry.parse, PLAIN._replace(what=Note.ANSWERED), b"answered\t" + NOTED + b"\tmboxo text=7,9"),
-    (Entry.parse, PLAIN._replace(what=Note.NO_MAIL, plan=None), b"no-mail\t" + NOTED),
+    (Entry.parse, PLAIN._replace(what=Note.NO_MAIL, words=None), b"no-mail\t" + NOTED),
     (origin_of, ORIGIN, BEGAN),
     (as_read_of, AsRead(3, 2, "mboxrd or mboxo", ()), b"&\t3\t2\tmboxrd or mboxo"),
     (
