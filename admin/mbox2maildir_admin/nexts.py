@@ -167,8 +167,8 @@ class Todo:
 DOES, TODOS = by_word(Does), by_word(Todo)
 
 
-class Part(NamedTuple):
-    """A part of a command: which one of the table it is, and the names in it."""
+class Single(NamedTuple):
+    """A single command: which one of the table it is, and the names in it."""
 
     template: Template
     names: tuple[str, ...] = ()
@@ -180,7 +180,7 @@ class Part(NamedTuple):
         return () if PLACES.search(text) else (*text.split(" "), *self.names)
 
     def line(self) -> str:
-        """The part as a shell reads it. Raises KeyError if it lacks a name."""
+        """It as a shell reads it. Raises KeyError if it lacks a name."""
         if self.words:
             return line_of(self.words)
         stands = {"{copy}": COPY, "{all}": line_of(self.names), "{rest}": line_of(self.names[1:])}
@@ -189,34 +189,34 @@ class Part(NamedTuple):
 
 
 class Command(NamedTuple):
-    """A command: its parts, of which each runs once the one before it has done its work; and whose rights it needs."""
+    """A command: its singles, of which each runs once the one before it has done its work; and whose rights it needs."""
 
-    parts: tuple[Part, ...]
+    singles: tuple[Single, ...]
     user: User = None
 
     @classmethod
     def of(cls, template: Template, *names: str, user: User = None) -> "Command":
-        """The command of one part."""
-        return cls((Part(template, names),), user)
+        """The command of a single."""
+        return cls((Single(template, names),), user)
 
     def names_for(self, template: Template) -> Sequence[str]:
-        """Its names, if it has only one part, which is this one of the table; otherwise none."""
-        return self.parts[0].names if [one.template for one in self.parts] == [template] else ()
+        """Its names, if it is only a single, this one of the table; otherwise none."""
+        return self.singles[0].names if [one.template for one in self.singles] == [template] else ()
 
     @property
     def words(self) -> tuple[str, ...]:
         """Its words; none if only a shell can read it."""
-        return self.parts[0].words if len(self.parts) == 1 else ()
+        return self.singles[0].words if len(self.singles) == 1 else ()
 
     def text(self) -> str:
         """What a shell of its user reads."""
-        packages = [" # package " + one.template.package for one in self.parts if one.template.package]
-        return "".join([" && ".join(one.line() for one in self.parts), *packages])
+        packages = [" # package " + one.template.package for one in self.singles if one.template.package]
+        return "".join([" && ".join(one.line() for one in self.singles), *packages])
 
-    def by_root(self) -> Part:
-        """A part of a command of root's, which runs it with the rights of its user."""
+    def by_root(self) -> Single:
+        """The single by which root runs it with the rights of its user."""
         words = self.words or ("sh", "-c", self.text())
-        return Part(Runs.AS_NUMBER if isinstance(self.user, int) else Runs.AS_USER, (str(self.user), *words))
+        return Single(Runs.AS_NUMBER if isinstance(self.user, int) else Runs.AS_USER, (str(self.user), *words))
 
     def line(self) -> str:
         """The command as it is typed. For another user's rights, root types it, who may have run this by `runuser`."""
@@ -243,7 +243,7 @@ class Answer(NamedTuple):
 
     def sentence(self) -> str:
         """What a reader gets before the command."""
-        names = self.command.parts[0].names
+        names = self.command.singles[0].names
         given = dict(zip(names, names[1:]))
         says = self.does.says.format(shown(given.get("--as", "")))
         if self.does is Does.READ_AS and {"--text", "--begin"} & given.keys():

@@ -5,7 +5,7 @@ from collections.abc import Callable
 from typing import NamedTuple, Union
 
 from .. import ADMIN
-from ..nexts import Answer, Command, Does, Next, Part, Phrase, Step, Task, Template, Todo, User, task
+from ..nexts import Answer, Command, Does, Next, Phrase, Single, Step, Task, Template, Todo, User, task
 from ..terminal import operand, text_of
 
 NEW_FOLDER = Template("new-folder", "d=$(mktemp -d {})")
@@ -13,7 +13,7 @@ PUT_ASIDE = Template("put-aside", 'mv -nT {} "$d/original"')
 TAKE_PLACE = Template("take-place", "mv -nT {copy} {}")
 MIGRATE_COPY = Template("migrate-copy", ADMIN + " migrate {all} {copy}")
 # prints the mailboxes in a folder, as Takeouts and `readpst -r` name them
-PRINTS = Part(Template("print-mailboxes", "find {copy} -name '*mbox' -type f"))
+PRINTS = Single(Template("print-mailboxes", "find {copy} -name '*mbox' -type f"))
 # how the name of a new folder begins that is among the names of a tree: trees pass it over
 ASIDE = b".mbox2maildir-original-"
 # how many bytes of a file's name go into the name of the new folder, which has an ending of its own
@@ -41,17 +41,17 @@ def is_below(path: bytes, top: bytes) -> bool:
     return (path + b"/").startswith(top.rstrip(b"/") + b"/")
 
 
-def new_folder(above: bytes, path: bytes, before: bytes = b"") -> Part:
+def new_folder(above: bytes, path: bytes, before: bytes = b"") -> Single:
     """Makes a new folder, which is named after a file, with something before the name."""
     name = os.path.join(above, before + os.path.basename(path)[:LONGEST] + b".XXXXXX")
-    return Part(NEW_FOLDER, (operand(name),))
+    return Single(NEW_FOLDER, (operand(name),))
 
 
 def with_aside(made: Command, path: bytes) -> Command:
     """The command of root that runs what an owner makes of a file, and then puts the file aside, in whose folder the
     owner may not write."""
     spool = os.path.dirname(os.path.dirname(os.path.abspath(path)))
-    return Command((made.by_root(), new_folder(spool, path), Part(PUT_ASIDE, (operand(path),))))
+    return Command((made.by_root(), new_folder(spool, path), Single(PUT_ASIDE, (operand(path),))))
 
 
 class Where(NamedTuple):
@@ -77,13 +77,13 @@ class Where(NamedTuple):
     def made(self, makes: Makes, path: bytes) -> Answer:
         """The command that makes of a file what is migrated, and puts the file aside."""
         name, only_prints = (operand(path),), self.only_prints(makes)
-        ends = [Part(PUT_ASIDE, name), Part(TAKE_PLACE, name)]
+        ends = [Single(PUT_ASIDE, name), Single(TAKE_PLACE, name)]
         if only_prints:
             ends = [PRINTS]
         elif self.migrate:
-            ends = [Part(MIGRATE_COPY, self.migrate)]
+            ends = [Single(MIGRATE_COPY, self.migrate)]
         aside = new_folder(self.aside, path, ASIDE if self.is_in_tree else b"")
-        command = Command((aside, Part(makes.template, (*name, *makes.more)), *ends), self.user)
+        command = Command((aside, Single(makes.template, (*name, *makes.more)), *ends), self.user)
         if not self.migrate or self.is_dry or only_prints:
             return Answer(command, makes.does)
         # the folder does not belong to the owner, so that only root can put the file aside

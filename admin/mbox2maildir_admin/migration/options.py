@@ -84,7 +84,7 @@ class Options(NamedTuple):
         # what a symbolic link leads to is outside of what was named
         if (top or path in self.names) and may_write(os.path.dirname(path) or b"."):
             return where
-        names = self.command(opened, decision=UNDECIDED).parts[0].names[:-1]
+        names = self.command(opened, decision=UNDECIDED).singles[0].names[:-1]
         return where._replace(migrate=names, is_dry=self.dry)
 
     def command(self, opened: Opened, path: bytes = b"", **changes: Any) -> Command:

@@ -15,7 +15,7 @@ from ..looks import is_file
 from ..maildir.files import mail_in
 from ..maildir.folders import COPY, INBOX, folder_on_disk, folder_path, folder_shown, words_of
 from ..maildir.disk import SyncOne
-from ..nexts import Answer, Command, Does, Next, Part, Runs, Todo, run_next, task
+from ..nexts import Answer, Command, Does, Next, Runs, Single, Todo, run_next, task
 from ..readings.copies import COMPRESSED
 from ..readings.reading import UNDECIDED, Reading
 from ..terminal import is_text, named, operand, option
@@ -195,5 +195,5 @@ def into_inbox(one: Planned, folder: bytes, how: Options, record: Record) -> Nex
     into = Command.of(Runs.MIGRATE, *options.words(), "--folder", "INBOX", *paths)
     undo = "--undo", *Options(now=options.now).words(), *words_of(folder), *paths
     if not options.dry:
-        into = into._replace(parts=(Part(Runs.MIGRATE, undo), *into.parts))
+        into = into._replace(singles=(Single(Runs.MIGRATE, undo), *into.singles))
     return (Answer(into, Does.INTO_INBOX),)

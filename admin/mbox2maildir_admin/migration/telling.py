@@ -5,7 +5,7 @@ from typing import Any, NamedTuple, Optional
 from ..faults import REASONS
 from ..jobs.crew import spelled
 from ..kinds.making import with_aside
-from ..nexts import DOES, TODOS, Answer, Command, Does, Next, OfFiles, Part, Phrase, Task, Template, Todo, task
+from ..nexts import DOES, TODOS, Answer, Command, Does, Next, OfFiles, Phrase, Single, Task, Template, Todo, task
 from ..remarks import SAYS, Sentence
 from ..terminal import bytes_of, shown
 from .outcomes import FATES, Row
@@ -76,11 +76,11 @@ def next_of(steps: Sequence[Any], path: bytes, whose: Optional[Whose]) -> Next:
 
 
 def answer_of(path: bytes, whose: Optional[Whose], words: Sequence[Any], does: str, messages: Any) -> Answer:
-    """Reads a command for a path that a process told, and what it answers. Raises an error if the table has no part of
+    """Reads a command for a path that a process told, and what it answers. Raises an error if the table has none of
     its word, or names are missing in one. What only root can do is made here, for a path that root knows."""
-    parts, user = words
-    command = Command(tuple(Part(Template.all[one], tuple(map(name_in, names))) for one, names in parts), user)
-    if not parts or not all(one.line() for one in command.parts):
+    singles, user = words
+    command = Command(tuple(Single(Template.all[one], tuple(map(name_in, names))) for one, names in singles), user)
+    if not singles or not all(one.line() for one in command.singles):
         raise ValueError("no command")
     answer = Answer(command, DOES[does], value_of(Optional[int], messages))
     if whose:

@@ -3,12 +3,12 @@ import shlex
 import unittest
 from typing import Any
 
-from mbox2maildir_admin.nexts import DOES, NOTHING, TODOS, Answer, Command, Does, Next, Part, Quote, Runs, Task
+from mbox2maildir_admin.nexts import DOES, NOTHING, TODOS, Answer, Command, Does, Next, Quote, Runs, Single, Task
 from mbox2maildir_admin.nexts import Template, Todo, lines_below, objects_of, run_next, task
 
 REMOVE, ADD = Runs.REMOVE, Runs.ADD_LINES
 COPIES = Template("copies", "cp {} {copy} && touch {all}", "coreutils")
-TWO = Part(ADD, ("-f", "a b", "c")), Part(REMOVE, ("d",))
+TWO = Single(ADD, ("-f", "a b", "c")), Single(REMOVE, ("d",))
 SHELL = "printf '%b\\n' 'a b' c >>-f && rm d"
 BY_SHELL, COPY = "sh -c " + shlex.quote(SHELL), "cp 'a {}' \"$d/copy\" && touch 'a {}' b # package coreutils"
 AFTER_MIA = "runuser -u mia -- rm a && rm d"
