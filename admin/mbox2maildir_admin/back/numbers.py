@@ -22,8 +22,8 @@ from ..flags.dovecot_headers import (
     LONGEST_KEYWORD,
     MOST_VALIDITY,
     NO_KEYWORD,
+    FromHeaders,
     Head,
-    Reading,
     fields_of,
     head_of,
     internal_head,
@@ -255,11 +255,11 @@ class Numbering:
     def take(self, mailbox: Mailbox, inventory: Inventory) -> None:
         """Takes the UIDs of the messages that are in a text."""
         if self.is_same or self.is_incomplete:
-            reading = Reading()
-            reading.last = self.given
+            found = FromHeaders()
+            found.last = self.given
             for header in headers_at(mailbox, inventory.offsets[:-1]):
-                reading.add(header)
-            self.inventory, self.uids = inventory, reading.uids
+                found.add(header)
+            self.inventory, self.uids = inventory, found.uids
 
     def uid(self, mail: Mail) -> int:
         """The UID of a file that its message keeps; a higher number than any if it gets a new one."""

@@ -107,7 +107,7 @@ def internal_head(mailbox: Mailbox, start: Offset) -> tuple[Optional[Head], Offs
     return (head if is_it else None), Offset(start + len(message))
 
 
-class Reading:
+class FromHeaders:
     """What is read of a mailbox, message by message in their order. A message that `X-IMAP` hides comes last."""
 
     def __init__(self, head: Optional[Head] = None) -> None:
@@ -189,9 +189,9 @@ class Reading:
 
 def first_head(mailbox: Mailbox, start: Offset) -> Optional[Head]:
     """The head of a mailbox whose text begins at an offset; None if Dovecot has given it no UIDs."""
-    reading = Reading(internal_head(mailbox, start)[0])
-    reading.add(Header.at(mailbox, start).text)
-    return reading.head
+    found = FromHeaders(internal_head(mailbox, start)[0])
+    found.add(Header.at(mailbox, start).text)
+    return found.head
 
 
 def marks_of(fields: Iterable[Field], names: dict[bytes, int]) -> int:

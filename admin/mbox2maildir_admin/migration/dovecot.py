@@ -14,7 +14,16 @@ from collections.abc import Callable
 from typing import Optional
 
 from ..faults import Fault, Left, Reason
-from ..flags.dovecot_headers import LETTERS, Reading, fields_of, first_head, info_of, internal_head, is_listed, marks_of
+from ..flags.dovecot_headers import (
+    LETTERS,
+    FromHeaders,
+    fields_of,
+    first_head,
+    info_of,
+    internal_head,
+    is_listed,
+    marks_of,
+)
 from ..flags.renaming import add_flags, rename
 from ..ledger.history import Key, Note, names_of
 from ..ledger.record import Record
@@ -81,15 +90,15 @@ class Dovecot(Extra):
 
     def apply(self, one: Steps, dry: bool = False) -> list[Remark]:
         """Writes the files, each once, unless nothing may be written. Returns what is to be said of it."""
-        says, reading = self.look(one)
+        says, found = self.look(one)
         if dry:
             return says
         for name in (KEYWORDS, LIST):
             remove_part(one.opened.folder, name)
-        if reading:
+        if found:
             if one.was_begun:
                 remove_lists(self.record, one.opened)
-            self.write(one, reading)
+            self.write(one, found)
         elif one.contents.is_bare:
             # the folder keeps its numbers, and its new messages get those flags of their headers that their files lack
             marks = [marks_of(fields_of(one.contents.header(Place(place))), {}) for place in one.places]
@@ -112,7 +121,7 @@ class Dovecot(Extra):
                 self.writer(one.opened.name)(LIST, len(new), hashlib.sha256(new).hexdigest())
             replace(os.path.join(folder, LIST), text, new)
 
-    def look(self, one: Steps) -> tuple[list[Remark], Optional[Reading]]:
+    def look(self, one: Steps) -> tuple[list[Remark], Optional[FromHeaders]]:
         """What is to be said, and what was read of the mailbox, if the folder gets numbers."""
         full = one.contents.full
         head, _ = internal_head(full.mailbox, full.start)
@@ -130,20 +139,20 @@ class Dovecot(Extra):
             kept = [Says.WITHOUT_UIDS.of(left)]
         if kept is not None:
             return says + kept, None
-        reading = Reading(head)
+        found = FromHeaders(head)
         for header in headers_at(full.mailbox, full.offsets[:-1]):
-            reading.add(header)
-        return says + list(reading.remarks()), reading
+            found.add(header)
+        return says + list(found.remarks()), found
 
-    def write(self, one: Steps, reading: Reading) -> None:
+    def write(self, one: Steps, found: FromHeaders) -> None:
         """Writes the files. The list comes last, since with it Dovecot accepts the others."""
         opened, whole = one.opened, one.placing.whole()
         self.record.add(Note.NUMBERED, Key(opened.name, *opened.mailbox.key()), len(whole), opened.mailbox.path)
-        if reading.keywords:
-            text = b"".join(b"%d %s\n" % pair for pair in enumerate(reading.keywords[:LETTERS]))
+        if found.keywords:
+            text = b"".join(b"%d %s\n" % pair for pair in enumerate(found.keywords[:LETTERS]))
             place_file(opened.folder, KEYWORDS, text, self.writer(opened.name))
-        infos = rename(opened.folder, whole, reading.marks)
-        validity, following, order = reading.numbers(one.begun_at)
+        infos = rename(opened.folder, whole, found.marks)
+        validity, following, order = found.numbers(one.begun_at)
         listed = io.BytesIO()
         listed.write(b"3 V%d N%d\n" % (validity, following))
         for uid, place in order:
