@@ -28,7 +28,7 @@ from ..migration.options import Options
 from ..nexts import Todo, task
 from ..program import Program
 from ..readings.copies import copy_of, unnamed
-from ..readings.texts import disk_of
+from ..readings.texts import folder_for_copies
 from ..remarks import Says
 from ..terminal import first_of, named
 from ..units import Size, counted
@@ -72,7 +72,7 @@ class Way(NamedTuple):
     @property
     def disk(self) -> bytes:
         """A folder on the disk where copies are made."""
-        return disk_of(self.record.maildir, self.how.dry)
+        return folder_for_copies(self.record.maildir, self.how.dry)
 
     def say_numbers(self, target: Target, mailbox: Mailbox) -> tuple[Numbering, Known]:
         """Has an open mailbox say which UIDs were given, before it gets mail: if that is interrupted, some are never

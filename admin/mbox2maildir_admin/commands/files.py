@@ -24,7 +24,7 @@ from ..migration.trees import Tree
 from ..nexts import Runs, Task, Todo, run_next
 from ..progress import say_of
 from ..readings.reading import Reading
-from ..readings.texts import content_of, disk_of
+from ..readings.texts import content_of, folder_for_copies
 from ..readings.verdict import look_at
 from ..remarks import Says
 from ..terminal import complain, named, operand
@@ -156,7 +156,7 @@ def left_out(path: bytes, maildir: bytes, record: History, tell: Observer) -> Op
     """The row of a file without mail, itself or in what it holds if it is packed; None if it may have mail. By the
     record a file that is not mbox text has none as long as it has its path and its bytes. Raises Fault if a packed file
     is not complete."""
-    with Mailbox.open(path, tell.say(path)) as mailbox, content_of(mailbox, disk_of(maildir)) as text:
+    with Mailbox.open(path, tell.say(path)) as mailbox, content_of(mailbox, folder_for_copies(maildir)) as text:
         verdict = look_at(text, Look.read_begun) if text.size else None
         holds = verdict.holds if verdict else Holds.NO_MAIL
         is_noted = bool(verdict and verdict.recipe) and is_passed_over(record, mailbox)

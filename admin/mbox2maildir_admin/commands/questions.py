@@ -15,7 +15,7 @@ from ..migration.outcomes import Row
 from ..migration.rows import Reporter, Run, Shows
 from ..nexts import BELOW, Answer, Quote, Runs
 from ..progress import say_of
-from ..readings.texts import content_of, disk_of
+from ..readings.texts import content_of, folder_for_copies
 from ..terminal import INPUT, bytes_of, complain, flush, has_terminal, put, write
 from .options import WrongOptions
 
@@ -125,7 +125,7 @@ def lines_of(row: Row, around: int, names: Sequence[bytes]) -> tuple[Quote, ...]
     wanted = sorted({line for one in asked for line in range(one - around, one + around + 1)})
     try:
         with Mailbox.open(path, say_of(path), row.path in names) as mailbox:
-            with content_of(mailbox, disk_of(maildir)) as text:
+            with content_of(mailbox, folder_for_copies(maildir)) as text:
                 found = texts_of(text, wanted)
     except (Fault, OSError) as fault:
         complain_of(fault, path)

@@ -10,7 +10,7 @@ from ..maildir.folders import folder_path
 from ..mbox.fields import headers_at
 from ..mbox.inventory import Inventory
 from ..readings.copies import copy_of_some
-from ..readings.texts import ReadingOf, Text, disk_of, open_text
+from ..readings.texts import ReadingOf, Text, folder_for_copies, open_text
 from ..units import Offset, Place, Say
 from .noted import Noted
 from .sorting import Sorting
@@ -47,7 +47,7 @@ def checks_of(
         inventory = text.messages(with_cores=False)
         found = Sorting(headers_at(text.mailbox, inventory.offsets[:-1]), noted.choosing, noted.folders).sorted()
         for folder, places in found.places.items():
-            with part_of(text, inventory, places, disk_of(maildir)) as part:
+            with part_of(text, inventory, places, folder_for_copies(maildir)) as part:
                 check, bare = look(folder_path(maildir, folder), part, say)
             # it was decided then that no mail is in its From_ lines
             check.doubts = ()

@@ -20,7 +20,7 @@ from ..mbox.mailbox import Mailbox
 from ..nexts import NOTHING, Answer, Does, Next
 from ..readings.plans import Plan, Question, plan_of
 from ..readings.reading import MBOXO, UNDECIDED, UNQUOTED, Reading, renumbered, with_deleted
-from ..readings.texts import Choice, choice_of, content_of, disk_of, text_then
+from ..readings.texts import Choice, choice_of, content_of, folder_for_copies, text_then
 from ..readings.verdict import look_at
 from ..remarks import Remark, Says
 from ..units import Line, counted
@@ -102,7 +102,7 @@ BEGUN_OTHERWISE = (
 def as_before(how: Options, known: Known) -> Optional[tuple[str, list[Remark]]]:
     """The words by which a mailbox was read, and what is to be said of it, if nothing is new in it as it is read so;
     None if something is, or if it cannot be read so any more."""
-    source, disk = known.ledger.sources.get(known.path), disk_of(known.opened.root, how.dry)
+    source, disk = known.ledger.sources.get(known.path), folder_for_copies(known.opened.root, how.dry)
     if not source or known.is_begun:
         return None
     # mail that is marked as deleted by now, and was not brought, is new
@@ -132,7 +132,7 @@ def contradicts(how: Options, opened: Opened, line: Entry) -> bool:
     """Whether a decision gives other messages of a mailbox than those that it had when it was done."""
     if how.decision._replace(alone=True) == UNDECIDED:
         return False
-    by = disk_of(opened.root, how.dry), how.extra.start_of
+    by = folder_for_copies(opened.root, how.dry), how.extra.start_of
     try:
         with choice_of(opened.mailbox, by[0], decision=how.decision) as choice:
             then, now = Reading.of_words(line.words)._replace(bare=False), choice.plan.reading
@@ -184,7 +184,7 @@ class Before(NamedTuple):
 def want_same_reading(how: Options, known: Known, choice: Choice, contents: Contents) -> None:
     """Raises Left if more of what the ledger has of a mailbox is in it as it was read then, with what to run."""
     before, opened = Before.of(known, contents.reading), known.opened
-    disk = disk_of(opened.root, how.dry)
+    disk = folder_for_copies(opened.root, how.dry)
     command = how.command(opened, again=how.again, dovecot=before.reading.bare)
     if before.reading.bare != contents.reading.bare and not how.again and has_begun(known):
         says = "its conversion was begun %s --dovecot" % ("with" if before.reading.bare else "without")
@@ -259,7 +259,7 @@ def answer_shown(how: Options, known: Known, question: Question) -> Optional[Rea
     had = Before.of(known, how.decision).had()
     if not had or not question.is_on_lines:
         return None
-    with content_of(known.opened.mailbox, disk_of(known.opened.root, how.dry)) as text:
+    with content_of(known.opened.mailbox, folder_for_copies(known.opened.root, how.dry)) as text:
         by = [how._replace(decision=answer.decision) for answer in question.answers]
         given = [given_by(one, known, text, had, question.doubtful) for one in by]
     most = max((one.brought for one in given), default=0)
@@ -270,7 +270,7 @@ def answer_shown(how: Options, known: Known, question: Question) -> Optional[Rea
 def given_by(how: Options, known: Known, text: Mailbox, had: Had, lines: Iterable[Line]) -> Given:
     """What the answer gives by which this mailbox would be migrated, of what it has brought."""
     choice = Choice(text, plan_of(text, decision=how.decision))
-    with choice.text(disk_of(known.opened.root, how.dry)) as whole:
+    with choice.text(folder_for_copies(known.opened.root, how.dry)) as whole:
         part = whole.begun_by(how.extra.start_of)
         contents = Contents(part, part.messages(), choice.plan.bared(how.extra.IS_BARE).reading)
         is_shown = are_brought(had, contents.inventory, lines)

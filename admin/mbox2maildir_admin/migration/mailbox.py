@@ -33,7 +33,7 @@ from ..progress import Spent
 from ..readings.copies import unnamed
 from ..readings.plans import NoMail, NotKnown, OtherKind, Question
 from ..readings.reading import UNDECIDED, Reading
-from ..readings.texts import Choice, choice_at_once, choice_of, disk_of, read_messages
+from ..readings.texts import Choice, choice_at_once, choice_of, folder_for_copies, read_messages
 from ..remarks import Remark, Says
 from ..terminal import first_of, named
 from ..units import Say, counted, silent
@@ -103,7 +103,7 @@ class Migration:
     @property
     def disk(self) -> bytes:
         """A folder on the disk where copies are made."""
-        return disk_of(self.record.maildir, self.how.dry)
+        return folder_for_copies(self.record.maildir, self.how.dry)
 
     def migrate_path(
         self, path: bytes, name: bytes, say: Say = silent, follow: bool = False, why: Optional[Fault] = None

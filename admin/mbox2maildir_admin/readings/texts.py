@@ -271,7 +271,7 @@ def open_text(path: bytes, maildir: bytes, say: Say, recorded: ReadingOf) -> Ite
     """Opens the text that is converted for a mailbox, without a lock, with all its header fields. It is read as it was
     when it was recorded. If the mailbox would be left, the text is the mailbox itself, or what it holds. Raises Fault
     if it is packed and not complete."""
-    where = disk_of(maildir)
+    where = folder_for_copies(maildir)
     with contextlib.ExitStack() as stack:
         mailbox = stack.enter_context(Mailbox.open(path, say))
         source = stack.enter_context(content_of(mailbox, where))
@@ -283,7 +283,7 @@ def open_text(path: bytes, maildir: bytes, say: Say, recorded: ReadingOf) -> Ite
         yield text._replace(start=after_internal(text, maildir), is_recorded=then is not None)
 
 
-def disk_of(maildir: bytes, is_trial: bool = False) -> bytes:
+def folder_for_copies(maildir: bytes, is_trial: bool = False) -> bytes:
     """A folder on the disk where copies are made of what goes into a Maildir. Before that is made, it is the folder in
     which it is to be made. The copies of a trial are in no home."""
     if is_trial:

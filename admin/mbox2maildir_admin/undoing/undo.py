@@ -40,7 +40,7 @@ from ..migration.options import Options
 from ..migration.steps import Extra
 from ..nexts import Todo, task
 from ..readings.reading import Reading, with_deleted
-from ..readings.texts import content_of, disk_of, text_then
+from ..readings.texts import content_of, folder_for_copies, text_then
 from ..remarks import Remark, Says
 from ..terminal import first_of, named
 from ..units import Say, counted
@@ -159,7 +159,7 @@ class Undo:
 
     def cores_now(self, opened: Opened, ledger: Ledger, path: str) -> Cores:
         """How often the mailbox has each core now, as it was read when it was migrated."""
-        words, disk = ledger.last_read(path).words, disk_of(self.record.maildir, self.options.dry)
+        words, disk = ledger.last_read(path).words, folder_for_copies(self.record.maildir, self.options.dry)
         reading = Reading.of_words(words)
         extra = Dovecot(self.record) if reading.bare else Extra()
         # it still has what was marked as deleted since
