@@ -136,7 +136,7 @@ def remove_aside(path: bytes) -> None:
 
 
 def origin_in(folder: bytes) -> Optional[Origin]:
-    """What the first pass has read that the list of a folder has."""
+    """What a pass has read, by the first line of the list of a folder that says so."""
     found = next(filter(None, map(BEGUN.match, lines_in(folder, PREPARED))), None)
     return Origin.of(found) if found else None
 
@@ -210,8 +210,8 @@ class Prepared:
         self.table, self.facts = Table(), array.array("Q")
         # where each file was when it was verified, `new` or `cur`, with its info
         self.homes: list[Optional[bytes]] = []
-        # what the last pass has read, and whether it was whole; whether a sync failed, and whether the folder was made
-        # for this; and in which batch it is finished
+        # what the latest pass has read, and whether it was whole; whether a sync failed, and whether the folder was
+        # made for this; and in which batch it is finished
         self.origin: Optional[Origin] = None
         self.is_whole = self.has_failed = self.is_made = False
         self.batch: Optional[int] = None

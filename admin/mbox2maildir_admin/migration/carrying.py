@@ -38,7 +38,7 @@ from ..terminal import operand
 from ..units import Offset, Place
 from .known import Known
 from .outcomes import Fate, Outcome, Row
-from .steps import FirstPass, LaterPass, Steps
+from .steps import FirstPass, OtherPass, Steps
 
 CHANGED_MEANWHILE = "it changed in the meantime: stop the program that writes to it, and run this again"
 SYNC_FAILED = (
@@ -110,7 +110,7 @@ def prepare(steps: Steps, first: FirstPass, program: Program) -> list[Remark]:
     return said
 
 
-def begin(steps: Steps, own: LaterPass) -> int:
+def begin(steps: Steps, own: OtherPass) -> int:
     """Notes in the ledger what is going to be there, and in the list of what is only prepared that it is finished by
     that. Returns the number of the batch."""
     known, prepared, origin = steps.known, own.prepared, own.origin

@@ -70,7 +70,7 @@ from .steps import (
     Contents,
     Extra,
     FirstPass,
-    LaterPass,
+    OtherPass,
     Part,
     Steps,
     remarks_on,
@@ -367,11 +367,11 @@ class Transfer:
         match, prepared = self.matched(part, contents, again), None if again else self.prepared
         ends_list = again or prepared is not None
         if known.path in known.ledger.sources and not match.count_new():
-            steps = Steps.of(known, contents, match, how.extra, LaterPass(again, ends_list, has_nothing_new=True))
+            steps = Steps.of(known, contents, match, how.extra, OtherPass(again, ends_list, has_nothing_new=True))
             return steps, self.row_before(contents.reading.words(), len(contents.inventory), remarks_on_lost(match))
         origin = origin_now(known, contents, how.names) if prepared and not prepared.origin else None
         back = 0 if again else self.may_come_back(match)
-        own = LaterPass(again, ends_list, prepared, origin, back, names_that_may_be_cut(known, match))
+        own = OtherPass(again, ends_list, prepared, origin, back, names_that_may_be_cut(known, match))
         steps = Steps.of(known, contents, match, how.extra, own)
         hindrance = how.extra.hindrance(steps)
         if hindrance:
@@ -490,7 +490,7 @@ class Transfer:
 
     def left_to_store(self, left: Left, contents: Contents, match: Match) -> Left:
         """Why it is left, with the command that stores what is nowhere: without what could not be done besides then."""
-        steps = Steps.of(self.known, contents, match, self.how.extra, LaterPass(True, ends_list=True))
+        steps = Steps.of(self.known, contents, match, self.how.extra, OtherPass(True, ends_list=True))
         hindrance = self.how.extra.hindrance(steps)
         stays = self.how.dovecot and not hindrance
         then = self.command(Does.DOUBLES, match.count(Stand.NOWHERE), again=True, dovecot=stays)

@@ -97,9 +97,9 @@ class FirstPass(NamedTuple):
         return before is not None and is_all and before.key == self.origin.key
 
 
-class LaterPass(NamedTuple):
-    """What any other pass has of its own. It makes mail at once. Once mail was prepared in the Maildir, it is a last
-    pass in any folder without mail: if it is killed, a first pass may follow."""
+class OtherPass(NamedTuple):
+    """What any other pass has of its own, also if it is the only one. It makes mail at once. Once mail was prepared in
+    the Maildir, it is a last pass in any folder without mail: if it is killed, a first pass may follow."""
 
     # whether all that is nowhere is placed, as with --again; and whether the list of what was prepared is over then
     is_again: bool
@@ -124,7 +124,7 @@ class Steps(NamedTuple):
     placing: Placing
     # what is done besides mail and dates, and what this pass has of its own
     extra: "Extra"
-    own: Union[FirstPass, LaterPass]
+    own: Union[FirstPass, OtherPass]
     # the places in the text of the messages that are placed, or that a run has placed that was killed; and these with
     # the bases of their files
     places: Sequence[int]
@@ -137,7 +137,7 @@ class Steps(NamedTuple):
 
     @classmethod
     def of(
-        cls, known: Known, contents: Contents, match: Match, extra: "Extra", own: Union[FirstPass, LaterPass]
+        cls, known: Known, contents: Contents, match: Match, extra: "Extra", own: Union[FirstPass, OtherPass]
     ) -> "Steps":
         """What is to be done by what was found of the messages."""
         placing, places = Placing(match), match.places(Stand.NOWHERE, Stand.MINE, Stand.FRESH)
@@ -212,7 +212,7 @@ def remarks_on(one: Steps, dry: bool) -> Iterator[Remark]:
     """What is to be said of what is new, what is there, and what is gone."""
     match, ledger = one.placing.match, one.known.ledger
     seen, foreign = match.seen, len(match.seen.foreign)
-    if isinstance(one.own, LaterPass) and one.own.is_again:
+    if isinstance(one.own, OtherPass) and one.own.is_again:
         yield Says.PLACED.of(counted(match.count(Stand.NOWHERE), "message"), dry=dry)
     else:
         yield from remarks_on_lost(match)
