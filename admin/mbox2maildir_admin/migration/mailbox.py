@@ -246,7 +246,7 @@ class Transfer:
         return True
 
     def row_before(self, words: Optional[str], messages: Optional[int], more: Sequence[Remark]) -> Row:
-        """The row of a mailbox of so many messages that was done before by the words of a reading; what else is said."""
+        """The row of a mailbox of so many messages that was done before, by what words; what else is said."""
         mailbox, name = self.opened.mailbox, self.opened.name
         has_no_uids = self.how.dovecot and mailbox.size > 0 and not self.record.numbered(name)
         dropped = Says.DELETED_LEFT_OUT.of_any(Reading.of_words(words).dropped)
