@@ -141,7 +141,7 @@ class Way(NamedTuple):
         return row._replace(remarks=(*numbering.remarks, *row.remarks), next=numbering.next)
 
 
-class Plan(NamedTuple):
+class Goes(NamedTuple):
     """What goes back into a mailbox: the messages that are appended, which are in a draft of this size; those that it
     has already, with their places; those that it cannot hold; and whether it has more than the Maildir."""
 
@@ -179,26 +179,26 @@ class Appending:
                 draft = Draft(stack.enter_context(unnamed(self.way.disk)).fileno())
             else:
                 draft = stack.enter_context(Draft.at(os.path.join(self.opened.folder, DRAFT)))
-            plan = self.planned(draft)
+            goes = self.what_goes(draft)
             if not dry:
-                self.carry_out(plan, draft)
-            elif plan.entries:
+                self.carry_out(goes, draft)
+            elif goes.entries:
                 # a copy of the mailbox with it shows how that would be read
                 blocks = itertools.chain(self.mailbox.again().blocks(), Reader(draft.number, end=draft.size).blocks())
                 with copy_of(self.mailbox, blocks, self.way.disk) as text:
-                    self.want_right(text, plan.entries, reading_now(self.mailbox))
+                    self.want_right(text, goes.entries, reading_now(self.mailbox))
         self.numbering.end(
-            [*self.target.returned, *(mail for mail, _ in plan.there), *(one.mail for one in plan.entries)], dry
+            [*self.target.returned, *(mail for mail, _ in goes.there), *(one.mail for one in goes.entries)], dry
         )
-        row = self.row(plan)
-        if plan.refused and not plan.entries and was_empty:
+        row = self.row(goes)
+        if goes.refused and not goes.entries and was_empty:
             # what goes into none of the same form either
-            stay = "stays" if len(plan.refused) == 1 else "stay"
-            why = NOT_HELD % (counted(len(plan.refused), "message"), stay, first_of([one.path for one in plan.refused]))
+            stay = "stays" if len(goes.refused) == 1 else "stay"
+            why = NOT_HELD % (counted(len(goes.refused), "message"), stay, first_of([one.path for one in goes.refused]))
             return row._replace(fate=Fate.LEFT, reason=Reason.NOT_HELD, why=why), ()
-        return row, plan.refused
+        return row, goes.refused
 
-    def planned(self, draft: Draft) -> Plan:
+    def what_goes(self, draft: Draft) -> Goes:
         """What becomes of the mail. What is appended is in the draft then."""
         # what the mailbox did not bring is there already, wherever it comes from
         states, _ = stands_by(self.known.ledger.sources.get(self.known.path), self.inventory)
@@ -218,7 +218,7 @@ class Appending:
             entries = self.drafted(draft, rest)
             bad = self.unheld(draft, entries)
             if not bad:
-                return Plan(entries, draft.size if entries else 0, there, refused, any(new.values()))
+                return Goes(entries, draft.size if entries else 0, there, refused, any(new.values()))
             refused += bad
             rest = [one.mail for one in entries if one.mail not in bad]
 
@@ -264,21 +264,21 @@ class Appending:
             raise NotAsItIs(MISREAD, Reason.MISREAD)
         return bad
 
-    def carry_out(self, plan: Plan, draft: Draft) -> None:
+    def carry_out(self, goes: Goes, draft: Draft) -> None:
         """Appends what was drafted, and has the ledger say so."""
         mailbox, ledger = self.mailbox, self.known.ledger
-        if not plan.entries:
-            if plan.there:
+        if not goes.entries:
+            if goes.there:
                 os.fsync(mailbox.number)
-                ledger.note(END_LINE % self.begin(plan, draft))
+                ledger.note(END_LINE % self.begin(goes, draft))
             return
-        want_room(Need.of(os.path.dirname(mailbox.path), [], plan.size))
+        want_room(Need.of(os.path.dirname(mailbox.path), [], goes.size))
         reads = reading_now(mailbox)
-        beside = Beside.made(draft, self.opened.folder, mailbox, [one.start for one in plan.entries])
-        number = self.begin(plan, draft)
+        beside = Beside.made(draft, self.opened.folder, mailbox, [one.start for one in goes.entries])
+        number = self.begin(goes, draft)
         beside.append_to(mailbox)
         try:
-            self.want_right(mailbox, plan.entries, reads)
+            self.want_right(mailbox, goes.entries, reads)
         except BaseException:
             beside.take_back(mailbox)
             raise
@@ -286,24 +286,24 @@ class Appending:
         beside.remove()
         ledger.note(END_LINE % number)
 
-    def begin(self, plan: Plan, draft: Draft) -> int:
+    def begin(self, goes: Goes, draft: Draft) -> int:
         """Notes in the ledger what goes back, and what is there already, by the size and the SHA-256 that the mailbox
         has then. Returns the number of the batch."""
         mailbox, inventory = self.mailbox, self.inventory
         size, _ = mailbox.key()
         assert mailbox.digest, "its SHA-256 is that of a digest"
         hashed = mailbox.digest.hash.copy()
-        for block in Reader(draft.number, end=plan.size).blocks():
+        for block in Reader(draft.number, end=goes.size).blocks():
             hashed.update(block)
         # a mailbox that has more than the Maildir is not done, whatever its bytes are
-        key = NO_KEY if plan.has_more else (Size(size + plan.size), hashed.hexdigest())
-        lines = [Brought(RETURNED, mail.before, mail.core, inventory.bare(place)) for mail, place in plan.there]
-        lines += [Brought(RETURNED, one.mail.before, one.mail.core, one.bares[-1]) for one in plan.entries]
+        key = NO_KEY if goes.has_more else (Size(size + goes.size), hashed.hexdigest())
+        lines = [Brought(RETURNED, mail.before, mail.core, inventory.bare(place)) for mail, place in goes.there]
+        lines += [Brought(RETURNED, one.mail.before, one.mail.core, one.bares[-1]) for one in goes.entries]
         head = Head(len(lines), 0, 0, (), key, self.style.words, self.known.path, mailbox.state.st_ino, 0)
         number = self.known.ledger.begin(head, lines)
         if self.numbering.first:
             # a further run knows the numbers of the Maildir as those of the mailbox
-            self.way.record.add(Note.NUMBERED, Key(self.opened.name, *key), len(plan.entries), mailbox.path)
+            self.way.record.add(Note.NUMBERED, Key(self.opened.name, *key), len(goes.entries), mailbox.path)
         return number
 
     def want_right(self, text: Mailbox, entries: Sequence[Appended], reads: str) -> None:
@@ -316,16 +316,16 @@ class Appending:
         if not is_right or reading_now(text) != reads:
             raise NotAsItIs(MISREAD, Reason.MISREAD)
 
-    def row(self, plan: Plan) -> Row:
+    def row(self, goes: Goes) -> Row:
         """The row of the mailbox."""
-        count, there, is_dry = len(plan.entries) + len(plan.there), len(plan.there), self.way.how.dry
+        count, there, is_dry = len(goes.entries) + len(goes.there), len(goes.there), self.way.how.dry
         fate = (Fate.WOULD_BACK if is_dry else Fate.BACK) if count else Fate.NOTHING_NEW
         says = Says.IN_MAILBOX.of_any(there, there=there)
-        taken = [one.taken for one in plan.entries if one.taken]
+        taken = [one.taken for one in goes.entries if one.taken]
         names = {name.lower(): named(name) for name in itertools.chain.from_iterable(taken)}
         says += Says.FIELDS_LEFT_OUT.of_any(len(taken), ", ".join(names.values()))
         remarks = (*self.mailbox.remarks, *says, *self.numbering.remarks, *self.target.remarks)
-        row = Row(self.target.path, self.target.folder, self.style.dialect.word, count, fate, size=plan.size)
+        row = Row(self.target.path, self.target.folder, self.style.dialect.word, count, fate, size=goes.size)
         return row._replace(remarks=remarks, next=self.numbering.next, is_back=True)
 
 

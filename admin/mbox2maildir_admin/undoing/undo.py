@@ -85,7 +85,7 @@ class Why(enum.Enum):
 Counts = collections.Counter[Why]
 
 
-class Planned(NamedTuple):
+class Becomes(NamedTuple):
     """What becomes of a message that the mailbox brought, with its line. If its file stays for another mailbox, it has
     the path of that; and if mailboxes get it in place of a file of theirs that is gone, that file. What goes may be
     gone already, edited or renamed: one listing may miss a file that is renamed meanwhile, so `remove` looks for each
@@ -136,7 +136,7 @@ class Undo:
         if newer:
             # the ledger lacks what the index has of the mailbox, or of another one of its folder
             raise Left(OLDER % named(unspelled(newer.path)), Reason.UNDO)
-        plan = plan_of(ledger, path, self.cores_now(opened, ledger, path))
+        plan = becomes_of(ledger, path, self.cores_now(opened, ledger, path))
         # without lines of its files, the ledger is older than its folder: another mailbox may have what would go
         names = without_line(self.record.maildir, opened.folder) if any(one.why is Why.REMOVED for one in plan) else ()
         if names:
@@ -169,7 +169,7 @@ class Undo:
                 raise Left(UNREADABLE % words, Reason.UNDO)
             return cores_of(then.messages())
 
-    def carry_out(self, opened: Opened, ledger: Ledger, path: str, plan: Sequence[Planned]) -> Counts:
+    def carry_out(self, opened: Opened, ledger: Ledger, path: str, plan: Sequence[Becomes]) -> Counts:
         """Removes the files that go, and notes that before and afterwards. Returns what became of the messages."""
         with alone_in(opened.folder):
             want_same(opened.mailbox)
@@ -204,7 +204,7 @@ def undo_own(root: bytes, path: bytes, options: Options, observer: Observer) -> 
         observer.row(row or Undo(record, options).run(path, say))
 
 
-def plan_of(ledger: Ledger, path: str, has: Cores) -> list[Planned]:
+def becomes_of(ledger: Ledger, path: str, has: Cores) -> list[Becomes]:
     """What becomes of the messages that the mailbox of a path brought. It has each core so often now, and a killed undo
     may have removed what is gone."""
     is_resumed = path in ledger.leaving
@@ -218,37 +218,37 @@ def plan_of(ledger: Ledger, path: str, has: Cores) -> list[Planned]:
         return not others_of(file, path, MAY_HAVE), line.state not in MAY_HAVE, (file.name is None) != is_resumed
 
     own = sorted(((line, file) for file in files for line in [file.line_of(path)] if line), key=order)
-    plan = [planned(line, file, has, gone) for line, file in own]
+    plan = [becomes_by(line, file, has, gone) for line, file in own]
     # of what the mailbox no longer has, or a killed run was to bring, nothing is said once it is gone
     return [one for one in plan if one.why is not Why.GONE or one.line.state in MAY_HAVE]
 
 
-def planned(line: Line, file: File, has: Cores, gone: Mapping[bytes, list[File]]) -> Planned:
+def becomes_by(line: Line, file: File, has: Cores, gone: Mapping[bytes, list[File]]) -> Becomes:
     """What becomes of a message, by the line of the mailbox about its file. What goes, or stays in place of what others
     lack, is taken from what the mailbox has, and from what others lack."""
     message, has_file = line.message, file.name is not None
     holders, theirs = others_of(file, line.path, MAY_HAVE), gone.get(message.core, [])
     if file.is_renamed:
-        return Planned(Why.RENAMED, line)
+        return Becomes(Why.RENAMED, line)
     if not has_file and (message.word in NOBODYS or holders or not has[message.core] or not file.is_newest):
-        return Planned(Why.GONE, line)
+        return Becomes(Why.GONE, line)
     if message.word in NOBODYS:
-        return Planned(Why.FOREIGN, line)
+        return Becomes(Why.FOREIGN, line)
     if holders:
         # one that lacks its own has this one too
         without = (one for one in reversed(theirs) if not any(one.line_of(other.path) for other in holders))
         instead_of = next(without, None)
         if instead_of:
             theirs.remove(instead_of)
-        return Planned(Why.SHARED, line, holders[-1].path, instead_of)
+        return Becomes(Why.SHARED, line, holders[-1].path, instead_of)
     if not has[message.core]:
-        return Planned(Why.LOST, line)
+        return Becomes(Why.LOST, line)
     has[message.core] -= 1
     if theirs and has_file:
-        return Planned(Why.SHARED, line, others_of(theirs[-1], line.path, HAVE)[-1].path, theirs.pop())
+        return Becomes(Why.SHARED, line, others_of(theirs[-1], line.path, HAVE)[-1].path, theirs.pop())
     # if it went, nothing would bring it again
     had = has_file and others_of(file, line.path, (State.FORMER,))
-    return Planned(Why.FORMER if had else Why.REMOVED, line)
+    return Becomes(Why.FORMER if had else Why.REMOVED, line)
 
 
 def others_of(file: File, path: str, states: Container[State]) -> list[Line]:
@@ -273,7 +273,7 @@ def gone_of_others(folder: bytes, files: Sequence[File], path: str, has: Cores) 
     return found
 
 
-def hand_over(ledger: Ledger, plan: Sequence[Planned]) -> None:
+def hand_over(ledger: Ledger, plan: Sequence[Becomes]) -> None:
     """Notes which mailboxes have files in place of those of them that are gone. Of one of which a run was killed, this
     is not noted: a batch that ends would hide what that run may have placed."""
     handed: collections.defaultdict[str, list[Brought]] = collections.defaultdict(list)
@@ -287,7 +287,7 @@ def hand_over(ledger: Ledger, plan: Sequence[Planned]) -> None:
             ledger.note(END_LINE % ledger.begin(head, sorted(several, key=lambda one: one.word != LOST)))
 
 
-def remove(opened: Opened, plan: Sequence[Planned], dry: bool = False) -> Counts:
+def remove(opened: Opened, plan: Sequence[Becomes], dry: bool = False) -> Counts:
     """Removes the files that go, whatever their flags, until a listing shows none: mail programs may rename them
     meanwhile. Returns what became of all messages of the plan."""
     counts: Counts = collections.Counter(one.why for one in plan if one.why is not Why.REMOVED)
