@@ -87,7 +87,7 @@ def kind_of(found: Found, tell: Observer, tree: Optional[Tree] = None) -> bool:
             return False
         then, quotes = next_of(verdict, found)
         row = row_found(path, verdict.kind, then)._replace(messages=verdict.messages, most=verdict.most)
-        details = tuple(Detail(one.says, line=one.line or None, text=one.text) for one in verdict.remarks)
+        details = tuple(Detail(one.says, line=one.line or None, text=one.text) for one in verdict.said_lines)
         tell.row(row._replace(quotes=tuple(quotes), details=details))
         return verdict.is_as_it_is
 

@@ -292,7 +292,7 @@ class Look:
         """What is said of the first lines of a sort."""
         return [Said(line, SAID[sort].format(other), text) for line, text, other in self.first(sort)]
 
-    def remarks(self) -> Iterator[Said]:
+    def said_lines(self) -> Iterator[Said]:
         """What is said of lines."""
         if self.after_nulls:
             _, first, _ = self.first("dated")[0]

@@ -282,7 +282,7 @@ class Finding(NamedTuple):
     kind: str
     recipe: Recipe
     holds: Holds
-    remarks: Sequence[Said] = ()
+    said_lines: Sequence[Said] = ()
 
 
 def finding_of(look: Look) -> Finding:

@@ -127,7 +127,7 @@ def plan_of(mailbox: Mailbox, read: Read = Look.read, decision: Reading = UNDECI
     if verdict.holds == Holds.NO_MAIL:
         raise NoMail(verdict.kind)
     if verdict.recipe:
-        left, first = NotKnown if verdict.holds == Holds.UNKNOWN else OtherKind, next(iter(verdict.remarks), None)
+        left, first = NotKnown if verdict.holds == Holds.UNKNOWN else OtherKind, next(iter(verdict.said_lines), None)
         raise left(mailbox.path, first, verdict.recipe, REASONS[verdict.holds], verdict.kind)
     noted, decision = decision.noted, decision._replace(noted=None)
     if noted:
@@ -261,7 +261,7 @@ def wants_copy(reading: Reading, counts: Quoter) -> bool:
 
 def question_of(verdict: Verdict, before: str = "") -> Question:
     """What is asked about a mailbox of which something would be a guess, and what is said before that."""
-    reasons = verdict.reasons if verdict.reasons.total else Reasons(verdict.remarks, len(verdict.remarks))
+    reasons = verdict.reasons if verdict.reasons.total else Reasons(verdict.said_lines, len(verdict.said_lines))
     return question(verdict, reasons, verdict.answers, before)
 
 

@@ -32,7 +32,7 @@ class Verdict(NamedTuple):
     messages: Optional[int] = None
     most: Optional[int] = None
     # what is said of lines
-    remarks: Sequence[Said] = ()
+    said_lines: Sequence[Said] = ()
     # how the text is read, and which line ends besides LF it may have
     reading: Optional[Reading] = None
     # what is said of the lines because of which it is not read without a decision; and what a human may decide
@@ -127,7 +127,7 @@ def look_at(mailbox: Mailbox, read: Read = Look.read) -> Verdict:
     if start is None:
         found = finding_of(look)
         mailbox.check()
-        return Verdict(look, found.kind, remarks=found.remarks, holds=found.holds, recipe=found.recipe)
+        return Verdict(look, found.kind, said_lines=found.said_lines, holds=found.holds, recipe=found.recipe)
     if b"\r" in mailbox.at(start, HEAD).split(b"\n")[0][:-1]:
         mailbox.file.offset = start
         count = from_lines_of(LineEnds(mailbox.file).read)
@@ -139,7 +139,7 @@ def look_at(mailbox: Mailbox, read: Read = Look.read) -> Verdict:
     # without the lines `From ` that may be text, and with those that may be mail within messages, and within lines
     fewest, most = look.messages - look.count(*DOUBTS), look.messages + look.count(*MAY_BE_MAIL, "joined")
     reading = None if answers and not look.shows_lengths() else reading_of(look)
-    return Verdict(look, kind_of(look), fewest, most, list(look.remarks()), reading, look.keeping(), answers)
+    return Verdict(look, kind_of(look), fewest, most, list(look.said_lines()), reading, look.keeping(), answers)
 
 
 def reading_of(look: Look) -> Reading:
