@@ -25,8 +25,8 @@ Name = tuple[bytes, ...]
 
 
 class Lists:
-    """The two lists of names, the mailboxes by their folders, and the folders whose mail would go back in a dry run, by
-    the paths of their mailboxes."""
+    """The two lists of names, the mailboxes by their folders, and the folders whose mail would go back in a rehearsal,
+    by the paths of their mailboxes."""
 
     def __init__(self, places: Places, would: Mapping[bytes, bytes]) -> None:
         self.root, self.tree, self.places, self.would = places.record.maildir, places.trees[0], places, would
@@ -104,8 +104,8 @@ def folder_of_old(name: Name) -> bytes:
 
 
 def rows_of(places: Places, is_dry: bool, would: Mapping[bytes, bytes]) -> Iterator[Row]:
-    """Writes the list of the first tree, and gives its row, if anything is to change in it. In a dry run, mail of some
-    folders would go back to the mailboxes at these paths."""
+    """Writes the list of the first tree, and gives its row, if anything is to change in it. In a rehearsal, mail of
+    some folders would go back to the mailboxes at these paths."""
     path = os.path.join(places.trees[0], OLD_SUBSCRIPTIONS)
     try:
         if not is_there(os.path.join(places.record.maildir, SUBSCRIPTIONS)):

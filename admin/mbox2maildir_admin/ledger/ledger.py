@@ -137,7 +137,7 @@ class Ledger:
 
     def __init__(self, folder: bytes, verified: Iterable[int] = (), dry: bool = False) -> None:
         """Reads the ledger of a folder, which need not exist. Batches with these numbers count as ended: this run has
-        verified them, and their disk is not synced yet. Lines that a dry run appends stay in memory. Raises Fault if
+        verified them, and their disk is not synced yet. Lines that a rehearsal appends stay in memory. Raises Fault if
         others may have written to it."""
         self.folder, self.is_made, self.is_dry, self.in_memory = folder, False, dry, b""
         self.number, self.size, self.last = "", 0, 0
@@ -421,7 +421,7 @@ class Ledger:
         if not self.is_dry:
             os.rename(path, path + b".damaged")
         self.forget_all()
-        # a dry run still reads the lines of the file
+        # a rehearsal still reads the lines of the file
         self.last = last
 
 

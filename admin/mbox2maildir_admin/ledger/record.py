@@ -80,8 +80,8 @@ class Record(History):
     @classmethod
     @contextlib.contextmanager
     def to_migrate(cls, maildir: bytes, dry: bool) -> Iterator["Record"]:
-        """The same for a migration. A Maildir that is not there is made later, once a mailbox was read; a dry run makes
-        nothing. Raises Fault if a ledger cannot be read, and no line of the index names its folder."""
+        """The same for a migration. A Maildir that is not there is made later, once a mailbox was read; a rehearsal
+        makes nothing. Raises Fault if a ledger cannot be read, and no line of the index names its folder."""
         is_open = has_begun(maildir) and not dry
         if is_open:
             make_alone(maildir)
@@ -130,7 +130,7 @@ class Record(History):
 
     def make(self, *more: Callable[[SyncNames], object]) -> None:
         """Makes the Maildir and its file, if that has not been done, and more by functions that take what syncs the
-        names. All names are on the disk then, and the lines that waited for the file. A dry run makes nothing. Raises
+        names. All names are on the disk then, and the lines that waited for the file. A rehearsal makes nothing. Raises
         Fault if another `migrate` has made them meanwhile."""
         if self.is_dry:
             return

@@ -69,7 +69,7 @@ class Options(NamedTuple):
         return words + ([] if self.folder is None else option("--folder", os.fsencode(self.folder)))
 
     def of_next(self) -> "Options":
-        """Those of a command for one of the mailboxes, which decides itself, and names its folder. A dry run's is
+        """Those of a command for one of the mailboxes, which decides itself, and names its folder. A rehearsal's is
         dry."""
         stay = Options(any_disk=self.any_disk, labels=self.labels)
         stay = stay._replace(prepare=self.prepare, unread=self.unread)

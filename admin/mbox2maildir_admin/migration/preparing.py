@@ -344,7 +344,7 @@ def remarks_on_prepared(prepared: Prepared, how: Options, say: Say) -> list[Rema
 
 def remove_prepared(record: Record, path: bytes, name: bytes, dry: bool, say: Say = silent) -> Optional[Row]:
     """Removes everything that is prepared in a folder, and that a `migrate` that was killed has done there. Returns the
-    row of its mailbox; None if nothing is prepared there. A dry run only counts."""
+    row of its mailbox; None if nothing is prepared there. A rehearsal only counts."""
     one = Preparation(record, name, Ledger(folder_path(record.maildir, name), dry=dry))
     if not one.is_open:
         return None

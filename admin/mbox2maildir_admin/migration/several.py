@@ -147,7 +147,7 @@ class Several:
             if jobs > 1 and any(is_mbox(one.target or one.path) for one in plan):
                 # several processes need it from the beginning
                 record.make()
-            # a dry run needs none
+            # a rehearsal needs none
             if jobs > 1 and (record.is_dry or record.is_open):
                 self.observer.at_once = jobs
                 self.migrate_at_once(plan, largest_first(groups, [one.target or one.path for one in plan]), jobs, rows)
