@@ -23,7 +23,7 @@ from ..terminal import is_text, named
 from .files import changed_at, paths_of
 from .making import SUBFOLDERS, sync_folder
 
-# the beginning of the names of files that are made to see what fails
+# the beginning of the names of files that are made to see what fails, and of copies until they are complete
 PREFIX = b"." + ADMIN.encode() + b"-"
 # how long a folder is watched to see whether names in it change all the time, in seconds
 PAUSE = 1

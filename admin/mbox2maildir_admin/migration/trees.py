@@ -22,9 +22,9 @@ from ..kinds.making import ASIDE
 from ..kinds.named import is_no_mail
 from ..ledger.history import History, names_of
 from ..looks import is_folder, is_surely, is_there, may_be, real_path, state_at, type_at
+from ..maildir.disk import PREFIX
 from ..maildir.folders import INBOX, LONGEST, folder_on_disk, folder_path, name_before
 from ..nexts import Runs, Todo, run_next, task
-from ..readings.copies import UNFINISHED
 from ..remarks import Remark, Says
 from ..terminal import is_text, named, operand, text_of
 from .outcomes import Fate, Row, row_left
@@ -201,7 +201,7 @@ class Tree:
     def planned(self, path: bytes) -> Planned:
         """A mailbox with its folder, or why its folder can't have that name."""
         place, one = self.profiles.place(path, self.top), Planned(path, b"")
-        if os.path.basename(path).startswith(UNFINISHED):
+        if os.path.basename(path).startswith(PREFIX):
             return one.left(Left("an interrupted `quote` left it behind: remove it", Reason.LEFT_BEHIND))
         if self.is_alone and path == self.export:
             return Planned(path, INBOX)

@@ -6,7 +6,6 @@ import stat
 from collections.abc import Container, Iterable, Iterator, Sequence
 from typing import IO, Optional
 
-from .. import ADMIN
 from ..faults import Fault, Left, Reason, naming
 from ..looks import is_there
 from ..maildir.disk import PREFIX
@@ -22,8 +21,6 @@ from ..units import Place
 # the endings of compressed files, which may hold all of the mailbox beside them, as a copy may
 COMPRESSED = b".gz", b".bz2", b".xz", b".zst", b".lz4"
 ENDINGS = (COPY, *COMPRESSED)
-# the name of a copy until it is complete, if it must have a name
-UNFINISHED = b".%s-" % ADMIN.encode()
 CUT = "it was cut while it was read: stop the program that writes to it, and run this again"
 
 
@@ -60,7 +57,7 @@ class Copy:
                 os.stat("/proc/self/fd")
                 number = os.open(self.folder, os.O_RDWR | os.O_TMPFILE | os.O_CLOEXEC, 0o600)
             except OSError:
-                number, self.part = tempfile.mkstemp(prefix=UNFINISHED, dir=self.folder)
+                number, self.part = tempfile.mkstemp(prefix=PREFIX, dir=self.folder)
             self.file = open(number, "w+b", BLOCK)
 
     def __enter__(self) -> "Copy":
