@@ -157,7 +157,6 @@ class Todo:
     OTHER_MAILDIR = Phrase("other-maildir", "name a Maildir, or a folder that is not there, such as {}")
     OTHER_NAME = Phrase("other-name", "name a file that is not there")
     NOT_MAIL = Phrase("not-mail", "leave it: only a regular file, or a folder of such files, is a mailbox")
-    NEW_FILE = Phrase("new-file", "name a file that is not there")
     NO_FILES = Phrase("no-files", "there is nothing to be done")
     INSTALL = Phrase("install", "install it in one of these places")
     LOOK_AT_MAILDIR = Phrase("look-at-maildir", "run this again, and look at its Maildir")

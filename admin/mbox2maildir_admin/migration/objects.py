@@ -67,7 +67,7 @@ class Report(Objects):
         try:
             self.number = os.open(path, os.O_WRONLY | os.O_CREAT | os.O_EXCL | os.O_CLOEXEC, 0o600)
         except FileExistsError as error:
-            raise Fault("%s already exists" % named(path), then=task(Todo.NEW_FILE)) from error
+            raise Fault("%s already exists" % named(path), then=task(Todo.OTHER_NAME)) from error
 
     def print_object(self, fields: dict[str, Any]) -> None:
         """Writes an object. After one that was not written whole, none follows."""
