@@ -29,7 +29,7 @@ from ..migration.known import Known, moved_in
 from ..program import Program
 from ..readings.plans import plan_of
 from ..readings.reading import BY_LENGTHS, CR, CRLF, MBOXCL2, MBOXO, MBOXRD, UNQUOTED, Reading
-from ..readings.texts import form_of, text_then
+from ..readings.texts import NO_LONGER, form_of, text_then
 from .mails import Mail
 
 FROM, FROM_OR_QUOTED = re.compile(rb"^(?=From )", re.M), re.compile(rb"^(?=>*From )", re.M)
@@ -50,7 +50,6 @@ KEPT: dict[str, tuple[bytes, ...]] = {
 EVOLUTION_NUMBER = re.compile(rb"^X-Evolution:[ \t]*([0-9a-f]{8})-", re.I | re.M)
 # what Gmail's numbers have fewer bits than
 THREAD_BITS = 63
-NO_LONGER = "it can no longer be read as it was read when it was migrated (%s)"
 # takes a text, and its messages
 Look = Callable[[Mailbox, Inventory], object]
 # begins what stands for the reading of a mailbox that would be left

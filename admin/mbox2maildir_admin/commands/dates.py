@@ -8,7 +8,7 @@ from ..faults import Status
 from ..maildir.dating import Dating
 from ..maildir.either import Either
 from ..maildir.disk import Syncs
-from ..mbox.mailbox import is_still
+from ..mbox.mailbox import CHANGED_MEANWHILE, is_still
 from ..progress import say_of
 from ..readings.texts import open_text
 from ..terminal import complain, named, put
@@ -17,7 +17,6 @@ from .options import Given
 
 # how many messages without a date are named
 UNDATED = 10
-CHANGED = "it changed in the meantime: stop the program that writes to it, and run this again"
 SYNC_FAILED = "its sync failed: read the system's log, mount the disk again, and run this again"
 
 
@@ -62,5 +61,5 @@ class Dates:
             if not fault and is_still(file, before):
                 put("%s: %s" % (named(file), line))
             else:
-                complain("%s: %s" % (named(file), SYNC_FAILED if fault else CHANGED))
+                complain("%s: %s" % (named(file), SYNC_FAILED if fault else CHANGED_MEANWHILE))
                 self.are_kept = False

@@ -29,7 +29,7 @@ from ..maildir.making import PREPARED
 from ..mbox.bases import base_in, before_info, is_own, own_base_in
 from ..mbox.core import beginning_of
 from ..mbox.files import BLOCK, Reader, open_file
-from ..mbox.mailbox import Digest, Mailbox, is_still
+from ..mbox.mailbox import CHANGED_MEANWHILE, Digest, Mailbox, is_still
 from ..nexts import Runs, run_next
 from ..program import Converted, Failed, Program
 from ..readings.copies import copy_of_some
@@ -40,7 +40,6 @@ from .known import Known
 from .outcomes import Fate, Outcome, Row
 from .steps import FirstPass, OtherPass, Steps
 
-CHANGED_MEANWHILE = "it changed in the meantime: stop the program that writes to it, and run this again"
 SYNC_FAILED = (
     "its sync failed: read the system's log and mount the disk again before you believe anything there, then run this "
     "with --again"

@@ -26,7 +26,7 @@ from ..looks import is_folder
 from ..maildir.disk import Need, want_room, want_syncs
 from ..maildir.folders import INBOX, folder_shown
 from ..mbox.locks import open_mailbox, snapshot
-from ..mbox.mailbox import Mailbox
+from ..mbox.mailbox import CHANGED_MEANWHILE, Mailbox
 from ..nexts import NOTHING, Answer, Does, Next, Phrase
 from ..program import Program
 from ..progress import Spent
@@ -48,7 +48,7 @@ from .answers import (
     noted_last,
     want_same_reading,
 )
-from .carrying import CHANGED_MEANWHILE, SYNC_FAILED, carry_out, names_that_may_be_cut
+from .carrying import SYNC_FAILED, carry_out, names_that_may_be_cut
 from .dovecot import DONE_WITHOUT
 from .known import Known, Opened
 from .options import Options

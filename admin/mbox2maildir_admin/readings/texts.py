@@ -35,6 +35,8 @@ from .reading import PLAIN, UNDECIDED, Reading
 ReadingOf = Callable[[Mailbox], Reading]
 StartOf = Callable[[Mailbox, Offset], Offset]
 
+NO_LONGER = "it can no longer be read as it was read when it was migrated (%s)"
+
 
 class Text(NamedTuple):
     """The text that stands for a mailbox, and where its messages begin. For a quoted copy it also has the lines of the

@@ -40,13 +40,12 @@ from ..migration.options import Options
 from ..migration.steps import Extra
 from ..nexts import Todo, task
 from ..readings.reading import Reading, with_deleted
-from ..readings.texts import content_of, folder_for_copies, text_then
+from ..readings.texts import NO_LONGER, content_of, folder_for_copies, text_then
 from ..remarks import Remark, Says
 from ..terminal import first_of, named
 from ..units import Say, counted
 
 NOT_RECORDED = "no ledger has it, so nothing shows which files are its own"
-UNREADABLE = "it can no longer be read as it was read when it was migrated (%s)"
 DAMAGED = "the ledger of its folder is damaged in line %d"
 OLDER = (
     "the ledger of its folder is older than its record, and nothing shows which files are those of %s: migrate that "
@@ -166,7 +165,7 @@ class Undo:
         reading = with_deleted(reading)
         with content_of(opened.mailbox, disk) as text, text_then(text, reading, disk, extra.start_of) as then:
             if not then:
-                raise Left(UNREADABLE % words, Reason.UNDO)
+                raise Left(NO_LONGER % words, Reason.UNDO)
             return cores_of(then.messages())
 
     def carry_out(self, opened: Opened, ledger: Ledger, path: str, plan: Sequence[Becomes]) -> Counts:
