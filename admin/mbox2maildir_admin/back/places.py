@@ -13,6 +13,7 @@ from ..ledger.ledger import Ledger
 from ..ledger.record import Record, is_gone, unspelled
 from ..looks import is_file, is_folder, is_link, is_there
 from ..maildir.folders import (
+    COMPRESSED,
     INBOX,
     folder_on_disk,
     folder_path,
@@ -27,7 +28,6 @@ from ..mbox.lock_file import drop_lock, lock_file_of, spot_of
 from ..mbox.mailbox import Mailbox
 from ..migration.places import Planned, recorded
 from ..migration.trees import Tree
-from ..readings.copies import COMPRESSED
 from ..terminal import named, text_of
 
 NO_TREE = "%s has no mailbox: name a folder for new mailboxes too, such as that of the old ones (not Thunderbird's)"

@@ -6,6 +6,7 @@ import re
 import stat
 from collections.abc import Sequence
 
+from ..maildir.folders import IS_COMPRESSED
 from ..mbox.files import open_file, read_up_to
 from ..patterns import pattern
 from ..terminal import text_of
@@ -23,7 +24,7 @@ NAMES = frozenset(
 # the mail of a mailbox that Apple Mail exported, and the name of that
 EXPORTED = pattern(rb"([^/]+)\.mbox/mbox\Z")
 # the endings of mailboxes, of compressed files and of copies made by hand
-ENDINGS = pattern(r"(?:\.mbox)?(?:\.(?:gz|bz2|xz|zst|lz4))?(?:\.mboxrd)?\Z")
+ENDINGS = pattern(r"(?:\.mbox)?%s?(?:\.mboxrd)?\Z" % IS_COMPRESSED)
 # the names of empty files that are not mailboxes: hidden ones, locks, indexes, and Dovecot's files beside its counter
 EMPTY_AUXILIARY = pattern(rb"\..*|.*\.(?:lock|msf)|dovecot-uidvalidity\.[0-9a-f]{8}", re.DOTALL)
 # nsMsgLocalStoreUtils.cpp: the names that Thunderbird takes for no folder

@@ -21,7 +21,11 @@ BELOW_OF_KMAIL = pattern(r"(\A|/)\.([^/]+)\.directory(?=/)")
 MAIL_OF_FOLDER = pattern(r"([^/])/mbox\Z")
 # the ending of a copy made by hand, and what it may stand for
 COPY = b".mboxrd"
-HAND_MADE = pattern(r"([^/])(?:\.(?:gz|bz2|xz|zst|lz4))?\.mboxrd\Z")
+# the endings of compressed files, which may hold all of the mailbox beside them, as a copy may
+COMPRESSED = b".gz", b".bz2", b".xz", b".zst", b".lz4"
+COPIES = (COPY, *COMPRESSED)
+IS_COMPRESSED = "(?:%s)" % "|".join(re.escape(ending.decode()) for ending in COMPRESSED)
+HAND_MADE = pattern(r"([^/])%s?\.mboxrd\Z" % IS_COMPRESSED)
 ENDINGS = pattern(r"([^/])\.(?:(?:sbd|mbox)(?=/)|mbox\Z)")
 # Thunderbird keeps the folders below a folder in one of this ending beside it
 BELOW_OF_THUNDERBIRD = pattern(r"([^/])\.sbd(?=/)")

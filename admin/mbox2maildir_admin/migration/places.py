@@ -13,15 +13,13 @@ from ..ledger.history import History, Note, Step, names_of
 from ..ledger.record import Record, unspelled
 from ..looks import is_file
 from ..maildir.files import mail_in
-from ..maildir.folders import COPY, INBOX, folder_on_disk, folder_path, folder_shown, words_of
+from ..maildir.folders import COPIES, COPY, INBOX, folder_on_disk, folder_path, folder_shown, words_of
 from ..maildir.disk import SyncOne
 from ..nexts import Answer, Command, Does, Next, Runs, Single, Todo, run_next, task
-from ..readings.copies import COMPRESSED
 from ..readings.reading import UNDECIDED, Reading
 from ..terminal import is_text, named, operand, option
 from .options import Options
 
-ENDINGS = (COPY, *COMPRESSED)
 ELSEWHERE = "its mail is in %s: the ledger there says so, and the record does not"
 NAMED_AS_FOLDER = "INBOX has or gets other mail, and mail programs keep a folder in a file named %s"
 
@@ -116,8 +114,8 @@ class Pairs(NamedTuple):
     def beside(self, path: bytes) -> list[bytes]:
         """The files beside one that count, and may be its copies, or that it may be a copy of, by their names; those
         that are known to hold no mail are neither."""
-        names = [path + ending for ending in ENDINGS]
-        names += [path[: -len(ending)] for ending in ENDINGS if path.endswith(ending)]
+        names = [path + ending for ending in COPIES]
+        names += [path[: -len(ending)] for ending in COPIES if path.endswith(ending)]
         there = [name for name in names if is_file(name) and not is_no_mail(name)]
         own = there if self.own is None else self.own
         return [other for other in there if other in own]

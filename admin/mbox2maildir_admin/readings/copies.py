@@ -9,7 +9,7 @@ from typing import IO, Optional
 from ..faults import Fault, Left, Reason, naming
 from ..looks import is_there
 from ..maildir.disk import PREFIX
-from ..maildir.folders import COPY
+from ..maildir.folders import COPIES
 from ..mbox.files import BLOCK, Reader
 from ..mbox.inventory import Inventory
 from ..mbox.mailbox import Mailbox
@@ -18,9 +18,6 @@ from ..nexts import Todo, task
 from ..terminal import named
 from ..units import Place
 
-# the endings of compressed files, which may hold all of the mailbox beside them, as a copy may
-COMPRESSED = b".gz", b".bz2", b".xz", b".zst", b".lz4"
-ENDINGS = (COPY, *COMPRESSED)
 CUT = "it was cut while it was read: stop the program that writes to it, and run this again"
 
 
@@ -28,9 +25,9 @@ def stem_of(name: bytes, names: Container[bytes]) -> bytes:
     """The name of the mailbox, among these names, that a file may be a copy of; otherwise the name of the file
     itself."""
     # a spool may have many names, of which most have no such ending
-    if not name.endswith(ENDINGS):
+    if not name.endswith(COPIES):
         return name
-    for ending in ENDINGS:
+    for ending in COPIES:
         stem = name[: -len(ending)]
         if name.endswith(ending) and stem in names:
             return stem_of(stem, names)
