@@ -299,7 +299,7 @@ class Appending:
         key = NO_KEY if goes.has_more else (Size(size + goes.size), hashed.hexdigest())
         lines = [Brought(RETURNED, mail.before, mail.core, inventory.bare(place)) for mail, place in goes.there]
         lines += [Brought(RETURNED, one.mail.before, one.mail.core, one.bares[-1]) for one in goes.entries]
-        head = Head(len(lines), 0, 0, (), key, self.style.words, self.known.path, mailbox.state.st_ino, 0)
+        head = Head.without_files(len(lines), key, self.style.words, self.known.path, mailbox.state.st_ino)
         number = self.known.ledger.begin(head, lines)
         if self.numbering.first:
             # a further run knows the numbers of the Maildir as those of the mailbox

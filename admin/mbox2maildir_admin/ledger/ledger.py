@@ -387,7 +387,7 @@ class Ledger:
         if source and source.count():
             has = (line.message for line in self.entries(source.has()) if line[:2] == (path, State.HELD))
             lost = [one._replace(word=LOST) for one in has]
-            head = Head(len(lost), 0, 0, (), key, source.words, path, inode, 0)
+            head = Head.without_files(len(lost), key, source.words, path, inode)
             self.note(END_LINE % self.begin(head, lost))
 
     def move(self, old: str, new: str) -> None:

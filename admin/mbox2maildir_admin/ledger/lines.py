@@ -150,6 +150,11 @@ class Head(NamedTuple):
     begun: int
 
     @classmethod
+    def without_files(cls, count: int, key: tuple[int, str], words: str, path: str, inode: int) -> "Head":
+        """That of a batch of so many lines which places nothing."""
+        return cls(count, 0, 0, (), key, words, path, inode, 0)
+
+    @classmethod
     def of(cls, found: re.Match[bytes]) -> "Head":
         """What a line says."""
         wanted, nowhere, back, begun, times, size, digest, inode, words, path = (

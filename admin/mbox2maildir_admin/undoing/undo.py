@@ -282,7 +282,7 @@ def hand_over(ledger: Ledger, plan: Sequence[Becomes]) -> None:
     for path, several in handed.items():
         if ledger.pending(path) is None:
             read = ledger.last_read(path)
-            head = Head(len(several), 0, 0, (), read.key, read.words, path, read.inode, 0)
+            head = Head.without_files(len(several), read.key, read.words, path, read.inode)
             ledger.note(END_LINE % ledger.begin(head, sorted(several, key=lambda one: one.word != LOST)))
 
 
