@@ -23,7 +23,6 @@ from .lines import (
     ALL_PLACED,
     BATCH,
     BEGINS,
-    CUT,
     END,
     END_LINE,
     FAILED,
@@ -45,6 +44,7 @@ from .lines import (
     digest_at,
     pieces_in,
     pieces_of,
+    was_cut,
 )
 
 
@@ -169,7 +169,7 @@ class Ledger:
             elif several or not self.take(text[:-1]):
                 # what was cut is no damage, unless a line that follows needs it
                 first = first or number
-                if not text.endswith(CUT + b"\n") and b"\0" not in text:
+                if not was_cut(text[:-1]):
                     self.damage = first
             self.size, number = self.size + len(text), number + text.count(b"\n")
         for batch in verified:

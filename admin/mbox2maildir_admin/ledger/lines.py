@@ -227,6 +227,11 @@ def counted_in(digests: bytearray, wanted: Optional[Container[bytes]] = None) ->
     return collections.Counter(several if wanted is None else (one for one in several if one in wanted))
 
 
+def was_cut(line: bytes) -> bool:
+    """Whether a line, without its end, was cut, or a power cut has taken bytes of it: then it counts for nothing."""
+    return line.endswith(CUT) or b"\0" in line
+
+
 def lines_in(folder: bytes, name: bytes = LEDGER) -> Iterator[bytes]:
     """The lines of the ledger of a folder, or of another file there; none if there is no such file. A last one that was
     cut does not count. Raises Fault if others may have written to it."""

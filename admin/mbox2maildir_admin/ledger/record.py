@@ -23,7 +23,7 @@ from ..terminal import named, spelled
 from ..units import Size
 from .history import TIME, Entry, History, Key, Note, Step, What
 from .ledger import Ledger, count_in
-from .lines import BY_ANOTHER, CUT, HEAD, lines_in, want_trusted
+from .lines import BY_ANOTHER, CUT, HEAD, lines_in, want_trusted, was_cut
 
 MADE_MEANWHILE = "another migrate has made %s meanwhile: run the same command again"
 UNREAD = (
@@ -180,7 +180,7 @@ class Record(History):
             raise Fault("it is too large for a record: look at it, and move it away", Reason.RECORD, place=self.path)
         self.size, self.is_cut = len(data), bool(data) and not data.endswith(b"\n")
         several = data.split(b"\n")[:-1]
-        lines = [line for line in several if not line.endswith(CUT) and b"\0" not in line]
+        lines = [line for line in several if not was_cut(line)]
         self.has_head = lines[:1] == [VERSION_LINE]
         # a power cut may have taken the first line
         if lines and not self.has_head and b"\0" not in several[0]:
@@ -204,7 +204,7 @@ class Record(History):
         self.numbers, self.unread = {}, {}
         for folder in folders_in(self.maildir):
             with self.noting_unread(folder):
-                whole = (line for line in lines_in(folder) if not line.endswith(CUT) and b"\0" not in line)
+                whole = (line for line in lines_in(folder) if not was_cut(line))
                 head = HEAD.match(next(whole, b""))
                 if head:
                     self.numbers[name_of(self.maildir, folder)] = head[1].decode()
