@@ -21,6 +21,6 @@ def silent(*_: object) -> None:
     """Takes what is said of the progress of a task, and says nothing."""
 
 
-def counted(count: int, noun: str) -> str:
-    """Returns a count with its noun."""
-    return "%d %s%s" % (count, noun, "" if count == 1 else "s")
+def counted(count: int, noun: str, plural: str = "s") -> str:
+    """Returns a count with its noun, and the ending that this has in the plural."""
+    return "%d %s%s" % (count, noun, "" if count == 1 else plural)

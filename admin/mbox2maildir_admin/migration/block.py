@@ -22,6 +22,7 @@ from ..nexts import (
     together,
 )
 from ..terminal import operand, option
+from ..units import counted
 from .outcomes import Fate, Row
 
 # how many mailboxes one answer is for at most, so that a human looks at each of them
@@ -108,7 +109,7 @@ class Group:
     def title(self) -> str:
         """Why the rows are there, and how many they are."""
         row, count = self.rows[0], sum(len(one.rows) for one in (self, *self.others))
-        several = "%d mailbox%s" % (count, "" if count == 1 else "es")
+        several = counted(count, "mailbox", "es")
         if row.fate == Fate.NOT_WHOLE:
             return "not whole: " + several
         if not self.why:

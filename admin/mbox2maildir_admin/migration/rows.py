@@ -251,5 +251,5 @@ def sums_of(counts: collections.Counter[str], faults: Mapping[str, int] = Mappin
     mail = [fate for fate in FATES if counts[fate] and fate != Fate.NO_MAIL]
     parts = ["%d %s%s" % (counts[fate], fate, whys.get(fate, "")) for fate in mail]
     total = sum(counts.values()) - others
-    sums = ["%d mailbox%s: %s" % (total, "" if total == 1 else "es", ", ".join(parts)) if total else "no mailboxes"]
+    sums = ["%s: %s" % (counted(total, "mailbox", "es"), ", ".join(parts)) if total else "no mailboxes"]
     return sums + ["%s: no mail" % counted(others, "other file")] * bool(others)
