@@ -20,8 +20,11 @@ from .making import Makes, Recipe
 from .named import index_of
 from .starts import HEAD, end_of_row, is_from_line, is_tar
 
-# writes a From_ line, with the date that stands for no date, before the text
-FROM_LINE = "echo 'From MAILER-DAEMON Thu Jan  1 00:00:00 1970'"
+# the date that stands for no date, and a From_ line that has it
+NO_DATE = "Thu Jan  1 00:00:00 1970"
+UNDATED = "From MAILER-DAEMON " + NO_DATE
+# writes that line before the text
+FROM_LINE = "echo '%s'" % UNDATED
 # quotes the lines of one message, exactly
 QUOTED = "sed 's/^>*From />&/'"
 TAR = "mkdir {copy} && tar %s-xC {copy} <{}"
@@ -144,7 +147,7 @@ ONE_MAIL = "(%s && %s {} && echo) >{copy}" % (FROM_LINE, QUOTED)
 # MMDF quotes nothing, and its messages need no From_ line
 MMDF = (
     'LC_ALL=C awk \'/^\\001\\001\\001\\001$/ {i = !i; if (!i) print ""; n = i; next} '
-    'n {n = 0; if (/^From /) {print; next}; print "From MAILER-DAEMON Thu Jan  1 00:00:00 1970"} '
+    'n {n = 0; if (/^From /) {print; next}; print "' + UNDATED + '"} '
     '{sub(/^>*From /, ">&"); print}\' {} >{copy}'
 )
 EMLX = "(%s && tail -n +2 {} | head -c $(head -n 1 {}) | %s && echo) >{copy}" % (FROM_LINE, QUOTED)
@@ -246,13 +249,14 @@ HEADER = pattern(rb"(?:[!-9;-~]+[ \t]*:[^\n]*\n(?:[ \t][^\n]*\n)*)+")
 BEFORE_HEADER = pattern(rb"[^\0\n:]*\n")
 # what the header of a mail has: who sent it or which server took it, and one of the other fields. Notes, vCards,
 # calendars and settings have lines like a header too
-FROM_SOMEBODY = pattern(rb"(?mi)^(?:From|Received)[ \t]*:")
-OF_MAIL = pattern(rb"(?mi)^(?:Date|Message-ID|Subject|Return-Path|MIME-Version)[ \t]*:")
+SENT, OTHER_FIELDS = b"From|Received", b"Date|Message-ID|Subject|Return-Path|MIME-Version"
+FROM_SOMEBODY = pattern(rb"(?mi)^(?:%s)[ \t]*:" % SENT)
+OF_MAIL = pattern(rb"(?mi)^(?:%s)[ \t]*:" % OTHER_FIELDS)
 BLANKS = b"\0 \t\r\n\v\f"
 BEGINS = "the mbox text begins here, at byte %d"
 NO_FROM_LINE = "a line `From ` without a date at its end and without a header after it"
 WITH_FROM_LINE = "(" + FROM_LINE + " && %s) >{copy}"
-WITH_DATE = Makes(Template("date-line-1", "sed '1s/$/ Thu Jan  1 00:00:00 1970/' {} >{copy}"), Does.FIRST_BEGINS)
+WITH_DATE = Makes(Template("date-line-1", "sed '1s/$/ " + NO_DATE + "/' {} >{copy}"), Does.FIRST_BEGINS)
 QUOTE_LINE = Makes(Template("quote-line-1", WITH_FROM_LINE % "sed '1s/^/>/' {}"), Does.FIRST_IS_TEXT)
 ASK_LINE: Recipe = (WITH_DATE, QUOTE_LINE)
 BEGIN_ALL = Template("begin-all", WITH_FROM_LINE % "cat {}")
@@ -267,7 +271,7 @@ ASK_FILE: Recipe = (WITH_DATE, ALONE)
 LIKE_MAIL: Recipe = (FILE, ALONE)
 LEAVE: Recipe = (Task(Todo.LEAVE),)
 # a line of this form may be one of mail
-LINE_OF_MAIL = pattern(rb"(?m)^(?:>*From |(?i:From|Received|Date|Message-ID|Subject|Return-Path|MIME-Version)[ \t]*:)")
+LINE_OF_MAIL = pattern(rb"(?m)^(?:>*From |(?i:%s|%s)[ \t]*:)" % (SENT, OTHER_FIELDS))
 
 
 def other_of(mailbox: Mailbox) -> Optional[Other]:
