@@ -20,7 +20,7 @@ from ..maildir.files import mail_in
 from ..mbox.bases import before_info
 from ..mbox.core import forms_of
 from ..mbox.dates import TOO_LATE
-from ..mbox.fields import HIDDEN, headers_at, pattern_of
+from ..mbox.fields import HIDDEN, OF_EVOLUTION, OF_GMAIL, OF_THUNDERBIRD, headers_at, pattern_of
 from ..mbox.files import open_file
 from ..mbox.inventory import Inventory
 from ..mbox.mailbox import Mailbox
@@ -41,11 +41,7 @@ FIRST_TIME, LAST_TIME = 1, TOO_LATE - 86400
 X_STATUS = {"R": b"A", "F": b"F", "D": b"T", "T": b"D"}
 # the names of the fields of mail programs, in lower case
 BY_THUNDERBIRD, BY_EVOLUTION, BY_GMAIL = CLIENTS
-KEPT: dict[str, tuple[bytes, ...]] = {
-    BY_THUNDERBIRD: (b"x-mozilla-keys", b"x-mozilla-status", b"x-mozilla-status2"),
-    BY_EVOLUTION: (b"x-evolution",),
-    BY_GMAIL: (b"x-gm-thrid", b"x-gmail-labels"),
-}
+KEPT: dict[str, tuple[bytes, ...]] = {BY_THUNDERBIRD: OF_THUNDERBIRD, BY_EVOLUTION: OF_EVOLUTION, BY_GMAIL: OF_GMAIL}
 # the number that Evolution gave a message, which no other one of the mailbox has
 EVOLUTION_NUMBER = re.compile(rb"^X-Evolution:[ \t]*([0-9a-f]{8})-", re.I | re.M)
 # what Gmail's numbers have fewer bits than

@@ -18,12 +18,11 @@ from .pieces import FROM, LONGEST_HEADER, LONGEST_NAME, Piece, header_of
 
 # in lower case; letters may have either case
 HIDDEN = (b"content-length", b"status", b"x-imap", b"x-imapbase", b"x-keywords", b"x-status", b"x-uid")
-# what else mail programs note of a message: mutt the number of its lines, others flags, tags and labels
-NOTED = (
-    *HIDDEN,
-    *(b"lines", b"x-evolution", b"x-gm-thrid", b"x-gmail-labels"),
-    *(b"x-mozilla-keys", b"x-mozilla-status", b"x-mozilla-status2"),
-)
+# what else mail programs note of a message: flags, tags and labels, and mutt the number of its lines
+OF_THUNDERBIRD = b"x-mozilla-keys", b"x-mozilla-status", b"x-mozilla-status2"
+OF_EVOLUTION = (b"x-evolution",)
+OF_GMAIL = b"x-gm-thrid", b"x-gmail-labels"
+NOTED = (*HIDDEN, b"lines", *OF_EVOLUTION, *OF_GMAIL, *OF_THUNDERBIRD)
 # the value of a field after its colon, with the lines that continue it: a repeated group would keep a mark for each
 VALUE = rb":([^\n]*(?:(?=\n[ \t])(?s:.*?)(?=\n(?![ \t])|\Z))?)"
 ITS_VALUE = pattern(VALUE)
