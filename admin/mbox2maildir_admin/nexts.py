@@ -188,7 +188,7 @@ class Single(NamedTuple):
 
 
 class Command(NamedTuple):
-    """A command: its singles, of which each runs once the one before it has done its work; and whose rights it needs."""
+    """A command: its singles, of which each runs once the one before has done its work; and whose rights it needs."""
 
     singles: tuple[Single, ...]
     user: User = None
