@@ -28,6 +28,8 @@ INBOX = "INBOX"
 KEPT = ("already-gone", "kept-renamed", "kept-edited")
 # the remark on messages that were there already, by no mailbox
 NOBODYS = "there-already"
+# the remark on messages that the mailbox had, where remarks are counted for people, by mailboxes and not by messages
+LOST = re.compile(r"(?m)^noted: (?:.*, )?lost \d")
 # how the name of a converted file begins
 CONVERTED = re.compile(r"[0-9a-f]{64}\.\d")
 
@@ -315,6 +317,16 @@ class Oracle:
             self.shelves[name].left.clear()
         counts = [int(one["says"].split()[0]) for one in row["remarks"] if one["remark"] == NOBODYS]
         self.nobodys[name] = max([self.nobodys[name], *counts])
+
+    def hear_noted(self, printed: str, several: Iterable[Reading]) -> None:
+        """People were told that messages stay which the mailbox no longer has in any of these ways. If it has one in
+        another form, each form is there, and by its Message-ID the message is doubled."""
+        if not LOST.search(printed):
+            return
+        has = union(one.contents for one in several)
+        stays = total(shelf.seen - shelf.foreign - has for shelf in self.shelves.values())
+        owed = self.owed[""]
+        owed["doubled"] -= min(owed["doubled"], sum(stays.values()))
 
     def ran(self, rows: Sequence[Row], is_killed: bool) -> Iterator[str]:
         """A run has ended, or was killed. Returns what is wrong with it."""

@@ -178,7 +178,8 @@ class Rewritten(History):
         self.answer(words)
         if words[1] != "migrate" or self.seed % 7 == 0:
             # what it prints is for people
-            self.run(words[1:], in_shell=command)
+            ran, _ = self.run(words[1:], in_shell=command)
+            self.oracle.hear_noted(ran.out, self.ways(self.box))
             return self.migrate()
         rows = self.run(["migrate", "--json", *words[2:]])[1]
         return {path: row for path, row in rows.items() if row["verdict"] == "left"}
