@@ -11,7 +11,8 @@ use std::io;
 use std::time::{Duration, Instant, SystemTime};
 
 /// The calls that a Maildir at a path makes of a file system and its clocks. Each method makes one
-/// call, and decides nothing. Below it, the kit's library makes an interrupted sync again.
+/// call, and decides nothing. Below it, the kit's library repeats an interrupted opening, emptying,
+/// lock or sync.
 pub trait Calls {
     /// A file or a folder that is open.
     type File: Drop;

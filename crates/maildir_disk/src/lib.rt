@@ -1,11 +1,11 @@
 //! A Maildir on a file system, with what a power cut may leave of it.
 //!
-//! [`System`] is the file system by the calls that one Maildir needs, with what is assumed of each;
-//! it is implemented by the machine's own calls and by a system in memory. [`DiskFolder`] is a
-//! [`Folder`](maildir_run::Folder) over any such system: it syncs each file before it is placed,
-//! lists a folder as it was at one moment, and syncs `new` and `cur` once they were listed.
-//! [`DiskFolder::sync`] syncs the folders. After a failed sync of a folder it makes no call of the
-//! system.
+//! [`System`] is the file system by the calls that one Maildir needs, with what is assumed of
+//! each: `maildir_calls` implements it over a machine's calls, `maildir_memory` in memory.
+//! [`DiskFolder`] is a [`Folder`](maildir_run::Folder) over any such system: it syncs each file
+//! before it is placed, lists a folder as it was at one moment, and syncs `new` and `cur` once
+//! they were listed. [`DiskFolder::sync`] syncs the folders. After a failed sync of a folder it
+//! makes no call of the system.
 //!
 //! Proved: if the system does what [`System`] assumes, each call of the folder has the effect that
 //! it reports, also while mail readers are at work. [`cuts`] has what power cuts leave of runs and

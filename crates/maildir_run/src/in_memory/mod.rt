@@ -1,4 +1,4 @@
-// The folder in memory, for tests: its files, its script, and what its calls do.
+// The folder in memory: its files, its script, and what its calls do.
 pub(crate) mod acting;
 pub(crate) mod file_tree;
 pub(crate) mod mem_files;
