@@ -13,7 +13,7 @@ from .terminal import complain, named, operand
 class Reason:
     """Why something is left. docs/LEFT.md has the words and the sentences too."""
 
-    OTHER = Phrase("other", "There is no word for it yet; the line says what it is.")
+    OTHER = Phrase("other", "There is no word for it yet.")
     ERROR = Phrase("error", "A system call failed.")
     # what the file is: mail that only a human can split, mail of another kind, not known; or it is a copy, or has one
     UNCLEAR = Phrase("unclear", "The file does not show how to read it: you decide.")
@@ -88,7 +88,7 @@ class Reason:
     SAME_USER = Phrase("same-user", "The user has another mailbox, which goes into INBOX.")
     HOME = Phrase("home", "The home is missing, cannot be entered, or belongs to another user.")
     PROCESS = Phrase("process", "The process that migrated it was ended, or its answer cannot be read.")
-    DEFECT = Phrase("defect", "An internal error of this command; the line says it.")
+    DEFECT = Phrase("defect", "An internal error of this command.")
 
 
 REASONS = by_word(Reason)

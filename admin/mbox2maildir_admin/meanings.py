@@ -20,8 +20,8 @@ TO_DO = {
     Reason.LABELS: "Its command. If there is none, migrate the mailbox without `--labels`",
     Reason.OTHER_KIND: "Its command, which [makes a mailbox of it](FORMATS.md#files-of-another-format)",
     Reason.NOT_KNOWN: (
-        "Its command, or `file`, says more. If it holds no mail, add `--no-mail PATTERN` once. PATTERN is its path, or "
-        "a shell pattern such as `*.txt` for its path below the home or the folder that you named"
+        "Its command, or the program `file`, says more. If it holds no mail, add `--no-mail PATTERN` once. PATTERN is "
+        "its path, or a shell pattern such as `*.txt` for its path below the home or the folder that you named"
     ),
     Reason.PACKED: (
         "Find a complete copy, [unpack it](FORMATS.md#compressed-files), or install the program that the line names"
@@ -85,8 +85,8 @@ TO_DO = {
     ),
     Reason.RECORD: (
         "Look at `mbox2maildir-record`. If it is not yours, move it away. If its disk has no locks, migrate [onto "
-        "another disk](LARGE.md#nfs). If another version wrote it, finish with that version. Or move it away and run "
-        "`migrate --again`, which also brings back deleted mail"
+        "another disk](LARGE.md#nfs). If another version wrote it, finish with that version. Otherwise move it away and "
+        "run `migrate --again`, which also brings back deleted mail"
     ),
     Reason.NO_USER: "Find out whose mail it is. If it is nobody's, [move it away](SERVER.md#nobodys)",
     Reason.SYSTEM_ACCOUNT: "Name it on the command line, or choose a Maildir for it, as the line says",
