@@ -85,8 +85,8 @@ TO_DO = {
     ),
     Reason.RECORD: (
         "Look at `mbox2maildir-record`. If it is not yours, move it away. If its disk has no locks, migrate [onto "
-        "another disk](LARGE.md#nfs). If another version wrote it, finish with that version. Otherwise move it away and "
-        "run `migrate --again`, which also brings back deleted mail"
+        "another disk](LARGE.md#nfs). If another version wrote it, finish with that version. Otherwise move it away "
+        "and run `migrate --again`, which also brings back deleted mail"
     ),
     Reason.NO_USER: "Find out whose mail it is. If it is nobody's, [move it away](SERVER.md#nobodys)",
     Reason.SYSTEM_ACCOUNT: "Name it on the command line, or choose a Maildir for it, as the line says",
