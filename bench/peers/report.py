@@ -71,19 +71,19 @@ documentation says, with the same mboxrd of {messages} messages: {escaped} have 
 {missing}
 ## One run
 
-Each file counts once: in *Exactly*, the file holds the message as its sender wrote it. *End*: it has line ends too many
-or too few at its end. *Header*: header lines were added or left out. *Escaped*: the `>` before lines `From ` is still
-there. *Other*: it has other bytes. *Broken*: it ends too early, or holds no message. *Lost* counts messages without a
-file, *Doubled* messages with several, *Flags* messages that kept their flags.
+The first six columns count files. *Exactly*: the file holds the message as its sender wrote it. *End*: it has too many
+or too few line ends at its end. *Header*: header lines were added or left out. *Escaped*: lines `From ` still have
+their `>`. *Other*: it has other bytes. *Broken*: it ends too early, or holds no message. *Lost* counts messages without
+a file, *Doubled* messages with several, *Flags* messages that kept their flags.
 
 {plain}
-The disk was in memory. On a real disk, `convert` takes longer: it waits for the sync of each file. Most others sync no
+The files were in memory. On a disk, `convert` takes longer: it waits for the sync of each file. Most others sync no
 file, and promise nothing about a power cut.
 
 ## Killed, and the same command again
 
 Each converter was killed at {kills} moments spread over its run, with all processes that it had started. After each
-kill, the same command ran to its end. The columns are totals.
+kill, the same command ran to its end. *Lost*, *Doubled* and *Broken* are totals.
 
 {killed}
 ## A full disk
@@ -94,9 +94,9 @@ the same command ran once more.
 {full}
 ## What others do better
 
-- `doveadm backup` keeps keywords and UIDs, as `mbox2maildir-admin migrate --dovecot` does. It compares both sides, so
-  you can start it again. But like `doveadm import`, it writes fields `X-UID` into the old mailbox. A kill during that
-  write left some messages twice there. After a later kill, the command did not start again: `INBOX can't be deleted`.
+- `doveadm backup` keeps keywords and UIDs, as `mbox2maildir-admin migrate --dovecot` does. You can start it again: it
+  compares both sides. But like `doveadm import`, it writes fields `X-UID` into the old mailbox. A kill during that
+  write left some messages twice there. After a later kill, the same command failed: `INBOX can't be deleted`.
 - `mutt`, Dovecot's commands, Python and Mail::Box read many formats. `convert` reads one.
 """
 
