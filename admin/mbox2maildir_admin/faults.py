@@ -6,7 +6,7 @@ from collections.abc import Iterable, Iterator, Sequence
 from typing import Optional, Union
 
 from .looks import ABSENT, is_folder, may_be
-from .nexts import NOTHING, Next, Phrase, Quote, Runs, by_word, lines_below, run_next
+from .nexts import NOTHING, Next, Phrase, Quote, Runs, Todo, by_word, lines_below, run_next, task
 from .terminal import complain, named, operand
 
 
@@ -92,6 +92,8 @@ class Reason:
 
 
 REASONS = by_word(Reason)
+# the reasons that the same command settles when it is run again, and what is to be done before, unless a fault says it
+SETTLED = {Reason.LOCKED: task(Todo.WAIT), Reason.CHANGED: task(Todo.STOP_WRITER)}
 
 
 class Status:
@@ -108,7 +110,7 @@ class Status:
     @classmethod
     def after(cls, reasons: Iterable[Phrase]) -> int:
         """The status of a command that leaves something for each of these reasons."""
-        is_settled = {one in (Reason.LOCKED, Reason.CHANGED) for one in reasons}
+        is_settled = {one in SETTLED for one in reasons}
         return cls.LEFT if False in is_settled else cls.LATER if is_settled else cls.WELL
 
 
@@ -125,7 +127,8 @@ class Fault(Exception):
         place: Optional[bytes] = None,
     ) -> None:
         super().__init__(why if place is None else "%s: %s" % (named(place), why))
-        self.reason, self.next, self.quotes, self.place = reason, then, tuple(quotes), place
+        self.reason, self.quotes, self.place = reason, tuple(quotes), place
+        self.next = then or SETTLED.get(reason, NOTHING)
 
 
 class Left(Fault):

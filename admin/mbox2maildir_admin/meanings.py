@@ -4,13 +4,19 @@ import re
 from collections.abc import Mapping
 
 from .faults import Reason
-from .nexts import Phrase
+from .nexts import Phrase, Todo
 from .remarks import Remark, Says, Sentence
 
 # a link of a page, of which only the text is printed
 LINK = re.compile(r"\[([^]]*)\]\([^)]*\)")
 # what stands in place of what is to be done if that is printed by itself
 ITS_COMMAND = "Its command"
+
+
+def sentence(says: str) -> str:
+    """What is printed in a line, as a sentence of a page."""
+    return says[:1].upper() + says[1:]
+
 
 # what is to be done about each reason why something is left, as docs/LEFT.md has it
 TO_DO = {
@@ -39,8 +45,8 @@ TO_DO = {
     Reason.HOLES: "Find a complete copy",
     Reason.MAILDIR: "Its command, or move its files as the line says",
     Reason.MH: "Its command, then move the folder away",
-    Reason.LOCKED: "End that program, and run the same command again. A `.lock` file is ignored after 20 minutes",
-    Reason.CHANGED: "Stop that program, and run the same command again",
+    Reason.LOCKED: sentence(Todo.WAIT.says) + ". A `.lock` file is ignored after 20 minutes",
+    Reason.CHANGED: sentence(Todo.STOP_WRITER.says),
     Reason.NO_FOLDER: "Give it a folder by `--folder NAME`, or run one of its commands",
     Reason.NOT_OWN: "Its command. If there is none, name a folder of the user's own, or run `migrate` as the owner",
     Reason.NO_ROOM: "Make room, or raise the quota, and run the same command again",
@@ -101,7 +107,7 @@ TO_DO = {
 
 def meaning_of(says: str) -> str:
     """The meaning of a remark that says it all."""
-    return says[:1].upper() + says[1:] + "."
+    return sentence(says) + "."
 
 
 def by_words(meanings: Mapping[Sentence, str]) -> dict[str, str]:

@@ -160,6 +160,13 @@ class Todo:
     NO_FILES = Phrase("no-files", "there is nothing to be done")
     INSTALL = Phrase("install", "install it in one of these places")
     LOOK_AT_MAILDIR = Phrase("look-at-maildir", "run this again, and look at its Maildir")
+    # what is to be done before the same command settles it
+    WAIT = Phrase("wait", "wait until that program has ended, or end it, and run the same command again")
+    STOP_WRITER = Phrase("stop-writer", "stop the program that writes to it, and run the same command again")
+    STOP_READERS = Phrase("stop-readers", "stop mail programs, and run the same command again")
+    STOP_DOVECOT = Phrase("stop-dovecot", "stop Dovecot, and run the same command again")
+    PUT_BACK = Phrase("put-back", "put it back as it was, and run the same command again")
+    NEXT_PASS = Phrase("next-pass", "the next pass may find it at rest")
     ASK_USER = Phrase("as-user", "run `migrate` as that user, which says what to do next")
 
 

@@ -329,7 +329,7 @@ def locked(home: Path) -> None:
         lock = home / "spool/m61one.lock"
         lock.write_bytes(b"17\n")
         (home / "spool/m\udce4.lock").write_bytes(b"17\n")
-        says = f"INBOX -> m61one: messages 1: left (locked): another program has locked it with {lock}: ...\n"
+        says = f"INBOX -> m61one: messages 1: left (locked): another program has locked it with {lock}\n    wait ...\n"
         expect([*WORDS, "m61one"], home, 75, says + "1 mailbox: 1 left; 1 user: ...\n")
         equal("the inbox", (home / "spool/m61one").read_bytes(), ONE)
         os.utime(lock, (1e9, 1e9))

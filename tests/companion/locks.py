@@ -19,8 +19,7 @@ from tests.support.mail import A, B, ONE, TWO
 from tests.support.processes import wait_for
 from tests.support.running import BY_OTHERS, Row, Run
 
-KEEPS_CHANGING = "it keeps changing: stop the program that writes to it, and run this again"
-LOCKED = "another program has locked it: wait, or stop that program"
+KEEPS_CHANGING, LOCKED = "it keeps changing", "another program has locked it"
 # what a disk says that has no locks, and why a mailbox is left for what another error says
 WITHOUT_LOCKS = errno.ENOLCK, errno.ENOSYS, errno.EOPNOTSUPP
 OTHER_ERRORS = errno.EIO, errno.EINVAL, errno.ESTALE
@@ -186,8 +185,8 @@ def prepared_meanwhile(home: Path) -> None:
     count = box.read_bytes().count(b"Subject: two")
     assert 3 <= row["messages"] < 3 + count, f"{row['messages']} of {count}"
     ran = Copies(home, home / "bin").run(words, BY_OTHERS, lambda: os.utime(box))
-    says = "it keeps changing: the next pass may find it at rest"
-    equal(f"changed: {ran.output}", (ran.status, row_of(ran)["reason"], ran.row["says"]), (LATER, "changed", says))
+    equal(f"changed: {ran.output}", (ran.status, row_of(ran)["says"]), (LATER, KEEPS_CHANGING))
+    equal("what is next", ran.row["next"], [{"task": "the next pass may find it at rest"}])
     for text, releases, wanted, (least, most) in (
         (ONE, True, (0, "prepared"), (3, 4)),
         (ONE + TWO, False, (LATER, "left"), (15, 16)),

@@ -177,7 +177,7 @@ def holding(path: Path, lock: str) -> Iterator[None]:
 def locks(home: Path) -> None:
     """A locked mailbox is left, and so is a Maildir in which another migrate is at work."""
     box = mailbox(home / "box", ONE)
-    says = "box -> INBOX: left (locked): another program has locked it{}: wait, or stop that program\n...\n".format
+    says = "box -> INBOX: left (locked): another program has locked it{}\n    wait until ...\n...\n".format
     for lock in ("flock", "lockf"):
         with holding(box, lock):
             expect("migrate --all M box", home, LATER, says(""))
@@ -187,7 +187,7 @@ def locks(home: Path) -> None:
     mailbox(home / "empty", b"")
     expect("migrate --all M empty", home, 0, "empty -> INBOX: empty, messages 0: done\n1 mailbox: 1 done\n")
     with holding(home / "M" / RECORD, "flock"):
-        says_of_it = "another migrate is at work in M, or a convert that an interrupted one left behind: wait until ..."
+        says_of_it = "another migrate is at work in M, or a convert that an interrupted one left behind\n    wait until ..."
         expect("migrate M box", home, LATER, "", f"mbox2maildir-admin: {says_of_it}\n")
     done(home, "messages 1: done, box.lock is older than 20 minutes and was ignored")
     # nobody may write to it while it is converted
@@ -317,8 +317,8 @@ def begun_meanwhile(home: Path) -> None:
     older ledger may take the place of the one that was read."""
     for name, text in (("box", ONE), ("two", TWO), ("three", THREE)):
         mailbox(home / name, text)
-    made = "box -> X: ...: left (locked): another migrate has made M meanwhile: run the same command again\n...\n"
-    says = "box -> X: ...: left (locked): another migrate is at work in .../.X: wait until it has ended, ...\n...\n"
+    made = "box -> X: ...: left (locked): another migrate has made M meanwhile\n    wait until ...\n...\n"
+    says = "box -> X: ...: left (locked): another migrate is at work in .../.X\n    wait until ...\n...\n"
     theirs = f"...{home}/M: its owner, who is not root, could replace the Maildir by a symbolic link\n...\n...\n"
     started = f"'{home}/bin/mbox2maildir-admin' migrate --now --folder X"
     for deed, status, wanted in (

@@ -80,12 +80,13 @@ def uids_given_meanwhile(home: Path) -> None:
 
 def who_changes_the_list(home: Path) -> None:
     """Dovecot has locked the list, or changes it meanwhile. A lock of more than two minutes counts for nothing."""
-    path, says = home / "M/dovecot-uidlist", "Dovecot is changing M/dovecot-uidlist: stop Dovecot, and run this again"
+    path, says = home / "M/dovecot-uidlist", "Dovecot is changing M/dovecot-uidlist"
     migrated(home, text_of(*FIELDS))
     before = path.read_text()
     lock = mailbox(path.with_name("dovecot-uidlist.lock"), b"", 0)
     ran = migrated(home, text_of(*FIELDS, FOURTH, base="222 12"))
     equal("locked", (ran.status, ran.row["reason"], ran.row["says"]), (LATER, "locked", says))
+    equal("what is next", ran.row["next"], [{"task": "stop Dovecot, and run the same command again"}])
     lock.unlink()
     changes = Meanwhile(home, "open", "uidlist.lock$", lambda _: None if path.write_text(f"{before}12 :a\n") else None)
     row = changes.run([*MIGRATE[:1], "--json", *MIGRATE[1:], "box"]).row

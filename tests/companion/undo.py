@@ -85,7 +85,7 @@ def who_is_at_work(home: Path) -> None:
     expect("migrate M box", home, 0, None)
     record = os.open(home / "M/mbox2maildir-record", os.O_RDWR)
     fcntl.flock(record, fcntl.LOCK_EX)
-    expect(UNDO, home, LATER, "", "mbox2maildir-admin: another migrate is at work in M, ...\n")
+    expect(UNDO, home, LATER, "", "mbox2maildir-admin: another migrate is at work in M, ...\n    wait until ...\n")
     os.close(record)
     folder = os.open(home / "M", os.O_RDONLY)
     fcntl.flock(folder, fcntl.LOCK_SH)
@@ -93,7 +93,7 @@ def who_is_at_work(home: Path) -> None:
         UNDO,
         home,
         LATER,
-        "box -> INBOX: left (locked): another converter is at work in M: wait until it has ended\n1 mailbox: 1 left\n",
+        "box -> INBOX: left (locked): another converter is at work in M\n    wait until ...\n1 mailbox: 1 left\n",
     )
     os.close(folder)
     os.utime(str(home / "box"))
@@ -116,8 +116,7 @@ def put_away(box: Path) -> None:
     box.rename(box.with_name("away"))
 
 
-NAMES = "names in its folder keep changing: stop mail programs, and run this again"
-CHANGED = "it changed in the meantime: put it back as it was, and run this again"
+NAMES, CHANGED = "names in its folder keep changing", "it changed in the meantime"
 FILE = "/(new|cur)/[0-9a-f]{64}"
 # what happens just before a file is opened or removed, and how often; why the mailbox is left, or nothing; and how many
 # messages are there then

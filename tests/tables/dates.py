@@ -301,7 +301,7 @@ def what_is_not_kept(home: Path) -> None:
     equal("convert", run("mbox2maildir convert M box", home)[0], 0)
     for code, says in (
         (FAILING, "its sync failed: read the system's log, mount the disk again, and run this again"),
-        (SYNCING % (f"open('{box}', 'ab').write(b'x')", 0), "it changed in the meantime: stop the program ..."),
+        (SYNCING % (f"open('{box}', 'ab').write(b'x')", 0), "it changed in the meantime\n    stop the program that writes to it, ..."),
     ):
         expect(
             [doing_first(code, home / "bin"), "dates", "M", "box"], home, 1, "", f"mbox2maildir-admin: box: {says}\n"

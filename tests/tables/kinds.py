@@ -185,7 +185,7 @@ def delivered_to_meanwhile(home: Path) -> None:
     deliverer = threading.Thread(target=deliver)
     deliverer.start()
     try:
-        says = "it changed while it was read: stop the program that writes to it, and run this again\n"
+        says = "it changed while it was read\n    stop the program that writes to it, and run the same command again\n"
         for words, status, before in (
             (["kind"], 1, "busy: left (changed): "),
             (["quote", "-o", "copy"], 1, "mbox2maildir-admin: busy: "),

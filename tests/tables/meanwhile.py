@@ -208,7 +208,7 @@ STORIES: dict[str, list[Step]] = {
     ],
     "the_copy_of_a_mailbox_is_converted_while_it_grows": [
         *(("a", IN_CRLF), """@"$real" "$@"; printf 'more\\r\\n\\r\\n' >>../a"""),
-        *(("migrate M a", "a: left (changed): it changed while it was converted: ..."), f"!! grep ^= {LEDGER}"),
+        *(("migrate M a", "a: left (changed): it changed while it was converted"), f"!! grep ^= {LEDGER}"),
     ],
     # nobody is left to say so, and no line has the file that was cut
     "a_mailbox_is_written_to_while_a_run_is_killed": [
@@ -254,7 +254,7 @@ STORIES.update(
         f"a_mailbox_{name}_before_its_disk_is_synced": [
             *(("old/a", ONE), ("old/b", TWO)),
             f'@a=../../old/a; case $PWD in */.b) {change};; esac; "$real" "$@"',
-            ("migrate --jobs 1 M old", "old/a: left (changed): it changed in the meantime: stop the ...\nold/b: done"),
+            ("migrate --jobs 1 M old", "old/a: left (changed): it changed in the meantime\nold/b: done"),
         ]
         for name, change in CHANGES.items()
     }

@@ -13,7 +13,7 @@ from tests.support.ledgers import ends_in
 from tests.support.mail import ONE, THREE, TWO
 from tests.support.running import Desk
 
-CHANGED = "it changed while it was converted: stop the program that writes to it, and run this again"
+CHANGED = "it changed while it was converted"
 # of three messages
 ALL = "there 3, under another name 0, other bytes 0, nowhere 0"
 # what is done, as a line for the shell in the Maildir whose words are the paths of the mail; and why the mailbox is
@@ -93,6 +93,7 @@ def is_left(deed: str, why: str, home: Path) -> None:
     plant(home, deed)
     word, status = ("changed", LATER) if why == CHANGED else ("not-verified", 1)
     row = f"box -> INBOX: mboxrd or mboxo, messages 3: left ({word}): {why}\n"
+    row += "    stop the program that writes to it, and run the same command again\n" * (why == CHANGED)
     expect("migrate --all M box", home, status, row + "1 mailbox: 1 left\n")
     lines = (home / "M/mbox2maildir-record").read_text(encoding="utf-8").splitlines()[1:]
     equal("the record", [line.split("\t")[0] for line in lines], ["begun"])

@@ -38,9 +38,9 @@ from .mails import Mail, Target
 from .numbers import Listed, Numbering
 from .places import Keeper, Places
 
-FILE_CHANGED = "%s was changed meanwhile: stop the program that did it, and run this again"
+FILE_CHANGED = "%s was changed meanwhile"
 MISREAD = "what was appended is not read back as it is, so it was taken back"
-REPLACED = "another file has its place meanwhile: run this again"
+REPLACED = "another file has its place meanwhile"
 NOT_HELD = "it cannot hold %s, which %s in the Maildir alone: %s"
 # the first message of a text is never in question, so others are tried behind this one
 ANOTHER = b"Subject: another\n\nyes\n"

@@ -22,7 +22,7 @@ from ..units import Line, Offset
 
 NO_FILE = "%s is not a regular file: remove it, and run this again"
 BY_ANOTHER = "%s: this version did not write it: run back again with the version that did"
-CHANGED = "another program writes to it: stop that program, and run this again"
+CHANGED = "another program writes to it"
 NOT_CUT = "no room is left on its disk, not even to cut off what was appended in part: make room, and run this again"
 # its last line, before which is where each message begins
 FOOT = b"\nmbox2maildir-back 1\t%d\t%d\t%s\t%s\t%d\t%s\t%d\n"

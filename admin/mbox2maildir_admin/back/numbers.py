@@ -42,7 +42,7 @@ from .mails import Mail, Target
 
 # so many bytes each disk writes at once, or not at all
 SECTOR = 512
-NOT_KEPT = "another program has changed its first message meanwhile: stop that program, and run this again"
+NOT_KEPT = "another program has changed its first message meanwhile"
 NO_BASE, NO_ROOM = "it had given the mailbox no UIDs", "the first message has no room for their names"
 # in the place of a UID
 NONE = 1 << 32

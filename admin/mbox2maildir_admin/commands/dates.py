@@ -4,7 +4,7 @@ import os
 from collections.abc import Sequence
 from typing import Optional
 
-from ..faults import Status
+from ..faults import Left, Reason, Status, complain_of
 from ..maildir.dating import Dating
 from ..maildir.either import Either
 from ..maildir.disk import Syncs
@@ -61,5 +61,6 @@ class Dates:
             if not fault and is_still(file, before):
                 put("%s: %s" % (named(file), line))
             else:
-                complain("%s: %s" % (named(file), SYNC_FAILED if fault else CHANGED_MEANWHILE))
+                changed = Left(CHANGED_MEANWHILE, Reason.CHANGED)
+                complain_of(Left(SYNC_FAILED, Reason.SYNC_FAILED) if fault else changed, file)
                 self.are_kept = False

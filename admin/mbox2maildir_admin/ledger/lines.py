@@ -62,7 +62,7 @@ CUT = b"\t"
 # how many bytes of lines are written at once, in whole lines: others append too
 PIECE = 1 << 16
 NOT_TRUSTED = "it does not belong to you, or others may write to it: look at it, and move it away"
-AT_WORK = "another migrate is at work in %s: wait until it has ended, and run this again"
+AT_WORK = "another migrate is at work in %s"
 
 
 class Brought(NamedTuple):

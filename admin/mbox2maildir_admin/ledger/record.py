@@ -25,7 +25,8 @@ from .history import TIME, Entry, History, Key, Note, Step, What
 from .ledger import Ledger, count_in
 from .lines import BY_ANOTHER, CUT, HEAD, lines_in, want_trusted, was_cut
 
-MADE_MEANWHILE = "another migrate has made %s meanwhile: run the same command again"
+AT_WORK_OR_LEFT = "another migrate is at work in %s, or a convert that an interrupted one left behind"
+MADE_MEANWHILE = "another migrate has made %s meanwhile"
 UNREAD = (
     "%s: the record does not name its folder, so mail of its mailboxes could come a second time: correct this, or move "
     "it away"
@@ -163,11 +164,7 @@ class Record(History):
         try:
             fcntl.flock(self.number, fcntl.LOCK_EX | fcntl.LOCK_NB)
         except BlockingIOError as fault:
-            raise Fault(
-                "another migrate is at work in %s, or a convert that an interrupted one left behind: "
-                "wait until it has ended" % named(self.maildir),
-                Reason.LOCKED,
-            ) from fault
+            raise Fault(AT_WORK_OR_LEFT % named(self.maildir), Reason.LOCKED) from fault
         except OSError as fault:
             # where nothing is locked, two would place the same mail
             raise Fault("it cannot be locked: %s" % fault.strerror, Reason.RECORD, place=self.path) from fault

@@ -24,7 +24,7 @@ from .mailbox import Mailbox
 LOCK, STALE = b".lock", 1200
 # why one counts for nothing, and what is said of one that counts
 OLD, LEFT_BEHIND = "is older than 20 minutes", "was left by a `back` that was killed"
-LOCKED_WITH = "another program has locked it with %s: wait, or stop that program"
+LOCKED_WITH = "another program has locked it with %s"
 # the errors of a folder in which this user may make no file, and of a name that is too long for a lock
 NO_LOCKS = errno.EACCES, errno.EPERM, errno.EROFS, errno.ENAMETOOLONG
 # the number of a process, and 16 bytes that stand for the owner

@@ -9,6 +9,7 @@ import time
 from typing import IO, Callable, NamedTuple
 
 from ..faults import Left, Reason, fault_of
+from ..nexts import Todo, task
 from ..units import WAITING, Say
 from .files import has_holes, open_plain
 from .lock_file import look_for_lock_file
@@ -20,7 +21,7 @@ QUIET, PATIENCE = 60, 300
 # in seconds: for how long a mailbox is locked at most, and how long the lock of another program is waited for; and how
 # often a copy is tried
 LONGEST_LOCK, LONGEST_WAIT, TRIES = 10, 15, 3
-KEEPS_CHANGING = "it keeps changing: the next pass may find it at rest"
+KEEPS_CHANGING = "it keeps changing"
 # the errors that say that another program has the lock, and that a disk has no locks
 LOCKED, WITHOUT_LOCKS = (errno.EAGAIN, errno.EACCES), (errno.ENOLCK, errno.ENOSYS, errno.EOPNOTSUPP)
 
@@ -81,7 +82,7 @@ def lock_quiet(mailbox: Mailbox, kind: Kind) -> None:
             unlock(mailbox.number)
             is_locked = False
         elif time.monotonic() > end:
-            raise Left("it keeps changing: stop the program that writes to it, and run this again", Reason.CHANGED)
+            raise Left(KEEPS_CHANGING, Reason.CHANGED)
         else:
             if seconds > 1:
                 # a shorter wait is over before anybody has read of it
@@ -97,7 +98,7 @@ def lock(number: int, kind: Kind) -> None:
             take(number, its)
         except OSError as fault:
             if fault.errno in LOCKED:
-                raise Left("another program has locked it: wait, or stop that program", Reason.LOCKED) from fault
+                raise Left("another program has locked it", Reason.LOCKED) from fault
             if fault.errno not in WITHOUT_LOCKS:
                 raise
 
@@ -144,7 +145,7 @@ def snapshot(path: bytes, make: Callable[[int], IO[bytes]], say: Say, follow: bo
             copy.remarks += mailbox.remarks
             copy.copied, copy.took = mailbox.state, time.monotonic() - began
             return copy
-    raise Left(KEEPS_CHANGING, Reason.CHANGED)
+    raise Left(KEEPS_CHANGING, Reason.CHANGED, task(Todo.NEXT_PASS))
 
 
 def open_soon(path: bytes, say: Say, follow: bool) -> Mailbox:

@@ -14,8 +14,8 @@ from .pieces import Piece, pieces_of
 # the facts that show that a file has changed, and that it is no other one
 SIGNS = "st_size", "st_mtime_ns", "st_ctime_ns"
 SIGNS_OF_FILE = "st_dev", "st_ino", *SIGNS
-CHANGED = "it changed while it was read: stop the program that writes to it, and run this again"
-CHANGED_MEANWHILE = "it changed in the meantime: stop the program that writes to it, and run this again"
+CHANGED = "it changed while it was read"
+CHANGED_MEANWHILE = "it changed in the meantime"
 
 
 def is_still(path: bytes, state: os.stat_result) -> bool:

@@ -48,7 +48,7 @@ PREPARED_SYNC_FAILED = (
     "its sync failed: read the system's log and mount the disk again before you believe anything there, then remove "
     "what is prepared, and begin anew"
 )
-CHANGED_WHILE_CONVERTED = "it changed while it was converted: stop the program that writes to it, and run this again"
+CHANGED_WHILE_CONVERTED = "it changed while it was converted"
 FOLDER_CALL = re.compile(r"folder call (\d+) failed")
 # what the first calls do; two of them list a folder and sync it, and a sync comes last
 LISTINGS = ("lists tmp", "lists new", "lists cur")

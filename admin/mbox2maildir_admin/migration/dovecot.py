@@ -35,7 +35,7 @@ from ..mbox.fields import headers_at
 from ..mbox.files import WHOLE, open_file, read_up_to
 from ..mbox.lock_file import Spot, drop_lock, make_held
 from ..mbox.mailbox import Mailbox
-from ..nexts import Runs, run_next
+from ..nexts import Runs, Todo, run_next, task
 from ..readings.texts import form_of
 from ..remarks import Remark, Says
 from ..terminal import is_text, named, operand
@@ -51,7 +51,7 @@ FIRST = re.compile(rb"3 (?:[^\n]* )?V([0-9]{1,10}) (?:[^\n]* )?N([0-9]{1,10})(?=
 LOCK, STALE = b".lock", 120
 # how long a list may be that is looked at: this is some 5,000,000 lines
 LONGEST_LIST = 1 << 29
-CHANGED = "Dovecot is changing %s: stop Dovecot, and run this again"
+CHANGED = "Dovecot is changing %s"
 NUMBERED_BY_DOVECOT = "Dovecot has looked at this folder and keeps the UIDs that it gave"
 OF_ANOTHER = "%s has the UIDs of another mailbox"
 AFTER_THOSE = "%s, and Dovecot gives these messages UIDs after those"
@@ -244,11 +244,11 @@ def replace(path: bytes, text: bytes, new: bytes) -> None:
     try:
         number = make_held(lock, new, 0o600)
     except FileExistsError as fault:
-        raise Left(CHANGED % named(path), Reason.LOCKED) from fault
+        raise Left(CHANGED % named(path), Reason.LOCKED, task(Todo.STOP_DOVECOT)) from fault
     try:
         with open_file(path) as old:
             if old.readall() != text:
-                raise Left(CHANGED % named(path), Reason.CHANGED)
+                raise Left(CHANGED % named(path), Reason.CHANGED, task(Todo.STOP_DOVECOT))
         os.rename(lock.name, path)
     except BaseException:
         lock.unlink()

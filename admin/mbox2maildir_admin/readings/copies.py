@@ -18,7 +18,7 @@ from ..nexts import Todo, task
 from ..terminal import named
 from ..units import Place
 
-CUT = "it was cut while it was read: stop the program that writes to it, and run this again"
+CUT = "it was cut while it was read"
 
 
 def stem_of(name: bytes, names: Container[bytes]) -> bytes:

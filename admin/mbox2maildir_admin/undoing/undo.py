@@ -30,7 +30,7 @@ from ..maildir.folders import INBOX, folder_of, folder_shown, folders_in, name_o
 from ..maildir.making import RECORD, real_place
 from ..mbox.bases import DIGEST, base_in, before_info, is_own
 from ..mbox.locks import WITHOUT_LOCKS, open_mailbox
-from ..mbox.mailbox import SIGNS_OF_FILE, Mailbox
+from ..mbox.mailbox import CHANGED_MEANWHILE, SIGNS_OF_FILE, Mailbox
 from ..migration.dovecot import Dovecot, remove_lists
 from ..migration.known import Known, Opened, moved_in
 from ..migration.outcomes import Fate, Observer, Row, row_left
@@ -56,9 +56,8 @@ WITHOUT_LINE = (
     "line: restore the newest one, or first migrate the other mailboxes that went there"
 )
 IN_SEVERAL = "the record has it in several folders: %s"
-CHANGED = "it changed in the meantime: put it back as it was, and run this again"
-NAMES_CHANGE = "names in its folder keep changing: stop mail programs, and run this again"
-CONVERTER = "another converter is at work in %s: wait until it has ended"
+NAMES_CHANGE = "names in its folder keep changing"
+CONVERTER = "another converter is at work in %s"
 # how often a folder is listed while names in it change
 PASSES = 20
 # the states of lines whose mailbox has the message, or may have it; and of those whose mailbox has it
@@ -313,7 +312,7 @@ def remove(opened: Opened, plan: Sequence[Becomes], dry: bool = False) -> Counts
             counts[Why.REMOVED] = len(removed)
             counts[Why.GONE] += len(bases - removed - stays.keys())
             return counts
-    raise Left(NAMES_CHANGE, Reason.CHANGED)
+    raise Left(NAMES_CHANGE, Reason.CHANGED, task(Todo.STOP_READERS))
 
 
 def remove_file(mailbox: Mailbox, path: bytes, digest: bytes, dry: bool) -> Optional[bool]:
@@ -338,7 +337,7 @@ def want_same(mailbox: Mailbox) -> None:
     except FileNotFoundError:
         is_same = False
     if mailbox.has_changed() or not is_same:
-        raise Left(CHANGED, Reason.CHANGED)
+        raise Left(CHANGED_MEANWHILE, Reason.CHANGED, task(Todo.PUT_BACK))
 
 
 @contextlib.contextmanager
