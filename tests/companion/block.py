@@ -6,7 +6,7 @@ from pathlib import Path
 from tests.companion.spool import theirs, users
 from tests.support.checks import equal, matches
 from tests.support.homes import by_json, check_all, expect, mail_in, mailbox, run, run_printed, want_users
-from tests.support.mail import A, B, C, ONE
+from tests.support.mail import A, B, C, ONE, THREE, TWO
 from tests.support.printed import groups_in
 from tests.support.schema import SCHEMA
 
@@ -91,6 +91,19 @@ def groups(home: Path) -> None:
         [one.word for one in groups_in(out)],
         ["unclear", "not-known", "no-file"],
     )
+
+
+def moved_into_one(home: Path) -> None:
+    """Mail that people moved from two folders into one is said once in the block."""
+    for name, text in (("a", ONE), ("b", TWO), ("c", THREE)):
+        mailbox(home / "old" / name, text)
+    expect("migrate --now M old", home, 0, None)
+    for folder in (".a", ".b"):
+        (path,) = mail_in(home / "M" / folder)
+        path.rename(home / "M/.c/new" / path.name)
+    look = groups_in(run("back --now M old", home).out)[0]
+    wanted = "look at: 1 mailbox: Mail that people moved to another folder stays in the mailbox that has it."
+    equal("a look", look.title, wanted)
 
 
 def formats(home: Path) -> None:
@@ -212,6 +225,7 @@ if __name__ == "__main__":
         one_mailbox,
         one_of_a_kind,
         groups,
+        moved_into_one,
         formats,
         one_answer_for_many,
         many_of_one_kind,

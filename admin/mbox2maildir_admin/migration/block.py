@@ -61,7 +61,7 @@ def answers_of(row: Row) -> list[Answer]:
 def question_of(row: Row) -> object:
     """What is the same in all rows of a group: why they are left, and what is to be done or answered."""
     steps = [(one.todo,) if isinstance(one, Task) else (one.does, *decided(one)[:2]) for one in row.next]
-    looks = row.fate if row.fate in (Fate.LEFT, Fate.NOT_WHOLE) else tuple(one.word for one in row.said)
+    looks = row.fate if row.fate in (Fate.LEFT, Fate.NOT_WHOLE) else tuple(dict.fromkeys(one.word for one in row.said))
     return row.left_for, looks, bool(answers_of(row)) and row.kind, *steps
 
 
@@ -113,7 +113,9 @@ class Group:
         if row.fate == Fate.NOT_WHOLE:
             return "not whole: " + several
         if not self.why:
-            return ": ".join(filter(None, ["look at", several, " ".join(REMARKS[one.word] for one in row.said)]))
+            # mail that went from one folder into two is said twice
+            says = dict.fromkeys(REMARKS[one.word] for one in row.said)
+            return ": ".join(filter(None, ["look at", several, " ".join(says)]))
         if any(one.does in ON_LINES for one in self.answers):
             return "%s: %s (%s): does a mail begin at the line that is shown?" % (row.word, several, row.kind)
         return "%s: %s: %s" % (row.word, several, self.why.says)
