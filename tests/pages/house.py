@@ -1,5 +1,5 @@
-"""What docs/ARCHITECTURE.md says of the companion's rooms and of what is to be done next: a room imports only from
-itself and from those above it in the table, and no code reads a next step out of a sentence. A look at a path has three
+"""What docs/ARCHITECTURE.md says of the companion's rooms: a room imports only from itself and from those above it in
+the table. And what the package keeps to: no code reads a next step out of a sentence, and a look at a path has three
 answers."""
 import ast
 import re
