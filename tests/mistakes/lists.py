@@ -2,7 +2,8 @@
 
 A mistake of a list is: `in:`, a place, for all that follow; `old:`, a text that stands once there, if it is another one
 than that of the mistake before; `new:`, the mistake in its place; `harm:`, what a user would suffer; and `seen:`, the
-test that sees it. One that nobody would notice has `harmless:`, the reason, in place of the last two. `same:` is the
+test that sees it, if it is another one than before. One without both does the same harm as the one before, and is seen
+by the same test. One that nobody would notice has `harmless:`, the reason, in place of the last two. `same:` is the
 text of lines that have no mistake, with the reason. A line that begins with `#` is a comment.
 """
 from pathlib import Path
@@ -72,7 +73,13 @@ def listed(path: Path, of: type[AnyPlanted]) -> tuple[list[AnyPlanted], dict[str
                 one.number = len(found)
             if not one.set(key, value):
                 raise SystemExit(f"line {number} of the list: {line}")
+    before = None  # type: Optional[AnyPlanted]
     for one in found:
-        if not one.harmless and not (one.harm and one.seen):
+        if one.harmless:
+            continue
+        if not one.harm and (one.seen or not before) or not (one.seen or before):
             raise SystemExit(f"{one}: wants harm and seen, or harmless")
+        if before:
+            one.harm, one.seen = one.harm or before.harm, one.seen or before.seen
+        before = one
     return found, same
