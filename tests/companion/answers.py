@@ -8,7 +8,7 @@ from typing import Optional
 
 from tests.companion.spool import USERS, theirs, users
 from tests.support.checks import equal, match_in, matches
-from tests.support.homes import by_json, check_all, expect, mail_in, mailbox, make_maildir
+from tests.support.homes import by_json, check_all, checks_in, expect, mail_in, mailbox, make_maildir
 from tests.support.homes import run, run_printed, subjects, want_users
 from tests.support.mail import A, B, MAY, ONE, TWO, with_length
 from tests.support.running import Row
@@ -34,16 +34,10 @@ TEXTS = {
     "mail in one without a date": (b"From a@b\nS: x\n\nhello\n\nFrom e\0@f\nS: z\n\n", (2, 1)),
     "without a mark": (SEEN * 2 + B + b"\nyes\n\n" + SEEN, (3, 4)),
     "without a mark beside deleted mail": (GONE + SEEN + B + b"\nyes\n\n" + SEEN, (2, 3, 3, 4)),
-    "deleted": (
-        A + b"X-Mozilla-Status: 0009\n\nhello\n\n" + B + b"X-Mozilla-Status: 0000\n\nyes\n\n",
-        (1, 2),
-    ),
+    "deleted": (A + b"X-Mozilla-Status: 0009\n\nhello\n\n" + B + b"X-Mozilla-Status: 0000\n\nyes\n\n", (1, 2)),
 }  # type: dict[str, tuple[bytes, tuple[int, ...]]]
 # mailboxes that have one answer, and how many messages it gives
-SINGLE = {
-    "cut": (with_length(A, b"hello", 7), 1),
-    "cr": ((A + b"\nhello\n\n" + B + b"\n").replace(b"\n", b"\r"), 2),
-}
+SINGLE = {"cut": (with_length(A, b"hello", 7), 1), "cr": ((A + b"\nhello\n\n" + B + b"\n").replace(b"\n", b"\r"), 2)}
 
 
 def answers_in(words: list[str], home: Path, path: str = "box", user: Optional[str] = None) -> list[tuple[str, int]]:
@@ -473,24 +467,4 @@ def of_users(home: Path) -> None:
 
 
 if __name__ == "__main__":
-    check_all(
-        of_ones_own,
-        of_dry_runs,
-        of_several,
-        after_a_rehearsal,
-        of_what_was_shown,
-        of_numbers,
-        of_lines_that_differ,
-        without_asking_again,
-        after_an_undo,
-        that_leaves_no_message,
-        of_several_that_are_done,
-        deleted_since,
-        deleted_mail_that_was_kept,
-        all_mail_deleted,
-        by_what_it_brought,
-        of_words_that_were_typed,
-        of_lengths,
-        without_numbers,
-        of_users,
-    )
+    check_all(*checks_in(globals()))

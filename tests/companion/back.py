@@ -98,12 +98,7 @@ def a_profile_of_thunderbird(home: Home) -> None:
     home.has(1, name="New")
 
 
-RULES = (
-    a_name_that_was_placed_again,
-    names_that_no_line_can_have,
-    a_mailbox_that_has_more,
-    a_profile_of_thunderbird,
-)
+RULES = (a_name_that_was_placed_again, names_that_no_line_can_have, a_mailbox_that_has_more, a_profile_of_thunderbird)
 
 if __name__ == "__main__":
     run_rules({rule.__name__: rule for rule in RULES})

@@ -5,7 +5,7 @@ from pathlib import Path
 
 from tests.companion.spool import theirs, users
 from tests.support.checks import equal, matches
-from tests.support.homes import by_json, check_all, expect, mail_in, mailbox, run, run_printed, want_users
+from tests.support.homes import by_json, check_all, checks_in, expect, mail_in, mailbox, run, run_printed, want_users
 from tests.support.mail import A, B, C, ONE, THREE, TWO
 from tests.support.printed import groups_in
 from tests.support.schema import SCHEMA
@@ -221,15 +221,4 @@ def output_that_ends(home: Path) -> None:
 
 
 if __name__ == "__main__":
-    check_all(
-        one_mailbox,
-        one_of_a_kind,
-        groups,
-        moved_into_one,
-        formats,
-        one_answer_for_many,
-        many_of_one_kind,
-        of_users,
-        words_of_rows,
-        output_that_ends,
-    )
+    check_all(*checks_in(globals()))

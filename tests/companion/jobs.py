@@ -13,7 +13,7 @@ from contextlib import contextmanager
 from pathlib import Path
 
 from tests.support.checks import PATIENCE, equal
-from tests.support.homes import ADMIN, check_all, expect, fake, mail_in, mailbox, run, script, want_users
+from tests.support.homes import ADMIN, check_all, checks_in, expect, fake, mail_in, mailbox, run, script, want_users
 from tests.support.ledgers import LEDGER, RECORD, wait_for_lock, without_chance
 from tests.support.mail import ONE, TWO, bodies_of, digest_of
 from tests.support.mounts import small_disk
@@ -293,16 +293,4 @@ def full_disk(home: Path) -> None:
 
 
 if __name__ == "__main__":
-    check_all(
-        as_one_at_a_time,
-        largest_first,
-        ended_by_a_signal,
-        without_their_parent,
-        ended_at_once,
-        ended_out_of_turn,
-        told_at_once,
-        full_record,
-        little_memory,
-        one_at_work,
-        full_disk,
-    )
+    check_all(*checks_in(globals()))

@@ -15,18 +15,8 @@ from typing import Any
 from tests.pages.documents import LEFT, MANUAL, MANUALS
 from tests.support.cases import run_cases
 from tests.support.checks import TOP, equal, match_in, text_of
-from tests.support.homes import (
-    by_json,
-    fake,
-    fresh_folder,
-    install,
-    mail_below,
-    mail_in,
-    mailbox,
-    make_maildir,
-    restore,
-    run,
-)
+from tests.support.homes import by_json, fake, fresh_folder, install, mail_below, mail_in, mailbox, make_maildir
+from tests.support.homes import restore, run
 from tests.support.ledgers import LEDGER, RECORD
 from tests.support.mail import A, ONE, THREE, TWO
 from tests.support.running import Desk, Row, Run

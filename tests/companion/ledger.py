@@ -7,20 +7,8 @@ import os
 from collections.abc import Callable, Sequence
 from functools import partial
 
-from tests.support.archives import (
-    PROGRAMS,
-    RO,
-    TEN,
-    Fields,
-    Home,
-    letter,
-    letters,
-    mail_of,
-    rules_in,
-    run_rules,
-    want_said,
-    want_unsaid,
-)
+from tests.support.archives import PROGRAMS, RO, TEN, Fields, Home, letter, letters, mail_of, rules_in, run_rules
+from tests.support.archives import want_said, want_unsaid
 from tests.support.cases import Failed
 from tests.support.checks import equal
 from tests.support.ledgers import as_if_killed
@@ -248,10 +236,7 @@ def rule_2_deleted_after_a_killed_run(home: Home) -> None:
     """A run was killed once all was placed. A file of it that is marked as deleted serves no message that is not: the
     message was marked, and is no longer; or a reader has marked the file. An undo removes what counted."""
     for is_marked, words in home.each((True, False), ([], ["--dovecot"])):
-        home.done(
-            home.write("OLD", letters(0, 1, 1, 2, fields=DELETED[1] if is_marked else RO)),
-            words=words,
-        )
+        home.done(home.write("OLD", letters(0, 1, 1, 2, fields=DELETED[1] if is_marked else RO)), words=words)
         home.forget_end()
         for path in home.files() if not is_marked else ():
             path.rename(path.parents[1] / "cur" / f"{path.name.split(':')[0]}:2,ST")

@@ -13,20 +13,8 @@ from collections.abc import Callable
 from pathlib import Path
 from random import Random
 
-from tests.support.archives import (
-    RO,
-    Home,
-    Outcome,
-    letter,
-    letters,
-    mail_of,
-    rules_in,
-    run_rules,
-    says,
-    texts_of,
-    want_offered,
-    want_said,
-)
+from tests.support.archives import RO, Home, Outcome, letter, letters, mail_of, rules_in, run_rules, says, texts_of
+from tests.support.archives import want_offered, want_said
 from tests.support.cases import Failed
 from tests.support.checks import equal
 from tests.support.homes import hand_over

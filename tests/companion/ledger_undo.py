@@ -5,19 +5,8 @@ import os
 from collections.abc import Callable, Sequence
 from pathlib import Path
 
-from tests.support.archives import (
-    PROGRAMS,
-    RO,
-    TEN,
-    Home,
-    letter,
-    letters,
-    mail_of,
-    rules_in,
-    run_rules,
-    want_said,
-    want_unsaid,
-)
+from tests.support.archives import PROGRAMS, RO, TEN, Home, letter, letters, mail_of, rules_in, run_rules, want_said
+from tests.support.archives import want_unsaid
 from tests.support.cases import Failed
 from tests.support.checks import equal
 from tests.support.mail import digest_of

@@ -14,7 +14,7 @@ from typing import Any
 
 from tests.support.checks import LATER, equal
 from tests.support.copies import Copies, Meanwhile
-from tests.support.homes import by_json, check_all, expect, fake, mailbox, restore
+from tests.support.homes import by_json, check_all, checks_in, expect, fake, mailbox, restore
 from tests.support.mail import A, B, ONE, TWO
 from tests.support.processes import wait_for
 from tests.support.running import BY_OTHERS, Row, Run
@@ -230,12 +230,7 @@ def holes(home: Path) -> None:
     """A file of which more than 16 MB were never written is left, wherever the holes are."""
     limit, page = 16 << 20, 1 << 16
     for number, (first, size, is_left) in enumerate(
-        (
-            (b"", limit, False),
-            (ONE, limit, False),
-            (b"", limit + page, True),
-            (ONE, 8 << 40, True),
-        )
+        ((b"", limit, False), (ONE, limit, False), (b"", limit + page, True), (ONE, 8 << 40, True))
     ):
         with (home / "box").open("wb") as file:
             file.write(first)
@@ -308,14 +303,4 @@ def locks_of_back(home: Path) -> None:
 
 
 if __name__ == "__main__":
-    check_all(
-        quiet,
-        delivered_at_the_last_moment,
-        errors,
-        prepared_meanwhile,
-        locked_for_ten_seconds,
-        holes,
-        rehearsed,
-        after_a_kill,
-        locks_of_back,
-    )
+    check_all(*checks_in(globals()))

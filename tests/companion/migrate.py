@@ -12,19 +12,8 @@ from functools import partial
 from pathlib import Path
 
 from tests.support.checks import LATER, equal, matches
-from tests.support.homes import (
-    check_all,
-    expect,
-    fake,
-    files_of,
-    mail_in,
-    mailbox,
-    make_maildir,
-    run,
-    run_whole,
-    subjects,
-    want_root,
-)
+from tests.support.homes import check_all, checks_in, expect, fake, files_of, mail_in, mailbox, make_maildir, run
+from tests.support.homes import run_whole, subjects, want_root
 from tests.support.ledgers import LEDGER, RECORD
 from tests.support.mail import A, ONE, THREE, TWO, digest_of
 from tests.support.running import Desk
@@ -116,10 +105,7 @@ def last_line(home: Path) -> None:
     for name, text in texts.items():
         mailbox(home / "old" / name, text)
     size = f"3 messages, {len(ONE + TWO + THREE)} bytes"
-    for options, sums, work in (
-        ("--dry-run --now", "3 would be done", size),
-        ("--now", "3 done", size),
-    ):
+    for options, sums, work in (("--dry-run --now", "3 would be done", size), ("--now", "3 done", size)):
         _, out, _ = run_whole(["migrate", "--all", *options.split(), "M", "old"], home)
         matches(f"{options}: the last line", out.splitlines()[-1], f"4 mailboxes: {sums}, 1 left; {work} in ... s")
     _, out, _ = run_whole("migrate --all M old", home)
@@ -308,7 +294,6 @@ def refused(home: Path) -> None:
     says = f"mbox2maildir-admin: {home}/theirs: it belongs to nobody\n...\n...\n"
     expect("migrate theirs/M box", home, 1, "", says)
     equal("what is in it", list((home / "theirs/M").iterdir()), [])
-    roots_alone(home)
 
 
 def begun_meanwhile(home: Path) -> None:
@@ -340,7 +325,10 @@ def begun_meanwhile(home: Path) -> None:
 
 def roots_alone(home: Path) -> None:
     """root writes only where nobody else could put a link in place of a folder, at any height, and by the real path."""
+    want_root()
+    mailbox(home / "box", ONE)
     (home / "theirs/a/b").mkdir(parents=True)
+    os.chown(home / "theirs", 65534, 65534)
     (home / "open/a/b").mkdir(parents=True)
     (home / "open").chmod(0o777)
     os.symlink("theirs/a/b", home / "link")
@@ -374,14 +362,4 @@ def roots_alone(home: Path) -> None:
 
 
 if __name__ == "__main__":
-    check_all(
-        once_and_never_again,
-        last_line,
-        copies_beside,
-        begun_meanwhile,
-        locks,
-        records_of_others,
-        links,
-        refused,
-        of_another_version,
-    )
+    check_all(*checks_in(globals()))

@@ -14,20 +14,8 @@ from pathlib import Path
 from tests.companion.spool import theirs
 from tests.support import accounts
 from tests.support.checks import LATER, equal, match_in, matches
-from tests.support.homes import (
-    ADMIN,
-    by_json,
-    check_all,
-    expect,
-    mail_in,
-    mailbox,
-    run,
-    run_printed,
-    script,
-    subjects,
-    want_strace,
-    want_users,
-)
+from tests.support.homes import ADMIN, by_json, check_all, checks_in, expect, mail_in, mailbox, run, run_printed, script
+from tests.support.homes import subjects, want_strace, want_users
 from tests.support.mail import A, B, ONE, THREE, TWO
 from tests.support.printed import row_in, rows_in
 from tests.support.running import Desk
@@ -388,16 +376,4 @@ def of_users(home: Path) -> None:
 
 
 if __name__ == "__main__":
-    check_all(
-        printed,
-        refused,
-        found_by_settings,
-        one_at_work,
-        spoilt,
-        left_over,
-        started_again,
-        read_once,
-        words_hold,
-        without_deleted_mail,
-        of_users,
-    )
+    check_all(*checks_in(globals()))

@@ -7,17 +7,8 @@ import shutil
 from pathlib import Path
 
 from tests.support.checks import equal, matches, without_work
-from tests.support.homes import (
-    check_all,
-    expect,
-    hand_over,
-    mail_in,
-    mailbox,
-    run,
-    run_whole,
-    subjects,
-    want_root,
-)
+from tests.support.homes import check_all, checks_in, expect, hand_over, mail_in, mailbox, run, run_whole, subjects
+from tests.support.homes import want_root
 from tests.support.ledgers import RECORD, without_chance
 from tests.support.mail import A, B, C, MAY, ONE
 from tests.support.printed import row_in, rows_in
@@ -61,10 +52,10 @@ def shell_of(home: Path, script: str) -> Terminal:
     return terminal_of(home, "bash", "-c", script)
 
 
-def boxes(home: Path) -> None:
+def make_boxes(old: Path) -> None:
     """A folder with two mailboxes that are asked about, and one that is not."""
     for name, text in (("lines", LINES), ("one", ONE), ("word", WORD)):
-        mailbox(home / "old" / name, text)
+        mailbox(old / name, text)
 
 
 def files_of(folder: Path) -> dict[str, bytes]:
@@ -88,7 +79,7 @@ def rows_of(printed: str) -> list[str]:
 def an_answer_is_its_command(home: Path) -> None:
     """Each answer does what the command does that is printed for it. Each mailbox has one row, those that were asked
     about after all others."""
-    boxes(home)
+    make_boxes(home / "old")
     for choice in range(4):
         printed = run("migrate --all --now --no-questions N old", home)[1]
         chosen = [
@@ -160,7 +151,7 @@ def nobody_is_asked(home: Path) -> None:
 
 def what_was_typed_before_is_no_answer(home: Path) -> None:
     """What comes before a question is thrown away: a letter, and a second command that was pasted with the first."""
-    boxes(home)
+    make_boxes(home / "old")
     command = "mbox2maildir-admin migrate --all --now"
     with shell_of(home, f"read go; exec {command} M old") as terminal:
         terminal.type("go\na\na\n")
@@ -190,7 +181,7 @@ def what_was_typed_before_is_no_answer(home: Path) -> None:
 
 def it_is_broken_off(home: Path) -> None:
     """Ctrl-C leaves the mailbox and those that follow, and Ctrl-D only the mailbox. Nothing else changes."""
-    boxes(home)
+    make_boxes(home / "old")
     expect("migrate --now M old/one", home, 0, None)
     before, words = files_of(home), ["migrate", "--all", "--now", "--folder", "x", "M", "old/lines", "old/word"]
     printed = run([*words, "--no-questions"], home)[1]
@@ -214,7 +205,7 @@ def it_is_broken_off(home: Path) -> None:
 def nothing_is_held(home: Path) -> None:
     """While a question waits, nothing is locked, and others may migrate into the same Maildir. If one of them is at
     work when the answer comes, the mailbox is left with its commands."""
-    boxes(home)
+    make_boxes(home / "old")
     printed = run("migrate --all --now --no-questions M old", home)[1]
     shutil.rmtree(home / "M")
     there = sorted(path.name for path in (home / "old").iterdir())
@@ -371,7 +362,7 @@ def a_folder_is_asked_for(home: Path) -> None:
 def each_has_one_row(home: Path) -> None:
     """An answer says nothing of what is only prepared in the folders of other mailboxes: these have rows of their
     own."""
-    boxes(home)
+    make_boxes(home / "old")
     box = mailbox(home / "old/box", ONE)
     run("migrate --all --prepare --unread --no-questions M old", home)
     mailbox(box, b"a note, no mail\n")
@@ -384,17 +375,4 @@ def each_has_one_row(home: Path) -> None:
 
 
 if __name__ == "__main__":
-    check_all(
-        an_answer_is_its_command,
-        what_is_shown,
-        nobody_is_asked,
-        what_was_typed_before_is_no_answer,
-        it_is_broken_off,
-        nothing_is_held,
-        a_mailbox_changes_meanwhile,
-        a_link_comes_meanwhile,
-        several_at_a_time,
-        one_letter_for_all,
-        a_folder_is_asked_for,
-        each_has_one_row,
-    )
+    check_all(*checks_in(globals()))

@@ -53,20 +53,8 @@ RUNS = (
     (ONE, "M", ONE, "--undo M", [*BATCH, "remove NEW", "sync M", *FLAGS, *BATCH, INDEX]),
     (b"", "", FLAGGED, "M", [*MADE, *BATCH, PLACED[0], "rename CUR", *FLAGS, PLACED[1], *BATCH, INDEX]),
     # what the record says of a list comes before it
-    (
-        b"",
-        "",
-        NUMBERED,
-        UIDS,
-        [*MADE, *BATCH, PLACED[0], *NOTE, *FLAGS, *NOTE, *LISTED, PLACED[1], *BATCH, INDEX],
-    ),
-    (
-        NUMBERED,
-        UIDS,
-        RAISED + LATER,
-        UIDS,
-        [*BATCH, PLACED[0], *FLAGS, *NOTE, *REPLACED, PLACED[1], *BATCH, INDEX],
-    ),
+    (b"", "", NUMBERED, UIDS, [*MADE, *BATCH, PLACED[0], *NOTE, *FLAGS, *NOTE, *LISTED, PLACED[1], *BATCH, INDEX]),
+    (NUMBERED, UIDS, RAISED + LATER, UIDS, [*BATCH, PLACED[0], *FLAGS, *NOTE, *REPLACED, PLACED[1], *BATCH, INDEX]),
 )  # type: Sequence[tuple[bytes, str, bytes, str, list[str]]]
 
 

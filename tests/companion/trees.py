@@ -7,7 +7,7 @@ from pathlib import Path
 
 from tests.support.checks import equal, matches
 from tests.support.copies import Copies
-from tests.support.homes import by_json, expect, files_of, hand_over, mailbox, make_maildir
+from tests.support.homes import by_json, checks_in, expect, files_of, hand_over, mailbox, make_maildir
 from tests.support.homes import run, run_printed, subjects, want_root
 from tests.support.ledgers import LEDGER
 from tests.support.mail import A, B, MAY, ONE, THREE, TWO, with_length
@@ -508,15 +508,4 @@ STORIES: dict[str, list[Step]] = {
 
 
 if __name__ == "__main__":
-    run_stories(
-        STORIES,
-        trees,
-        folders_of_messages,
-        patterns,
-        commands_of_rehearsals,
-        nothing_outside,
-        profile,
-        several_inboxes,
-        what_cannot_be_read,
-        profile_of_one_account,
-    )
+    run_stories(STORIES, *checks_in(globals()))

@@ -170,10 +170,4 @@ def half_done_by_mb2md(home: Path) -> None:
 
 
 if __name__ == "__main__":
-    check_all(
-        there_and_back,
-        folders_and_users_words,
-        who_is_at_work,
-        meanwhile,
-        half_done_by_mb2md,
-    )
+    check_all(there_and_back, folders_and_users_words, who_is_at_work, meanwhile, half_done_by_mb2md)

@@ -7,7 +7,7 @@ from functools import partial
 from pathlib import Path
 
 from tests.support.checks import equal, matches
-from tests.support.homes import check_all, expect, hand_over, mailbox, run, want_root
+from tests.support.homes import check_all, checks_in, expect, hand_over, mailbox, run, want_root
 from tests.support.mail import A, ONE
 from tests.support.running import OWNER, Desk
 
@@ -129,11 +129,7 @@ def there_twice(home: Path) -> None:
         sorted(checked("not whole, doubles 4", "not whole (1 double)", "".join(more)).splitlines(True)),
     )
     os.unlink(home / "M/new" / bases[7])
-    matches(
-        "a copy",
-        run("verify --all M box", home)[1].splitlines()[0],
-        "...: not whole, under another name 1; ...",
-    )
+    matches("a copy", run("verify --all M box", home)[1].splitlines()[0], "...: not whole, under another name 1; ...")
     print("admin: verify: messages with new names, other bytes, and none")
 
 
@@ -248,13 +244,4 @@ def read_meanwhile(home: Path) -> None:
 
 
 if __name__ == "__main__":
-    check_all(
-        closed_files,
-        verified,
-        by_a_decision,
-        there_twice,
-        large_files,
-        of_another_owner,
-        verified_by_others,
-        read_meanwhile,
-    )
+    check_all(*checks_in(globals()))

@@ -304,22 +304,4 @@ def wrong_links() -> Iterator[str]:
 
 
 if __name__ == "__main__":
-    find_nothing(
-        wrong_links,
-        wrong_installed,
-        wrong_files,
-        wrong_paths,
-        wrong_picture,
-        wrong_reading,
-        wrong_trusted,
-        wrong_code,
-        wrong_texts,
-        wrong_reasons,
-        wrong_remarks,
-        wrong_kinds,
-        wrong_options,
-        wrong_kit,
-        wrong_comparison,
-        wrong_commands,
-        wrong_manuals,
-    )
+    find_nothing(globals())

@@ -102,4 +102,4 @@ def wrong_looks() -> Iterator[str]:
 
 
 if __name__ == "__main__":
-    find_nothing(wrong_imports, wrong_sentences, wrong_looks)
+    find_nothing(globals())

@@ -28,4 +28,4 @@ def wrong_lengths() -> Iterator[str]:
 
 
 if __name__ == "__main__":
-    find_nothing(wrong_lengths)
+    find_nothing(globals())

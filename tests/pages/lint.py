@@ -100,4 +100,4 @@ def wrong_library() -> Iterator[str]:
 
 
 if __name__ == "__main__":
-    find_nothing(wrong_black, wrong_mypy, wrong_pylint, wrong_grammar, wrong_library)
+    find_nothing(globals())

@@ -50,4 +50,4 @@ def wrong_companion() -> Iterator[str]:
 
 
 if __name__ == "__main__":
-    find_nothing(wrong_program, wrong_companion)
+    find_nothing(globals())

@@ -115,4 +115,4 @@ def wrong_order() -> Iterator[str]:
 
 
 if __name__ == "__main__":
-    find_nothing(wrong_order, wrong_carriers, wrong_edits, wrong_names)
+    find_nothing(globals())

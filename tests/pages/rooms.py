@@ -12,17 +12,8 @@ from pathlib import Path
 
 from tests.support.cases import find_nothing
 from tests.support.checks import TOP, text_of
-from tests.support.sources import (
-    GHOST,
-    GHOST_USE,
-    carriers,
-    exports,
-    files_to_read,
-    imports,
-    items,
-    public_contracts,
-    without_comments,
-)
+from tests.support.sources import GHOST, GHOST_USE, carriers, exports, files_to_read, imports, items, public_contracts
+from tests.support.sources import without_comments
 
 USE = re.compile(r"^(?:pub )?use ([^\s;{]+?)(?:\.\{(.*?)\})?(?: as (\S+))?;?$", re.MULTILINE)
 TOKEN = re.compile(r"[^\s(){}\[\],;\"`<>&:]+")
@@ -185,4 +176,4 @@ def wrong_imports() -> Iterator[str]:
 
 
 if __name__ == "__main__":
-    find_nothing(wrong_rooms, wrong_list, wrong_contents, wrong_imports)
+    find_nothing(globals())

@@ -5,7 +5,7 @@ import traceback
 from collections.abc import Callable, Iterable, Mapping, Sequence
 from functools import partial
 from pathlib import Path
-from typing import Optional
+from typing import Any, Optional
 
 from tests.support import accounts
 
@@ -76,6 +76,8 @@ def try_all(what: str, tasks: Iterable[Callable[[], object]]) -> None:
         raise Failed("\n".join(wrong[:3]))
 
 
-def find_nothing(*checks: Callable[[], Iterable[str]]) -> None:
-    """Runs checks as cases, `wrong_links` as `links`. A check gives a line for each thing that is wrong."""
-    run_cases({check.__name__.replace("wrong_", "", 1): partial(nothing_wrong, check) for check in checks})
+def find_nothing(module: Mapping[str, Any]) -> None:
+    """Runs the checks of a module as cases, `wrong_links` as `links`. A check gives a line for each thing that is
+    wrong."""
+    checks = {name: one for name, one in module.items() if name.startswith("wrong_")}
+    run_cases({name.replace("wrong_", "", 1): partial(nothing_wrong, check) for name, check in checks.items()})

@@ -6,11 +6,11 @@ import shutil
 import subprocess
 import tempfile
 import time
-from collections.abc import Callable, Iterator, Sequence
+from collections.abc import Callable, Iterator, Mapping, Sequence
 from contextlib import contextmanager
 from functools import partial
 from pathlib import Path
-from typing import Optional, Union
+from typing import Any, Optional, Union
 
 from tests.support import accounts
 from tests.support.cases import LeftOut, run_cases
@@ -280,6 +280,12 @@ def at_home(check: Callable[[Path], object]) -> None:
     with fresh_home() as home:
         install(home / "bin")
         check(home)
+
+
+def checks_in(module: Mapping[str, Any]) -> list[Callable[[Path], None]]:
+    """The functions of a module that take a home alone, and return nothing."""
+    here = [one for one in module.values() if getattr(one, "__module__", "") == module["__name__"]]
+    return [one for one in here if getattr(one, "__annotations__", {}) == {"home": Path, "return": None}]
 
 
 def check_all(*checks: Callable[[Path], None]) -> None:

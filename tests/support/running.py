@@ -188,11 +188,7 @@ class Desk:
         return {"user": self.account.pw_uid, "group": self.account.pw_gid, "extra_groups": [self.account.pw_gid]}
 
     def run(
-        self,
-        words: Sequence[Word],
-        kill: Kill = NEVER,
-        meanwhile: Callable[[], object] = bool,
-        given: bytes = b"",
+        self, words: Sequence[Word], kill: Kill = NEVER, meanwhile: Callable[[], object] = bool, given: bytes = b""
     ) -> Run:
         """Runs a command to its end, or until it is killed with all that is in its group. Meanwhile a function is
         called again and again. The companion must never die of a fault of its own."""

@@ -134,10 +134,7 @@ STORIES: dict[str, list[Step]] = {
         ("migrate --as unquoted M old", f"old/a: done: {AGAIN}; it grew by 1 ...\nold/b: done before"),
         "= a/- a/one a/one a/two b/one",
     ],
-    "an_answer_and_another_line": [
-        *(("a", NOTED), "migrate --as unquoted M a", ("a", MORE)),
-        ("migrate M a", ASKED),
-    ],
+    "an_answer_and_another_line": [*(("a", NOTED), "migrate --as unquoted M a", ("a", MORE)), ("migrate M a", ASKED)],
 }
 
 if __name__ == "__main__":

@@ -8,7 +8,7 @@ import sys
 from pathlib import Path
 
 from tests.support.checks import equal, matches
-from tests.support.homes import ADMIN, check_all, expect, is_root, mailbox, run, want_root
+from tests.support.homes import ADMIN, check_all, checks_in, expect, is_root, mailbox, run, want_root
 from tests.support.mail import ONE
 from tests.support.printed import rows_in
 from tests.support.running import OWNER, Desk
@@ -122,11 +122,7 @@ ERRORS = [
         RUN + "mbox2maildir-admin migrate --dry-run There N\n",
     ),
     ("migrate old box", "old: it is neither a Maildir nor empty", "    name a Maildir, or ..., such as old/Maildir\n"),
-    (
-        "migrate none/M box",
-        "none/M: the folder that it is to be made in is not there",
-        RUN + "mkdir -p {home}/none\n",
-    ),
+    ("migrate none/M box", "none/M: the folder that it is to be made in is not there", RUN + "mkdir -p {home}/none\n"),
     ("dates M mistyped", "mistyped: No such file or directory", RUN + "ls .\n"),
     ("migrate --undo There box", "There: it has no record, so nothing was migrated into it", ""),
     ("migrate --dry-run Linked box", "Linked/mbox2maildir-record: it is a symbolic link", ""),
@@ -312,13 +308,4 @@ def on_an_older_python(home: Path) -> None:
 
 
 if __name__ == "__main__":
-    check_all(
-        words_and_files,
-        not_by_root,
-        interrupted_while_it_waits,
-        no_maildir_without_a_mailbox,
-        a_maildir_with_a_mailbox,
-        what_is_missing,
-        not_in_quotes,
-        on_an_older_python,
-    )
+    check_all(*checks_in(globals()))

@@ -62,11 +62,7 @@ KEYWORDS = [
         "Foo $Junk",
         ["a", "ab", ""],
     ),
-    (
-        ["X-IMAPbase: 222 9 Foo\n Bar\n\tBaz\nX-Keywords: Foo\n Bar\n", "X-Keywords: Baz\n"],
-        "Foo Bar Baz",
-        ["ab", "c"],
-    ),
+    (["X-IMAPbase: 222 9 Foo\n Bar\n\tBaz\nX-Keywords: Foo\n Bar\n", "X-Keywords: Baz\n"], "Foo Bar Baz", ["ab", "c"]),
     (
         ["X-IMAPbase: 222 9 Foo\n Bar\nX-Keywords:\n Foo\n Bar\n", "X-Keywords: Foo\n\tBar\n", "X-Keywords: Foo Foo\n"],
         "Foo Bar",

@@ -9,7 +9,7 @@ from typing import Union
 
 from tests.support.cases import LeftOut
 from tests.support.checks import LATER, equal, matches
-from tests.support.homes import check_all, expect, make_maildir, run, run_printed, want_root
+from tests.support.homes import check_all, checks_in, expect, make_maildir, run, run_printed, want_root
 from tests.support.mail import A, B, MAY, with_length
 from tests.support.running import decoded
 from tests.support.tables import Row, rows_of
@@ -213,11 +213,7 @@ X = (1 << 20) - len(A) - 2
 BARE = A + b"\nx\nFrom a\n>From b\n>>From c\n\n" + B
 COPIES = [
     (with_length(A, MAY) + b"\n" + C, "", A + b"\n" + MAY.replace(b"From", b">From") + b"\n" + B + b"\nyes\n\n"),
-    (
-        with_length(A, MAY) + b"\n" + B + b"\n",
-        "",
-        A + b"\n" + MAY.replace(b"From", b">From") + b"\n" + B + b"\n",
-    ),
+    (with_length(A, MAY) + b"\n" + B + b"\n", "", A + b"\n" + MAY.replace(b"From", b">From") + b"\n" + B + b"\n"),
     (
         with_length(A, MAY + b">From a\n") + b"\n" + B + b"\n",
         "",
@@ -281,11 +277,7 @@ COPIES = [
     (b"From a\n\n" + B, "--as mboxo", "line 1: a line `From ` without a date ...\n" + "...\n" * 4 + "..."),
     (b"\0" * 512 + A + b"\n>>From a\n", "--as mboxo", A + b"\n>>>From a\n"),
     (A + b"\n>From a\n>>From b\n", "--as mboxo", A + b"\n>From a\n>>>From b\n"),
-    (
-        A + b"\n>From a\nFrom b\nFrom c\n",
-        "--as mboxrd --text 7,6 --of {of}",
-        A + b"\n>From a\n>From b\n>From c\n",
-    ),
+    (A + b"\n>From a\nFrom b\nFrom c\n", "--as mboxrd --text 7,6 --of {of}", A + b"\n>From a\n>From b\n>From c\n"),
     (A + b"\nhello\n\n\0\0" + B, "--as mboxrd --begin 7 --of {of}", A + b"\nhello\n\n" + B),
     (A + b"\nhello" + B, "--as mboxrd --begin 5 --of {of}", A + b"\nhello\n" + B),
     (A + b"\n" + X * b"x" + B, "--as mboxrd --begin 5 --of {of}", A + b"\n" + X * b"x" + b"\n" + B),
@@ -399,13 +391,4 @@ def no_copy_on_a_full_disk(home: Path) -> None:
 
 
 if __name__ == "__main__":
-    check_all(
-        kinds,
-        other_files,
-        no_place_beside,
-        delivered_to_meanwhile,
-        copies,
-        whose_copies_are,
-        no_copy_is_cut,
-        no_copy_on_a_full_disk,
-    )
+    check_all(*checks_in(globals()))

@@ -11,17 +11,8 @@ from pathlib import Path
 
 from tests.support.cases import LeftOut
 from tests.support.checks import equal, matches
-from tests.support.homes import (
-    by_json,
-    check_all,
-    expect,
-    mailbox,
-    make_maildir,
-    run,
-    run_printed,
-    subjects,
-    want_users,
-)
+from tests.support.homes import by_json, check_all, checks_in, expect, mailbox, make_maildir, run, run_printed, subjects
+from tests.support.homes import want_users
 from tests.support.ledgers import RECORD
 from tests.support.mail import ONE
 from tests.support.mounts import small_disk
@@ -698,34 +689,4 @@ def the_command_for_an_archive_leads_to_its_mailbox(home: Path) -> None:
 
 
 if __name__ == "__main__":
-    check_all(
-        each_label_is_a_folder,
-        forms_of_fields,
-        names_of_languages,
-        names_without_inbox,
-        a_mailbox_for_each_label,
-        a_label_keeps_its_folder,
-        flags_by_what_was_said,
-        one_folder_for_each,
-        what_was_said_is_printed_as_it_is_typed,
-        folders_are_named_where_a_path_has_several,
-        what_is_gone_is_missing,
-        a_label_is_asked_about,
-        several_labels_are_asked_about,
-        a_line_is_asked_about,
-        mail_that_was_only_prepared,
-        many_lose_a_label,
-        a_label_says_what_was_read,
-        a_label_gives_no_folder,
-        a_label_that_no_message_has,
-        mail_that_goes_back,
-        mail_that_goes_back_without_them,
-        a_look_has_its_folder,
-        only_a_takeout_has_labels,
-        a_later_takeout,
-        with_labels_and_without,
-        the_record_knows_the_folders,
-        some_folders_alone,
-        room_for_each_folder,
-        the_command_for_an_archive_leads_to_its_mailbox,
-    )
+    check_all(*checks_in(globals()))

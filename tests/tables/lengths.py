@@ -36,10 +36,7 @@ DECIDED = {
     "first": (sized(GARDEN) + ONE, [GARDEN, HELLO]),
     # a header in another message, and lines of headers that no line `From ` stands before
     "header-elsewhere": (ONE + sized(b"Note: x\n") + sized(GARDEN), [HELLO, b"Note: x\n", GARDEN]),
-    "crlf": (
-        (ONE + with_length(B, GARDEN, GARDEN.count(b"\n")) + b"\n").replace(b"\n", b"\r\n"),
-        [HELLO, GARDEN],
-    ),
+    "crlf": ((ONE + with_length(B, GARDEN, GARDEN.count(b"\n")) + b"\n").replace(b"\n", b"\r\n"), [HELLO, GARDEN]),
 }
 # mailboxes about which a human is asked, and how many messages the answers give
 ASKED = {

@@ -367,10 +367,7 @@ def first_line_by_hand(home: Path) -> None:
         (note, [b"From time to time I write notes Thu Jan  1 00:00:00 1970\n"]),
         (
             note + b"\n" + B + b"\n",
-            [
-                note[:-1] + b" Thu Jan  1 00:00:00 1970\n\n" + B + b"\n",
-                NO_SENDER + b"\n>" + note + b"\n" + B + b"\n",
-            ],
+            [note[:-1] + b" Thu Jan  1 00:00:00 1970\n\n" + B + b"\n", NO_SENDER + b"\n>" + note + b"\n" + B + b"\n"],
         ),
     ):
         (home / "notes").write_bytes(text)

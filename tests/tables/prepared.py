@@ -276,9 +276,7 @@ STORIES: dict[str, list[Step]] = {
     "mail_of_others_stays": [
         *(*TEN, "!echo >M/.3/new/17000.M1.host; rm old/3", TREE, f"= {ALL_TEN.replace('3/one', '3/-')}"),
     ],
-    "two_of_ten_are_gone": [
-        *(*TEN, "!rm old/3 old/4", TREE, f"= {ALL_TEN} .3+ .4+"),
-    ],
+    "two_of_ten_are_gone": [*(*TEN, "!rm old/3 old/4", TREE, f"= {ALL_TEN} .3+ .4+")],
     "a_renamed_mailbox": [
         *(*TEN, "!mv old/3 old/new", FIRST_OF_TREE, "!test -e M/.3", TREE, "!test ! -e M/.3"),
         f"= {ALL_TEN.replace('3/one ', '')} new/one",
@@ -294,10 +292,7 @@ STORIES: dict[str, list[Step]] = {
     ],
     "a_list_of_a_mailbox_that_is_gone_is_damaged": [
         *(("old/a", ONE), ("old/b", ONE), FIRST_OF_TREE, "!echo '?' >>M/.b/mbox2maildir-prepared; rm old/b"),
-        (
-            TREE,
-            "old/a: done: 1 prepared before\nold/b: left (ledger): ...: line 8 of it is damaged: nothing shows ...",
-        ),
+        (TREE, "old/a: done: 1 prepared before\nold/b: left (ledger): ...: line 8 of it is damaged: nothing shows ..."),
         "= a/one b/one .b+",
     ],
     "passes_that_placed_nothing": [

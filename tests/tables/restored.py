@@ -62,9 +62,7 @@ STORIES: dict[str, list[Step]] = {
         *(*undone("M/.A"), (MIGRATE, "a: done: placed 0 messages"), "= A/one A/two"),
         *((UNDO, "a: undone: removed 2 messages"), "="),
     ],
-    "a_record_from_before_an_undo": [
-        *(*undone(RECORD), (UNDO, NOT_THERE), (MIGRATE, "a: done"), "= A/one A/two"),
-    ],
+    "a_record_from_before_an_undo": [*(*undone(RECORD), (UNDO, NOT_THERE), (MIGRATE, "a: done"), "= A/one A/two")],
     "an_undo_by_a_ledger_that_lacks_another": [
         *done(f"!cp {LEDGER} kept", ("b", TWO), "migrate --folder A M b", f"!cp kept {LEDGER}", (UNDO, NOT_SURE)),
         *("migrate --folder A --again M b", (UNDO, "a: undone: removed 1 message; kept 1 message that b has too")),

@@ -33,27 +33,10 @@ from tests.support.homes import install, want_root
 from tests.support.powercut.checks import Wrong
 from tests.support.powercut.devices import run
 from tests.support.powercut.examination import Examination, Result, Sample
-from tests.support.powercut.migrations import (
-    Broken,
-    BrokenDovecot,
-    Dates,
-    Dovecot,
-    DovecotUnseen,
-    Migrate,
-    Tree,
-    Undone,
-    Users,
-)
-from tests.support.powercut.others import (
-    MigratedOnBindfs,
-    OnBindfs,
-    OnMergerfs,
-    OnOverlay,
-    OnVolatile,
-    Restored,
-    RestoredMigrated,
-    RestoredSynced,
-)
+from tests.support.powercut.migrations import Broken, BrokenDovecot, Dates, Dovecot, DovecotUnseen, Migrate, Tree
+from tests.support.powercut.migrations import Undone, Users
+from tests.support.powercut.others import MigratedOnBindfs, OnBindfs, OnMergerfs, OnOverlay, OnVolatile, Restored
+from tests.support.powercut.others import RestoredMigrated, RestoredSynced
 from tests.support.powercut.passes import AnotherFirst, Passes, PassesOfServer
 from tests.support.powercut.readers import Again, Between, BetweenListings, Later, Reader
 from tests.support.powercut.returned import Returned

@@ -14,7 +14,8 @@ from tests.companion.spool import theirs
 from tests.support import accounts
 from tests.support.cases import LeftOut
 from tests.support.checks import equal, matches
-from tests.support.homes import by_json, check_all, expect, is_root, mailbox, run, run_whole, subjects, want_users
+from tests.support.homes import by_json, check_all, checks_in, expect, is_root, mailbox, run, run_whole, subjects
+from tests.support.homes import want_users
 from tests.support.ledgers import RECORD
 from tests.support.mail import A, B, MAY, ONE, THREE, TWO
 from tests.support.printed import row_in
@@ -47,11 +48,7 @@ def a_file_of_thunderbird(home: Path) -> None:
     row += "1 mailbox: 1 {0}\n"
     play(
         home,
-        (
-            "migrate --all --dry-run --folder Archive/2019 Maildir Archives-2019",
-            0,
-            row.format("would be done"),
-        ),
+        ("migrate --all --dry-run --folder Archive/2019 Maildir Archives-2019", 0, row.format("would be done")),
         ("migrate --all --folder Archive/2019 Maildir Archives-2019", 0, row.format("done")),
         (
             "verify --all Maildir/.Archive.2019 Archives-2019",
@@ -269,17 +266,4 @@ def objects_for_a_program(home: Path) -> None:
 
 
 if __name__ == "__main__":
-    check_all(
-        a_file_of_thunderbird,
-        a_takeout_with_labels,
-        mutt_without_a_server,
-        forty_users_with_dovecot,
-        a_doubtful_line,
-        an_interruption,
-        is_all_there,
-        one_is_undone,
-        three_archives_that_overlap,
-        an_archive_of_a_list,
-        an_appliance_that_serves_files,
-        objects_for_a_program,
-    )
+    check_all(*checks_in(globals()))

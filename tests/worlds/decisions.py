@@ -13,16 +13,8 @@ from typing import NamedTuple, Optional
 
 from tests.support.printed import COMMAND
 from tests.support.running import Row, typed
-from tests.support.splitter import (
-    WORDS,
-    begins_dated,
-    contradictions,
-    has_sure_lengths,
-    lines_of,
-    quoted_lines,
-    split,
-    without_deleted,
-)
+from tests.support.splitter import WORDS, begins_dated, contradictions, has_sure_lengths, lines_of, quoted_lines, split
+from tests.support.splitter import without_deleted
 from tests.worlds.fates.texts import done
 from tests.worlds.fates.users import Homes
 from tests.worlds.fates.world import World

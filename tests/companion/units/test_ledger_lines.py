@@ -5,26 +5,8 @@ from collections.abc import Callable
 from typing import Any, Optional
 
 from mbox2maildir_admin.ledger.history import Entry, Key, Note, Step
-from mbox2maildir_admin.ledger.lines import (
-    ALL_PLACED,
-    BATCH,
-    CUT,
-    END,
-    FAILED,
-    FOREIGN,
-    HEAD,
-    LOST,
-    MOVED,
-    NAMELESS,
-    PLACED,
-    SHARED,
-    UNDOING,
-    UNDONE,
-    Brought,
-    Head,
-    Messages,
-    pieces_of,
-)
+from mbox2maildir_admin.ledger.lines import ALL_PLACED, BATCH, CUT, END, FAILED, FOREIGN, HEAD, LOST, MOVED, NAMELESS
+from mbox2maildir_admin.ledger.lines import PLACED, SHARED, UNDOING, UNDONE, Brought, Head, Messages, pieces_of
 from mbox2maildir_admin.ledger.prepared import AS_READ, BEGUN, AsRead, Origin, Prepared
 from mbox2maildir_admin.ledger.record import unspelled
 from mbox2maildir_admin.remarks import SAYS, Remark

@@ -3,17 +3,8 @@ tree of them."""
 import os
 import unittest
 
-from mbox2maildir_admin.maildir.folders import (
-    folder_name,
-    folder_of,
-    folder_of_place,
-    folder_path,
-    name_before,
-    on_disk,
-    why_no_folder,
-    without_utf7,
-    words_of,
-)
+from mbox2maildir_admin.maildir.folders import folder_name, folder_of, folder_of_place, folder_path, name_before
+from mbox2maildir_admin.maildir.folders import on_disk, why_no_folder, without_utf7, words_of
 
 PROFILE = "abcd1234.default-release/"
 # places of mailboxes, and the names of their folders in IMAP

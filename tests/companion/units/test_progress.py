@@ -3,21 +3,8 @@ import unittest
 from collections.abc import Callable, Sequence
 from typing import Any, Optional
 
-from mbox2maildir_admin.progress import (
-    Doing,
-    Estimate,
-    Pace,
-    Spent,
-    Task,
-    amount,
-    composed,
-    cut,
-    duration,
-    fitted,
-    length,
-    together,
-    width_of,
-)
+from mbox2maildir_admin.progress import Doing, Estimate, Pace, Spent, Task, amount, composed, cut, duration, fitted
+from mbox2maildir_admin.progress import length, together, width_of
 
 GB = 10**9
 MAIL = "\u90f5"

@@ -5,17 +5,7 @@ from collections.abc import Sequence
 
 from tests.support.archives import Home, want
 from tests.support.running import Run
-from tests.worlds.back.histories import (
-    BESIDE,
-    DIALECTS,
-    Appended,
-    History,
-    flags_of,
-    read,
-    shown_of,
-    tail_of,
-    text_at,
-)
+from tests.worlds.back.histories import BESIDE, DIALECTS, Appended, History, flags_of, read, shown_of, tail_of, text_at
 from tests.worlds.back.programs import KEEPERS, Deliver, listed_in, numbers_of
 from tests.worlds.letters import bare, without
 from tests.worlds.stage import Stage

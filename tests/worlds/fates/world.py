@@ -124,14 +124,7 @@ class World:
 class Branch:
     """A folder with mailboxes in it, which become folders of a Maildir, named after their places below its top."""
 
-    def __init__(
-        self,
-        world: World,
-        path: bytes,
-        shown: bytes,
-        top: Optional["Branch"] = None,
-        user: str = "",
-    ) -> None:
+    def __init__(self, world: World, path: bytes, shown: bytes, top: Optional["Branch"] = None, user: str = "") -> None:
         self.world, self.path, self.shown, self.top = world, path, shown, top or self
         # the parts of the name that it gives a folder, unless it is not UTF-8
         self.parts: Optional[tuple[str, ...]] = ()
