@@ -111,21 +111,24 @@ def make() -> None:
         for path in [path for path in PLACE.rglob("*") if path.is_file()]:
             path.write_bytes(path.read_bytes().replace(str(home).encode(), HOME.encode()))
         SAID.write_text("".join(lines).replace(str(home), HOME), encoding="utf-8")
-    WORDS.write_text("".join(f"{line}\n" for line in words_kept()), encoding="utf-8")
+    rows: dict[str, list[str]] = {}
+    for place, word in words_kept():
+        rows.setdefault(place, [place]).append(word)
+    WORDS.write_text("".join(f"{' | '.join(row)}\n" for row in rows.values()), encoding="utf-8")
 
 
-def words_kept() -> Iterator[str]:
-    """What scripts use, each in a line: commands and options, statuses, the words of --as, and fields with their
-    types."""
-    yield from (f"mbox2maildir {one}" for one in re.findall(r"(?m)^\.Cm (\w+)$", section_of(MANUAL, "SYNOPSIS")))
+def words_kept() -> Iterator[tuple[str, str]]:
+    """What scripts use, each word with its place: commands and options, statuses, the words of --as, and fields with
+    their types."""
+    yield from (("mbox2maildir", one) for one in re.findall(r"(?m)^\.Cm (\w+)$", section_of(MANUAL, "SYNOPSIS")))
     for command in re.findall(r"(?m)^  (\w+) ", helped().partition("options:")[0]):
-        yield f"mbox2maildir-admin {command}"
+        yield "mbox2maildir-admin", command
         several = re.findall(r"(?m)^  (-.*?)(?:  .*)?$", helped(command))
-        yield from (f"mbox2maildir-admin {command} " + re.sub(r" (?!-)[^ ,]+", " VALUE", one) for one in several)
+        yield from ((f"mbox2maildir-admin {command}", re.sub(r" (?!-)[^ ,]+", " VALUE", one)) for one in several)
     for page in MANUALS:
         statuses = re.findall(r"(?m)^\.It (\d+)$", section_of(page, "EXIT STATUS"))
-        yield from (f"{page.stem} status {number}" for number in statuses)
-    yield from (f"--as {word}" for word in re.findall(r"(?m)^\| `--as (\w+)`", text_of(LEFT)))
+        yield from ((f"{page.stem} status", number) for number in statuses)
+    yield from (("--as", word) for word in re.findall(r"(?m)^\| `--as (\w+)`", text_of(LEFT)))
     for name, schema in SCHEMA["$defs"].items():
         yield from fields(schema, name)
 
@@ -140,13 +143,13 @@ def section_of(page: Path, name: str) -> str:
     return match_in(rf"(?s)\n\.Sh {name}\n(.*?\n)\.Sh ", text_of(page))[1]
 
 
-def fields(schema: dict[str, Any], where: str) -> Iterator[str]:
+def fields(schema: dict[str, Any], where: str) -> Iterator[tuple[str, str]]:
     """What a schema says of a value: its types and words, and those of what is in it."""
     for one in schema.get("oneOf", ()):
         yield from fields(one, where)
     if "oneOf" not in schema and "enum" not in schema:
-        yield f"{where}: {json.dumps(schema.get('type') or schema.get('const') or schema['$ref'].split('/')[-1])}"
-    yield from (f"{where}: {json.dumps(word)}" for word in schema.get("enum", ()))
+        yield where, json.dumps(schema.get("type") or schema.get("const") or schema["$ref"].split("/")[-1])
+    yield from ((where, json.dumps(word)) for word in schema.get("enum", ()))
     for name, one in schema.get("properties", {}).items():
         yield from fields(one, f"{where}.{name}" + "?" * (name not in schema["required"]))
     if "items" in schema:
@@ -191,8 +194,8 @@ ANSWERED, INBOX = "Answered/one Answered/two", "four one two"
 
 def same_words() -> None:
     """Each word, option, status and field is still there. A later version may have more."""
-    kept, now = text_of(WORDS).splitlines(), set(words_kept())
-    equal("what is gone", [line for line in kept if line not in now], [])
+    rows, now = (line.split(" | ") for line in text_of(WORDS).splitlines()), set(words_kept())
+    equal("what is gone", [(place, one) for place, *words in rows for one in words if (place, one) not in now], [])
 
 
 def same_objects() -> None:
