@@ -89,6 +89,7 @@ def wrong_library() -> Iterator[str]:
         if not line.startswith("#"):
             module, _, names = line.partition(":")
             later[module] = set(names.split())
+    later.update((module, set()) for module in later.pop("the same"))
     for file in files():
         for module, name in sorted(set(names_of(ast.parse(text_of(TOP / file))))):
             if module.split(".")[0] in OUR_OWN:
