@@ -26,11 +26,6 @@ LONGEST = "n" * 255
 OF_TWO = {"one": ONE, "lists/two": TWO}
 
 
-def piped(*words: str) -> Callable[[], bytes]:
-    """What a program writes when it reads a mailbox."""
-    return lambda: subprocess.run(words, input=ONE, stdout=subprocess.PIPE, check=True).stdout
-
-
 def tar_of(files: Mapping[str, bytes], form: int = tarfile.DEFAULT_FORMAT) -> bytes:
     """An archive of these files, in a form of tar."""
     file = io.BytesIO()
@@ -86,9 +81,9 @@ KINDS = {
         for program in ("gzip", "bzip2", "xz", "zstd", "lz4")
     },
     "lzma": (lambda: lzma.compress(ONE, lzma.FORMAT_ALONE), ("xz",), ["one"]),
-    "lzip": (piped("lzip", "-c"), ("lzip",), ["one"]),
-    "lzop": (piped("lzop", "-c"), ("lzop",), ["one"]),
-    "lz4 of old": (piped("lz4", "-l", "-c"), ("lz4",), ["one"]),
+    "lzip": (partial(piped_in, ONE, "lzip", "-c"), ("lzip",), ["one"]),
+    "lzop": (partial(piped_in, ONE, "lzop", "-c"), ("lzop",), ["one"]),
+    "lz4 of old": (partial(piped_in, ONE, "lz4", "-l", "-c"), ("lz4",), ["one"]),
     "MMDF": (lambda: b"\1\1\1\1\n" + ONE + b"\1\1\1\1\n\1\1\1\1\n" + TWO + b"\1\1\1\1\n", ("awk",), ["one", "two"]),
     "emlx": (lambda: b"%d\n%s%s" % (len(MAIL), MAIL, LIST), ("sed",), ["one"]),
     "one mail": (lambda: MAIL, ("sed",), ["one"]),

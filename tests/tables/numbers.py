@@ -11,6 +11,7 @@ from typing import NamedTuple
 from tests.support.archives import Home, run_rules
 from tests.support.checks import equal
 from tests.support.homes import make_maildir
+from tests.support.mail import INTERNAL
 from tests.support.running import OWNER, Row, Run
 
 FROM = b"From a@b Mon Mar  3 09:12:44 2025\n"
@@ -31,12 +32,7 @@ WITH_OTHER = WITH_OTHER.replace(b"X-UID: 1    \n", b"X-UID: 1    \nX-Keywords: G
 BARE = FROM + b"Subject: a\n\na\n\n"
 # the line of a mailbox whose UIDs go up to a number, and that of another program
 UP_TO_9, UP_TO_12, OF_ANOTHER = b"X-IMAPbase: 1700000000 9", b"X-IMAPbase: 1700000000 12", b"X-IMAP: 1700000000 %010d"
-INTERNAL = (
-    b"From MAILER_DAEMON  Sat Nov 28 11:29:42 2026\nSubject: DON'T DELETE THIS MESSAGE -- FOLDER INTERNAL DATA\n"
-    b"X-IMAP: 1700000000 0000000003\nStatus: RO\n\nThis text is part of the internal format of your mail folder, and "
-    b"is not\na real message.  It is created automatically by the mail system software.\nIf deleted, important folder "
-    b"data will be lost, and it will be re-created\nwith the data reset to initial values.\n\n"
-)
+EMPTY = INTERNAL.replace(b"1795694136 0000000002", b"1700000000 0000000003")
 # stands for a UIDVALIDITY that is the time of the run
 NOW = b"1800000000"
 DOVECOT = ["--dovecot"]
@@ -183,20 +179,20 @@ CASES = {
         [f"{UPDATE}--min-next-uid 13 a"],
     ),
     "a mailbox that Dovecot keeps empty by a message of its own": Case(
-        INTERNAL,
+        EMPTY,
         listed(13),
         b"0 Garden\n",
         ["1.a:2,a"],
-        INTERNAL.replace(b"0000000003", b"0000000012 Garden"),
+        EMPTY.replace(b"0000000003", b"0000000012 Garden"),
         [b"X-Keywords: Garden\n"],
         ["uids-raised"],
     ),
     "mail follows such a message, and nothing may move": Case(
-        INTERNAL + SECOND,
+        EMPTY + SECOND,
         listed(9, b"7 :1.a\n"),
         b"0 Garden\n",
         ["1.a:2,a"],
-        INTERNAL.replace(b"0000000003", b"0000000008") + SECOND,
+        EMPTY.replace(b"0000000003", b"0000000008") + SECOND,
         [b"X-UID: 7\n"],
         ["uids-raised", "keywords-added"],
         [f"{FLAGS}Garden mailbox a uid 7"],

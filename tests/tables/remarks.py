@@ -10,11 +10,8 @@ from tests.support.mail import A, C, INTERNAL, ONE, THREE, TWO, with_length
 from tests.support.schema import SCHEMA
 from tests.support.stories import Step, steps, take
 
-PSEUDO = (
-    b"From MAILER-DAEMON Mon Mar  3 09:12:44 2025\nSubject: DON'T DELETE THIS MESSAGE -- FOLDER INTERNAL DATA\n"
-    b"X-IMAP: 1700000000 0000000003\nStatus: RO\n\nThis text is part of the internal format of your mail folder, and "
-    b"is not\na real message.\n\n"
-)
+# one that has another text than that by which Dovecot keeps an empty mailbox
+PSEUDO = INTERNAL.replace(b"values.", b"values. P.S.")
 MAY_BEGIN = C + b"\nFrom the garden\nyes\n\n"
 QUOTED, UNDATED = A + b"\n>>From me\n\n", b"From a\nSubject: two\n%s\nhi\n\n"
 # the words of the rows of `migrate` alone, by what the only mailbox is

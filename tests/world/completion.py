@@ -1,11 +1,8 @@
 """What the completions for bash, zsh and fish offer after some words: those of packaging/, or three files that the
 environment's COMPLETIONS names in this order. A missing shell is left out."""
 import os
-import pty
 import re
-import select
 import shutil
-import signal
 import subprocess
 import tempfile
 import time
@@ -15,6 +12,7 @@ from pathlib import Path
 
 from tests.support.cases import LeftOut, run_cases
 from tests.support.checks import PATIENCE, TOP, equal
+from tests.support.terminals import Terminal
 
 WORDS = ["back", "dates", "explain", "kind", "migrate", "quote", "verify"]
 # a line whose last word is completed, and what is offered
@@ -117,52 +115,34 @@ def fish(file: Path, lines: Sequence[str], home: Path) -> list[list[str]]:
     ]
 
 
-class Zsh:
+class Zsh(Terminal):
     """A zsh on a terminal. It lists what it offers below the line."""
 
     def __init__(self, file: Path, home: Path) -> None:
         (home / "functions").mkdir()
         shutil.copy(file, home / "functions/_mbox2maildir")
-        self.child, self.terminal = pty.fork()
-        if self.child == 0:
-            os.chdir(home)
-            os.environ.update(TERM="vt100", HOME=str(home))
-            os.execvp("zsh", ["zsh", "-f", "-i"])
-        printed = self.ask((ZSH % (home / "functions")).encode(), b"READY\r\n")
-        assert b"READY\r\n" in printed, f"zsh is not ready, but prints {printed!r}"
-
-    def ask(self, keys: bytes, until: bytes) -> bytes:
-        """Types keys, and returns what is printed until something comes, or nothing comes for a while."""
-        os.write(self.terminal, keys)
-        text, end = b"", time.monotonic() + PATIENCE
-        while until not in text and time.monotonic() < end:
-            if select.select([self.terminal], [], [], 0.1)[0]:
-                text += os.read(self.terminal, 1 << 16)
-        return text
+        super().__init__(["zsh", "-f", "-i"], home, TERM="vt100", HOME=str(home))
+        self.type(ZSH % (home / "functions"))
+        self.until("READY\n")
 
     def offers(self, line: str) -> list[str]:
         """What it offers after a line."""
         # a list ends with a step up to the line; then ^X marks the end of everything
-        said = self.ask(line.encode() + b"\t\x18", b"DONE")
-        listed = re.sub(rb"\0|\x1b\[[?0-9;]*[a-zA-Z]", b"", said).decode().split("\r\n")[1:]
+        self.type(f"{line}\t\x18")
+        while b"DONE" not in self.printed:
+            assert self.reads_more(time.monotonic() + PATIENCE), f"{line}: {self.printed!r}"
+        listed = re.sub(rb"\0|\x1b\[[?0-9;]*[a-zA-Z]", b"", self.printed).decode().split("\n")[1:]
+        self.printed = b""
         return sorted(
             {word for row in listed for word in row.split("\r")[0].split("#")[0].split() if "DONE" not in word}
         )
-
-    def close(self) -> None:
-        """Ends it."""
-        os.close(self.terminal)
-        os.kill(self.child, signal.SIGKILL)
-        os.waitpid(self.child, 0)
 
 
 def zsh(file: Path, lines: Sequence[str], home: Path) -> list[list[str]]:
     """What zsh offers after each line."""
     session = Zsh(file, home)
-    try:
+    with session:
         return [session.offers(line) for line in lines]
-    finally:
-        session.close()
 
 
 # what a shell offers after each of some lines, by its completion, in a folder

@@ -68,8 +68,6 @@ SEEN = [b"", b"", b"Status: RO\n", b"Status: O\nX-Status: AF\n", b"X-Status: D\n
 # how mailboxes of a history are delivered to
 KINDS = ("mboxrd", "mboxcl2", "mboxrd", "mboxcl2", "crlf")
 ID = re.compile(rb"(?mi)^Message-ID: *<([^>]*)>")
-# the message by which Dovecot keeps an empty mailbox
-INTERNAL = b"Subject: DON'T DELETE THIS MESSAGE -- FOLDER INTERNAL DATA\n"
 
 
 def asctime(when: datetime.datetime, pad: str = " ") -> bytes:

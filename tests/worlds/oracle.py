@@ -19,8 +19,8 @@ from typing import NamedTuple, Optional
 from tests.support.archives import texts_of
 from tests.support.homes import mail_below
 from tests.support.running import Row
-from tests.support.splitter import WORDS, is_from, split
-from tests.worlds.letters import INTERNAL, OF_PROGRAMS, content, id_of, without
+from tests.support.splitter import INTERNAL, WORDS, is_from, split
+from tests.worlds.letters import OF_PROGRAMS, content, id_of, without
 
 Counts = typing.Counter[bytes]
 INBOX = "INBOX"

@@ -8,26 +8,15 @@ from collections.abc import Callable, Sequence
 from random import Random
 from typing import NamedTuple
 
+from tests.support.mail import INTERNAL
 from tests.worlds.letters import Letter, asctime
 
 QUOTED_FROM = re.compile(rb"^>From ", re.M)
 QUOTED_MORE = re.compile(rb"^>(>*From )", re.M)
 FROM = re.compile(rb"^From ", re.M)
 FROM_OR_QUOTED = re.compile(rb"^(>*From )", re.M)
-# the message by which Dovecot keeps an empty mailbox, to the letter
-INTERNAL = b"""\
-Date: Fri, 27 Nov 2026 01:32:57 +0000
-From: Mail System Internal Data <MAILER-DAEMON@vm>
-Subject: DON'T DELETE THIS MESSAGE -- FOLDER INTERNAL DATA
-Message-ID: <1795743177@vm>
-X-IMAP: 1795743177 %010d
-Status: RO
-
-This text is part of the internal format of your mail folder, and is not
-a real message.  It is created automatically by the mail system software.
-If deleted, important folder data will be lost, and it will be re-created
-with the data reset to initial values.
-"""
+# the message by which Dovecot keeps an empty mailbox, without its From_ line and the blank line at its end
+KEEPS_EMPTY = INTERNAL.partition(b"\n")[2][:-1].replace(b"%010d" % 2, b"%010d")
 
 
 class Piece(NamedTuple):
@@ -177,7 +166,7 @@ def dovecot(draw: Random, mails: Sequence[Letter]) -> Written:
     which has no length."""
     pieces = []  # type: list[Piece]
     if draw.random() < 0.4:
-        internal = INTERNAL % len(mails)
+        internal = KEEPS_EMPTY % len(mails)
         pieces.append(piece_of(b"From MAILER_DAEMON  " + asctime(mails[0].when), internal, internal))
     for uid, one in enumerate(mails, 1):
         body = ended(without_cr(one).body)
