@@ -116,11 +116,8 @@ def of_several(home: Path) -> None:
     answers = [*ran.of("tree/part").answers.items()]
     tie = tie_in(answers[0][0])
     command = "mbox2maildir-admin migrate --now --as {} --of {} --folder part M tree/part"
-    equal(
-        "its answers",
-        answers,
-        [(command.format(word, tie), n) for word, n in (("mboxo", 3), ("mboxcl2", 2), ("unquoted", 2))],
-    )
+    wanted = [(command.format(word, tie), n) for word, n in (("mboxo", 3), ("mboxcl2", 2), ("unquoted", 2))]
+    equal("its answers", answers, wanted)
     equal(
         "--as mboxo",
         sorted((row["path"], row["folder"], row["kind"], row["messages"], row["verdict"]) for row in ran.rows),
@@ -412,11 +409,8 @@ def of_lengths(home: Path) -> None:
             equal("what it decides", (part["kind"], part["messages"], part["verdict"]), ("mboxcl2 by --as", 2, "done"))
         sent = ran.of("tree/sent")
         equal(f"{path}: what is left", (sent["kind"], sent["messages"], sent["reason"]), ("not quoted", 1, "unclear"))
-        equal(
-            f"{path}: status, line and counts",
-            (ran.status, sent["says"][:7], [*sent.answers.values()]),
-            (1, "line 6:", [1, 2]),
-        )
+        found = (ran.status, sent["says"][:7], [*sent.answers.values()])
+        equal(f"{path}: status, line and counts", found, (1, "line 6:", [1, 2]))
         command = next(iter(sent.answers)).replace(" migrate ", " migrate --dry-run ")
         equal("its kind", want_row(command, home, "would be done", 1)["kind"], "mboxo by --as")
 

@@ -293,11 +293,8 @@ def own_mailbox_gone(home: Path) -> None:
         for names in (["m61one", "m61info"], ["m61info", "m61one"], list[str]()):
             status, out, _ = run([*WORDS, *names], home)
             row = out.splitlines()[0]
-            matches(
-                f"{names}: the row",
-                row,
-                "INBOX -> m61one Maildir: messages 1: left (missing): its mailbox is gone: ...",
-            )
+            wanted = "INBOX -> m61one Maildir: messages 1: left (missing): its mailbox is gone: ..."
+            matches(f"{names}: the row", row, wanted)
             equal(f"{names}: status, and the other text", (status, text_of(home / "spool/m61info")), (1, TWO.decode()))
         (home / "away").rename(home / "spool/m61one")
         expect([*WORDS, "m61one", "m61info"], home, 0, None)
@@ -333,12 +330,8 @@ def locked(home: Path) -> None:
         expect([*WORDS, "m61one"], home, 75, says + "1 mailbox: 1 left; 1 user: ...\n")
         equal("the inbox", (home / "spool/m61one").read_bytes(), ONE)
         os.utime(lock, (1e9, 1e9))
-        expect(
-            [*WORDS, "m61one"],
-            home,
-            0,
-            f"...: back, {lock} is older than ...\n1 mailbox: 1 back; ...\n" + moves(home, "m61one"),
-        )
+        words = [*WORDS, "m61one"]
+        expect(words, home, 0, f"...: back, {lock} is older than ...\n1 mailbox: 1 back; ...\n" + moves(home, "m61one"))
         equal("the lock", lock.read_bytes(), b"17\n")
 
 
@@ -390,11 +383,8 @@ def hostile_spool(home: Path) -> None:
             equal(f"{what}: other mail", (secret.read_bytes(), aside.read_bytes()), texts)
             for path, state in before.items():
                 now = path.lstat()
-                equal(
-                    f"{what}: {path}",
-                    (now.st_ino, now.st_size, now.st_mode),
-                    (state.st_ino, state.st_size, state.st_mode),
-                )
+                expected = (state.st_ino, state.st_size, state.st_mode)
+                equal(f"{what}: {path}", (now.st_ino, now.st_size, now.st_mode), expected)
 
         theirs(mailbox(box, TWO), "m61two")
         attempt("another user's mailbox", "left (other-owner): it belongs to m61two")

@@ -66,11 +66,8 @@ def as_one_at_a_time(home: Path) -> None:
         run(["migrate", "--all", "--jobs", str(jobs), f"M{jobs}", "inbox", "old", "more"], home)[:2]
         for jobs in (1, 3, 8)
     ]
-    equal(
-        "what is said with 3 and 8 jobs",
-        [(status, out.replace("M3", "M1").replace("M8", "M1")) for status, out in outputs],
-        outputs[:1] * 3,
-    )
+    found = [(status, out.replace("M3", "M1").replace("M8", "M1")) for status, out in outputs]
+    equal("what is said with 3 and 8 jobs", found, outputs[:1] * 3)
     equal("its last line", outputs[0][1].splitlines()[-1], "9 mailboxes: 8 done, 1 left; 1 other file: no mail")
     for jobs in (3, 8):
         for name in [".", *(folder_of(Path(), one).name for one in texts)]:
@@ -218,11 +215,8 @@ def full_record(home: Path) -> None:
     record.write_bytes(VERSION_LINE + b"x" * (MOST - len(VERSION_LINE) - 2) + b"\n")
     says = f"M/{RECORD}: it is full: move it away; the ledgers in the folders say what was brought"
     for jobs in ("1", "2"):
-        equal(
-            "what is said",
-            run(["migrate", "--all", "--jobs", jobs, "M", "old"], home),
-            (1, "", f"{ADMIN.name}: {says}\n"),
-        )
+        found = run(["migrate", "--all", "--jobs", jobs, "M", "old"], home)
+        equal("what is said", found, (1, "", f"{ADMIN.name}: {says}\n"))
     equal("what is there", [path.parent.parent.name for path in home.glob("M/.f[1-9]/new/*")], [])
     record.unlink()
     equal("the next run", run("migrate M old", home)[0], 1)
@@ -284,11 +278,8 @@ def full_disk(home: Path) -> None:
         mailbox(home / "old/large", ONE.rstrip(b"\n") + b"\n" + b"x" * 9000000 + b"\n\n")
         status, out, _ = run(["migrate", "--all", "--jobs", "8", disk / "M", "old"], home)
         rows = [line for line in out.splitlines() if ": left (" in line]
-        equal(
-            "status, and what is left",
-            (status, len(rows), "old/large" in rows[0], "not enough space" in rows[0]),
-            (1, 1, True, True),
-        )
+        found = (status, len(rows), "old/large" in rows[0], "not enough space" in rows[0])
+        equal("status, and what is left", found, (1, 1, True, True))
         equal("the last line", out.splitlines()[-1], "5 mailboxes: 4 done, 1 left")
 
 

@@ -246,11 +246,8 @@ def rule_2_deleted_after_a_killed_run(home: Home) -> None:
         want_said(row, "4 messages placed beside files that are marked as deleted")
         home.undo("OLD")
         home.has(0, 1, 1, 2)
-        equal(
-            "what is left is marked as deleted",
-            all("T" in path.name.partition(":2,")[2] for path in home.files()),
-            True,
-        )
+        found = all("T" in path.name.partition(":2,")[2] for path in home.files())
+        equal("what is left is marked as deleted", found, True)
 
 
 def rule_2_deleted_in_both(home: Home) -> None:

@@ -52,11 +52,8 @@ def rule_1_killed_and_gone_from_it(home: Home) -> None:
         there = home.numbers()
         row = home.bring(OLD=letters(0, 2, 3, 4, 5))["OLD"]
         home.has(0, *[1] * there[1], 2, 3, 4, 5)
-        equal(
-            f"{event}: whether it is said: {row}",
-            says(row, "1 message gone from it that it had brought"),
-            bool(there[1]),
-        )
+        found = says(row, "1 message gone from it that it had brought")
+        equal(f"{event}: whether it is said: {row}", found, bool(there[1]))
         equal(f"{event}: what is said later", says(home.done("OLD")["OLD"], "gone from it"), False)
 
 

@@ -55,12 +55,8 @@ def once_and_never_again(home: Path) -> None:
     """A mailbox that is done is never converted again, whatever was moved, renamed or deleted."""
     mailbox(home / "box", ONE + TWO + THREE)
     before = (home / "box").stat()
-    expect(
-        "migrate --all --dry-run M box",
-        home,
-        0,
-        "box -> INBOX: mboxrd or mboxo, messages 3: would be done\n1 mailbox: 1 would be done\n",
-    )
+    words = "migrate --all --dry-run M box"
+    expect(words, home, 0, "box -> INBOX: mboxrd or mboxo, messages 3: would be done\n1 mailbox: 1 would be done\n")
     assert not (home / "M").exists(), "--dry-run made M"
     done(home, "messages 3: done")
     equal("the ledger", steps(home / "M"), "@+=")
@@ -341,13 +337,8 @@ def roots_alone(home: Path) -> None:
         expect(["migrate", maildir, "box"], home, 1, "", f"mbox2maildir-admin: {home}/{says}\n")
     equal("what is there", [*(home / "theirs/a/b").iterdir(), *(home / "open/a/b").iterdir()], [])
     (home / "theirs").chmod(0o1777)
-    expect(
-        "migrate theirs/a/b/M box",
-        home,
-        1,
-        "",
-        f"mbox2maildir-admin: {home}/theirs: its owner, who is not root, ...\n...\n",
-    )
+    err = f"mbox2maildir-admin: {home}/theirs: its owner, who is not root, ...\n...\n"
+    expect("migrate theirs/a/b/M box", home, 1, "", err)
     # in a sticky folder nobody can replace what belongs to root
     (home / "open").chmod(0o1777)
     expect("migrate open/a/b/M box", home, 0, None)

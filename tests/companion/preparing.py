@@ -202,12 +202,8 @@ def left_over(home: Path) -> None:
     wanted = ["old/a -> a: done, 2 prepared before", *(f"{home}/old/{name} -> {name}: {says}" for name in "bc")]
     equal(f"another command: {out}", (status, said), (1, wanted))
     rest, undo = (row_in(out, f"{home}/old/{name}").commands[at] for name, at in (("b", 0), ("c", 1)))
-    expect(
-        ["migrate", "--all", *undo.split()[2:]],
-        home,
-        0,
-        f"{home}/old/c -> c: messages 2: undone, removed 2 messages\n...\n",
-    )
+    words = ["migrate", "--all", *undo.split()[2:]]
+    expect(words, home, 0, f"{home}/old/c -> c: messages 2: undone, removed 2 messages\n...\n")
     expect(["migrate", "--all", *rest.split()[2:]], home, 0, f"{home}/old/b -> b: ...: done, 2 prepared before\n...\n")
     equal("lists", list((home / "M").rglob("mbox2maildir-prepared")), [])
 
@@ -319,12 +315,8 @@ def without_deleted_mail(home: Path) -> None:
         box = mailbox(home / "box", text)
         says = "without 1 message marked as deleted"
         for words in (["--prepare", "--drop-deleted"], ["--prepare"]):
-            expect(
-                ["migrate", "--all", *words, "M", "box"],
-                home,
-                0,
-                f"box -> INBOX: ...messages {count}: prepared, {says}...\n...\n",
-            )
+            command = ["migrate", "--all", *words, "M", "box"]
+            expect(command, home, 0, f"box -> INBOX: ...messages {count}: prepared, {says}...\n...\n")
         mailbox(box, text + gone.replace(b"one", b"two"))
         equal("more is deleted", len(by_json("migrate --now M box", home).row.answers), 2)
         mailbox(box, text)

@@ -161,22 +161,16 @@ def what_was_typed_before_is_no_answer(home: Path) -> None:
         terminal.type("l\n")
         status, rest = terminal.end()
     equal("status", status, 1)
-    equal(
-        "rows",
-        rows_of(said + rest)[1:],
-        ["old/lines -> lines: mboxrd or mboxo, messages 2: left", "old/word -> word: not quoted, messages 1: left"],
-    )
+    wanted = ["old/lines -> lines: mboxrd or mboxo, messages 2: left", "old/word -> word: not quoted, messages 1: left"]
+    equal("rows", rows_of(said + rest)[1:], wanted)
     with terminal_of(home, "sh", "-i") as terminal:
         terminal.type(f"{command} M old/word\n{command} N old/one\n")
         terminal.until(PROMPT)
         terminal.type("l\n")
         terminal.until("1 mailbox: 1 left\n")
         terminal.type("exit 7\n")
-        equal(
-            "the shell's status, and whether the second command ran",
-            (terminal.end()[0], (home / "N").exists()),
-            (7, False),
-        )
+        found = (terminal.end()[0], (home / "N").exists())
+        equal("the shell's status, and whether the second command ran", found, (7, False))
 
 
 def it_is_broken_off(home: Path) -> None:
@@ -291,11 +285,8 @@ def several_at_a_time(home: Path) -> None:
     sure = [(f"{number}.sure", "done") for number in range(4)]
     asked = [(f"{number} -> {number}"[:6], fate) for number, fate in enumerate(["done", "done", "left", "done"])]
     equal("status and rows", (status, fates), (1, sure + asked))
-    equal(
-        "messages",
-        [len(list(mail_in(home / f"M/.{number}"))) if number != 2 else 0 for number in range(4)],
-        [2, 1, 0, 1],
-    )
+    found = [len(list(mail_in(home / f"M/.{number}"))) if number != 2 else 0 for number in range(4)]
+    equal("messages", found, [2, 1, 0, 1])
     matches("the sums", rest.split("\n")[-2], "8 mailboxes: 7 done, 1 left; 8 messages, ...")
     equal("the questions", re.findall(r"question (\d of \d)", said), [f"{number} of 4" for number in range(1, 5)])
 

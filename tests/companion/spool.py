@@ -97,11 +97,8 @@ def spool(home: Path) -> None:
         assert commands["m61two mail/Inbox"].startswith("runuser -u m61two -- mbox2maildir-admin migrate "), commands
         for name in USERS:
             account, paths = pwd.getpwnam(name), list((home / "homes" / name / "Maildir").rglob("*"))
-            equal(
-                f"whose the files of {name} are",
-                {(path.stat().st_uid, path.stat().st_gid) for path in paths},
-                {(account.pw_uid, account.pw_gid)},
-            )
+            found = {(path.stat().st_uid, path.stat().st_gid) for path in paths}
+            equal(f"whose the files of {name} are", found, {(account.pw_uid, account.pw_gid)})
         equal(
             "--users again",
             run(["migrate", "--all", "--users", "--tree", "mail", "spool", *USERS], home)[1].splitlines()[-1],
@@ -260,12 +257,8 @@ def names_of_a_list(home: Path) -> None:
         "4 names of the spool were not asked for\n",
     )
     (home / "list").write_bytes(b"daemon\n")
-    expect(
-        "migrate --all --users --tree mail --names list spool",
-        home,
-        1,
-        "daemon: left (home): the home of its user belongs to root: ...\n1 mailbox: 1 left; ...\n",
-    )
+    words = "migrate --all --users --tree mail --names list spool"
+    expect(words, home, 1, "daemon: left (home): the home of its user belongs to root: ...\n1 mailbox: 1 left; ...\n")
     expect("migrate --users --names - spool", home, 1, "", "mbox2maildir-admin: standard input: it contains no name\n")
     # a variable that is not set stands neither for all users nor for no folder
     for option in ("--names", "--tree", "--maildir"):
@@ -444,11 +437,8 @@ def hostile_homes(home: Path) -> None:
         status, out, err = run("migrate --all --users --tree mail spool m61one", home)
         equal(f"{what}: status and standard error", (status, err), (1, ""))
         assert re.search(wanted, out), f"{what}: {out}"
-        equal(
-            f"{what}: what is outside",
-            (secret.read_bytes(), secret.stat().st_mtime_ns, list((home / "open").iterdir())),
-            (*before, []),
-        )
+        found = (secret.read_bytes(), secret.stat().st_mtime_ns, list((home / "open").iterdir()))
+        equal(f"{what}: what is outside", found, (*before, []))
         assert not {"secret", "open"} & {
             path.name for path in (home / "open").iterdir()
         }, f"{what}: something was written outside"

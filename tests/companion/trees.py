@@ -59,28 +59,15 @@ def trees(home: Path) -> None:
     lines = got.splitlines()
     equal("the lines of a tree", sorted(lines[: -len(end)]), sorted(out.splitlines()))
     equal("the end of a tree", (status, err, lines[-len(end) :]), (1, "", end))
-    equal(
-        "folders",
-        sorted(path.name for path in (home / "M").glob(".*")),
-        [".2005-archive", ".Empty", ".Entw&APw-rfe", ".INBOX.Garden"],
-    )
+    wanted = [".2005-archive", ".Empty", ".Entw&APw-rfe", ".INBOX.Garden"]
+    equal("folders", sorted(path.name for path in (home / "M").glob(".*")), wanted)
     equal("the marks of folders", len(list((home / "M").glob(".*/maildirfolder"))), 4)
-    equal(
-        "an empty folder",
-        sorted(path.name for path in (home / "M/.Empty").iterdir()),
-        ["cur", "maildirfolder", "new", "tmp"],
-    )
-    equal(
-        "a tree again",
-        run("migrate --all M tree", home)[1].splitlines()[-1],
-        "10 mailboxes: 5 done before, 5 left; 3 other files: no mail",
-    )
-    expect(
-        "migrate --all --folder Second M tree/twice",
-        home,
-        0,
-        "tree/twice -> Second: mboxrd or mboxo, messages 1: done\n...\n",
-    )
+    found = sorted(path.name for path in (home / "M/.Empty").iterdir())
+    equal("an empty folder", found, ["cur", "maildirfolder", "new", "tmp"])
+    expected = "10 mailboxes: 5 done before, 5 left; 3 other files: no mail"
+    equal("a tree again", run("migrate --all M tree", home)[1].splitlines()[-1], expected)
+    says = "tree/twice -> Second: mboxrd or mboxo, messages 1: done\n...\n"
+    expect("migrate --all --folder Second M tree/twice", home, 0, says)
 
 
 def folders_of_messages(home: Path) -> None:
@@ -120,11 +107,8 @@ def folders_of_messages(home: Path) -> None:
         "3 mailboxes: 2 done, 1 done before\n",
     )
     equal("the Maildir's mail", (home / "M/.lists/cur/1:2,S").read_bytes(), b"Subject: a\n\n")
-    equal(
-        "the mail of MH",
-        sorted(path.read_bytes() for path in files_of(home / "M/.mh").values()),
-        sorted(f"Subject: {number}\n\nFrom here on.\n".encode() for number in range(1, 13)),
-    )
+    expected = sorted(f"Subject: {number}\n\nFrom here on.\n".encode() for number in range(1, 13))
+    equal("the mail of MH", sorted(path.read_bytes() for path in files_of(home / "M/.mh").values()), expected)
     # what is in the folder besides the Maildir, or would take the place of another one, is moved by hand
     for name in ("lists", "more", "caf\udce9"):
         make_maildir(home / "tree" / name)
@@ -251,20 +235,14 @@ def profile(home: Path) -> None:
         sums = f"5 mailboxes: 5 done; {others} other files: no mail; ..."
         matches(f"{name}: sums", f"{ran.status}: {ran.sums['says']}", f"0: {sums}")
     expect(["migrate", "O", f"{top}/ImapMail/imap.example.org"], home, 0, None)
-    equal(
-        "of one account",
-        sorted(path.name for path in (home / "O").glob(".*")),
-        [".Archives.a-b", ".imap-example-org.INBOX", ".imap-example-org.Trash"],
-    )
+    expected = [".Archives.a-b", ".imap-example-org.INBOX", ".imap-example-org.Trash"]
+    equal("of one account", sorted(path.name for path in (home / "O").glob(".*")), expected)
     (archives,) = (row for row in done if row["folder"] == "Archives/a-b")
     equal("its name", (archives["kind"], archives["says"]), ("mboxrd or mboxo", "its name was Archives/a.b"))
     inbox = f"{top}/ImapMail/imap.example.org/INBOX"
     equal("a command", run_printed(ran.of(inbox).command, home).status, 0)
-    equal(
-        "what is in INBOX, and no longer in its folder",
-        [subjects(home / "N"), subjects(home / "N/.imap-example-org.INBOX")],
-        [["one"], []],
-    )
+    found = [subjects(home / "N"), subjects(home / "N/.imap-example-org.INBOX")]
+    equal("what is in INBOX, and no longer in its folder", found, [["one"], []])
     expect("migrate --all N thunderbird", home, 0, "5 mailboxes: 5 done before; 14 other files: no mail\n")
     # the Inbox of one account is INBOX if no other one has mail in its Inbox
     mailbox(home / top / "ImapMail/imap.example.net/INBOX", b"")

@@ -68,11 +68,8 @@ def uids_given_meanwhile(home: Path) -> None:
         rest = path.read_text().split("\n", 1)[1]
         path.write_text(f"{was}\n{rest}")
         row = migrated(home, text_of(*FIELDS, FOURTH, base="222 12")).row
-        equal(
-            was,
-            ([one["says"] for one in row["remarks"]], path.read_text()),
-            (["it grew by 1 message", NEW], f"{then}\n{rest}"),
-        )
+        found = ([one["says"] for one in row["remarks"]], path.read_text())
+        equal(was, found, (["it grew by 1 message", NEW], f"{then}\n{rest}"))
         expect("migrate --undo --now M box", home, 0, None)
         equal(f"{was}: whether it stays", path.exists(), was != "3 V222 N10")
         shutil.rmtree(home / "M")
@@ -179,11 +176,8 @@ def subscriptions(home: Path) -> None:
         mailbox(home / f"M{place}/subscriptions", there)
         ran = by_json(["migrate", "--dovecot", "--now", f"M{place}", "old"], home)
         rows = [row for row in ran.rows if row["reason"] == "subscriptions"]
-        equal(
-            f"{there!r}: {ran.output}",
-            (len(rows), (home / f"M{place}/subscriptions").read_bytes()),
-            (bool(lacks), there),
-        )
+        found = (len(rows), (home / f"M{place}/subscriptions").read_bytes())
+        equal(f"{there!r}: {ran.output}", found, (bool(lacks), there))
 
 
 if __name__ == "__main__":

@@ -89,12 +89,8 @@ def who_is_at_work(home: Path) -> None:
     os.close(record)
     folder = os.open(home / "M", os.O_RDONLY)
     fcntl.flock(folder, fcntl.LOCK_SH)
-    expect(
-        UNDO,
-        home,
-        LATER,
-        "box -> INBOX: left (locked): another converter is at work in M\n    wait until ...\n1 mailbox: 1 left\n",
-    )
+    out = "box -> INBOX: left (locked): another converter is at work in M\n    wait until ...\n1 mailbox: 1 left\n"
+    expect(UNDO, home, LATER, out)
     os.close(folder)
     os.utime(str(home / "box"))
     ran = Desk(home).start(UNDO)

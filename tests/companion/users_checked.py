@@ -131,11 +131,8 @@ def as_objects(home: Path, names: list[str]) -> None:
     reported = list(map(json.loads, (home / "report").read_text(encoding="utf-8").splitlines()))
     equal("the report", sorted(map(told, reported[:-1])), sorted(map(told, rows[:-1])))
     equal("its sums", [one["verdicts"] for one in (rows[-1], reported[-1])], [reported[-1]["verdicts"]] * 2)
-    equal(
-        "whose is not whole",
-        sorted({row["user"] for row in rows[:-1] if row["verdict"] in ("left", "not whole")}),
-        names,
-    )
+    found = sorted({row["user"] for row in rows[:-1] if row["verdict"] in ("left", "not whole")})
+    equal("whose is not whole", found, names)
     (sheds,) = (row for row in rows[:-1] if row["path"] == "mail/lists/sheds")
     wanted = (
         "m61two",

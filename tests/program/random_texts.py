@@ -84,11 +84,8 @@ def check_text(text: bytes, maildir: Path) -> None:
     listed, files = wanted(text)
     count = len(files)
     equal(f"list of {text!r}", run(text, "list"), listed)
-    equal(
-        f"convert of {text!r}",
-        run(text, "convert", maildir),
-        f"messages {count}, there 0, placed {count}, swept 0\n".encode(),
-    )
+    expected = f"messages {count}, there 0, placed {count}, swept 0\n".encode()
+    equal(f"convert of {text!r}", run(text, "convert", maildir), expected)
     equal(f"the files of {text!r}", texts_of(maildir), files)
     spelled = run(text, "rewrite")
     equal(f"rewrite twice of {text!r}", run(spelled, "rewrite"), spelled)
@@ -195,11 +192,8 @@ def check_list(dice: random.Random, some: Sequence[bytes], maildir: Path) -> Non
         bodies.update((name.split(":")[0], body) for (_, name), body in wanted(text)[1].items())
     # what a killed run left in tmp is gone after the run that follows
     files = texts_of(maildir)
-    equal(
-        f"bases and bodies of {some}",
-        sorted((name.split(":")[0], body) for (_, name), body in files.items()),
-        sorted(bodies.items()),
-    )
+    found = sorted((name.split(":")[0], body) for (_, name), body in files.items())
+    equal(f"bases and bodies of {some}", found, sorted(bodies.items()))
 
 
 def companion_reads(work: Path) -> None:

@@ -162,11 +162,8 @@ def dates(home: Path) -> None:
         TZ=NEW_YORK,
     )
     for (form, moment), base in zip(forms, bases):
-        equal(
-            f"the date of {form}",
-            moments()[base],
-            datetime.fromisoformat(moment).timestamp() if moment else before[base],
-        )
+        seen = moments()[base]
+        equal(f"the date of {form}", seen, datetime.fromisoformat(moment).timestamp() if moment else before[base])
 
     files_of(home / "-M")[bases[1]].unlink()
     expect(
@@ -191,11 +188,8 @@ def dates(home: Path) -> None:
         "lines have the same date: 'From alva@example.org Mon Mar  3 09:12:44 2025'\n"
         "mbox2maildir-admin: none: No such file or directory\n    run this next:\n        ls .\n",
     )
-    equal(
-        "dates of messages with one date",
-        {path.stat().st_mtime for path in files_of(home / "One").values()},
-        {by_header},
-    )
+    found = {path.stat().st_mtime for path in files_of(home / "One").values()}
+    equal("dates of messages with one date", found, {by_header})
     # which the option takes if all From_ lines have one date, and only then, as the help says
     (home / "two").write_bytes((A + b"Date: 4 Mar 2025 10:00 Z\n\n") + B + b"Date: 4 Mar 2025 10:00 Z\n\n")
     run("mbox2maildir convert Two two", home)

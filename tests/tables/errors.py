@@ -144,13 +144,8 @@ def words_and_files(home: Path) -> None:
     there = sorted(home.iterdir())
     for line, says in [*REFUSED, *(BY_ROOT if is_root() else ())]:
         command = line.split(" ", 1)[0]
-        expect(
-            shlex.split(line) or [str(ADMIN)],
-            home,
-            2,
-            "",
-            f"mbox2maildir-admin: {says}\n{HELP(f'{command} ' * (command in COMMANDS))}",
-        )
+        words = shlex.split(line) or [str(ADMIN)]
+        expect(words, home, 2, "", f"mbox2maildir-admin: {says}\n{HELP(f'{command} ' * (command in COMMANDS))}")
     for line, says, then in ERRORS:
         expect(line.split(), home, 1, "", f"mbox2maildir-admin: {says}\n{then.format(home=home)}")
     equal("what is there", sorted(home.iterdir()), there)
@@ -287,11 +282,8 @@ def not_in_quotes(home: Path) -> None:
             for path, count in paths.items()
         )
         got, said, _ = run(["migrate", "--all", *given.split()], home)
-        equal(
-            f"{given}: status, and what is said",
-            (got, said.startswith(out), len(rows_in(said))),
-            (1, True, len(paths) + 1),
-        )
+        found = (got, said.startswith(out), len(rows_in(said)))
+        equal(f"{given}: status, and what is said", found, (1, True, len(paths) + 1))
         equal(f"{given}: what was made", [path.name for path in home.iterdir() if path.name in ("M", "My")], [])
     both = run("migrate --all --now --folder Both M ./a ./b", home)
     equal("two files beside it", (both[0], both[1].splitlines()[-1]), (0, "2 mailboxes: 2 done"))

@@ -325,13 +325,8 @@ def copies(home: Path) -> None:
             equal(f"{what}: the copy", (home / "copy").read_bytes(), wanted)
             equal(f"{what}: the copy that is printed", printed, (0, decoded(wanted), ""))
             equal(f"{what}: the mode", (home / "copy").stat().st_mode, (home / "a b").stat().st_mode)
-            expect(
-                ["quote", *words, "-o", "copy", "a b"],
-                home,
-                1,
-                "",
-                "mbox2maildir-admin: a b: copy already exists\n    name a file that is not there\n",
-            )
+            says = "mbox2maildir-admin: a b: copy already exists\n    name a file that is not there\n"
+            expect(["quote", *words, "-o", "copy", "a b"], home, 1, "", says)
             os.unlink(home / "copy")
         else:
             equal(f"{what}: status and output", (status, out), (1, ""))
@@ -365,13 +360,8 @@ def no_copy_is_cut(home: Path) -> None:
     before = set(os.listdir(home))
     ran = run_printed("ulimit -f 2048 && exec mbox2maildir-admin quote -o copy big", home)
     equal("quote of a big file", ran[::2], (1, "mbox2maildir-admin: copy: File too large\n"))
-    expect(
-        "quote big -o big",
-        home,
-        1,
-        "",
-        "mbox2maildir-admin: big: big already exists\n    name a file that is not there\n",
-    )
+    says = "mbox2maildir-admin: big: big already exists\n    name a file that is not there\n"
+    expect("quote big -o big", home, 1, "", says)
     expect("quote big -o none/x", home, 1, "", "mbox2maildir-admin: none: No such file or directory\n...\n...\n")
     equal("the files", set(os.listdir(home)), before)
 

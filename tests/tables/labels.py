@@ -505,12 +505,8 @@ def with_labels_and_without(home: Path) -> None:
     says = "it was migrated with --labels, so its mail is in the folders of its labels"
     out = f"t.mbox: left (another-reading): {says}\n{UNDO}"
     for words in (["M", "t.mbox"], ["--dry-run", "M", "t.mbox"], ["--folder", "x", "M", "t.mbox"]):
-        expect(
-            ["migrate", "--all", *words],
-            home,
-            1,
-            out.replace("--undo", "--undo --dry-run") if "--dry-run" in words else out,
-        )
+        command = ["migrate", "--all", *words]
+        expect(command, home, 1, out.replace("--undo", "--undo --dry-run") if "--dry-run" in words else out)
     # another file of the tree goes its way
     (home / "old").mkdir()
     (home / "t.mbox").rename(home / "old/t.mbox")

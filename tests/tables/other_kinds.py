@@ -339,11 +339,8 @@ def auxiliary(home: Path) -> None:
     lines = run(["kind", *(f"old{number}" for number in range(len(AUXILIARY)))], home)[1].splitlines()
     found = [f"old{number}/{name}: no mail" in lines for number, (name, _, _) in enumerate(AUXILIARY)]
     equal("no mail", found, [is_none for _, _, is_none in AUXILIARY])
-    equal(
-        "what is no file",
-        [line for line in lines if "old0/" in line and line.endswith(": no mail")],
-        ["old0/.x: no mail"],
-    )
+    seen = [line for line in lines if "old0/" in line and line.endswith(": no mail")]
+    equal("what is no file", seen, ["old0/.x: no mail"])
 
 
 def next_commands(home: Path) -> None:

@@ -161,11 +161,8 @@ def offers_what_belongs(offers: Offers, file: Path) -> None:
             (home / name).touch(mode=0o755 if name.startswith("bin") else 0o644)
         os.environ["PATH"] = f"{home}/bin:{os.environ['PATH']}"
         for (line, wanted), found in zip(LINES, offers(file, [line for line, _ in LINES], home)):
-            equal(
-                f"{offers.__name__}, {line}",
-                sorted(word for word in found if word not in ("--help", "--version") or word in wanted),
-                sorted(wanted),
-            )
+            seen = sorted(word for word in found if word not in ("--help", "--version") or word in wanted)
+            equal(f"{offers.__name__}, {line}", seen, sorted(wanted))
 
 
 def main() -> None:
