@@ -64,7 +64,7 @@ class Way(NamedTuple):
 
     program: Program
     record: Record
-    how: Options
+    options: Options
     places: Places
     keeper: Keeper
     observer: Observer
@@ -72,19 +72,19 @@ class Way(NamedTuple):
     @property
     def disk(self) -> bytes:
         """A folder on the disk where copies are made."""
-        return folder_for_copies(self.record.maildir, self.how.dry)
+        return folder_for_copies(self.record.maildir, self.options.dry)
 
     def say_numbers(self, target: Target, mailbox: Mailbox) -> tuple[Numbering, Known]:
         """Has an open mailbox say which UIDs were given, before it gets mail: if that is interrupted, some are never
         given. Returns what it says from now on, and what is known of it."""
         opened = Opened.into(self.record.maildir, target.folder, mailbox)
-        ledger = Ledger(opened.folder, dry=self.how.dry)
+        ledger = Ledger(opened.folder, dry=self.options.dry)
         # the numbers of its folder, whatever the names of both are now
         is_numbered = self.record.has_numbered({*filter(is_gone, ledger.paths()), *names_of(mailbox.path)})
-        if self.how.dovecot:
+        if self.options.dovecot:
             name = self.places.name_of(target.path, target.folder)
             numbering = Numbering(name, Listed.of(opened.folder), is_numbered)
-            numbering.say(mailbox, target, self.how.dry)
+            numbering.say(mailbox, target, self.options.dry)
         else:
             numbering = Numbering()
             numbering.remarks += [Says.UIDS_UNKNOWN.of()] * is_numbered
@@ -93,7 +93,7 @@ class Way(NamedTuple):
     @contextlib.contextmanager
     def opened(self, path: bytes) -> Iterator[Mailbox]:
         """Opens a mailbox, and holds all of its locks."""
-        dry, say = self.how.dry, self.observer.say(path)
+        dry, say = self.options.dry, self.observer.say(path)
         with contextlib.ExitStack() as stack:
             stack.callback(self.observer.rest, named(path))
             if dry and not is_there(path):
@@ -102,7 +102,7 @@ class Way(NamedTuple):
             # root follows no symbolic link, which may lead anywhere
             path = path if os.geteuid() == 0 else os.path.realpath(path)
             kind = READING if dry else WRITING
-            mailbox = stack.enter_context(open_mailbox(path, say, False, not self.how.now, kind))
+            mailbox = stack.enter_context(open_mailbox(path, say, False, not self.options.now, kind))
             if mailbox.state.st_uid != os.geteuid():
                 raise Left("it belongs to another user", Reason.OTHER_OWNER, task(Todo.AS_OWNER))
             if not dry:
@@ -128,7 +128,7 @@ class Way(NamedTuple):
         """The row of a mailbox that takes no mail, once it says which UIDs were given. It also says what keywords of
         mail that went back before are to be added."""
         row = nothing_new(target)
-        if not self.how.dovecot or not is_file(target.path):
+        if not self.options.dovecot or not is_file(target.path):
             return row
         with self.opened(target.path) as mailbox:
             numbering, known = self.say_numbers(target, mailbox)
@@ -137,7 +137,7 @@ class Way(NamedTuple):
                 with contextlib.suppress(Left):
                     for style in itertools.islice(styles_of(known, self.disk), 1):
                         style.messages(mailbox, look=numbering.take)
-                numbering.end(target.returned, self.how.dry)
+                numbering.end(target.returned, self.options.dry)
         return row._replace(remarks=(*numbering.remarks, *row.remarks), next=numbering.next)
 
 
@@ -173,7 +173,7 @@ class Appending:
 
     def run(self) -> Returned:
         """Appends what the mailbox does not have."""
-        dry, was_empty = self.way.how.dry, not self.mailbox.size
+        dry, was_empty = self.way.options.dry, not self.mailbox.size
         with contextlib.ExitStack() as stack:
             if dry:
                 draft = Draft(stack.enter_context(unnamed(self.way.disk)).fileno())
@@ -318,7 +318,7 @@ class Appending:
 
     def row(self, goes: Goes) -> Row:
         """The row of the mailbox."""
-        count, there, is_dry = len(goes.entries) + len(goes.there), len(goes.there), self.way.how.dry
+        count, there, is_dry = len(goes.entries) + len(goes.there), len(goes.there), self.way.options.dry
         fate = (Fate.WOULD_BACK if is_dry else Fate.BACK) if count else Fate.NOTHING_NEW
         says = Says.IN_MAILBOX.of_any(there, there=there)
         taken = [one.taken for one in goes.entries if one.taken]

@@ -34,7 +34,7 @@ ASIDE = b".back"
 Remarks = tuple[Remark, ...]
 
 
-def bring_back(root: bytes, names: Sequence[bytes], how: Options, observer: Observer) -> Next:
+def bring_back(root: bytes, names: Sequence[bytes], options: Options, observer: Observer) -> Next:
     """Brings the mail back that is in a Maildir of the user who runs this, and did not come from the mailboxes at some
     paths. Returns what moves the Maildir aside."""
     if os.geteuid() == 0:
@@ -42,7 +42,7 @@ def bring_back(root: bytes, names: Sequence[bytes], how: Options, observer: Obse
         root = real_place(root)
         want_roots_alone(root)
     want_migrated(root)
-    return bring_all(Program(find_program()), root, Names(names), how, Keeper(), observer)
+    return bring_all(Program(find_program()), root, Names(names), options, Keeper(), observer)
 
 
 def want_migrated(root: bytes) -> None:
@@ -51,18 +51,20 @@ def want_migrated(root: bytes) -> None:
         raise Fault(NO_RECORD, Reason.NO_MAILDIR, place=root)
 
 
-def bring_all(program: Program, root: bytes, names: Names, how: Options, keeper: Keeper, observer: Observer) -> Next:
+def bring_all(
+    program: Program, root: bytes, names: Names, options: Options, keeper: Keeper, observer: Observer
+) -> Next:
     """Does it by a program, whoever runs this, and whatever was migrated."""
     os.umask(0o077)
-    with Record.open(root, not how.dry) as record:
-        return Folders(Way(program, record, how, Places(record, names), keeper, observer)).run()
+    with Record.open(root, not options.dry) as record:
+        return Folders(Way(program, record, options, Places(record, names), keeper, observer)).run()
 
 
 class Folders:
     """The folders of a Maildir whose mail goes back."""
 
     def __init__(self, way: Way) -> None:
-        self.way, self.places, self.is_dry = way, way.places, way.how.dry
+        self.way, self.places, self.is_dry = way, way.places, way.options.dry
         # whether nothing is left, and the folders whose mail would go back, by the paths of their mailboxes
         self.is_right, self.would = True, dict[bytes, bytes]()
 
@@ -83,7 +85,7 @@ class Folders:
                 self.tell(row._replace(remarks=(*row.remarks, *stands.pop(row.path, ()))))
             for path in sorted(stands):
                 self.tell(nothing_new(Target(path, folder, (), stands[path])))
-        if self.way.how.dovecot and self.places.trees:
+        if self.way.options.dovecot and self.places.trees:
             for row in rows_of(self.places, self.is_dry, self.would):
                 self.tell(row)
         if self.is_dry or not self.is_right:
@@ -209,19 +211,19 @@ class Folders:
     def brought(self, target: Target) -> Optional[Returned]:
         """What became of a mailbox to which mail goes back, and which is made if it is missing; None if it takes
         nothing."""
-        way, how = self.way, self.way.how
+        way, options = self.way, self.way.options
         try:
             is_missing = not is_there(target.path)
-            if is_missing and not how.dry:
+            if is_missing and not options.dry:
                 # none is made that would stay empty
-                row, refused = way._replace(how=how._replace(dry=True)).append(target)
+                row, refused = way._replace(options=options._replace(dry=True)).append(target)
                 if row.left_for:
                     return row, refused
             # the name of an empty one may not be on the disk yet
-            if not how.dry and (is_missing or is_empty(target.path)):
+            if not options.dry and (is_missing or is_empty(target.path)):
                 way.keeper.make(target.path)
             # nobody else knows of a new one
-            return way._replace(how=how._replace(now=how.now or is_missing)).append(target)
+            return way._replace(options=options._replace(now=options.now or is_missing)).append(target)
         except TakesNothing:
             return None
         except (Fault, OSError) as fault:

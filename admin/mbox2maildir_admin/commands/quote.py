@@ -35,17 +35,17 @@ def quote_file(decision: Reading, file: bytes, output: bytes, is_bare: bool) -> 
         say = silent
     with Mailbox.open(file, say) as mailbox:
         plan = plan_to_quote(mailbox, decision, output, is_bare)
-        how, start, messages = plan.reading if plan.is_copied else PLAIN, plan.start, plan.messages
+        reading, start, messages = plan.reading if plan.is_copied else PLAIN, plan.start, plan.messages
         if is_bare:
             head, end = internal_head(mailbox, start)
             start, messages = (end, messages - 1) if head else (start, messages)
         if output == STANDARD_OUTPUT:
-            quoter = Quoter(how, mailbox, start, keeps_lengths=False)
+            quoter = Quoter(reading, mailbox, start, keeps_lengths=False)
             written(quoter, write, is_bare)
             quoter.check(quoter.given, quoter.messages, messages)
             return True
         with Copy(output) as copy:
-            quoter = write_copy(how, mailbox, start, messages, copy, is_bare)
+            quoter = write_copy(reading, mailbox, start, messages, copy, is_bare)
     put("%s: messages %d, lines quoted %d" % (named(output), messages, quoter.quoted))
     return True
 

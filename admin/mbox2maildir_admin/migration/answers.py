@@ -99,15 +99,15 @@ BEGUN_OTHERWISE = (
 )
 
 
-def as_before(how: Options, known: Known) -> Optional[tuple[str, list[Remark]]]:
+def as_before(options: Options, known: Known) -> Optional[tuple[str, list[Remark]]]:
     """The words by which a mailbox was read, and what is to be said of it, if nothing is new in it as it is read so;
     None if something is, or if it cannot be read so any more."""
-    source, disk = known.ledger.sources.get(known.path), folder_for_copies(known.opened.root, how.dry)
+    source, disk = known.ledger.sources.get(known.path), folder_for_copies(known.opened.root, options.dry)
     if not source or known.is_begun:
         return None
     # mail that is marked as deleted by now, and was not brought, is new
     reading = with_deleted(Reading.of_words(source.words))
-    with content_of(known.opened.mailbox, disk) as text, text_then(text, reading, disk, how.extra.start_of) as then:
+    with content_of(known.opened.mailbox, disk) as text, text_then(text, reading, disk, options.extra.start_of) as then:
         if not then:
             return None
         contents = Contents(then, then.messages(), reading)
@@ -117,24 +117,24 @@ def as_before(how: Options, known: Known) -> Optional[tuple[str, list[Remark]]]:
         return None if match.count_new() else (reading.words(), remarks_on_lost(match))
 
 
-def contradicted(how: Options, opened: Opened, line: Entry) -> tuple[list[Remark], Next]:
+def contradicted(options: Options, opened: Opened, line: Entry) -> tuple[list[Remark], Next]:
     """What is to be said of a mailbox that is done if a decision that is given now gives other messages, and the
     command that undoes it."""
-    if not contradicts(how, opened, line):
+    if not contradicts(options, opened, line):
         return [], NOTHING
-    its = Reading.of_words(line.words).of_text.words(), " ".join(how.decision.options())
+    its = Reading.of_words(line.words).of_text.words(), " ".join(options.decision.options())
     # a word for several mailboxes is about those that are not done
-    then = (Answer(how.undo_command(opened), Does.UNDO),) if how.decision.alone else NOTHING
+    then = (Answer(options.undo_command(opened), Does.UNDO),) if options.decision.alone else NOTHING
     return [Says.CONTRADICTED.of(*its)], then
 
 
-def contradicts(how: Options, opened: Opened, line: Entry) -> bool:
+def contradicts(options: Options, opened: Opened, line: Entry) -> bool:
     """Whether a decision gives other messages of a mailbox than those that it had when it was done."""
-    if how.decision._replace(alone=True) == UNDECIDED:
+    if options.decision._replace(alone=True) == UNDECIDED:
         return False
-    by = folder_for_copies(opened.root, how.dry), how.extra.start_of
+    by = folder_for_copies(opened.root, options.dry), options.extra.start_of
     try:
-        with choice_of(opened.mailbox, by[0], decision=how.decision) as choice:
+        with choice_of(opened.mailbox, by[0], decision=options.decision) as choice:
             then, now = Reading.of_words(line.words)._replace(bare=False), choice.plan.reading
             if then.of_text == now.of_text:
                 return False
@@ -181,21 +181,21 @@ class Before(NamedTuple):
         return brought
 
 
-def want_same_reading(how: Options, known: Known, choice: Choice, contents: Contents) -> None:
+def want_same_reading(options: Options, known: Known, choice: Choice, contents: Contents) -> None:
     """Raises Left if more of what the ledger has of a mailbox is in it as it was read then, with what to run."""
     before, opened = Before.of(known, contents.reading), known.opened
-    disk = folder_for_copies(opened.root, how.dry)
-    command = how.command(opened, again=how.again, dovecot=before.reading.bare)
-    if before.reading.bare != contents.reading.bare and not how.again and has_begun(known):
+    disk = folder_for_copies(opened.root, options.dry)
+    command = options.command(opened, again=options.again, dovecot=before.reading.bare)
+    if before.reading.bare != contents.reading.bare and not options.again and has_begun(known):
         says = "its conversion was begun %s --dovecot" % ("with" if before.reading.bare else "without")
         raise Left(says, Reason.ANOTHER_READING, (Answer(command),))
     if before.reading.of_text == contents.reading.of_text:
         return
-    with text_then(choice.mailbox, before.reading, disk, how.extra.start_of) as text:
+    with text_then(choice.mailbox, before.reading, disk, options.extra.start_of) as text:
         if not text:
             return
         inventory = text.messages()
-    then, now = before.counts(how.decision, inventory, contents)
+    then, now = before.counts(options.decision, inventory, contents)
     if then <= now:
         return
     if before.batch:
@@ -204,11 +204,11 @@ def want_same_reading(how: Options, known: Known, choice: Choice, contents: Cont
         says = READ_OTHERWISE % (before.reading.of_text.words(), counted(then - now, "message"))
     is_done = bool(before.source and before.source.key == tuple(opened.mailbox.key()))
     # what a human says of single lines holds by the other reading too
-    decision = decision_by(choice.mailbox, before.reading, how.decision)
-    if how.decision.word and is_done or not is_enough(choice.mailbox, decision, disk):
-        command = how.undo_command(opened)
+    decision = decision_by(choice.mailbox, before.reading, options.decision)
+    if options.decision.word and is_done or not is_enough(choice.mailbox, decision, disk):
+        command = options.undo_command(opened)
     else:
-        command = how.command(opened, again=how.again, decision=decision)
+        command = options.command(opened, again=options.again, decision=decision)
     raise Left(says, Reason.ANOTHER_READING, (Answer(command),))
 
 
@@ -253,34 +253,34 @@ class Given(NamedTuple):
     is_shown: bool
 
 
-def answer_shown(how: Options, known: Known, question: Question) -> Optional[Reading]:
+def answer_shown(options: Options, known: Known, question: Question) -> Optional[Reading]:
     """The one answer by which all lines in question are in messages that a mailbox has brought, if each other answer
     gives fewer of the messages that it brought; None if a human must answer."""
-    had = Before.of(known, how.decision).had()
+    had = Before.of(known, options.decision).had()
     if not had or not question.is_on_lines:
         return None
-    with content_of(known.opened.mailbox, folder_for_copies(known.opened.root, how.dry)) as text:
-        by = [how._replace(decision=answer.decision) for answer in question.answers]
+    with content_of(known.opened.mailbox, folder_for_copies(known.opened.root, options.dry)) as text:
+        by = [options._replace(decision=answer.decision) for answer in question.answers]
         given = [given_by(one, known, text, had, question.doubtful) for one in by]
     most = max((one.brought for one in given), default=0)
     best = [one for one in given if one.is_shown or one.brought == most]
     return best[0].decision if len(best) == 1 and best[0].is_shown else None
 
 
-def given_by(how: Options, known: Known, text: Mailbox, had: Had, lines: Iterable[Line]) -> Given:
+def given_by(options: Options, known: Known, text: Mailbox, had: Had, lines: Iterable[Line]) -> Given:
     """What the answer gives by which this mailbox would be migrated, of what it has brought."""
-    choice = Choice(text, plan_of(text, decision=how.decision))
-    with choice.text(folder_for_copies(known.opened.root, how.dry)) as whole:
-        part = whole.begun_by(how.extra.start_of)
-        contents = Contents(part, part.messages(), choice.plan.bared(how.extra.IS_BARE).reading)
+    choice = Choice(text, plan_of(text, decision=options.decision))
+    with choice.text(folder_for_copies(known.opened.root, options.dry)) as whole:
+        part = whole.begun_by(options.extra.start_of)
+        contents = Contents(part, part.messages(), choice.plan.bared(options.extra.IS_BARE).reading)
         is_shown = are_brought(had, contents.inventory, lines)
         if is_shown:
             # a mailbox that is read so also goes on as it was read before
             try:
-                want_same_reading(how, known, choice, contents)
+                want_same_reading(options, known, choice, contents)
             except Left:
                 is_shown = False
-    return Given(how.decision, sum((had & cores_of(contents.inventory)).values()), is_shown)
+    return Given(options.decision, sum((had & cores_of(contents.inventory)).values()), is_shown)
 
 
 def are_brought(had: Had, inventory: Inventory, lines: Iterable[Line]) -> bool:

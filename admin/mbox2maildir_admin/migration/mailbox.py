@@ -1,8 +1,8 @@
 """The way of a mailbox into a folder of a Maildir: it is opened and read, its messages are matched with what is there,
 and what is to be done is planned. That is carried out, unless this is a rehearsal.
 
-The way is the same where mail is only prepared. What differs is asked as `how.prepare`, and the steps have what their
-pass has of its own. Each pass removes what was prepared and no message wants any more. Files have the digests of
+The way is the same where mail is only prepared. What differs is asked as `options.prepare`, and the steps have what
+their pass has of its own. Each pass removes what was prepared and no message wants any more. Files have the digests of
 messages as names, so one is right or not wanted, whatever the mailbox was when it was read.
 """
 import collections
@@ -91,8 +91,8 @@ NOT_SHOWN = "the ledger of its folder is %s, so nothing shows which of its messa
 class Migration:
     """Migrates mailboxes into the folders of a Maildir. One is done once the disk of its folder was synced as well."""
 
-    def __init__(self, program: Program, record: Record, how: Options) -> None:
-        self.program, self.record, self.how = program, record, how
+    def __init__(self, program: Program, record: Record, options: Options) -> None:
+        self.program, self.record, self.options = program, record, options
         # raises Left if the disk has no space for a mailbox; others at work may count on the same space
         self.want_room: Callable[[Need], None] = want_room
         # the batches of each folder's ledger that were verified, and whose disk is not synced yet; and the last ledger,
@@ -103,7 +103,7 @@ class Migration:
     @property
     def disk(self) -> bytes:
         """A folder on the disk where copies are made."""
-        return folder_for_copies(self.record.maildir, self.how.dry)
+        return folder_for_copies(self.record.maildir, self.options.dry)
 
     def migrate_path(
         self, path: bytes, name: bytes, say: Say = silent, follow: bool = False, why: Optional[Fault] = None
@@ -113,19 +113,19 @@ class Migration:
         try:
             if is_no_mail(path):
                 return Outcome(Row(path, b"", "", None, Fate.NO_MAIL))
-            if self.how.prepare and not why:
-                row = row_unchanged(self.record, self.how, path, name, say)
+            if self.options.prepare and not why:
+                row = row_unchanged(self.record, self.options, path, name, say)
                 if row:
                     return Outcome(row)
-            with self.opened(path, say, follow, not (why or self.how.now)) as mailbox:
+            with self.opened(path, say, follow, not (why or self.options.now)) as mailbox:
                 opened = Opened.into(self.record.maildir, name, mailbox)
                 try:
                     return Outcome(self.judge(opened, why)) if why else self.migrate_opened(opened)
                 except OtherKind as left:
-                    is_spared = self.how.is_spared(path, not isinstance(left, NotKnown))
+                    is_spared = self.options.is_spared(path, not isinstance(left, NotKnown))
                     is_noted = is_passed_over(self.record, mailbox)
                     if not (is_spared or is_noted):
-                        left.put(self.how.where(opened))
+                        left.put(self.options.where(opened))
                         raise
                     if not is_noted:
                         self.record.add(Note.NO_MAIL, Key(INBOX, *mailbox.key()), 0, mailbox.path)
@@ -138,7 +138,7 @@ class Migration:
 
     def opened(self, path: bytes, say: Say, follow: bool, quiet: bool) -> Mailbox:
         """A mailbox that is open and locked or, while people use it, a copy of it."""
-        if not self.how.prepare:
+        if not self.options.prepare:
             return open_mailbox(path, say=say, follow=follow, quiet=quiet)
 
         def make(size: int) -> IO[bytes]:
@@ -157,8 +157,8 @@ class Migration:
 
     def migrate_opened(self, opened: Opened) -> Outcome:
         """Does what is left to do, and returns what became of the mailbox."""
-        if not self.how.is_labelled and line_of(self.record, opened.mailbox):
-            undo = self.how._replace(is_labelled=True).undo_command(opened)
+        if not self.options.is_labelled and line_of(self.record, opened.mailbox):
+            undo = self.options._replace(is_labelled=True).undo_command(opened)
             left = Left(WITH_LABELS, Reason.ANOTHER_READING, (Answer(undo),))
             return Outcome(row_left(opened.mailbox.path, b"", left, None, opened.mailbox.size))
         return self.transfer(opened)
@@ -167,8 +167,8 @@ class Migration:
         """Brings a mailbox, or a part of it, into its folder, and returns what became of that."""
         verified, ledger, self.kept = self.verified[opened.name], self.kept, None
         if not ledger or ledger.folder != opened.folder:
-            ledger = Ledger(opened.folder, verified, self.how.dry)
-        preparation = None if part else mend(self.record, self.how, opened, ledger, verified)
+            ledger = Ledger(opened.folder, verified, self.options.dry)
+        preparation = None if part else mend(self.record, self.options, opened, ledger, verified)
         ended = Transfer(self, opened, ledger, preparation, part).bring_rest()
         if ended.batch:
             verified.add(ended.batch)
@@ -190,11 +190,11 @@ class Transfer:
     ) -> None:
         """Takes what is only prepared in the folder, if mail is not placed there for good at once; and what goes there,
         if that is not all of the mailbox."""
-        self.program, self.record, self.how = migration.program, migration.record, migration.how
+        self.program, self.record, self.options = migration.program, migration.record, migration.options
         self.want_room, self.disk = migration.want_room, migration.disk
         self.opened, self.ledger, self.part = opened, ledger, part
         self.preparation, self.prepared = preparation, preparation.prepared if preparation else None
-        ledger.is_dry = ledger.is_dry or self.how.prepare
+        ledger.is_dry = ledger.is_dry or self.options.prepare
         # when this began; and whether a last pass would have it to do again, since the mailbox may change again
         self.began, self.is_changed = time.monotonic(), self.prepared is not None and self.prepared.is_whole
         self.known = Known(self.record, ledger, opened)
@@ -204,12 +204,12 @@ class Transfer:
         # the tie of the answer for several mailboxes that decided about it, if one did
         self.tie = ""
         if part:
-            self.how = self.how._replace(extra=Extra(part.kept))
+            self.options = self.options._replace(extra=Extra(part.kept))
 
     def bring_rest(self) -> Outcome:
         """Does what is left to do, and returns what became of the mailbox. If a human must decide about it, that may be
         known from before."""
-        row = None if self.how.again else self.row_if_done()
+        row = None if self.options.again else self.row_if_done()
         is_wanted = not row and self.is_wanted()
         while not row:
             try:
@@ -217,11 +217,11 @@ class Transfer:
                     ended = self.try_to_bring(part) if is_wanted else Outcome(self.row(part))
                     return ended._replace(row=ended.row._replace(tie=self.tie))
             except Question as question:
-                before = None if self.how.again else as_before(self.how, self.known)
+                before = None if self.options.again else as_before(self.options, self.known)
                 if before:
                     row = self.row_before(before[0], count_in(self.ledger, self.path), before[1])
                 elif not self.take_answer(question):
-                    self.how.put_commands(self.opened, question)
+                    self.options.put_commands(self.opened, question)
                     raise
         return Outcome(row)
 
@@ -231,14 +231,14 @@ class Transfer:
         line = self.known.done()
         if not line or self.part and Reading.of_words(line.words).part != self.part.choice.plan.reading.part:
             return None
-        more, then = ([], NOTHING) if self.how.prepare else contradicted(self.how, self.opened, line)
+        more, then = ([], NOTHING) if self.options.prepare else contradicted(self.options, self.opened, line)
         return self.row_before(line.words, line.messages, more)._replace(next=then)
 
     def is_wanted(self) -> bool:
         """Whether anything is done with it. A first pass does nothing with one that is empty, where another one has
         brought mail: a program that delivers makes such a file once the old one was moved away. Raises Left if it can't
         go there."""
-        if not self.preparation or not self.how.prepare:
+        if not self.preparation or not self.options.prepare:
             return True
         if self.ledger.sources and self.path not in self.ledger.paths() and not self.opened.mailbox.size:
             return False
@@ -248,7 +248,7 @@ class Transfer:
     def row_before(self, words: Optional[str], messages: Optional[int], more: Sequence[Remark]) -> Row:
         """The row of a mailbox of so many messages that was done before, by what words; what else is said."""
         mailbox, name = self.opened.mailbox, self.opened.name
-        has_no_uids = self.how.dovecot and mailbox.size > 0 and not self.record.numbered(name)
+        has_no_uids = self.options.dovecot and mailbox.size > 0 and not self.record.numbered(name)
         dropped = Says.DELETED_LEFT_OUT.of_any(Reading.of_words(words).dropped)
         of_folder = back_in(self.ledger) + gone_from(self.ledger)
         by_index = self.known.by_index
@@ -263,28 +263,28 @@ class Transfer:
     def take_answer(self, question: Question) -> bool:
         """Has the mailbox read by the answer to a question that was given before, or that what it has brought shows.
         Returns whether there is one."""
-        given = question.by_tie(self.how.answer)
+        given = question.by_tie(self.options.answer)
         answer = given or answer_to(self.record, self.opened, question)
         # what is decided about several does not decide what was asked about one
-        is_kept = not self.how.decision.alone and answer is not None and answer.alone
-        if self.how.decision != UNDECIDED and not is_kept:
+        is_kept = not self.options.decision.alone and answer is not None and answer.alone
+        if self.options.decision != UNDECIDED and not is_kept:
             return False
-        decision = answer or answer_shown(self.how, self.known, question)
+        decision = answer or answer_shown(self.options, self.known, question)
         if not decision:
             return False
         self.remarks += [] if given else [(Says.AS_ANSWERED if answer else Says.AS_BROUGHT).of()]
-        self.how, self.tie = self.how._replace(decision=decision), given.of if given else ""
+        self.options, self.tie = self.options._replace(decision=decision), given.of if given else ""
         return True
 
     @contextlib.contextmanager
     def chosen(self) -> Iterator[Part]:
         """What goes of the mailbox into the folder, once it is chosen which text stands for it. It is not read again if
         it is as it was prepared."""
-        part = same_as_prepared(self.prepared, self.how, self.opened) if self.prepared else self.part
+        part = same_as_prepared(self.prepared, self.options, self.opened) if self.prepared else self.part
         if part:
             yield part
             return
-        mailbox, is_bare, given = self.opened.mailbox, self.how.extra.IS_BARE, self.how.decision
+        mailbox, is_bare, given = self.opened.mailbox, self.options.extra.IS_BARE, self.options.decision
         decision = given._replace(noted=noted_last(self.record, self.opened, given))
         with choice_at_once(self.program, mailbox, self.disk, decision, is_bare) as choice:
             self.remarks += [Says.AS_ANSWERED.of()] * (given == UNDECIDED and choice.plan.answer is not None)
@@ -293,8 +293,8 @@ class Transfer:
     def try_to_bring(self, part: Part) -> Outcome:
         """Brings the mailbox, which is left if that fails. Everything that is nowhere is brought of one that was
         rewritten, or whose sync failed, if that is wanted of such mailboxes alone."""
-        mailbox, is_wanted = self.opened.mailbox, self.how.again_rewritten
-        again = self.how.again or is_wanted and self.has_failed()
+        mailbox, is_wanted = self.opened.mailbox, self.options.again_rewritten
+        again = self.options.again or is_wanted and self.has_failed()
         try:
             try:
                 return self.bring(part, again)
@@ -309,18 +309,18 @@ class Transfer:
         """Brings what is new, once it is chosen which text stands for the mailbox, or all that is nowhere. Raises what
         keeps it from being done."""
         if self.preparation and not again:
-            want_usable(self.preparation, self.how, self.opened)
+            want_usable(self.preparation, self.options, self.opened)
         if part.choice.plan.is_empty:
             return Outcome(self.bring_nothing(part, again))
-        said = want_syncs(self.opened.folder, self.how.any_disk)
+        said = want_syncs(self.opened.folder, self.options.any_disk)
         if self.path in self.ledger.leaving:
-            undo = self.how.undo_command(self.opened)
+            undo = self.options.undo_command(self.opened)
             raise Left("its undo was interrupted", Reason.UNDO, (Answer(undo),))
         if self.has_failed() and not again:
             raise Left(SYNC_FAILED, Reason.SYNC_FAILED)
         with part.read() as contents:
-            steps, row = (self.first_steps if self.how.prepare else self.steps)(part, contents, again, said)
-            if self.how.dry:
+            steps, row = (self.first_steps if self.options.prepare else self.steps)(part, contents, again, said)
+            if self.options.dry:
                 return Outcome(row)
             ended = carry_out(steps, row, self.program)
             return ended._replace(row=ended.row._replace(spent=row.spent and self.spent()))
@@ -328,11 +328,11 @@ class Transfer:
     def bring_nothing(self, part: Part, again: bool) -> Row:
         """Brings a mailbox without mail, which only gets its folder, from which everything is removed that is prepared.
         A first pass removes the folder too if it was made for that: the mailbox may go later."""
-        preparation = None if self.how.dry else self.preparation
+        preparation = None if self.options.dry else self.preparation
         has_list = preparation is not None and preparation.prepared.is_there and not again
         if preparation and has_list:
             preparation.prepared.look(self.opened.mailbox.say)
-        if self.how.prepare:
+        if self.options.prepare:
             if preparation and has_list:
                 preparation.empty()
             return self.row(part)
@@ -347,11 +347,11 @@ class Transfer:
         """What a first pass does by what it finds of the messages, and the row that says so."""
         assert self.prepared, "a first pass keeps a list"
         match = self.matched(part, contents, again)
-        said = [*said, *remarks_on_prepared(self.prepared, self.how, self.opened.mailbox.say)]
-        origin, text = origin_now(self.known, contents, self.how.names), text_to_list(part.choice, contents)
+        said = [*said, *remarks_on_prepared(self.prepared, self.options, self.opened.mailbox.say)]
+        origin, text = origin_now(self.known, contents, self.options.names), text_to_list(part.choice, contents)
         took = in_milliseconds(self.opened.mailbox.took) if text else self.passed()
         own = FirstPass(self.prepared, origin, text, took)
-        steps = Steps.of(self.known, contents, match, self.how.extra, own)
+        steps = Steps.of(self.known, contents, match, self.options.extra, own)
         self.is_changed = self.is_changed and not own.is_done(steps.placing)
         self.want_room_for(steps)
         return steps, self.row(part, said)
@@ -360,25 +360,25 @@ class Transfer:
         """What any other pass does, and its row. Raises Left if it cannot be done, with the command that does what
         can."""
         known, again = self.known, self.go_by_ledger(contents, again)
-        how = self.how._replace(again=again)
-        want_same_reading(how, known, part.choice, contents)
+        options = self.options._replace(again=again)
+        want_same_reading(options, known, part.choice, contents)
         if not again:
             known.take_place_by_cores(contents.inventory)
         match, prepared = self.matched(part, contents, again), None if again else self.prepared
         ends_list = again or prepared is not None
         if known.path in known.ledger.sources and not match.count_new():
-            steps = Steps.of(known, contents, match, how.extra, OtherPass(again, ends_list, has_nothing_new=True))
+            steps = Steps.of(known, contents, match, options.extra, OtherPass(again, ends_list, has_nothing_new=True))
             return steps, self.row_before(contents.reading.words(), len(contents.inventory), remarks_on_lost(match))
-        origin = origin_now(known, contents, how.names) if prepared and not prepared.origin else None
+        origin = origin_now(known, contents, options.names) if prepared and not prepared.origin else None
         back = 0 if again else self.may_come_back(match)
         own = OtherPass(again, ends_list, prepared, origin, back, names_that_may_be_cut(known, match))
-        steps = Steps.of(known, contents, match, how.extra, own)
-        hindrance = how.extra.hindrance(steps)
+        steps = Steps.of(known, contents, match, options.extra, own)
+        hindrance = options.extra.hindrance(steps)
         if hindrance:
             raise Left(str(hindrance), hindrance.reason, self.command(Does.RUN, again=again, dovecot=False))
         self.want_room_for(steps)
         if self.prepared:
-            said = [*said, *remarks_on_prepared(self.prepared, how, self.opened.mailbox.say)]
+            said = [*said, *remarks_on_prepared(self.prepared, options, self.opened.mailbox.say)]
         return steps, self.row_of(part, steps, said)
 
     def row_of(self, part: Part, steps: Steps, said: Sequence[Remark]) -> Row:
@@ -386,7 +386,7 @@ class Transfer:
         mail of it went, and of other mailboxes."""
         # a message of a Takeout may be in many folders
         elsewhere = [] if self.part else self.known.elsewhere(steps.contents.inventory)
-        said = [*said, *remarks_on(steps, self.how.dry), *back_in(self.ledger)]
+        said = [*said, *remarks_on(steps, self.options.dry), *back_in(self.ledger)]
         is_gone = sum(steps.placing.match.seen.gone.values()) > 0
         then = self.command(Does.BRINGS_BACK, again=True) if is_gone else NOTHING
         for line, is_moved in elsewhere:
@@ -396,13 +396,13 @@ class Transfer:
                 Says.ELSEWHERE_FROM.of(*its, named(unspelled(line.path))) if is_other else Says.ELSEWHERE.of(*its)
             )
             if is_moved:
-                undo = self.how.undo_command(self.opened._replace(name=line.key.folder))
+                undo = self.options.undo_command(self.opened._replace(name=line.key.folder))
                 then += (Answer(undo, Does.UNDO_THERE),)
-        joined = self.known.joined(self.how.names)
+        joined = self.known.joined(self.options.names)
         if joined:
             said.append(Says.JOINED.of(first_of(joined, most=1)))
-        if self.how.dry:
-            said += self.how.extra.apply(steps, dry=True)
+        if self.options.dry:
+            said += self.options.extra.apply(steps, dry=True)
         return self.row(part, said, then)
 
     def matched(self, part: Part, contents: Contents, again: bool) -> Match:
@@ -448,15 +448,15 @@ class Transfer:
         """The row of a mailbox that is done or prepared, or would be; what else is said of it, and what is to be done
         next."""
         plan, done, would, spent = part.choice.plan, Fate.DONE, Fate.WOULD, None
-        if self.how.prepare:
+        if self.options.prepare:
             done, would, spent = Fate.PREPARED, Fate.WOULD_PREPARE, self.spent()
-        its = self.opened.name, plan.kind, plan.messages, would if self.how.dry else done
+        its = self.opened.name, plan.kind, plan.messages, would if self.options.dry else done
         row = Row(self.opened.mailbox.path, *its, size=part.size, spent=spent)
         return row._replace(remarks=(*plan.remarks, *self.remarks, *said), next=then)
 
     def spent(self) -> Optional[Spent]:
         """What a first pass has spent on it so far, and what a last pass is going to spend."""
-        if not self.prepared or self.how.dry:
+        if not self.prepared or self.options.dry:
             return None
         return Spent(self.passed(), self.passed() if self.is_changed else self.prepared.foreseen())
 
@@ -481,24 +481,25 @@ class Transfer:
             left = Left(NOT_SHOWN % ("damaged in line %d" % ledger.damage), Reason.LEDGER)
             raise self.left_to_store(left, contents, self.matched_again(ledger.without_lines(), contents))
         elif known.by_index:
-            how, rest = "older than its record" if known.is_cut else "missing", self.matched_again(ledger, contents)
+            left = Left(NOT_SHOWN % ("older than its record" if known.is_cut else "missing"), Reason.LEDGER)
+            rest = self.matched_again(ledger, contents)
             # what is prepared is no mail yet
             if rest.count(Stand.NOWHERE) or self.prepared and self.prepared.is_there:
-                raise self.left_to_store(Left(NOT_SHOWN % how, Reason.LEDGER), contents, rest)
+                raise self.left_to_store(left, contents, rest)
             return True
         return again
 
     def left_to_store(self, left: Left, contents: Contents, match: Match) -> Left:
         """Why it is left, with the command that stores what is nowhere: without what could not be done besides then."""
-        steps = Steps.of(self.known, contents, match, self.how.extra, OtherPass(True, ends_list=True))
-        hindrance = self.how.extra.hindrance(steps)
-        stays = self.how.dovecot and not hindrance
+        steps = Steps.of(self.known, contents, match, self.options.extra, OtherPass(True, ends_list=True))
+        hindrance = self.options.extra.hindrance(steps)
+        stays = self.options.dovecot and not hindrance
         then = self.command(Does.DOUBLES, match.count(Stand.NOWHERE), again=True, dovecot=stays)
         return Left("%s; %s" % (left, hindrance) if hindrance else "%s" % left, left.reason, then)
 
     def command(self, does: Phrase, messages: Optional[int] = None, **changes: Any) -> Next:
         """The command that migrates this mailbox with these changes of the options, and how many messages it gives."""
-        return (Answer(self.how.command(self.opened, **changes), does, messages),)
+        return (Answer(self.options.command(self.opened, **changes), does, messages),)
 
     @contextlib.contextmanager
     def read(self, choice: Choice) -> Iterator[Contents]:
@@ -507,7 +508,7 @@ class Transfer:
         if copies:
             self.want_room(Need.of(self.disk, [], copies * choice.mailbox.size))
         with choice.text(self.disk) as whole:
-            text = whole.begun_by(self.how.extra.start_of)
+            text = whole.begun_by(self.options.extra.start_of)
             inventory = read_messages(self.program, text, choice)
             yield Contents(text, inventory, choice.plan.reading)
 
@@ -516,7 +517,7 @@ class Transfer:
         strangers = unexplained(self.opened.root, match) if match.count(Stand.NOWHERE) else []
         if strangers:
             left = Left(PARTLY_THERE % len(strangers), Reason.PARTLY_THERE)
-            if self.how.prepare:
+            if self.options.prepare:
                 raise left
             raise self.left_to_store(left, contents, self.matched_again(self.ledger, contents))
         source, lost = self.ledger.sources.get(self.path), match.count_lost()

@@ -183,13 +183,13 @@ def as_inbox(one: Planned) -> Planned:
     return one._replace(is_inbox=place.is_inbox and one.folder == folder_on_disk(place.account + place.name))
 
 
-def into_inbox(one: Planned, folder: bytes, how: Options, record: Record) -> Next:
+def into_inbox(one: Planned, folder: bytes, options: Options, record: Record) -> Next:
     """The command that puts one of several Inboxes, which has this folder, into INBOX instead, as it was answered."""
     noted = record.noting(Note.ANSWERED, folder, one.path)
     answer = Reading.of_words(noted[-1].words).decided if noted else UNDECIDED
     # the record does not have the numbers of lines, about which a human is asked again
     decision = UNDECIDED if answer.text or answer.begin else answer
-    options, paths = how.of_next()._replace(decision=decision), [operand(record.maildir), operand(one.path)]
+    options, paths = options.of_next()._replace(decision=decision), [operand(record.maildir), operand(one.path)]
     into = Command.of(Runs.MIGRATE, *options.words(), "--folder", "INBOX", *paths)
     undo = "--undo", *Options(now=options.now).words(), *words_of(folder), *paths
     if not options.dry:

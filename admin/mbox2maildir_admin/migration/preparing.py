@@ -215,23 +215,23 @@ class Preparation:
 
 
 def mend(
-    record: Record, how: Options, opened: Opened, ledger: Ledger, verified: Container[int]
+    record: Record, options: Options, opened: Opened, ledger: Ledger, verified: Container[int]
 ) -> Optional[Preparation]:
     """Removes a list that is over from the folder of a mailbox, and takes back what a killed last pass did there.
     Returns what is only prepared there then, or is going to be; None if mail is placed there at once. These batches of
     the ledger were verified by this run, and their disk is not synced yet."""
-    if not (how.prepare or record.has_prepared or has_list(opened.folder)):
+    if not (options.prepare or record.has_prepared or has_list(opened.folder)):
         return None
     one = Preparation(record, opened.name, ledger)
     one.take_begun()
     stage = one.stage
     if stage is Stage.OVER:
-        if one.prepared.batch not in verified and ledger.sources and not how.dry:
+        if one.prepared.batch not in verified and ledger.sources and not options.dry:
             remove_list(opened.folder)
         one.prepared = Prepared(opened.folder)
-    elif stage is Stage.BEGUN and not (how.again or ledger.damage or has_failed(ledger) or one.reader()):
+    elif stage is Stage.BEGUN and not (options.again or ledger.damage or has_failed(ledger) or one.reader()):
         one.take_back()
-    if how.prepare or stage in (Stage.PREPARED, Stage.BEGUN, Stage.LIST_GONE):
+    if options.prepare or stage in (Stage.PREPARED, Stage.BEGUN, Stage.LIST_GONE):
         return one
     # once something was prepared in the Maildir, a run that is killed may be followed by a first pass, or by other
     # mailboxes
@@ -250,12 +250,12 @@ def want_free(one: Preparation, known: Known) -> None:
         raise Left(NOT_FREE, Reason.PREPARED)
 
 
-def want_usable(one: Preparation, how: Options, opened: Opened) -> None:
+def want_usable(one: Preparation, options: Options, opened: Opened) -> None:
     """Raises Left if what is prepared cannot be finished, with the command that keeps what is there, and stores what is
     nowhere. A first pass prints none: what is there may be mail by then."""
-    stage, command = one.stage, functools.partial(how.command, opened)
+    stage, command = one.stage, functools.partial(options.command, opened)
     then: Next = NOTHING
-    if not how.prepare:
+    if not options.prepare:
         if stage is Stage.FREE:
             return
         then = (Answer(command(again=True), Does.STORES),)
@@ -266,7 +266,7 @@ def want_usable(one: Preparation, how: Options, opened: Opened) -> None:
     reader = one.reader()
     if reader:
         raise Left(READ % named(reader), Reason.PREPARED, then)
-    origin, was_bare = one.prepared.origin, not how.extra.IS_BARE
+    origin, was_bare = one.prepared.origin, not options.extra.IS_BARE
     if origin and Reading.of_words(origin.words).bare == was_bare:
         run = Answer(command(dovecot=was_bare), Does.RUN)
         raise Left(OTHERWISE % ("with" if was_bare else "without"), Reason.PREPARED, (run,))
@@ -330,16 +330,16 @@ def take_prepared(match: Match, prepared: Prepared) -> None:
             match.take_prepared(place, prepared.table.base(at), placing.names.get(place))
 
 
-def remarks_on_prepared(prepared: Prepared, how: Options, say: Say) -> list[Remark]:
+def remarks_on_prepared(prepared: Prepared, options: Options, say: Say) -> list[Remark]:
     """What is to be said of what was prepared. With --again, it stays as it is, and is only looked at here."""
-    if how.again:
+    if options.again:
         prepared.look(say)
         stays = sum(prepared.files) + len(prepared.edited)
         return [Says.PREPARED_STAYS.of(stays)] * bool(stays)
     count, gone = prepared.count(), len(prepared.unwanted())
-    less = Says.PREPARED_LESS.of(count, counted(gone, "message"), dry=how.dry)
+    less = Says.PREPARED_LESS.of(count, counted(gone, "message"), dry=options.dry)
     its = less if gone else Says.PREPARED_BEFORE.of(count)
-    return [its] * any(prepared.files) + Says.KEPT_EDITED.of_any(len(prepared.edited), dry=how.dry)
+    return [its] * any(prepared.files) + Says.KEPT_EDITED.of_any(len(prepared.edited), dry=options.dry)
 
 
 def remove_prepared(record: Record, path: bytes, name: bytes, dry: bool, say: Say = silent) -> Optional[Row]:
@@ -361,15 +361,15 @@ def remove_prepared(record: Record, path: bytes, name: bytes, dry: bool, say: Sa
     return Row(path, name, "", messages, Fate.WOULD_UNDO if dry else Fate.UNDONE, remarks=remarks)
 
 
-def same_as_prepared(prepared: Prepared, how: Options, opened: Opened) -> Optional[Part]:
+def same_as_prepared(prepared: Prepared, options: Options, opened: Opened) -> Optional[Part]:
     """What stands for the text of a mailbox that has the bytes from which its folder was prepared, if the folder has
     all of that and nothing else; None for any other one."""
     origin, as_read, mailbox = prepared.origin, prepared.as_read, opened.mailbox
-    is_otherwise = how.again or how.again_rewritten or how.decision != UNDECIDED
+    is_otherwise = options.again or options.again_rewritten or options.decision != UNDECIDED
     if not origin or not as_read or prepared.batch or is_otherwise:
         return None
     reading = Reading.of_words(origin.words)
-    if reading.bare != how.extra.IS_BARE or origin.key[0] != mailbox.size or origin.key != mailbox.key():
+    if reading.bare != options.extra.IS_BARE or origin.key[0] != mailbox.size or origin.key != mailbox.key():
         return None
     prepared.look(mailbox.say)
     inventory = prepared.inventory(mailbox.size)
@@ -389,23 +389,23 @@ def is_by_word(reading: Reading) -> bool:
     return bool(reading.word) and reading == Reading(reading.word, bare=reading.bare)
 
 
-def row_unchanged(record: Record, how: Options, path: bytes, name: bytes, say: Say) -> Optional[Row]:
+def row_unchanged(record: Record, options: Options, path: bytes, name: bytes, say: Say) -> Optional[Row]:
     """The row of a mailbox that is prepared, and whose file has not changed since; None if it is to be read. Nothing
     counts as done by that."""
     began, prepared = time.monotonic(), Prepared.read(folder_path(record.maildir, name))
     origin = prepared.origin
-    if not origin or not prepared.is_whole or prepared.batch or prepared.has_failed or how.decision != UNDECIDED:
+    if not origin or not prepared.is_whole or prepared.batch or prepared.has_failed or options.decision != UNDECIDED:
         return None
     is_same = origin.state == signs_of(os.stat(path)) and origin.path in names_of(path)
-    if not is_same or Reading.of_words(origin.words).bare != how.extra.IS_BARE:
+    if not is_same or Reading.of_words(origin.words).bare != options.extra.IS_BARE:
         return None
     prepared.look(say)
     if not all(prepared.files) or prepared.edited or reader_in(record, name, prepared):
         return None
     dropped = Says.DELETED_LEFT_OUT.of_any(Reading.of_words(origin.words).dropped)
     says = Says.PREPARED_BEFORE.of(len(prepared.files))
-    fate = Fate.WOULD_PREPARE if how.dry else Fate.PREPARED
-    spent = None if how.dry else Spent(milliseconds_since(began), prepared.foreseen())
+    fate = Fate.WOULD_PREPARE if options.dry else Fate.PREPARED
+    spent = None if options.dry else Spent(milliseconds_since(began), prepared.foreseen())
     return Row(path, name, "", origin.messages, fate, size=origin.key[0], remarks=(*dropped, says), spent=spent)
 
 

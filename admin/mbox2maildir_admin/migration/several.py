@@ -96,10 +96,10 @@ def run_all(
     with Record.to_migrate(root, options.dry) as record:
         spared = functools.partial(is_spared, options.no_mail, [home.path] if home else names)
         extra = Dovecot(record) if options.dovecot else Extra()
-        how = options._replace(extra=extra, is_spared=spared, names=names, home=home.path if home else b"")
-        several = Several(Migration(program, record, how), observer, home)
+        options = options._replace(extra=extra, is_spared=spared, names=names, home=home.path if home else b"")
+        several = Several(Migration(program, record, options), observer, home)
         # a first pass leaves nothing over
-        leftovers = None if how.prepare else Leftovers(record, names, options)
+        leftovers = None if options.prepare else Leftovers(record, names, options)
         plan = several.migrate_all()
         for row in leftovers.rows(plan) if leftovers else ():
             observer.row(row)
@@ -110,7 +110,7 @@ class Several:
     """The mailboxes of some names. A name that is a folder stands for a tree of mailboxes."""
 
     def __init__(self, migration: Migration, observer: Observer, home: Optional[UserHome]) -> None:
-        how, names = migration.how, migration.how.names
+        options, names = migration.options, migration.options.names
         self.migration, self.names, self.observer, self.own = migration, names, observer, home is not None
         self.tell, self.syncs = observer.progress, Syncs(self.settle, home.sync_one if home else None)
         # an Inbox of a user's tree is not the user's inbox, if that is or was another mailbox
@@ -119,9 +119,9 @@ class Several:
         # the symbolic links that are followed: those that were named
         self.links = {one for one in names if not self.own and is_link(one)}
         # the subscriptions of trees that are to be written, and the rows of files without mail
-        trees = filter(self.is_tree, names) if how.dovecot and not how.prepare else ()
+        trees = filter(self.is_tree, names) if options.dovecot and not options.prepare else ()
         self.subscriptions = {os.path.join(tree.rstrip(b"/") or b"/", OLD_SUBSCRIPTIONS): tree for tree in trees}
-        self.pairs = Pairs(migration.record, migration.record.maildir, how.of_next(), names if self.own else None)
+        self.pairs = Pairs(migration.record, migration.record.maildir, options.of_next(), names if self.own else None)
         self.found: dict[bytes, Row] = {}
         # a name that is given has its fate by that name, even if a tree has the same file; the other names of files
         self.met: NamesMet = {}
@@ -130,19 +130,19 @@ class Several:
 
     def migrate_all(self) -> Sequence[Planned]:
         """Migrates each mailbox; those that are files go into the folder that is asked for. Returns which hold mail."""
-        how, record, plan = self.migration.how, self.migration.record, list(self.plan())
-        if not how.folder:
+        options, record, plan = self.migration.options, self.migration.record, list(self.plan())
+        if not options.folder:
             # the mailbox of a spool is its user's inbox, whatever its name is; an exported mailbox counts as its file
-            files = [one for one in self.names if is_file(one) and (not self.own or is_below(one, how.home))]
+            files = [one for one in self.names if is_file(one) and (not self.own or is_below(one, options.home))]
             exports = [tree.export for tree in self.trees.values() if tree.export]
             plan = self.pairs.without_folders_in_inbox(plan, files + exports)
         self.observer.total += len(plan)
         # a symbolic link may give a folder two names, and it has one ledger
         folders = [
-            one.folder and real_path(one.folder_in(self.migration.record.maildir)) for one in plan if how.jobs != 1
+            one.folder and real_path(one.folder_in(self.migration.record.maildir)) for one in plan if options.jobs != 1
         ]
         groups = groups_of(folders)
-        jobs, rows = min(jobs_of(how.jobs, len(groups)), len(groups)), InOrder(self.observer.row)
+        jobs, rows = min(jobs_of(options.jobs, len(groups)), len(groups)), InOrder(self.observer.row)
         try:
             if jobs > 1 and any(is_mbox(one.target or one.path) for one in plan):
                 # several processes need it from the beginning
@@ -187,7 +187,7 @@ class Several:
         workers need."""
         migration, self.syncs, self.tell = self.migration, Syncs(self.settle), work.progress
         migration.want_room, migration.program.alive = work.want_room, work.alive
-        if not migration.how.dry:
+        if not migration.options.dry:
             migration.record.write = work.write
         for places in work.groups():
             for place in places:
@@ -222,7 +222,7 @@ class Several:
     def plan(self) -> Iterator[Planned]:
         """The mailboxes in their order, with their folders. Reports the rows of what is not migrated."""
         names: dict[bytes, bytes] = {}
-        folder = self.migration.how.folder
+        folder = self.migration.options.folder
         for name in self.names:
             names.setdefault(os.path.abspath(name), name)
         for name in names.values():
@@ -250,7 +250,7 @@ class Several:
                 if folder is None:
                     one = self.pairs.judged(recorded(one, record))
                 else:
-                    one = as_named(one, self.migration.record, self.migration.how.of_next())
+                    one = as_named(one, self.migration.record, self.migration.options.of_next())
                 self.taken.add(one.folder)
                 yield as_inbox(one)
 
@@ -270,7 +270,7 @@ class Several:
             row = row._replace(remarks=(*row.remarks, Says.ALSO_NAMED.of(" and ".join(map(named, others)))))
         is_done = row.fate in (Fate.DONE, Fate.BEFORE, Fate.WOULD)
         if one.is_inbox and is_done and INBOX not in self.taken and not self.migration.record.last_steps(INBOX):
-            then = into_inbox(one, row.folder, self.migration.how, self.migration.record)
+            then = into_inbox(one, row.folder, self.migration.options, self.migration.record)
             row = row._replace(next=(*row.next, *then))
         return ended._replace(row=row)
 
@@ -299,7 +299,7 @@ class Several:
         """Writes the subscriptions of trees. Those that can't be written are left, and so is a file that is there and
         lacks some of their lines."""
         migration, root = self.migration, self.pairs.root
-        dry, file = migration.how.dry or not migration.record.is_open, os.path.join(root, SUBSCRIPTIONS)
+        dry, file = migration.options.dry or not migration.record.is_open, os.path.join(root, SUBSCRIPTIONS)
         for path in [one for one in self.subscriptions if one in self.found]:
             row = self.found[path]
             try:

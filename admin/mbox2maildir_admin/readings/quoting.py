@@ -64,15 +64,15 @@ class Quoter:
     """Gives a text as it is read, and counts what it gave. For a copy that is kept, the fields are left out by which
     messages ended, as their lengths are wrong once lines are quoted."""
 
-    def __init__(self, how: Reading, mailbox: Mailbox, start: Offset, keeps_lengths: bool = True) -> None:
-        self.how, self.mailbox, self.start, self.keeps_lengths = how, mailbox, start, keeps_lengths
+    def __init__(self, reading: Reading, mailbox: Mailbox, start: Offset, keeps_lengths: bool = True) -> None:
+        self.reading, self.mailbox, self.start, self.keeps_lengths = reading, mailbox, start, keeps_lengths
         # lines that are quoted, and messages by Thunderbird's mark
         self.quoted = self.marked = self.deleted = 0
         # of the messages that are given: the lines in which they begin, and how many lines were quoted before each
         self.lines, self.quoted_before = array.array("Q"), array.array("Q")
         # bytes
         self.read = self.given = self.left_out = self.added = 0
-        self.unmet = set(how.text | how.begin)
+        self.unmet = set(reading.text | reading.begin)
         # the offset up to which nothing begins a message, by the length of the last one
         self.end = Offset(0)
         # whether the message is left out, whether a program has added a CR to each of its lines, and to how many
@@ -81,11 +81,11 @@ class Quoter:
     def run(self) -> Iterator[bytes]:
         """The whole text. It is parted before each From_ line that begins within a line."""
         mailbox, start, line = self.mailbox, self.start, self.mailbox.line_at(self.start)
-        breaks = [] if self.how.ends == CR else list(breaks_of(mailbox, self.how.begin))
+        breaks = [] if self.reading.ends == CR else list(breaks_of(mailbox, self.reading.begin))
         for one in [*breaks, Break(mailbox.end, mailbox.end)]:
             file = Watched(mailbox.number, Size(one.end), mailbox.digest, mailbox.say)
             file.offset = start
-            read = LineEnds(file).read if self.how.ends == CR else file.read
+            read = LineEnds(file).read if self.reading.ends == CR else file.read
             blocks = itertools.chain(iter(functools.partial(read, BLOCK), b""), filter(None, [one.added]))
             pieces = pieces_of(lambda _, blocks=blocks: next(blocks, b""), start)  # type: ignore[misc]
             for piece in pieces:
@@ -121,7 +121,7 @@ class Quoter:
             # no piece ends between CR and LF
             self.left_out += data.count(b"\r\n")
             data = data.replace(b"\r\n", b"\n")
-        word = self.how.word
+        word = self.reading.word
         if piece.has_quote and word in (MBOXO, MBOXCL2, UNQUOTED):
             # each line of `>` and `From ` that keeps all of its `>` gets one more
             every = word == UNQUOTED or word == MBOXCL2 and piece.offset < self.end
@@ -133,22 +133,22 @@ class Quoter:
 
     def begins(self, line: Line, piece: Piece) -> bool:
         """Whether a line `From ` begins a message."""
-        if line in self.how.begin or line in self.how.text:
-            return line in self.how.begin
-        if self.how.word == UNQUOTED:
+        if line in self.reading.begin or line in self.reading.text:
+            return line in self.reading.begin
+        if self.reading.word == UNQUOTED:
             return is_dated(piece.from_line)
         return piece.offset >= self.end
 
     def begin(self, line: Line, piece: Piece) -> bytes:
         """Begins a message, and returns what is given of its piece."""
-        data, header = piece.data, Header.of(piece) if self.how.word in BY_LENGTHS else None
-        self.is_crlf = self.how.ends == CRLF and piece.from_line.endswith(b"\r")
+        data, header = piece.data, Header.of(piece) if self.reading.word in BY_LENGTHS else None
+        self.is_crlf = self.reading.ends == CRLF and piece.from_line.endswith(b"\r")
         self.crlf += self.is_crlf
         end = header.message_end(self.mailbox) if header else None
         self.end = end or Offset(0)
-        deleted = is_deleted(data[piece.body : header_of(data, piece.body)[0]]) if self.how.ends != CR else None
+        deleted = is_deleted(data[piece.body : header_of(data, piece.body)[0]]) if self.reading.ends != CR else None
         self.marked, self.deleted = self.marked + (deleted is not None), self.deleted + bool(deleted)
-        self.is_dropped = self.how.drop and bool(deleted)
+        self.is_dropped = self.reading.drop and bool(deleted)
         if not self.is_dropped:
             self.lines.append(line)
             self.quoted_before.append(self.quoted)
@@ -170,7 +170,7 @@ class Quoter:
         if size != self.given or size != self.read + more - self.left_out:
             says = "the copy has %d bytes, but %d were read, %d added and %d left out"
             raise Fault(says % (size, self.read, more, self.left_out), Reason.MISREAD)
-        if self.how.ends != CR and self.read != text:
+        if self.reading.ends != CR and self.read != text:
             raise Fault("%d of its %d bytes were read" % (self.read, text), Reason.MISREAD)
         if any(one != self.messages for one in (messages, *wanted)):
             says = "the copy has %d messages, but %d were counted" % (messages, self.messages)
@@ -189,10 +189,10 @@ def written(quoter: Quoter, take: Callable[[bytes], object], is_bare: bool = Fal
     return given
 
 
-def write_copy(how: Reading, mailbox: Mailbox, start: Offset, wanted: int, copy: Copy, is_bare: bool) -> Quoter:
+def write_copy(reading: Reading, mailbox: Mailbox, start: Offset, wanted: int, copy: Copy, is_bare: bool) -> Quoter:
     """Writes a copy without right lengths that has as many messages as wanted, bare or not, and gives it its name.
     Returns its Quoter."""
-    quoter = Quoter(how, mailbox, start, keeps_lengths=False)
+    quoter = Quoter(reading, mailbox, start, keeps_lengths=False)
     given = written(quoter, copy.write, is_bare)
     size, messages = copy.written()
     quoter.check(quoter.given - given + size, messages, wanted)

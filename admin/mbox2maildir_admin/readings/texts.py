@@ -137,7 +137,7 @@ def copy_by(quoter: Quoter, folder: bytes) -> Optional[Mailbox]:
     is read once more."""
     given = quoter.run()
     for data in given:
-        if wants_copy(quoter.how, quoter):
+        if wants_copy(quoter.reading, quoter):
             same = Reader(quoter.mailbox.number, quoter.start, quoter.start + quoter.given - len(data))
             return copy_of(quoter.mailbox, itertools.chain(same.blocks(), [data], given), folder)
     return None

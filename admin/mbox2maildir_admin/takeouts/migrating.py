@@ -54,8 +54,8 @@ def migrate_takeouts(root: bytes, names: Sequence[bytes], options: Options, obse
     refuse(root, names, options)
     os.umask(0o077)
     with Record.to_migrate(root, options.dry) as record:
-        how = options._replace(names=names, is_labelled=True)
-        takeouts = Takeouts(record, how, observer)
+        options = options._replace(names=names, is_labelled=True)
+        takeouts = Takeouts(record, options, observer)
         observer.total += len(names)
         for name in names:
             takeouts.report(name)
@@ -84,8 +84,8 @@ class Takeout:
 class Takeouts(Migration):
     """Migrates Takeouts into the folders of their labels."""
 
-    def __init__(self, record: Record, how: Options, observer: Observer) -> None:
-        super().__init__(Program(find_program()), record, how)
+    def __init__(self, record: Record, options: Options, observer: Observer) -> None:
+        super().__init__(Program(find_program()), record, options)
         self.observer, self.syncs = observer, Syncs(Several.settle)
         # the labels of the messages that were read
         self.labels: set[str] = set()
@@ -109,7 +109,7 @@ class Takeouts(Migration):
     def say_not_there(self) -> None:
         """Says which labels were named that no message has, with those that are spelled alike: then nothing that was
         said of them had an effect. Nothing is said if no labels could be read."""
-        unknown = [one for one in self.how.labels.given if one[0] not in self.labels] if self.how.labels else []
+        unknown = [one for one in self.options.labels.given if one[0] not in self.labels] if self.options.labels else []
         if unknown and self.labels:
             # the module is loaded only here, so that nothing else waits for it
             from difflib import get_close_matches
@@ -146,11 +146,11 @@ class Takeouts(Migration):
                     self.observer.begin()
                 return self.bring_into(folders[-1], takeout, opened)
         except LabelsLeft as left:
-            command = functools.partial(self.how.command, opened)
+            command = functools.partial(self.options.command, opened)
             left.next = tuple(Answer(command(labels=choosing), does) for choosing, does in left.says)
             raise
         except Question as question:
-            self.how.put_commands(opened, question)
+            self.options.put_commands(opened, question)
             raise
 
     def want_none_prepared(self, opened: Opened) -> None:
@@ -159,8 +159,8 @@ class Takeouts(Migration):
             one = Preparation(self.record, name_of(self.record.maildir, folder), Ledger(folder))
             # before a list has what a pass reads, nothing is placed
             if one.prepared.origin and one.is_open:
-                how, path = self.how._replace(is_labelled=False), unspelled(one.prepared.origin.path)
-                undo = how.undo_command(opened._replace(name=one.name), path)
+                options, path = self.options._replace(is_labelled=False), unspelled(one.prepared.origin.path)
+                undo = options.undo_command(opened._replace(name=one.name), path)
                 raise Left(ONLY_PREPARED % named(folder), Reason.PREPARED, (Answer(undo),))
 
     def want_labelled(self, opened: Opened) -> None:
@@ -170,17 +170,17 @@ class Takeouts(Migration):
         if not folders:
             folders = [one.key.folder for one in self.record.lines_of(mailbox) if is_gone(one.path)]
         if folders:
-            undo = self.how._replace(is_labelled=False).undo_command(opened._replace(name=folders[-1]))
+            undo = self.options._replace(is_labelled=False).undo_command(opened._replace(name=folders[-1]))
             raise Left(WITHOUT_LABELS, Reason.ANOTHER_READING, (Answer(undo),))
 
     def chosen(self, opened: Opened, noted: Noted) -> Choosing:
         """What is said about labels now, and was said before. Raises Left if the two contradict each other."""
-        before, now = noted.choosing, self.how.labels
+        before, now = noted.choosing, self.options.labels
         if now is None:
             return before
         is_other = noted.folders and (before.word == ONE) != (now.word == ONE)
         if is_other or any(before.gives(label) not in ("", gives) for label, gives in now.given):
-            undo = self.how.undo_command(opened)
+            undo = self.options.undo_command(opened)
             says = OTHERWISE % " ".join(map(quoted, before.words()))
             raise Left(says, Reason.ANOTHER_READING, (Answer(undo),))
         return before.with_given(*now.given)._replace(word=now.word or before.word)
@@ -192,12 +192,12 @@ class Takeouts(Migration):
         its = self.program, opened.mailbox, self.disk
         with contextlib.ExitStack() as stack:
             try:
-                choice = stack.enter_context(choice_at_once(*its, self.how.decision))
+                choice = stack.enter_context(choice_at_once(*its, self.options.decision))
             except Question as question:
                 several = (opened._replace(name=name) for name in noted.folders)
                 answers = (answer_to(self.record, one, question) for one in several)
-                answer = question.by_tie(self.how.answer) or next(filter(None, answers), None)
-                if not answer or self.how.decision != UNDECIDED:
+                answer = question.by_tie(self.options.answer) or next(filter(None, answers), None)
+                if not answer or self.options.decision != UNDECIDED:
                     raise
                 choice = stack.enter_context(choice_at_once(*its, answer))
             yield choice
