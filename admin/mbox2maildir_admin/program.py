@@ -58,10 +58,10 @@ class Program:
         self.path, self.alive = path, alive
 
     def convert(
-        self, number: int, start: Offset, folder: bytes, kept: int, tell: Callable[[Offset], None]
+        self, number: int, start: Offset, folder: bytes, kept: int, say_offset: Callable[[Offset], None]
     ) -> Converted:
-        """Converts an open text from an offset on. Nobody else may move the offset meanwhile. `tell` gets the offset
-        when it has changed. The program inherits the lock of the text, and that of the file `kept`."""
+        """Converts an open text from an offset on. Nobody else may move the offset meanwhile. `say_offset` takes the
+        offset when it has changed. The program inherits the lock of the text, and that of the file `kept`."""
         os.lseek(number, start, os.SEEK_SET)
         # the program runs in the folder, since a Maildir's name there is UTF-8 whatever its path is
         with running(
@@ -72,7 +72,7 @@ class Program:
             stdout=subprocess.PIPE,
             stderr=subprocess.PIPE,
         ) as child, INTERRUPTS.let_through():
-            said = self.wait_for(child, number, tell)
+            said = self.wait_for(child, number, say_offset)
             assert child.stdout is not None, "it is a pipe"
             line = os.read(child.stdout.fileno(), MOST_SAID)
         if child.returncode:
@@ -93,7 +93,7 @@ class Program:
             with INTERRUPTS.let_through():
                 yield listing
 
-    def wait_for(self, child: Process, number: int, tell: Callable[[Offset], None]) -> str:
+    def wait_for(self, child: Process, number: int, say_offset: Callable[[Offset], None]) -> str:
         """Waits for the end of the program, and returns what it said. A program that was stopped says nothing
         meanwhile."""
         assert child.stderr is not None, "it is a pipe"
@@ -113,7 +113,7 @@ class Program:
                 said = (said + piece)[:MOST_SAID]
             place = Offset(os.lseek(number, 0, os.SEEK_CUR))
             if place != last:
-                tell(place)
+                say_offset(place)
             last = place
 
 

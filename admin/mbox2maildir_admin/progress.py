@@ -156,7 +156,7 @@ class Progress:
         """Forgets what is no longer at work."""
         self.paces.pop(who, None)
 
-    def tell(self, task: Task, doing: str, place: Optional[int] = None, size: Optional[int] = None) -> None:
+    def say(self, task: Task, doing: str, place: Optional[int] = None, size: Optional[int] = None) -> None:
         """Says how far a task is."""
         now = time.monotonic()
         pace = self.paces.get(task.who)
@@ -181,15 +181,15 @@ class Progress:
 class Beat:
     """Passes on the progress of a task now and then: a loop over files says more than anybody reads."""
 
-    def __init__(self, tell: Say) -> None:
-        self.tell, self.next_time, self.step = tell, 0.0, ""
+    def __init__(self, say: Say) -> None:
+        self.say, self.next_time, self.step = say, 0.0, ""
 
     def __call__(self, doing: str, place: Optional[int] = None, size: Optional[int] = None) -> None:
         now = time.monotonic()
         # each step begins with a word of its own, which is said at once
         if now >= self.next_time or not doing.startswith(self.step):
             self.next_time, self.step = now + PAUSE / 2, doing.split(" ", 1)[0]
-            self.tell(doing, place, size)
+            self.say(doing, place, size)
 
 
 def together(at_work: Mapping[str, Doing], task: str) -> tuple[str, str, Optional[int], Optional[int]]:
@@ -210,4 +210,4 @@ def of_this_run() -> Progress:
 
 def say_of(path: bytes) -> Say:
     """Returns the function that takes the progress of a file."""
-    return Beat(functools.partial(of_this_run().tell, Task(named(path))))
+    return Beat(functools.partial(of_this_run().say, Task(named(path))))

@@ -23,8 +23,8 @@ SYNC_FAILED = "its sync failed: read the system's log, mount the disk again, and
 def do_dates(given: Given) -> int:
     """Gives converted files their dates."""
     maildir, *files = given.operands
-    dates, tell = Dates(bool(given.header)), Complaints()
-    are_right = each(files, lambda path: for_mailboxes(maildir, path, dates.give, tell), tell)
+    dates, complaints = Dates(bool(given.header)), Complaints()
+    are_right = each(files, lambda path: for_mailboxes(maildir, path, dates.give, complaints), complaints)
     dates.syncs.sync()
     return Status.of(are_right and dates.are_kept)
 

@@ -48,14 +48,14 @@ class Complaints(Observer):
         complain_of(fault, path)
 
 
-def each(files: Iterable[bytes], task: Callable[[bytes], bool], tell: Observer) -> bool:
+def each(files: Iterable[bytes], task: Callable[[bytes], bool], observer: Observer) -> bool:
     """Does a task for each file, and returns whether each was done and found right."""
     right = []
     for file in files:
         try:
             right.append(task(file))
         except (Fault, OSError) as fault:
-            tell.leave(file, fault)
+            observer.leave(file, fault)
             right.append(False)
     return all(right)
 
@@ -74,23 +74,23 @@ def read_tree(
     return tree, plan
 
 
-def say_left_out(rows: Iterable[Row], tell: Observer) -> bool:
+def say_left_out(rows: Iterable[Row], observer: Observer) -> bool:
     """Says what was left out, and returns whether none of it may be mail."""
     are_right = []
     for row in rows:
-        tell.row(row)
+        observer.row(row)
         are_right.append(row.fate == Fate.NO_MAIL)
     return all(are_right)
 
 
-def for_mailboxes(maildir: bytes, path: bytes, task: Callable[[bytes, bytes], bool], tell: Observer) -> bool:
+def for_mailboxes(maildir: bytes, path: bytes, task: Callable[[bytes, bytes], bool], observer: Observer) -> bool:
     """Does a task for a mailbox and the folder that has its mail or, if the path is a folder, for each mailbox below it
     and its folder. A file without mail by the record is left out."""
     if not is_folder(path):
         record = record_of(maildir)
-        left = left_out(path, maildir, record, tell) if record.noting(Note.NO_MAIL, INBOX, path) else None
+        left = left_out(path, maildir, record, observer) if record.noting(Note.NO_MAIL, INBOX, path) else None
         if left:
-            return say_left_out([left], tell)
+            return say_left_out([left], observer)
         # what was named may be a folder of a Maildir: then that is the one that has its mail; an empty mailbox may have
         # none any more
         is_root = root_of(maildir) == maildir and not is_empty(path)
@@ -99,7 +99,7 @@ def for_mailboxes(maildir: bytes, path: bytes, task: Callable[[bytes, bytes], bo
             return task(folder, path)
     with Record.open(maildir, False) as record:
         tree, plan = read_tree(path, maildir, record)
-    return for_planned(maildir, path, (plan, tree.rows), record, task, tell)
+    return for_planned(maildir, path, (plan, tree.rows), record, task, observer)
 
 
 def for_planned(
@@ -108,22 +108,22 @@ def for_planned(
     found: tuple[Iterable[Planned], Iterable[Row]],
     record: History,
     task: Callable[[bytes, bytes], bool],
-    tell: Observer,
+    observer: Observer,
 ) -> bool:
     """Does a task for each mailbox at a path or below it, and for its folder. Says what else was found there, and
     leaves files without mail out."""
     plan, rows = list(found[0]), [without_mail(row, maildir, record) for row in found[1]]
-    tell.total += len(plan) - 1
+    observer.total += len(plan) - 1
 
     def do_task(planned: Planned, file: bytes) -> bool:
-        left = left_out(file, maildir, record, tell)
+        left = left_out(file, maildir, record, observer)
         rows.extend([left] if left else [])
         folder = planned.folder_in(maildir)
         with of_folder(folder, maildir, path, record):
             return bool(left) or task(folder, file)
 
-    right = [each([one.target or one.path], functools.partial(do_task, one), tell) for one in plan]
-    return say_left_out(rows, tell) and all(right)
+    right = [each([one.target or one.path], functools.partial(do_task, one), observer) for one in plan]
+    return say_left_out(rows, observer) and all(right)
 
 
 @contextlib.contextmanager
@@ -152,11 +152,11 @@ def row_without_mail(path: bytes, maildir: bytes, record: History) -> Optional[R
     return None
 
 
-def left_out(path: bytes, maildir: bytes, record: History, tell: Observer) -> Optional[Row]:
+def left_out(path: bytes, maildir: bytes, record: History, observer: Observer) -> Optional[Row]:
     """The row of a file without mail, itself or in what it holds if it is packed; None if it may have mail. By the
     record a file that is not mbox text has none as long as it has its path and its bytes. Raises Fault if a packed file
     is not complete."""
-    with Mailbox.open(path, tell.say(path)) as mailbox, content_of(mailbox, folder_for_copies(maildir)) as text:
+    with Mailbox.open(path, observer.say(path)) as mailbox, content_of(mailbox, folder_for_copies(maildir)) as text:
         verdict = look_at(text, Look.read_begun) if text.size else None
         holds = verdict.holds if verdict else Holds.NO_MAIL
         is_noted = bool(verdict and verdict.recipe) and is_passed_over(record, mailbox)

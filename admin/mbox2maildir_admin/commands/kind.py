@@ -47,8 +47,8 @@ class Found(NamedTuple):
 
 def do_kind(given: Given) -> int:
     """Says what files are."""
-    tell = reporter_of(given, Shows(lambda row: True), {})
-    return Status.of(each(given.operands, lambda path: kind_below(path, tell), tell))
+    reporter = reporter_of(given, Shows(lambda row: True), {})
+    return Status.of(each(given.operands, lambda path: kind_below(path, reporter), reporter))
 
 
 def row_found(path: bytes, kind: str, then: Next) -> Row:
@@ -56,24 +56,24 @@ def row_found(path: bytes, kind: str, then: Next) -> Row:
     return Row(path, b"", kind, None, Fate.FOUND, next=then)
 
 
-def kind_below(path: bytes, tell: Observer) -> bool:
+def kind_below(path: bytes, observer: Observer) -> bool:
     """Prints what a file is or, for a folder, what each file in it is. Returns whether all can be converted as they
     are."""
     if not is_folder(path):
-        return kind_of(Found(path), tell)
+        return kind_of(Found(path), observer)
     if is_maildir(path):
-        tell.row(row_found(path, "a Maildir", task(Todo.LEAVE)))
+        observer.row(row_found(path, "a Maildir", task(Todo.LEAVE)))
         return False
     tree, plan = read_tree(path)
     found = {one.path: Found(one.path, tree.old, one.folder) for one in plan}
-    right = each(found, lambda file: kind_of(found[file], tell, tree), tell)
-    right = say_left_out((without_mail(row, trial_folder(), History()) for row in tree.rows), tell) and right
+    right = each(found, lambda file: kind_of(found[file], observer, tree), observer)
+    right = say_left_out((without_mail(row, trial_folder(), History()) for row in tree.rows), observer) and right
     if plan:
-        tell.row(row_found(path, "a folder of mailboxes", (Answer(migrate(Found(path))),)))
+        observer.row(row_found(path, "a folder of mailboxes", (Answer(migrate(Found(path))),)))
     return right
 
 
-def kind_of(found: Found, tell: Observer, tree: Optional[Tree] = None) -> bool:
+def kind_of(found: Found, observer: Observer, tree: Optional[Tree] = None) -> bool:
     """Prints what a file is. Returns whether it can be converted as it is or, in a tree, holds no mail."""
     path = found.path
     with Mailbox.open(path, say_of(path)) as mailbox:
@@ -82,30 +82,30 @@ def kind_of(found: Found, tell: Observer, tree: Optional[Tree] = None) -> bool:
             tree.pass_over(path, kind=verdict.kind.partition(": ")[2])
             return True
         if form_of(mailbox):
-            say_kind_in(mailbox, verdict, tell, found)
+            say_kind_in(mailbox, verdict, observer, found)
             # a packed file has to be unpacked first
             return False
         then, quotes = next_of(verdict, found)
         row = row_found(path, verdict.kind, then)._replace(messages=verdict.messages, most=verdict.most)
         details = tuple(Detail(one.says, line=one.line or None, text=one.text) for one in verdict.said_lines)
-        tell.row(row._replace(quotes=tuple(quotes), details=details))
+        observer.row(row._replace(quotes=tuple(quotes), details=details))
         return verdict.is_as_it_is
 
 
-def say_kind_in(mailbox: Mailbox, verdict: Verdict, tell: Observer, found: Found) -> None:
+def say_kind_in(mailbox: Mailbox, verdict: Verdict, observer: Observer, found: Found) -> None:
     """Prints what is in a packed file."""
     path = found.path
     try:
         with choice_of(mailbox, trial_folder()) as choice:
             plan = choice.plan
-            tell.row(row_found(path, plan.kind, as_it_is(found, plan.kind))._replace(messages=plan.messages))
+            observer.row(row_found(path, plan.kind, as_it_is(found, plan.kind))._replace(messages=plan.messages))
     except Left as left:
         if isinstance(left, Question):
             left.put(functools.partial(migrate, found, TAKEOUT if left.is_takeout else left.kind))
         elif isinstance(left, OtherKind):
             left.put(where(found))
         row = row_found(path, left.kind or verdict.kind, left.next)._replace(messages=left.messages, most=left.most)
-        tell.row(row._replace(why=str(left), quotes=left.quotes))
+        observer.row(row._replace(why=str(left), quotes=left.quotes))
 
 
 def next_of(verdict: Verdict, found: Found) -> tuple[Next, Sequence[Quote]]:

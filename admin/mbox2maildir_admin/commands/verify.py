@@ -46,41 +46,41 @@ def do_verify(given: Given) -> int:
     return run_reported(task, reporter, given.report, "run the same command again")
 
 
-def verify_named(given: Given, tell: Reporter) -> None:
+def verify_named(given: Given, reporter: Reporter) -> None:
     """Compares the mailboxes that are named with a Maildir."""
     maildir, *files = given.operands
 
     def compare(folder: bytes, file: bytes) -> bool:
         noted = noted_of(record_of(maildir), file)
         if noted:
-            return verify_takeout(maildir, file, find_program(), noted, tell)
-        return verify_file(folder, file, find_program(), tell, os.path.relpath(folder, root_of(maildir)))
+            return verify_takeout(maildir, file, find_program(), noted, reporter)
+        return verify_file(folder, file, find_program(), reporter, os.path.relpath(folder, root_of(maildir)))
 
-    tell.total = len(files)
-    each(files, lambda path: for_mailboxes(maildir, path, compare, tell), tell)
+    reporter.total = len(files)
+    each(files, lambda path: for_mailboxes(maildir, path, compare, reporter), reporter)
 
 
-def verify_file(maildir: bytes, file: bytes, program: bytes, tell: Observer, folder: bytes) -> bool:
+def verify_file(maildir: bytes, file: bytes, program: bytes, observer: Observer, folder: bytes) -> bool:
     """Says which messages of one mailbox are there, and returns whether each is there exactly once."""
-    say = tell.say(file)
-    tell.begin()
+    say = observer.say(file)
+    observer.begin()
     with open_text(file, maildir, say, functools.partial(reading_then, maildir)) as text:
         check, bare = check_of(program, maildir, text, say)
         if text.is_recorded:
             # it was decided then that no mail is in its From_ lines
             check.doubts = ()
-        tell.row(row_of(file, folder, check, bare))
+        observer.row(row_of(file, folder, check, bare))
     return check.is_right()
 
 
-def verify_takeout(maildir: bytes, file: bytes, program: bytes, noted: Noted, tell: Observer) -> bool:
+def verify_takeout(maildir: bytes, file: bytes, program: bytes, noted: Noted, observer: Observer) -> bool:
     """Says the same of each folder of a Takeout that went into the folders of its labels."""
     look, recorded = functools.partial(check_of, program), functools.partial(reading_then, maildir)
     are_right = []
-    tell.total += len(noted.folders) - 1
-    for folder, check, bare in checks_of(maildir, file, noted, recorded, look, tell.say(file)):
-        tell.begin()
-        tell.row(row_of(file, folder, check, bare))
+    observer.total += len(noted.folders) - 1
+    for folder, check, bare in checks_of(maildir, file, noted, recorded, look, observer.say(file)):
+        observer.begin()
+        observer.row(row_of(file, folder, check, bare))
         are_right.append(check.is_right())
     return all(are_right)
 

@@ -109,7 +109,7 @@ class Reporter(Observer):
         self.at_work[who] = doing, place, size
         if len(self.at_work) > 1:
             who, doing, place, size, step = *together(self.at_work, self.task), ""
-        self.line.tell(Task(who, "%d/%d " % (self.begun, self.total), step), doing, place, size)
+        self.line.say(Task(who, "%d/%d " % (self.begun, self.total), step), doing, place, size)
 
     def rest(self, who: str) -> None:
         """Notes that one is no longer at work."""

@@ -112,7 +112,7 @@ class Several:
     def __init__(self, migration: Migration, observer: Observer, home: Optional[UserHome]) -> None:
         options, names = migration.options, migration.options.names
         self.migration, self.names, self.observer, self.own = migration, names, observer, home is not None
-        self.tell, self.syncs = observer.progress, Syncs(self.settle, home.sync_one if home else None)
+        self.say, self.syncs = observer.progress, Syncs(self.settle, home.sync_one if home else None)
         # an Inbox of a user's tree is not the user's inbox, if that is or was another mailbox
         is_taken = home and (home.has_inbox or migration.record.last_steps(INBOX))
         self.taken: set[bytes] = {INBOX} if is_taken else set()
@@ -185,7 +185,7 @@ class Several:
     def work(self, plan: Sequence[Planned], work: "Work") -> None:
         """Does the work of a worker. Its parent syncs, writes the record and reports, and knows the space that all
         workers need."""
-        migration, self.syncs, self.tell = self.migration, Syncs(self.settle), work.progress
+        migration, self.syncs, self.say = self.migration, Syncs(self.settle), work.progress
         migration.want_room, migration.program.alive = work.want_room, work.alive
         if not migration.options.dry:
             migration.record.write = work.write
@@ -213,7 +213,7 @@ class Several:
     def progress(self, who: str, doing: str, place: Optional[int] = None, size: Optional[int] = None) -> None:
         """Passes on how far a mailbox is. Syncs if others have waited for long enough meanwhile."""
         self.syncs.sync_in_time()
-        self.tell(who, doing, place, size)
+        self.say(who, doing, place, size)
 
     def is_tree(self, name: bytes) -> bool:
         """Whether a name is that of a folder of mailboxes. A symbolic link is not one if none is followed."""

@@ -93,15 +93,15 @@ class Takeouts(Migration):
     def report(self, path: bytes) -> None:
         """Does what is left to do of a Takeout, and reports what became of each folder, or why it is left."""
         self.observer.begin()
-        tell = self.observer.say(path)
+        say = self.observer.say(path)
 
-        def say(*words: Any) -> None:
+        def sync_and_say(*words: Any) -> None:
             # others may have waited for long enough meanwhile
             self.syncs.sync_in_time()
-            tell(*words)
+            say(*words)
 
         try:
-            self.add(self.migrate_path(path, b"", say, follow=True))
+            self.add(self.migrate_path(path, b"", sync_and_say, follow=True))
         finally:
             # what was verified is done, even if a signal ends this
             self.syncs.sync()

@@ -139,16 +139,16 @@ class Children(Crew):
 
     parent = Relay
 
-    def __init__(self, jobs: int, reporter: Observer) -> None:
+    def __init__(self, jobs: int, observer: Observer) -> None:
         super().__init__(jobs)
         self.takes.update(at=self.take_progress, ask=self.take_question, row=self.take_row)
         self.takes.update(then=self.take_next, end=self.take_end)
-        self.reporter, self.join, self.disks = reporter, joining(), Disks()
+        self.observer, self.join, self.disks = observer, joining(), Disks()
 
     def __exit__(self, kind: Optional[type[BaseException]], *rest: object) -> None:
         if kind not in (None, KeyboardInterrupt):
             # whoever took their rows takes no more
-            self.reporter = Observer()
+            self.observer = Observer()
         super().__exit__(kind, *rest)
 
     def add(self, user_work: UserWork) -> None:
@@ -194,19 +194,19 @@ class Children(Crew):
 
     def leave(self, child: UsersChild, why: Left) -> None:
         """Leaves something of a user."""
-        self.reporter.row(row_left(b"", b"", why)._replace(user=child.whose.name))
+        self.observer.row(row_left(b"", b"", why)._replace(user=child.whose.name))
 
     def take_row(self, child: UsersChild, words: Any) -> None:
         """Takes a row."""
         if any(isinstance(one, list) and len(one) > MOST for one in words.values()):
             raise ValueError("too many")
-        self.reporter.row(row_of(words, child.whose))
+        self.observer.row(row_of(words, child.whose))
         child.rows += 1
 
     def take_progress(self, child: UsersChild, who: str, doing: str, *numbers: Any) -> None:
         """Takes how far a mailbox is. Root counts users, not mailboxes."""
         del who
-        self.reporter.progress(named(child.whose.name), shown(doing[:80]), *map(number_of, numbers[:2]))
+        self.observer.progress(named(child.whose.name), shown(doing[:80]), *map(number_of, numbers[:2]))
 
     def take_question(self, child: UsersChild, what: str, *words: Any) -> None:
         """Takes what a child asks root to do."""
@@ -220,7 +220,7 @@ class Children(Crew):
     def take_next(self, child: UsersChild, then: Any) -> None:
         """Takes what is to be done once all is done, of which one word counts."""
         child.then += 1
-        self.reporter.then += next_of(then[:MOST], b"", child.whose) if child.then == 1 else ()
+        self.observer.then += next_of(then[:MOST], b"", child.whose) if child.then == 1 else ()
 
     def take_end(self, child: UsersChild, rows: object) -> None:
         """Takes it that nothing follows."""
@@ -242,5 +242,5 @@ class Children(Crew):
             why = "its process reported %d rows, but %d arrived" % (child.rows_told, child.rows)
         if why and not (self.is_over and os.WIFEXITED(status)):
             self.leave(child, Left(why, Reason.PROCESS))
-        self.reporter.rest(named(child.whose.name))
-        self.reporter.ended(child.whose.name)
+        self.observer.rest(named(child.whose.name))
+        self.observer.ended(child.whose.name)

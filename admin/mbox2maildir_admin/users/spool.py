@@ -52,22 +52,22 @@ def asked_for(names: Sequence[bytes], path: Optional[bytes]) -> Optional[Sources
     return asked
 
 
-def for_users(spool: Spool, reporter: Observer) -> None:
+def for_users(spool: Spool, observer: Observer) -> None:
     """Does the work of a command on the mailboxes of a spool, and on a folder of mailboxes of each home, user by
     user."""
     options = spool.options
     spool = spool._replace(path=os.path.abspath(spool.path), program=os.path.abspath(find_program()))
     if options.prepare:
         spool = spool._replace(locations=locations())
-    jobs = reporter.at_once = jobs_of(options.jobs, MOST)
-    waiting, others = users_of(spool, reporter, jobs > 1)
+    jobs = observer.at_once = jobs_of(options.jobs, MOST)
+    waiting, others = users_of(spool, observer, jobs > 1)
     load_for_children()
-    reporter.total = len(waiting) + len(others)
+    observer.total = len(waiting) + len(others)
     # only one process at a time can be at work for an account
     for several, at_once in ((unpacked(waiting), min(jobs, len(waiting))), (others, min(1, len(others)))):
-        with Children(at_once, reporter) as children:
+        with Children(at_once, observer) as children:
             for place, one in enumerate(several):
-                reporter.begin()
+                observer.begin()
                 # if there are fewer users than jobs, several folders of a user are at work; what is left over goes to
                 # the first ones, which are the largest
                 its = options._replace(jobs=jobs // at_once + (place < jobs % at_once))
@@ -81,16 +81,16 @@ def unpacked(waiting: collections.deque[bytes]) -> Iterator[Found]:
         yield Found.unpacked(waiting.popleft())
 
 
-def users_of(spool: Spool, reporter: Observer, is_by_size: bool) -> tuple[collections.deque[bytes], list[Found]]:
+def users_of(spool: Spool, observer: Observer, is_by_size: bool) -> tuple[collections.deque[bytes], list[Found]]:
     """The users whose mailboxes are migrated: those that were asked for, otherwise those of the spool, and all users if
     homes have a folder of mailboxes; and further mailboxes of theirs. Says which names are left."""
     listed = frozenset(os.listdir(spool.path))
     want_entered(spool.path)
-    users = Users(spool, listed, reporter)
+    users = Users(spool, listed, observer)
     if spool.asked is None:
         counts, not_asked = {SPOOL: 0, ACCOUNTS: 0}, 0
         for name in listed - users.names:
-            reporter.row(Row(b"", b"", "", None, Fate.NO_MAIL, user=shown(name)))
+            observer.row(Row(b"", b"", "", None, Fate.NO_MAIL, user=shown(name)))
     else:
         counts = dict.fromkeys(spool.asked.values(), 0)
         not_asked = len({stem_of(name, listed) for name in listed} - spool.asked.keys())
@@ -101,7 +101,7 @@ def users_of(spool: Spool, reporter: Observer, is_by_size: bool) -> tuple[collec
         else:
             users.add(name, account)
             counts[source] += 1
-    reporter.notes += tuple(sums_of(counts, not_asked))
+    observer.notes += tuple(sums_of(counts, not_asked))
     if spool.kind.is_back:
         users.join()
     found: Iterable[Found] = users.found.values()
@@ -181,9 +181,9 @@ class Users:
     mailboxes of the spool and, if homes have a folder of mailboxes, all users. Each account is there once, under the
     name of its mailbox."""
 
-    def __init__(self, spool: Spool, listed: Iterable[bytes], reporter: Observer) -> None:
+    def __init__(self, spool: Spool, listed: Iterable[bytes], observer: Observer) -> None:
         """Begins without users, with the names that the spool has."""
-        self.spool, self.reporter, self.accounts = spool, reporter, Accounts()
+        self.spool, self.observer, self.accounts = spool, observer, Accounts()
         self.names = mailboxes_among(listed, spool)
         # the names that may be copies, by the names of their mailboxes, with which they go
         self.copies: dict[bytes, list[bytes]] = {}
@@ -234,7 +234,7 @@ class Users:
     def leave(self, name: bytes, fault: Union[Fault, OSError]) -> None:
         """Reports why root itself leaves a user."""
         row = row_left(os.path.join(self.spool.path, name), b"", fault)
-        self.reporter.row(row._replace(path=b"", user=shown(name)))
+        self.observer.row(row._replace(path=b"", user=shown(name)))
 
     def add(self, name: bytes, account: Account) -> None:
         """Adds a user. If something is wrong with the mailbox, that is said, and the home is looked at all the same."""
