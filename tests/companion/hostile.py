@@ -54,7 +54,7 @@ os.setuid = with_rights
 """
 # the fields of a row, as a process tells them
 FIELDS: dict[str, object] = {
-    **{"path": "mail/a", "folder": ".a", "kind": "", "messages": 1, "fate": "left", "why": "", "reason": None},
+    **{"path": "mail/a", "folder": ".a", "kind": "", "messages": 1, "verdict": "left", "why": "", "reason": None},
     **{"size": None, "remarks": [], "quotes": [], "next": [], "spent": None, "is_back": False, "tie": "", "most": None},
     **{"counts": [], "details": [], "user": None},
 }
@@ -75,7 +75,7 @@ def a_task(todo: str, *names: str) -> list[object]:
     return [todo, names, "root"]
 
 
-DONE, REMOVE = row(fate="done"), ["remove", ["a b"]]
+DONE, REMOVE = row(verdict="done"), ["remove", ["a b"]]
 # lines that no process of this program tells: each counts as a row that could not be read
 NONSENSE = [
     b"",
@@ -106,7 +106,7 @@ NONSENSE = [
     row(more=1),
     [*DONE, None],
     *(row(messages=count) for count in (1.5, -1, "1", 1 << 63)),
-    row(fate="fine"),
+    row(verdict="fine"),
     row(reason="no word"),
     row(size=-1),
     row(most=-1),

@@ -23,7 +23,7 @@ from ..mbox.inventory import Inventory
 from ..mbox.locks import READING, WRITING, open_mailbox
 from ..mbox.mailbox import Mailbox
 from ..migration.known import Known, Opened
-from ..migration.outcomes import Fate, Observer, Row
+from ..migration.outcomes import Verdict, Observer, Row
 from ..migration.options import Options
 from ..nexts import Todo, task
 from ..program import Program
@@ -195,7 +195,7 @@ class Appending:
             # what goes into none of the same form either
             stay = "stays" if len(goes.refused) == 1 else "stay"
             why = NOT_HELD % (counted(len(goes.refused), "message"), stay, first_of([one.path for one in goes.refused]))
-            return row._replace(fate=Fate.LEFT, reason=Reason.NOT_HELD, why=why), ()
+            return row._replace(verdict=Verdict.LEFT, reason=Reason.NOT_HELD, why=why), ()
         return row, goes.refused
 
     def what_goes(self, draft: Draft) -> Goes:
@@ -319,16 +319,16 @@ class Appending:
     def row(self, goes: Goes) -> Row:
         """The row of the mailbox."""
         count, there, is_dry = len(goes.entries) + len(goes.there), len(goes.there), self.way.options.dry
-        fate = (Fate.WOULD_BACK if is_dry else Fate.BACK) if count else Fate.NOTHING_NEW
+        verdict = (Verdict.WOULD_BACK if is_dry else Verdict.BACK) if count else Verdict.NOTHING_NEW
         says = Says.IN_MAILBOX.of_any(there, there=there)
         taken = [one.taken for one in goes.entries if one.taken]
         names = {name.lower(): named(name) for name in itertools.chain.from_iterable(taken)}
         says += Says.FIELDS_LEFT_OUT.of_any(len(taken), ", ".join(names.values()))
         remarks = (*self.mailbox.remarks, *says, *self.numbering.remarks, *self.target.remarks)
-        row = Row(self.target.path, self.target.folder, self.style.dialect.word, count, fate, size=goes.size)
+        row = Row(self.target.path, self.target.folder, self.style.dialect.word, count, verdict, size=goes.size)
         return row._replace(remarks=remarks, next=self.numbering.next, is_back=True)
 
 
 def nothing_new(target: Target) -> Row:
     """The row of a mailbox to which no mail goes back."""
-    return Row(target.path, target.folder, "", 0, Fate.NOTHING_NEW, remarks=target.remarks, is_back=True)
+    return Row(target.path, target.folder, "", 0, Verdict.NOTHING_NEW, remarks=target.remarks, is_back=True)

@@ -11,7 +11,7 @@ from ..ledger.record import unspelled
 from ..looks import is_folder, is_there, state_at
 from ..maildir.folders import INBOX, folder_of_place, folder_path, on_disk
 from ..migration.dovecot import FORM, OLD_SUBSCRIPTIONS, SUBSCRIPTIONS, lines_of
-from ..migration.outcomes import Fate, Row, row_left
+from ..migration.outcomes import Verdict, Row, row_left
 from ..remarks import Says
 from ..terminal import is_text
 from ..units import counted
@@ -120,4 +120,6 @@ def rows_of(places: Places, is_dry: bool, would: Mapping[bytes, bytes]) -> Itera
         yield row_left(path, b"", fault)._replace(reason=Reason.SUBSCRIPTIONS, is_back=True)
         return
     says = Says.SUBSCRIPTIONS.of(counted(len(names), "folder"))
-    yield Row(path, b"", "subscriptions", None, Fate.WOULD_BACK if is_dry else Fate.BACK, remarks=(says,), is_back=True)
+    yield Row(
+        path, b"", "subscriptions", None, Verdict.WOULD_BACK if is_dry else Verdict.BACK, remarks=(says,), is_back=True
+    )

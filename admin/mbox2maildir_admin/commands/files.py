@@ -18,14 +18,14 @@ from ..maildir.making import RECORD
 from ..mbox.files import is_empty
 from ..mbox.mailbox import Mailbox
 from ..migration.answers import is_passed_over
-from ..migration.outcomes import Fate, Observer, Row
+from ..migration.outcomes import Verdict, Observer, Row
 from ..migration.places import Planned, recorded
 from ..migration.trees import Tree
 from ..nexts import Runs, Task, Todo, run_next
 from ..progress import say_of
 from ..readings.reading import Reading
 from ..readings.texts import content_of, folder_for_copies
-from ..readings.verdict import look_at
+from ..readings.diagnosis import look_at
 from ..remarks import Says
 from ..terminal import complain, named, operand
 from ..units import Say
@@ -40,7 +40,7 @@ class Complaints(Observer):
 
     def row(self, row: Row) -> None:
         """Takes a file that was left out."""
-        what = [row.fate] * (row.fate != Fate.LEFT)
+        what = [row.verdict] * (row.verdict != Verdict.LEFT)
         complain("%s: left out: %s" % (named(row.path), ", ".join([*what, *filter(None, [row.says])])), row.below())
 
     def leave(self, path: bytes, fault: Union[Fault, OSError]) -> None:
@@ -79,7 +79,7 @@ def say_left_out(rows: Iterable[Row], observer: Observer) -> bool:
     are_right = []
     for row in rows:
         observer.row(row)
-        are_right.append(row.fate == Fate.NO_MAIL)
+        are_right.append(row.verdict == Verdict.NO_MAIL)
     return all(are_right)
 
 
@@ -157,12 +157,12 @@ def left_out(path: bytes, maildir: bytes, record: History, observer: Observer) -
     record a file that is not mbox text has none as long as it has its path and its bytes. Raises Fault if a packed file
     is not complete."""
     with Mailbox.open(path, observer.say(path)) as mailbox, content_of(mailbox, folder_for_copies(maildir)) as text:
-        verdict = look_at(text, Look.read_begun) if text.size else None
-        holds = verdict.holds if verdict else Holds.NO_MAIL
-        is_noted = bool(verdict and verdict.recipe) and is_passed_over(record, mailbox)
+        diagnosis = look_at(text, Look.read_begun) if text.size else None
+        holds = diagnosis.holds if diagnosis else Holds.NO_MAIL
+        is_noted = bool(diagnosis and diagnosis.recipe) and is_passed_over(record, mailbox)
     if holds != Holds.NO_MAIL and not is_noted:
         return None
-    return Row(path, b"", "", None, Fate.NO_MAIL, remarks=(Says.NO_MAIL_NOTED.of(),) * is_noted)
+    return Row(path, b"", "", None, Verdict.NO_MAIL, remarks=(Says.NO_MAIL_NOTED.of(),) * is_noted)
 
 
 def reading_then(folder: bytes, mailbox: Mailbox) -> Reading:

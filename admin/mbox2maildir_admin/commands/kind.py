@@ -17,7 +17,7 @@ from ..looks import is_folder
 from ..maildir.disk import trial_folder
 from ..maildir.folders import INBOX, words_of
 from ..mbox.mailbox import Mailbox
-from ..migration.outcomes import Detail, Fate, Observer, Row
+from ..migration.outcomes import Detail, Verdict, Observer, Row
 from ..migration.rows import Shows
 from ..migration.trees import Tree
 from ..nexts import Answer, Command, Next, Quote, Runs, Todo, User, task
@@ -25,7 +25,7 @@ from ..progress import say_of
 from ..readings.plans import OtherKind, Question, question_of
 from ..readings.reading import UNDECIDED, Reading
 from ..readings.texts import choice_of, form_of
-from ..readings.verdict import TAKEOUT, Verdict, look_at
+from ..readings.diagnosis import TAKEOUT, Diagnosis, look_at
 from ..terminal import operand
 from .files import each, read_tree, say_left_out, without_mail
 from .options import Given
@@ -53,7 +53,7 @@ def do_kind(given: Given) -> int:
 
 def row_found(path: bytes, kind: str, then: Next) -> Row:
     """The row of a file of a kind."""
-    return Row(path, b"", kind, None, Fate.FOUND, next=then)
+    return Row(path, b"", kind, None, Verdict.FOUND, next=then)
 
 
 def kind_below(path: bytes, observer: Observer) -> bool:
@@ -77,22 +77,22 @@ def kind_of(found: Found, observer: Observer, tree: Optional[Tree] = None) -> bo
     """Prints what a file is. Returns whether it can be converted as it is or, in a tree, holds no mail."""
     path = found.path
     with Mailbox.open(path, say_of(path)) as mailbox:
-        verdict = look_at(mailbox)
-        if tree and verdict.holds == Holds.NO_MAIL:
-            tree.pass_over(path, kind=verdict.kind.partition(": ")[2])
+        diagnosis = look_at(mailbox)
+        if tree and diagnosis.holds == Holds.NO_MAIL:
+            tree.pass_over(path, kind=diagnosis.kind.partition(": ")[2])
             return True
         if form_of(mailbox):
-            say_kind_in(mailbox, verdict, observer, found)
+            say_kind_in(mailbox, diagnosis, observer, found)
             # a packed file has to be unpacked first
             return False
-        then, quotes = next_of(verdict, found)
-        row = row_found(path, verdict.kind, then)._replace(messages=verdict.messages, most=verdict.most)
-        details = tuple(Detail(one.says, line=one.line or None, text=one.text) for one in verdict.said_lines)
+        then, quotes = next_of(diagnosis, found)
+        row = row_found(path, diagnosis.kind, then)._replace(messages=diagnosis.messages, most=diagnosis.most)
+        details = tuple(Detail(one.says, line=one.line or None, text=one.text) for one in diagnosis.said_lines)
         observer.row(row._replace(quotes=tuple(quotes), details=details))
-        return verdict.is_as_it_is
+        return diagnosis.is_as_it_is
 
 
-def say_kind_in(mailbox: Mailbox, verdict: Verdict, observer: Observer, found: Found) -> None:
+def say_kind_in(mailbox: Mailbox, diagnosis: Diagnosis, observer: Observer, found: Found) -> None:
     """Prints what is in a packed file."""
     path = found.path
     try:
@@ -104,17 +104,17 @@ def say_kind_in(mailbox: Mailbox, verdict: Verdict, observer: Observer, found: F
             left.put(functools.partial(migrate, found, TAKEOUT if left.is_takeout else left.kind))
         elif isinstance(left, OtherKind):
             left.put(where(found))
-        row = row_found(path, left.kind or verdict.kind, left.next)._replace(messages=left.messages, most=left.most)
+        row = row_found(path, left.kind or diagnosis.kind, left.next)._replace(messages=left.messages, most=left.most)
         observer.row(row._replace(why=str(left), quotes=left.quotes))
 
 
-def next_of(verdict: Verdict, found: Found) -> tuple[Next, Sequence[Quote]]:
+def next_of(diagnosis: Diagnosis, found: Found) -> tuple[Next, Sequence[Quote]]:
     """What to do next with a file, and the lines that are shown for a question about it."""
-    if verdict.recipe:
-        return where(found).next(verdict.recipe, found.path), ()
-    if verdict.is_as_it_is or verdict.reading:
-        return as_it_is(found, verdict.kind), ()
-    question = question_of(verdict)
+    if diagnosis.recipe:
+        return where(found).next(diagnosis.recipe, found.path), ()
+    if diagnosis.is_as_it_is or diagnosis.reading:
+        return as_it_is(found, diagnosis.kind), ()
+    question = question_of(diagnosis)
     question.put(functools.partial(migrate, found, TAKEOUT if question.is_takeout else question.kind))
     return question.next, question.quotes
 

@@ -12,7 +12,7 @@ from ..maildir.checking import Check, State
 from ..maildir.either import Either
 from ..maildir.files import forms_in, paths_of
 from ..mbox.inventory import IN_MEMORY
-from ..migration.outcomes import Detail, Fate, Observer, Row
+from ..migration.outcomes import Detail, Verdict, Observer, Row
 from ..migration.rows import Reporter, Shows
 from ..program import Program, find_program
 from ..readings.texts import Text, open_text
@@ -96,9 +96,9 @@ def row_of(path: bytes, folder: bytes, check: Check, bare: int) -> Row:
         "doubtful-line": len(check.doubts),
         "without-fields": bare,
     }
-    sizes, fate = check.inventory.sizes, Fate.WHOLE if check.is_right() else Fate.NOT_WHOLE
+    sizes, verdict = check.inventory.sizes, Verdict.WHOLE if check.is_right() else Verdict.NOT_WHOLE
     remarks = tuple(SAYS[word].of(count) for word, count in counts.items() if count and word in SAYS)
-    row = Row(path, folder, "", len(sizes), fate, size=sum(sizes), remarks=remarks)
+    row = Row(path, folder, "", len(sizes), verdict, size=sum(sizes), remarks=remarks)
     return row._replace(counts=tuple(counts.items()), details=tuple(details_of(check)))
 
 

@@ -21,7 +21,7 @@ from ..nexts import NOTHING, Answer, Does, Next
 from ..readings.plans import Plan, Question, plan_of
 from ..readings.reading import MBOXO, UNDECIDED, UNQUOTED, Reading, renumbered, with_deleted
 from ..readings.texts import Choice, choice_of, content_of, folder_for_copies, text_then
-from ..readings.verdict import look_at
+from ..readings.diagnosis import look_at
 from ..remarks import Remark, Says
 from ..units import Line, counted
 from .known import Known, Opened

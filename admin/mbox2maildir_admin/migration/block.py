@@ -23,7 +23,7 @@ from ..nexts import (
 )
 from ..terminal import operand, option
 from ..units import counted
-from .outcomes import Fate, Row
+from .outcomes import Verdict, Row
 
 # how many mailboxes one answer is for at most, so that a human looks at each of them
 MOST_ALIKE = 20
@@ -61,7 +61,8 @@ def answers_of(row: Row) -> list[Answer]:
 def question_of(row: Row) -> object:
     """What is the same in all rows of a group: why they are left, and what is to be done or answered."""
     steps = [(one.todo,) if isinstance(one, Task) else (one.does, *decided(one)[:2]) for one in row.next]
-    looks = row.fate if row.fate in (Fate.LEFT, Fate.NOT_WHOLE) else tuple(dict.fromkeys(one.word for one in row.said))
+    words = tuple(dict.fromkeys(one.word for one in row.said))
+    looks = row.verdict if row.verdict in (Verdict.LEFT, Verdict.NOT_WHOLE) else words
     return row.left_for, looks, bool(answers_of(row)) and row.kind, *steps
 
 
@@ -110,7 +111,7 @@ class Group:
         """Why the rows are there, and how many they are."""
         row, count = self.rows[0], sum(len(one.rows) for one in (self, *self.others))
         several = counted(count, "mailbox", "es")
-        if row.fate == Fate.NOT_WHOLE:
+        if row.verdict == Verdict.NOT_WHOLE:
             return "not whole: " + several
         if not self.why:
             # mail that went from one folder into two is said twice

@@ -37,7 +37,7 @@ from ..remarks import Remark, Says
 from ..terminal import operand
 from ..units import Offset, Place
 from .known import Known
-from .outcomes import Fate, Outcome, Row
+from .outcomes import Verdict, Outcome, Row
 from .steps import FirstPass, OtherPass, Steps
 
 SYNC_FAILED = (
@@ -261,7 +261,7 @@ def leaving(rows: list[Row], *places: int) -> Iterator[None]:
     except (Fault, OSError) as error:
         for place in places:
             row, fault = rows[place], fault_of(error, rows[place].path)
-            row = row._replace(fate=Fate.LEFT, why=str(fault), reason=fault.reason, remarks=(), next=fault.next)
+            row = row._replace(verdict=Verdict.LEFT, why=str(fault), reason=fault.reason, remarks=(), next=fault.next)
             rows[place] = row
 
 

@@ -52,7 +52,7 @@ from .carrying import SYNC_FAILED, carry_out, names_that_may_be_cut
 from .dovecot import DONE_WITHOUT
 from .known import Known, Opened
 from .options import Options
-from .outcomes import Fate, Outcome, Row, row_left
+from .outcomes import Verdict, Outcome, Row, row_left
 from .preparing import (
     TENTH,
     Preparation,
@@ -112,7 +112,7 @@ class Migration:
         mailbox with mail is left for that reason."""
         try:
             if is_no_mail(path):
-                return Outcome(Row(path, b"", "", None, Fate.NO_MAIL))
+                return Outcome(Row(path, b"", "", None, Verdict.NO_MAIL))
             if self.options.prepare and not why:
                 row = row_unchanged(self.record, self.options, path, name, say)
                 if row:
@@ -130,9 +130,9 @@ class Migration:
                     if not is_noted:
                         self.record.add(Note.NO_MAIL, Key(INBOX, *mailbox.key()), 0, mailbox.path)
                     said = Says.BY_NO_MAIL if is_spared else Says.NO_MAIL_NOTED
-                    return Outcome(Row(path, b"", left.kind, None, Fate.NO_MAIL, remarks=(said.of(),)))
+                    return Outcome(Row(path, b"", left.kind, None, Verdict.NO_MAIL, remarks=(said.of(),)))
         except NoMail as found:
-            return Outcome(Row(path, b"", found.kind, None, Fate.NO_MAIL))
+            return Outcome(Row(path, b"", found.kind, None, Verdict.NO_MAIL))
         except (Fault, OSError) as fault:
             return Outcome(row_left(path, name, fault))
 
@@ -173,7 +173,7 @@ class Migration:
         if ended.batch:
             verified.add(ended.batch)
             ledger.end(ended.batch)
-        self.kept = None if ended.row.fate == Fate.LEFT else ledger
+        self.kept = None if ended.row.verdict == Verdict.LEFT else ledger
         return ended
 
 
@@ -258,7 +258,7 @@ class Transfer:
         elif by_index:
             of_folder = [(Says.LEDGER_GONE if is_folder(self.opened.folder) else Says.FOLDER_GONE).of()]
         says = (*[DONE_WITHOUT] * has_no_uids, *dropped, *of_folder, *more)
-        return Row(mailbox.path, name, "", messages, Fate.BEFORE, size=mailbox.size, remarks=says)
+        return Row(mailbox.path, name, "", messages, Verdict.BEFORE, size=mailbox.size, remarks=says)
 
     def take_answer(self, question: Question) -> bool:
         """Has the mailbox read by the answer to a question that was given before, or that what it has brought shows.
@@ -447,9 +447,9 @@ class Transfer:
     def row(self, part: Part, said: Sequence[Remark] = (), then: Next = NOTHING) -> Row:
         """The row of a mailbox that is done or prepared, or would be; what else is said of it, and what is to be done
         next."""
-        plan, done, would, spent = part.choice.plan, Fate.DONE, Fate.WOULD, None
+        plan, done, would, spent = part.choice.plan, Verdict.DONE, Verdict.WOULD, None
         if self.options.prepare:
-            done, would, spent = Fate.PREPARED, Fate.WOULD_PREPARE, self.spent()
+            done, would, spent = Verdict.PREPARED, Verdict.WOULD_PREPARE, self.spent()
         its = self.opened.name, plan.kind, plan.messages, would if self.options.dry else done
         row = Row(self.opened.mailbox.path, *its, size=part.size, spent=spent)
         return row._replace(remarks=(*plan.remarks, *self.remarks, *said), next=then)

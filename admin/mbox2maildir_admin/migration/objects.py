@@ -10,7 +10,7 @@ from ..maildir.making import sync_folder
 from ..nexts import Todo, objects_of, task
 from ..terminal import complain, flush, named, put
 from ..version import version
-from .outcomes import FATES, Fate, Row
+from .outcomes import VERDICTS, Verdict, Row
 from .rows import SUMMED, Reporter
 
 
@@ -31,12 +31,12 @@ class Objects:
         self.print_object(
             {
                 "type": "sum",
-                "verdicts": {fate: sums.counts[fate] for fate in FATES},
+                "verdicts": {verdict: sums.counts[verdict] for verdict in VERDICTS},
                 "left": [
                     {"reason": one.word, "count": sums.reasons[one]} for one in REASONS.values() if sums.reasons[one]
                 ],
                 "messages": messages,
-                "before": dict(zip(("messages", "bytes"), sums.amounts(Fate.BEFORE))),
+                "before": dict(zip(("messages", "bytes"), sums.amounts(Verdict.BEFORE))),
                 "there_already": sums.there,
                 "still_there": {word: sums.stand[word] for word in ("deleted", "changed")},
                 "bytes": size,

@@ -15,7 +15,7 @@ from ..terminal import is_text, named, shown, text_of
 from ..units import Say
 
 
-class Fate:
+class Verdict:
     """What became of a mailbox, in the words of its row."""
 
     DONE = "done"
@@ -38,7 +38,7 @@ class Fate:
     LEFT = "left"
 
 
-FATES: list[str] = [fate for name, fate in vars(Fate).items() if name.isupper()]
+VERDICTS: list[str] = [verdict for name, verdict in vars(Verdict).items() if name.isupper()]
 
 
 class Detail(NamedTuple):
@@ -75,7 +75,7 @@ class Row(NamedTuple):
     # what it is, and how many messages it has, if that is known
     kind: str
     messages: Optional[int]
-    fate: str
+    verdict: str
     # why it is left, as a sentence and as a word, if it is
     why: str = ""
     reason: Optional[Phrase] = None
@@ -119,7 +119,7 @@ class Row(NamedTuple):
         its folder, unless it has several, of which some may be left."""
         if not self.path:
             return " ".join(filter(None, [self.label, folder_shown(self.folder) if self.folder else ""]))
-        return self.label if self.fate == Fate.LEFT and not self.is_part else self.way
+        return self.label if self.verdict == Verdict.LEFT and not self.is_part else self.way
 
     @property
     def said(self) -> list[Remark]:
@@ -134,13 +134,13 @@ class Row(NamedTuple):
     def line(self) -> str:
         """Its line: the mailbox, its folder, unless it was done before its kind and how many messages it has, what
         became of it, and what is said of it."""
-        count = "" if self.messages is None or self.fate == Fate.BEFORE else "messages %d" % self.messages
+        count = "" if self.messages is None or self.verdict == Verdict.BEFORE else "messages %d" % self.messages
         count += " to %d" % self.most if count and self.most is not None and self.most != self.messages else ""
         what = ", ".join(filter(None, [self.kind, count]))
-        if self.fate == Fate.FOUND:
+        if self.verdict == Verdict.FOUND:
             return ": ".join(filter(None, [self.way, what, self.says]))
-        fate, sign = ("%s (%s)" % (self.fate, self.word), ": ") if self.word else (self.fate, ", ")
-        return ": ".join(filter(None, [self.way, what, fate + (sign + self.says if self.says else "")]))
+        verdict, sign = ("%s (%s)" % (self.verdict, self.word), ": ") if self.word else (self.verdict, ", ")
+        return ": ".join(filter(None, [self.way, what, verdict + (sign + self.says if self.says else "")]))
 
     def below(self) -> Iterator[str]:
         """The lines that stand below its line."""
@@ -163,7 +163,7 @@ class Row(NamedTuple):
             "kind": self.kind or None,
             "messages": self.messages,
             "bytes": self.size,
-            "verdict": self.fate,
+            "verdict": self.verdict,
             "reason": self.word or None,
             "says": self.says,
             "remarks": [{"remark": one.word, "says": one.says} for one in self.said],
@@ -178,7 +178,7 @@ class Row(NamedTuple):
     @property
     def left_for(self) -> Optional[Phrase]:
         """Why it is left, if it is."""
-        return (self.reason or Reason.OTHER) if self.fate == Fate.LEFT else None
+        return (self.reason or Reason.OTHER) if self.verdict == Verdict.LEFT else None
 
     @property
     def word(self) -> str:
@@ -187,13 +187,13 @@ class Row(NamedTuple):
 
     def is_said(self) -> bool:
         """Whether the row is printed, and not only counted in the sum."""
-        if self.fate == Fate.NO_MAIL:
+        if self.verdict == Verdict.NO_MAIL:
             return Says.BY_NO_MAIL.of() in self.remarks
         return self.is_changed() or bool(self.says or self.next)
 
     def is_changed(self) -> bool:
         """Whether the run did something, or would do it."""
-        return self.fate not in (Fate.BEFORE, Fate.NOTHING_NEW, Fate.FOUND, Fate.WHOLE, Fate.NO_MAIL)
+        return self.verdict not in (Verdict.BEFORE, Verdict.NOTHING_NEW, Verdict.FOUND, Verdict.WHOLE, Verdict.NO_MAIL)
 
 
 class Outcome(NamedTuple):
@@ -257,7 +257,7 @@ def row_left(
     fault = fault_of(error, path)
     known: Union[Plan, Left, None] = plan or (fault if isinstance(fault, Left) else None)
     kind, messages = (known.kind, known.messages) if known else ("", None)
-    row = Row(path, name, kind, messages, Fate.LEFT, str(fault), fault.reason, size)
+    row = Row(path, name, kind, messages, Verdict.LEFT, str(fault), fault.reason, size)
     return row._replace(quotes=fault.quotes, next=fault.next)
 
 

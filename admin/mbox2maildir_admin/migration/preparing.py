@@ -77,7 +77,7 @@ from .carrying import PREPARED_SYNC_FAILED, SYNC_FAILED
 from .dovecot import KEYWORDS, LIST, Dovecot, remove_part
 from .known import Known, Opened
 from .options import Options
-from .outcomes import Fate, Row, row_left
+from .outcomes import Verdict, Row, row_left
 from .places import Planned
 from .steps import Contents, Part
 
@@ -358,7 +358,7 @@ def remove_prepared(record: Record, path: bytes, name: bytes, dry: bool, say: Sa
     removed = Says.REMOVED.of(counted(count, "message"), dry=dry)
     remarks = removed, *Says.KEPT_EDITED.of_any(len(prepared.edited), dry=dry)
     messages = prepared.origin.messages if prepared.origin else None
-    return Row(path, name, "", messages, Fate.WOULD_UNDO if dry else Fate.UNDONE, remarks=remarks)
+    return Row(path, name, "", messages, Verdict.WOULD_UNDO if dry else Verdict.UNDONE, remarks=remarks)
 
 
 def same_as_prepared(prepared: Prepared, options: Options, opened: Opened) -> Optional[Part]:
@@ -404,9 +404,9 @@ def row_unchanged(record: Record, options: Options, path: bytes, name: bytes, sa
         return None
     dropped = Says.DELETED_LEFT_OUT.of_any(Reading.of_words(origin.words).dropped)
     says = Says.PREPARED_BEFORE.of(len(prepared.files))
-    fate = Fate.WOULD_PREPARE if options.dry else Fate.PREPARED
+    verdict = Verdict.WOULD_PREPARE if options.dry else Verdict.PREPARED
     spent = None if options.dry else Spent(milliseconds_since(began), prepared.foreseen())
-    return Row(path, name, "", origin.messages, fate, size=origin.key[0], remarks=(*dropped, says), spent=spent)
+    return Row(path, name, "", origin.messages, verdict, size=origin.key[0], remarks=(*dropped, says), spent=spent)
 
 
 class Listed(NamedTuple):

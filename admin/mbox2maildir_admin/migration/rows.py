@@ -15,20 +15,20 @@ from ..progress import Doing, Estimate, Progress, Task, duration, length, togeth
 from ..terminal import LINE, complain, flush, named, put
 from ..units import WAITING, counted
 from .block import Typed, groups_of
-from .outcomes import FATES, Fate, Observer, Row
+from .outcomes import VERDICTS, Verdict, Observer, Row
 
 if TYPE_CHECKING:
     from .objects import Objects
 
 # the mailboxes whose messages and bytes are summed up
 SUMMED = (
-    *(Fate.DONE, Fate.WOULD, Fate.PREPARED, Fate.WOULD_PREPARE),
-    *(Fate.BACK, Fate.WOULD_BACK, Fate.WHOLE, Fate.NOT_WHOLE),
+    *(Verdict.DONE, Verdict.WOULD, Verdict.PREPARED, Verdict.WOULD_PREPARE),
+    *(Verdict.BACK, Verdict.WOULD_BACK, Verdict.WHOLE, Verdict.NOT_WHOLE),
 )
-# the fates of mailboxes of which something is to be done
-WRONG = Fate.LEFT, Fate.NOT_WHOLE
+# the verdicts on mailboxes of which something is to be done
+WRONG = Verdict.LEFT, Verdict.NOT_WHOLE
 # those of an undo, which is of one mailbox: of each of its folders
-UNDONE = Fate.UNDONE, Fate.WOULD_UNDO
+UNDONE = Verdict.UNDONE, Verdict.WOULD_UNDO
 # what the last line says if not all mailboxes were looked at
 INTERRUPTED = "interrupted: run the same command again"
 REHEARSAL = "a rehearsal: nothing was written; the commands above write once --dry-run is left out"
@@ -53,7 +53,7 @@ class Shows(NamedTuple):
 
 class Kept:
     """What is kept of rows: those that have their place in the last block; how many mailboxes have each remark that is
-    counted; of each user who is at work, how many mailboxes have each fate; and the ties of answers for several
+    counted; of each user who is at work, how many mailboxes have each verdict; and the ties of answers for several
     mailboxes that decided about one."""
 
     def __init__(self) -> None:
@@ -120,17 +120,17 @@ class Reporter(Observer):
         """Counts what became of a mailbox, and prints it."""
         for one in self.objects:
             one.row(row)
-        self.counts[row.fate] += 1
+        self.counts[row.verdict] += 1
         self.kept.ties.add(row.tie)
         if row.left_for:
             self.reasons[row.left_for] += 1
-        if row.fate == Fate.NOT_WHOLE:
+        if row.verdict == Verdict.NOT_WHOLE:
             self.faults.update(one.word for one in row.remarks if one.word in LOOK)
         for remark in row.remarks:
             self.stand[remark.word] += remark.stands
-        self.messages[row.fate] += row.messages or 0
-        self.sizes[row.fate] += row.size or 0
-        if row.fate in SUMMED:
+        self.messages[row.verdict] += row.messages or 0
+        self.sizes[row.verdict] += row.size or 0
+        if row.verdict in SUMMED:
             self.there += sum(remark.there for remark in row.remarks)
             self.estimate.add(row.spent)
         # the next mailbox of a user may have to wait too
@@ -151,20 +151,20 @@ class Reporter(Observer):
             if self.shows.whole(row):
                 self.put_row(row)
             return
-        if row.fate != Fate.LEFT:
+        if row.verdict != Verdict.LEFT:
             self.kept.noted.update({one.word for one in row.remarks if one.word in COUNTED})
         # what asks for a look
         dropped = {one.word for one in row.remarks if one.word not in LOOK}
         remarks = tuple(one for one in row.remarks if one.word in LOOK)
         row = row._replace(remarks=remarks, details=tuple(one for one in row.details if one.word not in dropped))
         if self.shows.is_of_users:
-            self.kept.users.setdefault(row.user or "", collections.Counter())[row.fate] += 1
-        elif (self.total == 1 or row.fate in UNDONE) and row.is_said():
+            self.kept.users.setdefault(row.user or "", collections.Counter())[row.verdict] += 1
+        elif (self.total == 1 or row.verdict in UNDONE) and row.is_said():
             self.put_row(row)
             return
-        elif row.fate not in WRONG and row.is_changed():
+        elif row.verdict not in WRONG and row.is_changed():
             self.put_row(row._replace(kind="", remarks=(), quotes=(), next=()))
-        if (row.fate in WRONG or row.remarks or row.next) and row.fate != Fate.NO_MAIL:
+        if (row.verdict in WRONG or row.remarks or row.next) and row.verdict != Verdict.NO_MAIL:
             self.kept.rows.append(row)
 
     def ended(self, user: str) -> None:
@@ -186,7 +186,7 @@ class Reporter(Observer):
         mailbox, and nothing is left."""
         LINE.clear()
         sums = sums_of(self.counts, self.faults)
-        users = {one.user for one in self.kept.rows if one.user is not None and one.fate in WRONG}
+        users = {one.user for one in self.kept.rows if one.user is not None and one.verdict in WRONG}
         sums[0] += ", of %s" % counted(len(users), "user") if users else ""
         if INTERRUPTED in more and self.total and not sum(self.counts.values()):
             sums = ["0 of %d done" % self.total]
@@ -195,8 +195,8 @@ class Reporter(Observer):
             self.print_sums(line)
         # a report is last: it has its sums once, even if the output takes no more
         written = [one.end(self, line) for one in reversed(self.objects)]
-        has_mailbox = sum(self.counts.values()) > self.counts[Fate.NO_MAIL]
-        if not (has_mailbox and all(written)) or self.counts[Fate.NOT_WHOLE]:
+        has_mailbox = sum(self.counts.values()) > self.counts[Verdict.NO_MAIL]
+        if not (has_mailbox and all(written)) or self.counts[Verdict.NOT_WHOLE]:
             return Status.LEFT
         return Status.after(self.reasons)
 
@@ -204,7 +204,7 @@ class Reporter(Observer):
         """How much was done, would be done, or was checked, and in which time; and how many messages mailboxes still
         have that were deleted or changed in the Maildir."""
         work, last = list[str](), self.last_pass()
-        if any(self.counts[fate] for fate in SUMMED):
+        if any(self.counts[verdict] for verdict in SUMMED):
             there = ", %d of them there already" % self.there if self.there else ""
             messages, size = self.amounts(*SUMMED)
             its = counted(messages, "message"), there, length(size), duration(self.seconds())
@@ -214,9 +214,9 @@ class Reporter(Observer):
         work += ["the mailboxes still have %s in the Maildir" % " and ".join(sorted(stands))] * bool(stands)
         return work
 
-    def amounts(self, *fates: str) -> tuple[int, int]:
+    def amounts(self, *verdicts: str) -> tuple[int, int]:
         """How many messages and bytes the mailboxes have of which this became."""
-        return sum(self.messages[fate] for fate in fates), sum(self.sizes[fate] for fate in fates)
+        return sum(self.messages[verdict] for verdict in verdicts), sum(self.sizes[verdict] for verdict in verdicts)
 
     def last_pass(self) -> Optional[float]:
         """How many seconds a last pass would take now, if this is a first one."""
@@ -245,11 +245,11 @@ class Reporter(Observer):
 
 
 def sums_of(counts: collections.Counter[str], faults: Mapping[str, int] = MappingProxyType({})) -> list[str]:
-    """How many mailboxes there are, by their fates and by why they are not whole, and how many other files."""
-    others = counts[Fate.NO_MAIL]
-    whys = {Fate.NOT_WHOLE: " (%s)" % ", ".join("%d %s" % (count, word) for word, count in sorted(faults.items()))}
-    mail = [fate for fate in FATES if counts[fate] and fate != Fate.NO_MAIL]
-    parts = ["%d %s%s" % (counts[fate], fate, whys.get(fate, "")) for fate in mail]
+    """How many mailboxes there are, by their verdicts and by why they are not whole, and how many other files."""
+    others = counts[Verdict.NO_MAIL]
+    whys = {Verdict.NOT_WHOLE: " (%s)" % ", ".join("%d %s" % (count, word) for word, count in sorted(faults.items()))}
+    mail = [verdict for verdict in VERDICTS if counts[verdict] and verdict != Verdict.NO_MAIL]
+    parts = ["%d %s%s" % (counts[verdict], verdict, whys.get(verdict, "")) for verdict in mail]
     total = sum(counts.values()) - others
     sums = ["%s: %s" % (counted(total, "mailbox", "es"), ", ".join(parts)) if total else "no mailboxes"]
     return sums + ["%s: no mail" % counted(others, "other file")] * bool(others)

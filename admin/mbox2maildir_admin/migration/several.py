@@ -24,7 +24,7 @@ from ..terminal import named, operand, text_of
 from .dovecot import OLD_SUBSCRIPTIONS, SUBSCRIPTIONS, Dovecot, subscribe
 from .carrying import settled
 from .mailbox import Migration
-from .outcomes import Fate, Observer, Outcome, Row, row_left, seen
+from .outcomes import Verdict, Observer, Outcome, Row, row_left, seen
 from .places import Pairs, Planned, UserHome, as_inbox, as_named, into_inbox, recorded
 from .preparing import Leftovers
 from .servers import Place, locations, want_unread
@@ -123,7 +123,7 @@ class Several:
         self.subscriptions = {os.path.join(tree.rstrip(b"/") or b"/", OLD_SUBSCRIPTIONS): tree for tree in trees}
         self.pairs = Pairs(migration.record, migration.record.maildir, options.of_next(), names if self.own else None)
         self.found: dict[bytes, Row] = {}
-        # a name that is given has its fate by that name, even if a tree has the same file; the other names of files
+        # a name that is given has its verdict by that name, even if a tree has the same file; the other names of files
         self.met: NamesMet = {}
         self.others: dict[bytes, list[bytes]] = {}
         self.trees: dict[bytes, Tree] = {}
@@ -197,9 +197,9 @@ class Several:
     def report(self, one: Outcome, take: Optional[Callable[[Optional[Row]], object]] = None) -> None:
         """Reports what became of a name: of subscriptions once they are written, and of a mailbox that was verified,
         and all after it, once that is on the disk. `take` takes the row, and none of subscriptions."""
-        if one.row.fate == Fate.NO_MAIL:
+        if one.row.verdict == Verdict.NO_MAIL:
             self.found[one.row.path] = one.row
-        if one.row.path not in self.subscriptions or one.row.fate != Fate.NO_MAIL:
+        if one.row.path not in self.subscriptions or one.row.verdict != Verdict.NO_MAIL:
             self.syncs.add(one.folder, (one, take or self.observer.row))
         elif take:
             take(None)
@@ -257,18 +257,21 @@ class Several:
     def is_no_mail(self, one: Planned) -> bool:
         """Whether a file that would go into the folder of another one holds no mail."""
         why = Left("it is only looked at")
-        return is_empty(one.path) or self.migration.migrate_path(one.path, one.folder, why=why).row.fate == Fate.NO_MAIL
+        return (
+            is_empty(one.path)
+            or self.migration.migrate_path(one.path, one.folder, why=why).row.verdict == Verdict.NO_MAIL
+        )
 
     def run_named(self, one: Planned) -> Outcome:
         """Migrates a mailbox. Its row says which other name its folder had, and which other names the file has."""
         ended, others = self.run_one(one), self.others.get(one.path)
         row = ended.row
-        if one.before and row.folder and row.fate != Fate.BEFORE:
+        if one.before and row.folder and row.verdict != Verdict.BEFORE:
             # mail programs will show another name than Dovecot did
             row = row._replace(remarks=(*row.remarks, Says.NAME_BEFORE.of(named(one.before))))
         if others and row.is_said():
             row = row._replace(remarks=(*row.remarks, Says.ALSO_NAMED.of(" and ".join(map(named, others)))))
-        is_done = row.fate in (Fate.DONE, Fate.BEFORE, Fate.WOULD)
+        is_done = row.verdict in (Verdict.DONE, Verdict.BEFORE, Verdict.WOULD)
         if one.is_inbox and is_done and INBOX not in self.taken and not self.migration.record.last_steps(INBOX):
             then = into_inbox(one, row.folder, self.migration.options, self.migration.record)
             row = row._replace(next=(*row.next, *then))
@@ -283,14 +286,14 @@ class Several:
                 return Outcome(row_left(one.path, one.folder, fault))
         reason = one.why.reason if one.why else None
         if reason is Reason.NO_FOLDER and is_empty(one.path):
-            return Outcome(Row(one.path, b"", "", None, Fate.NO_MAIL))
+            return Outcome(Row(one.path, b"", "", None, Verdict.NO_MAIL))
         if one.target and one.why:
             return Outcome(row_left(one.path, b"", one.why))
         say = Beat(functools.partial(self.progress, named(one.path)))
         follow = one.path in self.links
         ended = self.migration.migrate_path(one.target or one.path, one.folder, say, follow, one.why)
         row = ended.row._replace(path=one.path)
-        if one.why and reason is Reason.COPY and row.fate == Fate.LEFT:
+        if one.why and reason is Reason.COPY and row.verdict == Verdict.LEFT:
             # whatever its text is, this reason comes first
             row = row._replace(why=str(one.why), reason=reason, quotes=(), next=one.why.next)
         return ended._replace(row=row)

@@ -8,7 +8,7 @@ from ..kinds.making import with_aside
 from ..nexts import DOES, TODOS, Answer, Command, Does, Next, OfFiles, Phrase, Single, Task, Template, Todo, task
 from ..remarks import SAYS, Sentence
 from ..terminal import bytes_of, shown
-from .outcomes import FATES, Row
+from .outcomes import VERDICTS, Row
 
 # how long a line of a child may be, in bytes
 LONGEST = 1 << 16
@@ -45,7 +45,7 @@ def row_of(words: Mapping[str, Any], whose: Optional[Whose] = None) -> Row:
     """Reads a row that a process told, which may be that of a user. Root itself knows which way mail goes then, and
     whose it is. Raises an error of Python's if it is no row."""
     row = Row(**{name: list(one) if name == "next" else value_of(KINDS[name], one) for name, one in words.items()})
-    if not {one.word for one in row.details if one.word} <= SAYS.keys() or row.fate not in FATES:
+    if not {one.word for one in row.details if one.word} <= SAYS.keys() or row.verdict not in VERDICTS:
         raise ValueError("no word")
     row = row._replace(next=next_of(row.next, row.path, whose))
     return row._replace(is_back=whose.is_back, user=whose.name) if whose else row

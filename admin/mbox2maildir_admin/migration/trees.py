@@ -27,7 +27,7 @@ from ..maildir.folders import INBOX, LONGEST, folder_on_disk, folder_path, name_
 from ..nexts import Runs, Todo, run_next, task
 from ..remarks import Remark, Says
 from ..terminal import is_text, named, operand, text_of
-from .outcomes import Fate, Row, row_left
+from .outcomes import Verdict, Row, row_left
 from .places import Pairs, Planned, recorded, with_own_folders
 from .options import Options
 
@@ -102,7 +102,7 @@ class Tree:
 
     def pass_over(self, path: bytes, *remarks: Remark, kind: str = "") -> None:
         """Leaves something out that holds no mail."""
-        self.rows.append(Row(path, b"", kind, None, Fate.NO_MAIL, remarks=remarks))
+        self.rows.append(Row(path, b"", kind, None, Verdict.NO_MAIL, remarks=remarks))
 
     def walk(self, folder: bytes) -> list[bytes]:
         """Takes what is in a folder, and returns the folders in it."""
@@ -139,7 +139,7 @@ class Tree:
         if not mails:
             return entries
         then = next_of_mh(folder, folder + b".mbox")
-        self.rows.append(Row(folder, b"", MH, len(mails), Fate.LEFT, "", Reason.MH, next=then))
+        self.rows.append(Row(folder, b"", MH, len(mails), Verdict.LEFT, "", Reason.MH, next=then))
         names = {SEQUENCES, *(mail.name for mail in mails)}
         return [entry for entry in entries if entry.name not in names]
 

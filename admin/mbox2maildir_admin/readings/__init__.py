@@ -1,1 +1,1 @@
-"""How a text is read: the verdict, what is quoted, the copies that are made, and which text stands for a mailbox."""
+"""How a text is read: the diagnosis, what is quoted, the copies that are made, and which text stands for a mailbox."""

@@ -14,7 +14,7 @@ from ..terminal import NAMED
 from ..units import Line, Offset
 from .quoting import Quoter
 from .reading import BY_LENGTHS, CR, CRLF, MBOXCL2, MBOXO, MBOXRD, PLAIN, UNDECIDED, UNQUOTED, Reading, renumbered
-from .verdict import DROP_DELETED, Verdict, counted_by, is_against_lengths, is_answer, look_at, reading_of
+from .diagnosis import DROP_DELETED, Diagnosis, counted_by, is_against_lengths, is_answer, look_at, reading_of
 
 # why a file is left that holds this
 REASONS = {Holds.MAIL: Reason.UNCLEAR, Holds.OTHER: Reason.OTHER_KIND, Holds.UNKNOWN: Reason.NOT_KNOWN}
@@ -103,11 +103,11 @@ class NotKnown(OtherKind):
 class Question(Left):
     """What a human must decide: the lines that are asked about, with those around them, and the answers."""
 
-    def __init__(self, why: str, verdict: Verdict, quotes: list[Quote], answers: list[Choosable]) -> None:
+    def __init__(self, why: str, diagnosis: Diagnosis, quotes: list[Quote], answers: list[Choosable]) -> None:
         super().__init__(why, Reason.UNCLEAR, quotes=quotes)
-        self.kind, self.messages, self.most = verdict.kind, verdict.messages, verdict.most
-        self.is_takeout = verdict.is_takeout
-        self.answers, self.doubtful, self.is_on_lines = answers, verdict.doubtful(), verdict.is_on_lines
+        self.kind, self.messages, self.most = diagnosis.kind, diagnosis.messages, diagnosis.most
+        self.is_takeout = diagnosis.is_takeout
+        self.answers, self.doubtful, self.is_on_lines = answers, diagnosis.doubtful(), diagnosis.is_on_lines
         # returns a decision that is tied to this question
         self.tied: Callable[[Reading], Reading] = lambda decision: decision
 
@@ -123,124 +123,126 @@ class Question(Left):
 
 def plan_of(mailbox: Mailbox, read: Read = Look.read, decision: Reading = UNDECIDED) -> Plan:
     """Looks at as much of a mailbox as is wanted. Raises Left if something would be a guess that was not decided."""
-    verdict = look_at(mailbox, read)
-    if verdict.holds == Holds.NO_MAIL:
-        raise NoMail(verdict.kind)
-    if verdict.recipe:
-        left, first = NotKnown if verdict.holds == Holds.UNKNOWN else OtherKind, next(iter(verdict.said_lines), None)
-        raise left(mailbox.path, first, verdict.recipe, REASONS[verdict.holds], verdict.kind)
+    diagnosis = look_at(mailbox, read)
+    if diagnosis.holds == Holds.NO_MAIL:
+        raise NoMail(diagnosis.kind)
+    if diagnosis.recipe:
+        left, first = NotKnown if diagnosis.holds == Holds.UNKNOWN else OtherKind, next(
+            iter(diagnosis.said_lines), None
+        )
+        raise left(mailbox.path, first, diagnosis.recipe, REASONS[diagnosis.holds], diagnosis.kind)
     noted, decision = decision.noted, decision._replace(noted=None)
     if noted:
-        ties = verdict.look.doubts.ties(verdict.kind)
+        ties = diagnosis.look.doubts.ties(diagnosis.kind)
         # beside a decision on several mailboxes it counts if it was about what is asked now, or about the first lines
-        if decision == UNDECIDED or verdict.answers and noted.of in (ties.messages, *ties.first):
-            verdict = with_noted(verdict, noted)
-            decision = UNDECIDED if noted.of or verdict.answers or not noted.word else noted
+        if decision == UNDECIDED or diagnosis.answers and noted.of in (ties.messages, *ties.first):
+            diagnosis = with_noted(diagnosis, noted)
+            decision = UNDECIDED if noted.of or diagnosis.answers or not noted.word else noted
     if decision.of:
-        want_tied(verdict, decision)
-    plan = planned(verdict, decision)
-    if not verdict.answers or decision == UNDECIDED:
+        want_tied(diagnosis, decision)
+    plan = planned(diagnosis, decision)
+    if not diagnosis.answers or decision == UNDECIDED:
         return plan
-    order = {line: Line(number) for number, line in enumerate(verdict.doubtful(), 1)}
-    answer = renumbered(decision.decided, order)._replace(of=verdict.tied(UNDECIDED).of, alone=decision.alone)
+    order = {line: Line(number) for number, line in enumerate(diagnosis.doubtful(), 1)}
+    answer = renumbered(decision.decided, order)._replace(of=diagnosis.tied(UNDECIDED).of, alone=decision.alone)
     return plan._replace(answer=answer)
 
 
-def with_noted(verdict: Verdict, noted: Reading) -> Verdict:
-    """The verdict on a mailbox about which a human has decided before. The answer holds for the lines that it was
+def with_noted(diagnosis: Diagnosis, noted: Reading) -> Diagnosis:
+    """The diagnosis of a mailbox about which a human has decided before. The answer holds for the lines that it was
     about, and a rule decides only about others, as far as it agrees. Raises Question if lines came since that nobody
     has decided about: these are asked about alone."""
     # how many of the first lines that are doubtful have the tie of what was decided
-    count = verdict.look.doubts.ties(verdict.kind).first.get(noted.of, 0)
-    verdict = verdict.after(noted)
-    if not verdict.answers:
-        return verdict
-    new = verdict.look.doubts.after(count)
+    count = diagnosis.look.doubts.ties(diagnosis.kind).first.get(noted.of, 0)
+    diagnosis = diagnosis.after(noted)
+    if not diagnosis.answers:
+        return diagnosis
+    new = diagnosis.look.doubts.after(count)
     agrees = noted.word in BY_LENGTHS if noted.of else noted.word != UNQUOTED
-    if verdict.reading and agrees and new:
-        word = noted.word if noted.word in BY_LENGTHS else verdict.reading.word
-        return verdict._replace(reading=verdict.reading._replace(word=word))
-    if count and noted.word and verdict.is_on_lines and 0 < len(new) <= Lines.MANY:
-        said = [Said(line, NEW_LINE, cut(verdict.mailbox.from_line_at(offset))) for line, offset in new[:NAMED]]
-        before = renumbered(noted.decided, {Line(number): line for number, line in enumerate(verdict.doubtful(), 1)})
+    if diagnosis.reading and agrees and new:
+        word = noted.word if noted.word in BY_LENGTHS else diagnosis.reading.word
+        return diagnosis._replace(reading=diagnosis.reading._replace(word=word))
+    if count and noted.word and diagnosis.is_on_lines and 0 < len(new) <= Lines.MANY:
+        said = [Said(line, NEW_LINE, cut(diagnosis.mailbox.from_line_at(offset))) for line, offset in new[:NAMED]]
+        before = renumbered(noted.decided, {Line(number): line for number, line in enumerate(diagnosis.doubtful(), 1)})
         lines = frozenset(line for line, _ in new)
         answers = before._replace(text=before.text | lines), before._replace(begin=before.begin | lines)
-        raise question(verdict, Reasons(said, len(new)), answers)
-    return verdict._replace(reading=None)
+        raise question(diagnosis, Reasons(said, len(new)), answers)
+    return diagnosis._replace(reading=None)
 
 
-def want_tied(verdict: Verdict, decision: Reading) -> None:
+def want_tied(diagnosis: Diagnosis, decision: Reading) -> None:
     """Raises Left if a decision was made about other lines than those that are doubtful now, or names one that is not.
     What is asked now is asked then."""
-    lines, doubtful = decision.text | decision.begin, set(verdict.doubtful())
-    if lines <= doubtful and decision == verdict.tied(decision):
+    lines, doubtful = decision.text | decision.begin, set(diagnosis.doubtful())
+    if lines <= doubtful and decision == diagnosis.tied(decision):
         return
-    if verdict.answers:
-        messages, numbers, _ = verdict.look.doubts.ties(verdict.kind)
+    if diagnosis.answers:
+        messages, numbers, _ = diagnosis.look.doubts.ties(diagnosis.kind)
         # whoever adds lines to a printed command gets it with the tie that numbers of lines need
         own = [decision] if lines and lines <= doubtful and decision.of == messages else []
         has_changed = decision.of not in (messages, numbers)
         says = ANOTHER_QUESTION if has_changed else OTHER_LINES if lines else LACKS_LINES
-        raise question_of(verdict._replace(answers=(*verdict.answers, *own)), says)
-    raise Question(ANOTHER_QUESTION, verdict, [], [Choosable(UNDECIDED, verdict.messages or 0)])
+        raise question_of(diagnosis._replace(answers=(*diagnosis.answers, *own)), says)
+    raise Question(ANOTHER_QUESTION, diagnosis, [], [Choosable(UNDECIDED, diagnosis.messages or 0)])
 
 
-def planned(verdict: Verdict, decision: Reading) -> Plan:
+def planned(diagnosis: Diagnosis, decision: Reading) -> Plan:
     """The plan of an mbox text, as it is certain or decided."""
-    is_empty = not (verdict.messages or verdict.answers)
-    reading = decided(verdict, decision) if decision.word and not is_empty else None
+    is_empty = not (diagnosis.messages or diagnosis.answers)
+    reading = decided(diagnosis, decision) if decision.word and not is_empty else None
     if reading:
-        return plan_by(verdict, reading, decision, "%s by --as" % decision.word)
-    reading = verdict.reading
-    if decision.drop and DROP_DELETED in verdict.answers:
-        reading = reading_of(verdict.look)
+        return plan_by(diagnosis, reading, decision, "%s by --as" % decision.word)
+    reading = diagnosis.reading
+    if decision.drop and DROP_DELETED in diagnosis.answers:
+        reading = reading_of(diagnosis.look)
     if not reading:
-        raise question_of(verdict)
-    if decision.drop and verdict.messages:
-        return plan_by(verdict, reading, DROP_DELETED, verdict.kind)
-    remarks = (*verdict.remarks_on_text(), *verdict.remarks_on_quotes())
-    kind, is_copied = verdict.kind, reading != PLAIN
+        raise question_of(diagnosis)
+    if decision.drop and diagnosis.messages:
+        return plan_by(diagnosis, reading, DROP_DELETED, diagnosis.kind)
+    remarks = (*diagnosis.remarks_on_text(), *diagnosis.remarks_on_quotes())
+    kind, is_copied = diagnosis.kind, reading != PLAIN
     if is_copied:
         kind += ", quoted"
     elif kind == MBOXCL2:
         reading = Reading(MBOXCL2)
-    return Plan(kind, verdict.messages or 0, verdict.start, reading, is_copied, remarks)
+    return Plan(kind, diagnosis.messages or 0, diagnosis.start, reading, is_copied, remarks)
 
 
-def decided(verdict: Verdict, decision: Reading) -> Optional[Reading]:
+def decided(diagnosis: Diagnosis, decision: Reading) -> Optional[Reading]:
     """How a text is read by a decision; None if it is certain anyhow. Raises Left if the mailbox is one of several and
     contradicts the decision on them, or if something else is doubtful; or if the decision is on lengths alone, and
     lines outside of them look like mail."""
-    look, word = verdict.look, decision.word
+    look, word = diagnosis.look, decision.word
     if not decision.alone:
-        if verdict.reading and look.have_lengths():
+        if diagnosis.reading and look.have_lengths():
             return None
-        is_unclear = verdict.ends == CR or look.count("joined", "holds mail", "cut") > 0
+        is_unclear = diagnosis.ends == CR or look.count("joined", "holds mail", "cut") > 0
         if is_unclear or look.are_deleted() and not decision.drop or not is_answer(look, word):
-            raise question_of(verdict)
+            raise question_of(diagnosis)
         against = look.against(word)
         if against.total:
             by_words = [Reading(one) for one in (word, *(other for other, same in WAYS if word not in same))]
-            by_lines = [one for one in verdict.answers if one.text or one.begin]
-            raise question(verdict, against, (*by_words, *by_lines))
-    elif verdict.answers and is_against_lengths(look, decision):
-        raise question_of(verdict)
-    if verdict.ends == CR and word in BY_LENGTHS:
-        raise question(verdict, NO_LENGTHS, verdict.answers)
-    return Reading(word, decision.text, decision.begin, ends=verdict.ends)
+            by_lines = [one for one in diagnosis.answers if one.text or one.begin]
+            raise question(diagnosis, against, (*by_words, *by_lines))
+    elif diagnosis.answers and is_against_lengths(look, decision):
+        raise question_of(diagnosis)
+    if diagnosis.ends == CR and word in BY_LENGTHS:
+        raise question(diagnosis, NO_LENGTHS, diagnosis.answers)
+    return Reading(word, decision.text, decision.begin, ends=diagnosis.ends)
 
 
-def plan_by(verdict: Verdict, reading: Reading, decision: Reading, kind: str) -> Plan:
+def plan_by(diagnosis: Diagnosis, reading: Reading, decision: Reading, kind: str) -> Plan:
     """The plan of a mailbox that is read in this way. All of it is read for that; a copy is made if it would differ."""
-    counts = Quoter(reading, verdict.mailbox, verdict.start)
+    counts = Quoter(reading, diagnosis.mailbox, diagnosis.start)
     for _ in counts.run():
         pass
     counts.check(counts.given, counts.messages)
     if reading.ends == CRLF and not counts.crlf:
         reading = reading._replace(ends="")
-    says, without = verdict.remarks_on_text(), counts.messages - counts.marked
+    says, without = diagnosis.remarks_on_text(), counts.messages - counts.marked
     # those without a mark about which a human has decided here
-    known = verdict.look.count("unmarked") if decision.of else 0
+    known = diagnosis.look.count("unmarked") if decision.of else 0
     if decision.drop and without > known:
         # not each other message has a mark, so that none is taken for deleted
         says.append(Says.DELETED_KEPT.of(without, counts.messages))
@@ -251,7 +253,7 @@ def plan_by(verdict: Verdict, reading: Reading, decision: Reading, kind: str) ->
     # where no message has a mark, nothing is said of deleted mail
     is_said = decision.word or counts.marked
     answer = Reading(decision.word, drop=decision.drop, alone=decision.alone) if is_said else None
-    return Plan(kind, messages, verdict.start, reading, is_copied, tuple(says), answer)
+    return Plan(kind, messages, diagnosis.start, reading, is_copied, tuple(says), answer)
 
 
 def wants_copy(reading: Reading, counts: Quoter) -> bool:
@@ -259,27 +261,27 @@ def wants_copy(reading: Reading, counts: Quoter) -> bool:
     return bool(counts.quoted or counts.left_out or reading.drop or reading.ends == CR or reading.begin)
 
 
-def question_of(verdict: Verdict, before: str = "") -> Question:
+def question_of(diagnosis: Diagnosis, before: str = "") -> Question:
     """What is asked about a mailbox of which something would be a guess, and what is said before that."""
-    reasons = verdict.reasons if verdict.reasons.total else Reasons(verdict.said_lines, len(verdict.said_lines))
-    return question(verdict, reasons, verdict.answers, before)
+    reasons = diagnosis.reasons if diagnosis.reasons.total else Reasons(diagnosis.said_lines, len(diagnosis.said_lines))
+    return question(diagnosis, reasons, diagnosis.answers, before)
 
 
-def question(verdict: Verdict, reasons: Reasons, decisions: Sequence[Reading], before: str = "") -> Question:
+def question(diagnosis: Diagnosis, reasons: Reasons, decisions: Sequence[Reading], before: str = "") -> Question:
     """What is asked about a mailbox: the lines that are the reason, with the answers that its text allows, each tied to
     it."""
     answers: list[Choosable] = []
     for decision in decisions:
-        decision = verdict.tied(decision)
+        decision = diagnosis.tied(decision)
         try:
-            known = counted_by(verdict.look, decision)
-            messages = planned(verdict, decision).messages if known is None else known
+            known = counted_by(diagnosis.look, decision)
+            messages = planned(diagnosis, decision).messages if known is None else known
             answers.append(Choosable(decision, messages))
         except Fault:
             # no message begins with the first line
             continue
-    quotes = lines_around(verdict.mailbox, reasons)
+    quotes = lines_around(diagnosis.mailbox, reasons)
     says = ": ".join(filter(None, [before, reasons.sentence()]))
-    found = Question(says, verdict, quotes, [one.meant(answers) for one in answers])
-    found.tied = verdict.tied
+    found = Question(says, diagnosis, quotes, [one.meant(answers) for one in answers])
+    found.tied = diagnosis.tied
     return found

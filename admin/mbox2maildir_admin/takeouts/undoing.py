@@ -12,7 +12,7 @@ from ..maildir.folders import folder_path
 from ..maildir.making import real_place
 from ..mbox.locks import open_mailbox
 from ..mbox.mailbox import Mailbox
-from ..migration.outcomes import Fate, Observer, Row, row_left
+from ..migration.outcomes import Verdict, Observer, Row, row_left
 from ..migration.several import refuse
 from ..migration.known import Opened
 from ..migration.options import Options
@@ -51,13 +51,13 @@ class TakeoutUndo(Undo):
                         row = self.undo(opened)
                     except (Fault, OSError) as fault:
                         row = row_left(path, opened.name, fault)
-                    is_left, count = is_left or row.fate == Fate.LEFT, count + 1
+                    is_left, count = is_left or row.verdict == Verdict.LEFT, count + 1
                     yield row
                 if line and not is_left and not self.options.dry:
                     note_nothing(self.record, line)
                 if not count:
-                    fate = Fate.WOULD_UNDO if self.options.dry else Fate.UNDONE
-                    yield Row(path, b"", "", 0, fate, remarks=(Says.NOTHING_PLACED.of(),))
+                    verdict = Verdict.WOULD_UNDO if self.options.dry else Verdict.UNDONE
+                    yield Row(path, b"", "", 0, verdict, remarks=(Says.NOTHING_PLACED.of(),))
         except (Fault, OSError) as fault:
             yield row_left(path, b"", fault)
 

@@ -33,7 +33,7 @@ from ..mbox.locks import WITHOUT_LOCKS, open_mailbox
 from ..mbox.mailbox import CHANGED_MEANWHILE, SIGNS_OF_FILE, Mailbox
 from ..migration.dovecot import Dovecot, remove_lists
 from ..migration.known import Known, Opened, moved_in
-from ..migration.outcomes import Fate, Observer, Row, row_left
+from ..migration.outcomes import Verdict, Observer, Row, row_left
 from ..migration.preparing import remove_prepared
 from ..migration.several import refuse
 from ..migration.options import Options
@@ -79,7 +79,7 @@ class Why(enum.Enum):
     GONE = Says.ALREADY_GONE
 
 
-# how many messages have each fate
+# how many messages go or stay, by why
 Counts = collections.Counter[Why]
 
 
@@ -142,9 +142,9 @@ class Undo:
         messages = count_in(ledger, path)
         counts = remove(opened, plan, dry) if dry else self.carry_out(opened, ledger, path, plan)
         keepers = collections.Counter(one.keeper for one in plan if one.keeper)
-        fate = Fate.WOULD_UNDO if dry else Fate.UNDONE
+        verdict = Verdict.WOULD_UNDO if dry else Verdict.UNDONE
         remarks = tuple(remarks_on(counts, keepers, dry))
-        return Row(mailbox.path, opened.name, "", messages, fate, size=mailbox.size, remarks=remarks)
+        return Row(mailbox.path, opened.name, "", messages, verdict, size=mailbox.size, remarks=remarks)
 
     def path_in(self, ledger: Ledger, opened: Opened) -> str:
         """The path of a mailbox as a ledger spells it, also if it was moved from there; empty if it does not have it.

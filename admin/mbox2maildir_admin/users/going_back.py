@@ -15,7 +15,7 @@ from ..maildir.folders import folders_in
 from ..mbox.bases import BASE
 from ..mbox.lock_file import hold, look_for_lock_file, spot_of
 from ..mbox.mailbox import Mailbox
-from ..migration.outcomes import Fate, Observer
+from ..migration.outcomes import Verdict, Observer
 from ..migration.trees import Tree
 from ..nexts import Runs
 from .clerks import MAKE, RELEASE, TAKE, InboxClerk, Inboxes
@@ -76,7 +76,7 @@ def is_bare(path: bytes) -> bool:
         return False
     tree = Tree(path).read()
     is_left = tree.mailboxes() or tree.links or tree.maildirs
-    return not is_left and all(row.fate == Fate.NO_MAIL for row in tree.rows)
+    return not is_left and all(row.verdict == Verdict.NO_MAIL for row in tree.rows)
 
 
 class Asking(Keeper):

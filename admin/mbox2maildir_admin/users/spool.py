@@ -10,7 +10,7 @@ from ..jobs.order import MOST, jobs_of, size_of
 from ..kinds.named import is_auxiliary, is_no_mail
 from ..looks import is_surely, is_there, may_be
 from ..maildir.folders import folder_path, on_disk
-from ..migration.outcomes import Fate, Observer, Row, row_left
+from ..migration.outcomes import Verdict, Observer, Row, row_left
 from ..migration.servers import locations
 from ..nexts import Answer, Command, Runs, run_next
 from ..program import find_program
@@ -90,7 +90,7 @@ def users_of(spool: Spool, observer: Observer, is_by_size: bool) -> tuple[collec
     if spool.asked is None:
         counts, not_asked = {SPOOL: 0, ACCOUNTS: 0}, 0
         for name in listed - users.names:
-            observer.row(Row(b"", b"", "", None, Fate.NO_MAIL, user=shown(name)))
+            observer.row(Row(b"", b"", "", None, Verdict.NO_MAIL, user=shown(name)))
     else:
         counts = dict.fromkeys(spool.asked.values(), 0)
         not_asked = len({stem_of(name, listed) for name in listed} - spool.asked.keys())

@@ -22,7 +22,7 @@ NOT_QUOTED, TAKEOUT = "not quoted", "Gmail's Takeout"
 DROP_DELETED = Reading(drop=True)
 
 
-class Verdict(NamedTuple):
+class Diagnosis(NamedTuple):
     """What a file is: how its text is read if that is no guess, or what may be decided about it."""
 
     # what was seen in its text; nothing if that is not mbox text, or has lines that end in CR alone
@@ -58,7 +58,7 @@ class Verdict(NamedTuple):
         ties = self.look.doubts.ties(self.kind)
         return decision._replace(of=ties.numbers if decision.text or decision.begin else ties.messages)
 
-    def after(self, noted: Reading) -> "Verdict":
+    def after(self, noted: Reading) -> "Diagnosis":
         """The same once something was decided. Its word stays in answers about deleted mail alone and, if lines begin
         messages alike, in all others. If deleted mail was kept, this comes first."""
         word, answers = noted.word, self.answers
@@ -120,26 +120,26 @@ class Verdict(NamedTuple):
         return says
 
 
-def look_at(mailbox: Mailbox, read: Read = Look.read) -> Verdict:
+def look_at(mailbox: Mailbox, read: Read = Look.read) -> Diagnosis:
     """What an open file is, and what is to be done with it. `read` looks at as much of its text as is wanted."""
     start = text_start(mailbox)
     look = Look(mailbox, start or Offset(0))
     if start is None:
         found = finding_of(look)
         mailbox.check()
-        return Verdict(look, found.kind, said_lines=found.said_lines, holds=found.holds, recipe=found.recipe)
+        return Diagnosis(look, found.kind, said_lines=found.said_lines, holds=found.holds, recipe=found.recipe)
     if b"\r" in mailbox.at(start, HEAD).split(b"\n")[0][:-1]:
         mailbox.file.offset = start
         count = from_lines_of(LineEnds(mailbox.file).read)
         mailbox.check()
         why = Reasons([Said(Line(0), "its lines end in CR alone")], 1)
-        return Verdict(look, "line ends of CR alone", count, count, reasons=why, answers=(PLAIN,), ends=CR)
+        return Diagnosis(look, "line ends of CR alone", count, count, reasons=why, answers=(PLAIN,), ends=CR)
     look = read(look)
     answers = answers_of(look)
     # without the lines `From ` that may be text, and with those that may be mail within messages, and within lines
     fewest, most = look.messages - look.count(*DOUBTS), look.messages + look.count(*MAY_BE_MAIL, "joined")
     reading = None if answers and not look.shows_lengths() else reading_of(look)
-    return Verdict(look, kind_of(look), fewest, most, list(look.said_lines()), reading, look.keeping(), answers)
+    return Diagnosis(look, kind_of(look), fewest, most, list(look.said_lines()), reading, look.keeping(), answers)
 
 
 def reading_of(look: Look) -> Reading:
