@@ -8,11 +8,11 @@ NAME = "VERSION"
 
 def version() -> str:
     """Returns the version from a file: an installed package has it beside this file, the source tree at its top."""
-    beside = os.path.dirname(os.path.dirname(os.path.realpath(__file__)))
-    for folder in (beside, os.path.dirname(beside)):
+    here = os.path.dirname(os.path.dirname(os.path.realpath(__file__)))
+    for folder in (here, os.path.dirname(here)):
         try:
             with open(os.path.join(folder, NAME), encoding="ascii") as file:
                 return file.read().strip()
         except FileNotFoundError:
             continue
-    raise Fault("it is missing: install the package anew", place=os.fsencode(os.path.join(beside, NAME)))
+    raise Fault("it is missing: install the package anew", place=os.fsencode(os.path.join(here, NAME)))

@@ -32,8 +32,8 @@ from ..readings.texts import folder_for_copies
 from ..remarks import Says
 from ..terminal import first_of, named
 from ..units import Size, counted
-from .beside import Beside, Draft
 from .dialect import Appended, Client, Letter, Style, are_at, forms_of_letter, reading_now, styles_of
+from .journal import Draft, Journal
 from .mails import Mail, Target
 from .numbers import Listed, Numbering
 from .places import Keeper, Places
@@ -274,16 +274,16 @@ class Appending:
             return
         want_room(Need.of(os.path.dirname(mailbox.path), [], goes.size))
         reads = reading_now(mailbox)
-        beside = Beside.made(draft, self.opened.folder, mailbox, [one.start for one in goes.entries])
+        journal = Journal.made(draft, self.opened.folder, mailbox, [one.start for one in goes.entries])
         number = self.begin(goes, draft)
-        beside.append_to(mailbox)
+        journal.append_to(mailbox)
         try:
             self.want_right(mailbox, goes.entries, reads)
         except BaseException:
-            beside.take_back(mailbox)
+            journal.take_back(mailbox)
             raise
         # once the ledger says that it went back, no run may take it for a part, and cut it off
-        beside.remove()
+        journal.remove()
         ledger.note(END_LINE % number)
 
     def begin(self, goes: Goes, draft: Draft) -> int:

@@ -19,7 +19,7 @@ from ..program import Program, find_program
 from ..remarks import Remark, Says, Sentence
 from ..terminal import first_of, named, operand
 from .appending import Returned, TakesNothing, Way, nothing_new
-from .beside import FULL, Beside
+from .journal import FULL, Journal
 from .mails import Sorted, Target, sorted_mail
 from .places import Keeper, Names, Places
 from .subscriptions import rows_of
@@ -169,44 +169,44 @@ class Folders:
 
     def recovered(self, folder: bytes) -> Iterator[Row]:
         """Takes back what a killed run appended in part. The row of a mailbox in which a message stays cut."""
-        beside = None if self.is_dry else Beside.left_in(folder_path(self.way.record.maildir, folder))
-        if not beside:
+        journal = None if self.is_dry else Journal.left_in(folder_path(self.way.record.maildir, folder))
+        if not journal:
             return
         try:
-            paths = [unspelled(beside.mailbox), *self.places.found.get(folder, ())]
+            paths = [unspelled(journal.mailbox), *self.places.found.get(folder, ())]
             paths = list(filter(is_file, paths))
-            same = [one for one in paths if os.stat(one).st_ino == beside.inode]
+            same = [one for one in paths if os.stat(one).st_ino == journal.inode]
             # another file at its path may be a copy of it
             for path in (same or paths)[:1]:
                 with self.way.opened(path) as mailbox:
-                    line = beside.recover(mailbox)
+                    line = journal.recover(mailbox)
                 if line is not None:
                     yield left(Target(path, folder, ()), Left(TORN % line, Reason.TORN))
             if not paths:
-                beside.remove()
+                journal.remove()
         finally:
-            os.close(beside.number)
+            os.close(journal.number)
 
     def rows_beside(self, target: Target, why: Sentence) -> Iterator[Row]:
         """The rows of the mailboxes beside one that does not get this mail. What one of them cannot hold goes into the
         next one."""
-        beside, tried = target, list[bytes]()
-        while beside.mails:
+        rest, tried = target, list[bytes]()
+        while rest.mails:
             try:
                 tried.append(self.places.beside(target.path, target.folder, tried))
             except (Fault, OSError) as fault:
-                yield left(beside._replace(path=target.path), fault)
+                yield left(rest._replace(path=target.path), fault)
                 return
-            beside = beside._replace(path=tried[-1], returned=())
-            found = self.brought(beside)
+            rest = rest._replace(path=tried[-1], returned=())
+            found = self.brought(rest)
             if not found:
-                yield left(beside._replace(remarks=()), Left(NOT_READ_BACK, Reason.NOT_HELD))
+                yield left(rest._replace(remarks=()), Left(NOT_READ_BACK, Reason.NOT_HELD))
                 return
             row, refused = found
-            files = [one.path for one in beside.mails if one not in refused]
+            files = [one.path for one in rest.mails if one not in refused]
             if files:
                 yield row._replace(remarks=(why.of(named(target.path), first_of(files)), *row.remarks))
-            beside = beside._replace(mails=refused)
+            rest = rest._replace(mails=refused)
 
     def brought(self, target: Target) -> Optional[Returned]:
         """What became of a mailbox to which mail goes back, and which is made if it is missing; None if it takes

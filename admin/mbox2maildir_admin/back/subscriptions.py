@@ -15,7 +15,7 @@ from ..migration.outcomes import Verdict, Row, row_left
 from ..remarks import Says
 from ..terminal import is_text
 from ..units import counted
-from .beside import Draft
+from .journal import Draft
 from .places import Places
 
 # the ending of its name while it is written

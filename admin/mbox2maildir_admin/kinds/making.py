@@ -106,8 +106,3 @@ class Where(NamedTuple):
     def only_prints(self, part: Union[Makes, Template, Task]) -> bool:
         """Whether the command of one part leaves a file where it is, and prints what may be migrated in its place."""
         return self.wants_file and isinstance(part, Makes) and part.is_folder
-
-
-def beside(path: bytes) -> Where:
-    """Where a file is put aside if nothing else is known: beside itself."""
-    return Where(os.path.dirname(os.path.abspath(path)))

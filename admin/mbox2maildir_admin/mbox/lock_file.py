@@ -65,7 +65,7 @@ class Spot(NamedTuple):
         state = self.state()
         return state is not None and os.path.samestat(state, os.fstat(number))
 
-    def beside(self) -> "Spot":
+    def draft(self) -> "Spot":
         """The name that it has until it is whole."""
         folder, name = os.path.split(self.name)
         return Spot(os.path.join(folder, b".mbox2maildir.%s" % name), self.folder)
@@ -131,10 +131,10 @@ def make_lock(spot: Spot, owner: bytes) -> int:
 def make_held(spot: Spot, content: bytes, mode: int) -> int:
     """Makes a lock, which has its content, and is held, from the first moment. Returns its descriptor, which holds it
     until it is closed. Raises FileExistsError if it is there already."""
-    beside = spot.beside()
+    draft = spot.draft()
     with contextlib.suppress(FileNotFoundError):
-        beside.unlink()
-    number = beside.open(os.O_RDWR | os.O_CREAT | os.O_EXCL, mode)
+        draft.unlink()
+    number = draft.open(os.O_RDWR | os.O_CREAT | os.O_EXCL, mode)
     try:
         write_all(number, content)
         # after a power cut, nobody knows whose a lock without its content is
@@ -142,12 +142,12 @@ def make_held(spot: Spot, content: bytes, mode: int) -> int:
         with contextlib.suppress(OSError):
             # whoever wants to know whether it is left asks for the other kind
             fcntl.flock(number, fcntl.LOCK_SH | fcntl.LOCK_NB)
-        beside.link(spot)
+        draft.link(spot)
     except BaseException:
         os.close(number)
         raise
     finally:
-        beside.unlink()
+        draft.unlink()
     return number
 
 

@@ -115,8 +115,8 @@ class Known:
             if last and last.path in Ledger(folder_path(self.record.maildir, folder)).paths():
                 found.append((last, True))
         same = [line for line in self.record.lines_of(mailbox) if is_gone(line.path) or is_replaced(line)]
-        beside = os.path.dirname(self.names[0])
-        others = (one for one in self.record.gone(beside) if one not in same)
+        here = os.path.dirname(self.names[0])
+        others = (one for one in self.record.gone(here) if one not in same)
         for line in itertools.chain(same, others):
             is_same = line in same
             # the same bytes may have fewer messages as they are read now

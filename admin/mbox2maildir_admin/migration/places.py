@@ -111,7 +111,7 @@ class Pairs(NamedTuple):
     options: Options = Options()
     own: Optional[Container[bytes]] = None
 
-    def beside(self, path: bytes) -> list[bytes]:
+    def paired_with(self, path: bytes) -> list[bytes]:
         """The files beside one that count, and may be its copies, or that it may be a copy of, by their names; those
         that are known to hold no mail are neither."""
         names = [path + ending for ending in COPIES]
@@ -156,7 +156,7 @@ class Pairs(NamedTuple):
         """A mailbox as it was planned; or left, since another is beside it and it is not done. Unless it may be a copy
         itself, the command that migrates it all the same is told."""
         try:
-            others = self.beside(one.path)
+            others = self.paired_with(one.path)
             if one.why or not others or self.done_in(one.path, one.folder) is not None:
                 return one
             # once a compressed file is done, its mail counts as other mail

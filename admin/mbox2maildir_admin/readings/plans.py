@@ -1,10 +1,11 @@
 """Which part of a mailbox is converted, and how it is read: as is certain, or as a human decided."""
+import os
 from collections.abc import Callable, Sequence
 from typing import NamedTuple, Optional
 
 from ..faults import Fault, Left, Reason
 from ..kinds.look import Look, Read
-from ..kinds.making import Recipe, Where, beside
+from ..kinds.making import Recipe, Where
 from ..kinds.others import Holds
 from ..mbox.lines import Lines, Reasons, Said, cut, lines_around
 from ..mbox.mailbox import Mailbox
@@ -89,7 +90,8 @@ class OtherKind(Left):
         quotes = [Quote(says.line, says.text)] if says and says.text else []
         super().__init__(says.sentence() if says else "", reason, quotes=quotes)
         self.path, self.recipe, self.kind = path, recipe, kind
-        self.put(beside(path))
+        # beside itself, if nothing else is known
+        self.put(Where(os.path.dirname(os.path.abspath(path))))
 
     def put(self, where: Where) -> None:
         """Sets where the next command puts the file."""

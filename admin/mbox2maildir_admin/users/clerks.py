@@ -64,20 +64,20 @@ class Inboxes:
     def make(self, spot: Spot, account: Account) -> None:
         """Makes the inbox of an account, unless something has its name. It gets its name, if that is free, once it
         belongs to its user, and has its group. It is on the disk then."""
-        mode, beside = self.mode, spot.beside()
+        mode, draft = self.mode, spot.draft()
         if not spot.state():
             with contextlib.suppress(FileNotFoundError):
-                beside.unlink()
-            number = beside.open(os.O_WRONLY | os.O_CREAT | os.O_EXCL, OWN)
+                draft.unlink()
+            number = draft.open(os.O_WRONLY | os.O_CREAT | os.O_EXCL, OWN)
             try:
                 os.fchown(number, account.uid, self.group_for(account))
                 os.fchmod(number, mode)
                 os.fsync(number)
                 with contextlib.suppress(FileExistsError):
-                    beside.link(spot)
+                    draft.link(spot)
             finally:
                 os.close(number)
-                beside.unlink()
+                draft.unlink()
         os.fsync(self.number)
 
 

@@ -37,7 +37,7 @@ class Found(NamedTuple):
     is_left: bool = False
     # why it is not migrated unless it was before; and the files beside it that may be copies of it
     why_not: Optional[Left] = None
-    beside: tuple[bytes, ...] = ()
+    copies: tuple[bytes, ...] = ()
     # further mailboxes of the account
     others: tuple[bytes, ...] = ()
 
@@ -76,7 +76,7 @@ class UserWork:
 
     def whose(self) -> Whose:
         """The user as root knows it."""
-        mailboxes = {one: one for one in self.user.beside}
+        mailboxes = {one: one for one in self.user.copies}
         mailboxes.update({b"": self.mailbox} if self.mailbox else {})
         return Whose(shown(self.user.name), text_of(self.account.name), mailboxes, self.is_back)
 
@@ -98,7 +98,7 @@ class UserWork:
 
     def of_spool(self) -> list[bytes]:
         """The paths in the spool."""
-        return [self.mailbox, *self.user.beside] if self.mailbox else []
+        return [self.mailbox, *self.user.copies] if self.mailbox else []
 
     def names(self, relay: "Relay") -> Iterator[bytes]:
         """The paths that are to be migrated. If the folder of mailboxes can't be looked for, it is left."""
@@ -205,7 +205,7 @@ class Relay(Parent, Observer):
         """Tells a row. The mailbox of a row may be gone from the spool."""
         home = self.user.account.home
         path = b"" if row.path in (self.user.place, home) else os.path.relpath(row.path, home)
-        path = row.path if row.path in self.user.beside or path.startswith(b"../") else path
+        path = row.path if row.path in self.user.copies or path.startswith(b"../") else path
         self.with_rows.add(row.path)
         self.rows += 1
         self.tell("row", told(row._replace(path=path)))

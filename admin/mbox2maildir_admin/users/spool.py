@@ -97,7 +97,7 @@ def users_of(spool: Spool, observer: Observer, is_by_size: bool) -> tuple[collec
     for name, source, account in users.looked_at():
         if isinstance(account, Left):
             users.leave(name, account)
-            users.leave_beside(name)
+            users.leave_copies(name)
         else:
             users.add(name, account)
             counts[source] += 1
@@ -248,9 +248,9 @@ class Users:
             self.leave(name, fault)
             user = user._replace(is_left=True)
         if user.size is None:
-            self.leave_beside(name)
+            self.leave_copies(name)
         else:
-            user = user._replace(beside=self.beside_of(name, account))
+            user = user._replace(copies=self.copies_of(name, account))
             other = self.other_name(name, key)
             if other is not None:
                 self.others.append(user._replace(why_not=self.why_not(account, other, place)))
@@ -268,7 +268,7 @@ class Users:
                 self.found[key] = self.found[key]._replace(others=(*self.found[key].others, one.place))
         self.others.clear()
 
-    def beside_of(self, name: bytes, account: Account) -> tuple[bytes, ...]:
+    def copies_of(self, name: bytes, account: Account) -> tuple[bytes, ...]:
         """The files beside the mailbox of this name that may be copies of it. Files of another owner are left."""
         found = []
         for other in self.copies.get(name, ()):
@@ -280,7 +280,7 @@ class Users:
                 self.leave(other, fault)
         return tuple(found)
 
-    def leave_beside(self, name: bytes) -> None:
+    def leave_copies(self, name: bytes) -> None:
         """Leaves the files beside a mailbox that is left itself."""
         for other in self.copies.get(name, ()):
             self.leave(other, Left("it may be a copy of %s, which is left" % named(name), Reason.COPY))

@@ -41,9 +41,10 @@ FULL = errno.ENOSPC, errno.EDQUOT
 KEEP_SIZE = 1
 
 
-class Beside(NamedTuple):
-    """The file beside, which is open: the inode, the size and the SHA-256 that the mailbox had, and its path, as lines
-    of a record spell it; and of what is to be appended the size, the SHA-256, and where each message begins in it."""
+class Journal(NamedTuple):
+    """The file with what is to be appended, which is open: the inode, the size and the SHA-256 that the mailbox had, and
+    its path, as lines of a record spell it; and of what is to be appended the size, the SHA-256, and where each message
+    begins in it."""
 
     path: bytes
     number: int
@@ -56,7 +57,7 @@ class Beside(NamedTuple):
     starts: Sequence[int]
 
     @classmethod
-    def made(cls, draft: "Draft", folder: bytes, mailbox: Mailbox, starts: Sequence[int]) -> "Beside":
+    def made(cls, draft: "Draft", folder: bytes, mailbox: Mailbox, starts: Sequence[int]) -> "Journal":
         """Makes that of a folder of what was drafted for a mailbox, whose messages begin at these places."""
         path, size, digest = os.path.join(folder, GOES_BACK), draft.size, digest_of(draft.number, draft.size)
         of_mailbox = mailbox.state.st_ino, *mailbox.key(), spelled(mailbox.path)
@@ -68,7 +69,7 @@ class Beside(NamedTuple):
         return self
 
     @classmethod
-    def left_in(cls, folder: bytes) -> Optional["Beside"]:
+    def left_in(cls, folder: bytes) -> Optional["Journal"]:
         """The one that a killed run left in a folder; None if there is none. One without all of its bytes says nothing,
         and goes. Raises Left if something else has its name, or if another version wrote it."""
         path = os.path.join(folder, GOES_BACK)
