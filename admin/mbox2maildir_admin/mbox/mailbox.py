@@ -12,8 +12,8 @@ from .files import BLOCK, LONG, Reader, open_file, open_plain
 from .pieces import Piece, pieces_of
 
 # the facts that show that a file has changed, and that it is no other one
-SIGNS = "st_size", "st_mtime_ns", "st_ctime_ns"
-SIGNS_OF_FILE = "st_dev", "st_ino", *SIGNS
+FACTS = "st_size", "st_mtime_ns", "st_ctime_ns"
+FACTS_OF_FILE = "st_dev", "st_ino", *FACTS
 CHANGED = "it changed while it was read"
 CHANGED_MEANWHILE = "it changed in the meantime"
 
@@ -25,7 +25,12 @@ def is_still(path: bytes, state: os.stat_result) -> bool:
             now = os.fstat(file.fileno())
     except (FileNotFoundError, Fault):
         return False
-    return all(getattr(now, sign) == getattr(state, sign) for sign in SIGNS_OF_FILE)
+    return is_unchanged(state, now)
+
+
+def is_unchanged(before: os.stat_result, now: os.stat_result) -> bool:
+    """Whether two states are of one file, which has not changed between them."""
+    return all(getattr(now, fact) == getattr(before, fact) for fact in FACTS_OF_FILE)
 
 
 def lines_at(reader: Reader, offsets: Iterable[int]) -> Iterator[Line]:
@@ -182,7 +187,7 @@ class Mailbox:
     def has_changed(self) -> bool:
         """Whether the text has changed since it was opened."""
         now = os.fstat(self.number)
-        return any(getattr(now, sign) != getattr(self.state, sign) for sign in SIGNS)
+        return any(getattr(now, fact) != getattr(self.state, fact) for fact in FACTS)
 
     def check(self) -> None:
         """Raises Fault if the text has changed."""

@@ -297,7 +297,7 @@ def origin_now(known: Known, contents: Contents, names: Iterable[bytes]) -> Orig
     mailbox = known.opened.mailbox
     tree = tree_above(real_path(mailbox.path), map(real_path, names))
     its = len(contents.inventory), contents.reading.words(), spelled(tree) if tree else "", known.path
-    return Origin(mailbox.key(), signs_of(mailbox.copied or mailbox.state), *its)
+    return Origin(mailbox.key(), facts_of_mailbox(mailbox.copied or mailbox.state), *its)
 
 
 def text_to_list(choice: Choice, contents: Contents) -> Optional[ReadText]:
@@ -309,7 +309,7 @@ def text_to_list(choice: Choice, contents: Contents) -> Optional[ReadText]:
     return ReadText(as_read, contents.inventory, contents.full.offsets)
 
 
-def signs_of(state: os.stat_result) -> tuple[int, ...]:
+def facts_of_mailbox(state: os.stat_result) -> tuple[int, ...]:
     """The facts that show, between two passes, that a mailbox has not changed."""
     return state.st_ino, state.st_size, max(0, state.st_mtime_ns), max(0, state.st_ctime_ns)
 
@@ -396,7 +396,7 @@ def row_unchanged(record: Record, options: Options, path: bytes, name: bytes, sa
     origin = prepared.origin
     if not origin or not prepared.is_whole or prepared.batch or prepared.has_failed or options.decision != UNDECIDED:
         return None
-    is_same = origin.state == signs_of(os.stat(path)) and origin.path in names_of(path)
+    is_same = origin.state == facts_of_mailbox(os.stat(path)) and origin.path in names_of(path)
     if not is_same or Reading.of_words(origin.words).bare != options.extra.IS_BARE:
         return None
     prepared.look(say)

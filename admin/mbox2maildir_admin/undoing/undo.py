@@ -30,7 +30,7 @@ from ..maildir.folders import INBOX, folder_of, folder_shown, folders_in, name_o
 from ..maildir.making import RECORD, real_place
 from ..mbox.bases import DIGEST, base_in, before_info, is_own
 from ..mbox.locks import WITHOUT_LOCKS, open_mailbox
-from ..mbox.mailbox import CHANGED_MEANWHILE, SIGNS_OF_FILE, Mailbox
+from ..mbox.mailbox import CHANGED_MEANWHILE, Mailbox, is_unchanged
 from ..migration.dovecot import Dovecot, remove_lists
 from ..migration.known import Known, Opened, moved_in
 from ..migration.outcomes import Verdict, Observer, Row, row_left
@@ -320,7 +320,7 @@ def remove_file(mailbox: Mailbox, path: bytes, digest: bytes, dry: bool) -> Opti
     None if it is gone, or changes meanwhile. A symbolic link has no digest."""
     try:
         before, found, now = os.lstat(path), digest_of(path)[0], os.lstat(path)
-        if any(getattr(now, sign) != getattr(before, sign) for sign in SIGNS_OF_FILE):
+        if not is_unchanged(before, now):
             return None
         if found == digest and not dry:
             want_same(mailbox)
