@@ -83,18 +83,18 @@ def width_of(text: str) -> int:
     return sum(2 if unicodedata.east_asian_width(letter) in "WF" else 1 for letter in text)
 
 
-def fitted(name: str, room: int) -> str:
+def fitted(name: str, columns: int) -> str:
     """Returns a name that fits into a number of columns: the end of a longer one."""
-    if width_of(name) <= room:
+    if width_of(name) <= columns:
         return name
-    while name and width_of(name) + 3 > room:
+    while name and width_of(name) + 3 > columns:
         name = name[1:]
     return "..." + name
 
 
-def cut(line: str, room: int) -> str:
+def cut(line: str, columns: int) -> str:
     """Returns a line that fits into a number of columns: the beginning of a longer one."""
-    while width_of(line) > room:
+    while width_of(line) > columns:
         line = line[:-1]
     return line
 
@@ -132,15 +132,15 @@ class Pace:
         return figures
 
 
-def composed(task: Task, doing: str, more: Iterable[str], room: int) -> str:
+def composed(task: Task, doing: str, more: Iterable[str], columns: int) -> str:
     """Returns a line that fits into a number of columns, with as many of `more` as leave room for a name. A line that
     is wider than the terminal could not be overwritten."""
     end = ": %s" % doing
     for one in more:
-        if width_of(task.start + end) + min(width_of(task.who), NAME) + len(one) + 2 > room:
+        if width_of(task.start + end) + min(width_of(task.who), NAME) + len(one) + 2 > columns:
             break
         end += ", " + one
-    return cut(task.start + fitted(task.who, room - width_of(task.start) - width_of(end)) + end, room)
+    return cut(task.start + fitted(task.who, columns - width_of(task.start) - width_of(end)) + end, columns)
 
 
 class Progress:

@@ -1,4 +1,4 @@
-"""The disk of a Maildir: its free space, which calls fail there, whether a sync of a folder reaches it, and how it is
+"""The disk of a Maildir: the room on it, which calls fail there, whether a sync of a folder reaches it, and how it is
 synced, so that a power cut keeps the dates and the renames there too.
 
 If a server of FUSE has no sync of folders, Linux answers each such sync with success. So an answer shows nothing: only
@@ -27,7 +27,7 @@ from .making import SUBFOLDERS, sync_folder
 PREFIX = b"." + ADMIN.encode() + b"-"
 # how long a folder is watched to see whether names in it change all the time, in seconds
 PAUSE = 1
-# how the copies of a trial get more space
+# how the copies of a trial get more room
 ELSEWHERE = " (--dry-run and kind make copies there or where TMPDIR says, other runs on the Maildir's disk)"
 # the errors of a disk that cannot sync folders
 UNSYNCED = errno.EINVAL, errno.ENOSYS, errno.EROFS
@@ -88,7 +88,7 @@ class Need(NamedTuple):
 
 
 def not_enough(folder: bytes, says: str) -> str:
-    """What is said of a folder whose disk has too little space."""
+    """What is said of a folder whose disk has too little room."""
     return "not enough space in %s: %s%s" % (named(folder), says, ELSEWHERE if folder == trial_folder() else "")
 
 

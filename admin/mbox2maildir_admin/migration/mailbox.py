@@ -93,7 +93,7 @@ class Migration:
 
     def __init__(self, program: Program, record: Record, options: Options) -> None:
         self.program, self.record, self.options = program, record, options
-        # raises Left if the disk has no space for a mailbox; others at work may count on the same space
+        # raises Left if the disk has no room for a mailbox; others at work may count on the same room
         self.want_room: Callable[[Need], None] = want_room
         # the batches of each folder's ledger that were verified, and whose disk is not synced yet; and the last ledger,
         # while mailboxes go into its folder
@@ -479,18 +479,18 @@ class Transfer:
                 ledger.put_aside()
         elif ledger.damage:
             left = Left(NOT_SHOWN % ("damaged in line %d" % ledger.damage), Reason.LEDGER)
-            raise self.left_to_store(left, contents, self.matched_again(ledger.without_lines(), contents))
+            raise self.left_to_place(left, contents, self.matched_again(ledger.without_lines(), contents))
         elif known.by_index:
             left = Left(NOT_SHOWN % ("older than its record" if known.is_cut else "missing"), Reason.LEDGER)
             rest = self.matched_again(ledger, contents)
             # what is prepared is no mail yet
             if rest.count(Stand.NOWHERE) or self.prepared and self.prepared.is_there:
-                raise self.left_to_store(left, contents, rest)
+                raise self.left_to_place(left, contents, rest)
             return True
         return again
 
-    def left_to_store(self, left: Left, contents: Contents, match: Match) -> Left:
-        """Why it is left, with the command that stores what is nowhere: without what could not be done besides then."""
+    def left_to_place(self, left: Left, contents: Contents, match: Match) -> Left:
+        """Why it is left, with the command that places what is nowhere: without what could not be done besides then."""
         steps = Steps.of(self.known, contents, match, self.options.extra, OtherPass(True, ends_list=True))
         hindrance = self.options.extra.hindrance(steps)
         stays = self.options.dovecot and not hindrance
@@ -519,7 +519,7 @@ class Transfer:
             left = Left(PARTLY_THERE % len(strangers), Reason.PARTLY_THERE)
             if self.options.prepare:
                 raise left
-            raise self.left_to_store(left, contents, self.matched_again(self.ledger, contents))
+            raise self.left_to_place(left, contents, self.matched_again(self.ledger, contents))
         source, lost = self.ledger.sources.get(self.path), match.count_lost()
         is_much = source is not None and lost > max(FEW, source.count() // TENTH)
         if is_much and match.count_new() >= lost:

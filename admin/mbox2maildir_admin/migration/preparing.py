@@ -251,7 +251,7 @@ def want_free(one: Preparation, known: Known) -> None:
 
 
 def want_usable(one: Preparation, options: Options, opened: Opened) -> None:
-    """Raises Left if what is prepared cannot be finished, with the command that keeps what is there, and stores what is
+    """Raises Left if what is prepared cannot be finished, with the command that keeps what is there, and places what is
     nowhere. A first pass prints none: what is there may be mail by then."""
     stage, command = one.stage, functools.partial(options.command, opened)
     then: Next = NOTHING

@@ -183,7 +183,7 @@ class Several:
             report()
 
     def work(self, plan: Sequence[Planned], work: "Work") -> None:
-        """Does the work of a worker. Its parent syncs, writes the record and reports, and knows the space that all
+        """Does the work of a worker. Its parent syncs, writes the record and reports, and knows the room that all
         workers need."""
         migration, self.syncs, self.say = self.migration, Syncs(self.settle), work.progress
         migration.want_room, migration.program.alive = work.want_room, work.alive

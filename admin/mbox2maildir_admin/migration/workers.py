@@ -38,7 +38,7 @@ class Work(Parent):
                 raise refusal
 
     def want_room(self, need: Need) -> None:
-        """Waits until nobody else at work counts on the same space on a disk. Raises Left if the disk lacks space
+        """Waits until nobody else at work counts on the same room on a disk. Raises Left if the disk lacks room
         then."""
         self.ask("needs", *need)
         want_room(need)
@@ -67,7 +67,7 @@ class Worker(Child):
         super().__init__()
         # the mailboxes that it has told no row of yet
         self.places = list(places)
-        # whose progress it told last, and what that was; the space that it counts on, and the space that it waits for
+        # whose progress it told last, and what that was; the room that it counts on, and the room that it waits for
         self.who, self.at = "", ""
         self.has: Optional[Need] = None
         self.wants: Optional[Need] = None
@@ -107,7 +107,7 @@ class Workers(Crew):
 
     def take_question(self, child: Worker, what: str, *words: Any) -> None:
         """Takes what a worker asks for: the mailboxes of the next folder, of which there are none once all are begun;
-        that a line is written into the record; or space on a disk, for which it waits."""
+        that a line is written into the record; or room on a disk, for which it waits."""
         if what == "next":
             if self.groups and not child.places:
                 child.places += self.groups.popleft()
@@ -132,7 +132,7 @@ class Workers(Crew):
         self.rest(child)
 
     def serve(self) -> None:
-        """Lets workers go on that wait for space: if there is enough beside the space that others count on, or if
+        """Lets workers go on that wait for room: if there is enough beside the room that others count on, or if
         none of the others counts on the same disk. In the second case the worker finds out itself whether there is
         enough."""
         for worker in self.children.values():

@@ -147,7 +147,7 @@ def given_by(name: str, mailbox: Mailbox) -> Iterator[bytes]:
 
 
 def unpacked(mailbox: Mailbox, form: Form, folder: bytes) -> Mailbox:
-    """What a mailbox holds, as a text on the disk of a folder. Raises Left if that has no space for all of it."""
+    """What a mailbox holds, as a text on the disk of a folder. Raises Left if that has no room for all of it."""
     room, most, size = room_on(disk_of(folder)), max(LARGE, TIMES * mailbox.size), 0
     mailbox.file.offset = Offset(0)
     for piece in unpack(mailbox, mailbox.file, form):
