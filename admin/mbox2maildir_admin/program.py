@@ -8,7 +8,7 @@ import select
 import subprocess
 import sys
 from collections.abc import Callable, Iterator
-from typing import Any, IO, NamedTuple, Optional
+from typing import IO, Any, NamedTuple, Optional
 
 from . import PROGRAM
 from .faults import Fault, Left, Reason

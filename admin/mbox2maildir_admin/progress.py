@@ -107,8 +107,8 @@ def width_of_terminal() -> int:
         return WIDTH
 
 
-class Task(NamedTuple):
-    """A task: the mailbox or user that is at work, how its line starts, and which step it is at."""
+class Actor(NamedTuple):
+    """The mailbox or user that is at work, how its line starts, and which step it is at."""
 
     who: str
     start: str = ""
@@ -132,15 +132,15 @@ class Pace:
         return figures
 
 
-def composed(task: Task, doing: str, more: Iterable[str], columns: int) -> str:
+def composed(actor: Actor, doing: str, more: Iterable[str], columns: int) -> str:
     """Returns a line that fits into a number of columns, with as many of `more` as leave room for a name. A line that
     is wider than the terminal could not be overwritten."""
     end = ": %s" % doing
     for one in more:
-        if width_of(task.start + end) + min(width_of(task.who), NAME) + len(one) + 2 > columns:
+        if width_of(actor.start + end) + min(width_of(actor.who), NAME) + len(one) + 2 > columns:
             break
         end += ", " + one
-    return cut(task.start + fitted(task.who, columns - width_of(task.start) - width_of(end)) + end, columns)
+    return cut(actor.start + fitted(actor.who, columns - width_of(actor.start) - width_of(end)) + end, columns)
 
 
 class Progress:
@@ -156,26 +156,26 @@ class Progress:
         """Forgets what is no longer at work."""
         self.paces.pop(who, None)
 
-    def say(self, task: Task, doing: str, place: Optional[int] = None, size: Optional[int] = None) -> None:
-        """Says how far a task is."""
+    def say(self, actor: Actor, doing: str, place: Optional[int] = None, size: Optional[int] = None) -> None:
+        """Says how far one is."""
         now = time.monotonic()
-        pace = self.paces.get(task.who)
+        pace = self.paces.get(actor.who)
         if pace is None or pace.doing != doing or place is not None and place < pace.last:
-            pace = self.paces[task.who] = Pace(doing, place or 0, now)
+            pace = self.paces[actor.who] = Pace(doing, place or 0, now)
         pace.last = place or 0
         if now < (self.next_time if self.is_terminal else self.next_minute):
             return
-        figures = [task.step] if task.step else []
+        figures = [actor.step] if actor.step else []
         # a child that belongs to a user may say anything
         if place is not None and size is not None and 0 <= place <= size < MOST:
             doing += " " + amount(place, size)
             figures = pace.figures(place, size, now) + figures
         if self.is_terminal:
             self.next_time = now + PAUSE
-            LINE.rewrite(composed(task, doing, figures, width_of_terminal() - 1))
+            LINE.rewrite(composed(actor, doing, figures, width_of_terminal() - 1))
         elif not doing.startswith(WAITING):
             self.next_minute = now + MINUTE
-            complain("%s%s: %s" % (task.start, task.who, ", ".join([doing, *figures])))
+            complain("%s%s: %s" % (actor.start, actor.who, ", ".join([doing, *figures])))
 
 
 class Beat:
@@ -210,4 +210,4 @@ def of_this_run() -> Progress:
 
 def say_of(path: bytes) -> Say:
     """Returns the function that takes the progress of a file."""
-    return Beat(functools.partial(of_this_run().say, Task(named(path))))
+    return Beat(functools.partial(of_this_run().say, Actor(named(path))))

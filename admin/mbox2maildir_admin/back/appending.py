@@ -23,7 +23,7 @@ from ..mbox.inventory import Inventory
 from ..mbox.locks import READING, WRITING, open_mailbox
 from ..mbox.mailbox import Mailbox
 from ..migration.known import Known, Opened
-from ..migration.outcomes import Verdict, Observer, Row
+from ..migration.outcomes import Observer, Row, Verdict
 from ..migration.options import Options
 from ..nexts import Todo, task
 from ..program import Program
@@ -101,8 +101,8 @@ class Way(NamedTuple):
                 return
             # root follows no symbolic link, which may lead anywhere
             path = path if os.geteuid() == 0 else os.path.realpath(path)
-            kind = READING if dry else WRITING
-            mailbox = stack.enter_context(open_mailbox(path, say, False, not self.options.now, kind))
+            locking = READING if dry else WRITING
+            mailbox = stack.enter_context(open_mailbox(path, say, False, not self.options.now, locking))
             if mailbox.state.st_uid != os.geteuid():
                 raise Left("it belongs to another user", Reason.OTHER_OWNER, task(Todo.AS_OWNER))
             if not dry:

@@ -42,9 +42,9 @@ KEEP_SIZE = 1
 
 
 class Journal(NamedTuple):
-    """The file with what is to be appended, which is open: the inode, the size and the SHA-256 that the mailbox had, and
-    its path, as lines of a record spell it; and of what is to be appended the size, the SHA-256, and where each message
-    begins in it."""
+    """The file with what is to be appended, which is open: the inode, the size and the SHA-256 that the mailbox had,
+    and its path, as lines of a record spell it; and of what is to be appended the size, the SHA-256, and where each
+    message begins in it."""
 
     path: bytes
     number: int

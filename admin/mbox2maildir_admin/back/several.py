@@ -12,7 +12,7 @@ from ..looks import is_file, is_there, may_be
 from ..maildir.folders import folder_path, folder_shown, folders_in, name_of
 from ..maildir.making import GOES_BACK, RECORD, real_place, want_roots_alone
 from ..mbox.files import is_empty
-from ..migration.outcomes import Verdict, Observer, Row, row_left
+from ..migration.outcomes import Observer, Row, Verdict, row_left
 from ..migration.options import Options
 from ..nexts import NOTHING, Next, Runs, run_next
 from ..program import Program, find_program

@@ -11,7 +11,7 @@ from ..ledger.record import unspelled
 from ..looks import is_folder, is_there, state_at
 from ..maildir.folders import INBOX, folder_of_place, folder_path, on_disk
 from ..migration.dovecot import FORM, OLD_SUBSCRIPTIONS, SUBSCRIPTIONS, lines_of
-from ..migration.outcomes import Verdict, Row, row_left
+from ..migration.outcomes import Row, Verdict, row_left
 from ..remarks import Says
 from ..terminal import is_text
 from ..units import counted

@@ -18,7 +18,7 @@ from ..maildir.making import RECORD
 from ..mbox.files import is_empty
 from ..mbox.mailbox import Mailbox
 from ..migration.answers import is_passed_over
-from ..migration.outcomes import Verdict, Observer, Row
+from ..migration.outcomes import Observer, Row, Verdict
 from ..migration.places import Planned, recorded
 from ..migration.trees import Tree
 from ..nexts import Runs, Task, Todo, run_next

@@ -17,7 +17,7 @@ from ..looks import is_folder
 from ..maildir.disk import trial_folder
 from ..maildir.folders import INBOX, words_of
 from ..mbox.mailbox import Mailbox
-from ..migration.outcomes import Detail, Verdict, Observer, Row
+from ..migration.outcomes import Detail, Observer, Row, Verdict
 from ..migration.rows import Shows
 from ..migration.trees import Tree
 from ..nexts import Answer, Command, Next, Quote, Runs, Todo, User, task

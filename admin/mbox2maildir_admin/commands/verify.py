@@ -12,7 +12,7 @@ from ..maildir.checking import Check, State
 from ..maildir.either import Either
 from ..maildir.files import forms_in, paths_of
 from ..mbox.inventory import IN_MEMORY
-from ..migration.outcomes import Detail, Verdict, Observer, Row
+from ..migration.outcomes import Detail, Observer, Row, Verdict
 from ..migration.rows import Reporter, Shows
 from ..program import Program, find_program
 from ..readings.texts import Text, open_text

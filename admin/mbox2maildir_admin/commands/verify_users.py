@@ -10,7 +10,7 @@ from ..migration.places import Pairs, Planned, recorded
 from ..migration.options import Options
 from ..migration.trees import Tree, link_left
 from ..nexts import Runs
-from ..users.homes import UserWork, Relay
+from ..users.homes import Relay, UserWork
 from ..users.spool import for_users
 from .files import for_planned
 from .options import Given, jobs_in
@@ -21,7 +21,7 @@ from .verify import verify_file
 def verifying_users(given: Given) -> Telling:
     """What compares the mailboxes of users with their Maildirs."""
     spool = spool_of(given, Options(jobs=jobs_in(given)))
-    return functools.partial(for_users, spool._replace(kind=Verifier))
+    return functools.partial(for_users, spool._replace(work=Verifier))
 
 
 class Verifier(UserWork):

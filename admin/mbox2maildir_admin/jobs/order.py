@@ -9,7 +9,7 @@ from ..progress import length
 from ..terminal import complain
 
 # the places in the plan of the mailboxes that go into one folder
-Places = Sequence[int]
+Group = Sequence[int]
 # on most disks more of them would wait for each other
 MOST = 8
 # how much memory a process may take, with the programs that it runs: enough for a mailbox of 500,000 messages
@@ -36,7 +36,7 @@ def jobs_of(asked: Optional[int], count: int) -> int:
     return jobs
 
 
-def groups_of(folders: Sequence[bytes]) -> list[Places]:
+def groups_of(folders: Sequence[bytes]) -> list[Group]:
     """The mailboxes of a plan in groups, by their places. Mailboxes of one folder are in one group, since they must
     follow one another; one that goes nowhere is a group of its own."""
     groups: dict[tuple[bytes, int], list[int]] = {}
@@ -45,7 +45,7 @@ def groups_of(folders: Sequence[bytes]) -> list[Places]:
     return list(groups.values())
 
 
-def largest_first(groups: Sequence[Places], paths: Sequence[bytes]) -> list[Places]:
+def largest_first(groups: Sequence[Group], paths: Sequence[bytes]) -> list[Group]:
     """Groups of mailboxes, of which each has a path, the largest group first: lest it is alone at the end."""
     sizes = list(map(size_of, paths))
     return sorted(groups, key=lambda places: sum(sizes[place] for place in places), reverse=True)

@@ -97,7 +97,7 @@ def next_of_mh(path: bytes, copy: bytes) -> Next:
     return run_next(FROM_MH, operand(path), operand(copy)) + task(Todo.MOVE_AWAY, text_of(path))
 
 
-class Place(NamedTuple):
+class MailboxPlace(NamedTuple):
     """The place of a mailbox among folders: an account, with `/`, if it needs one, and its name; and whether it is an
     Inbox with mail, and not the only one."""
 
@@ -128,15 +128,15 @@ class Profile:
         parts = os.path.relpath(path, self.path).split(b"/", 2)
         return (b"/".join(parts[:2]), parts[2]) if len(parts) == 3 and parts[0] in OF_ACCOUNTS else (b"", b"")
 
-    def place(self, path: bytes) -> Place:
+    def place(self, path: bytes) -> MailboxPlace:
         """The place of a mailbox."""
         account, below = self.parted(path)
         if not account:
-            return Place(b"", os.path.relpath(path, self.path))
+            return MailboxPlace(b"", os.path.relpath(path, self.path))
         folder = folder_on_disk(below) if is_text(below) else b""
         if len(self.givers.get(folder, ())) < 2:
-            return Place(b"", below)
-        return Place(os.path.basename(account) + b"/", below, folder == INBOX and account in self.givers[folder])
+            return MailboxPlace(b"", below)
+        return MailboxPlace(os.path.basename(account) + b"/", below, folder == INBOX and account in self.givers[folder])
 
 
 class Profiles:
@@ -168,10 +168,10 @@ class Profiles:
         """The profile in which a file is."""
         return next((one for one in self.found if is_below(os.path.abspath(path), one.path)), None)
 
-    def place(self, path: bytes, top: bytes) -> Place:
+    def place(self, path: bytes, top: bytes) -> MailboxPlace:
         """The place of a mailbox of the tree, which is that below a folder if it is in no profile."""
         profile = self.profile_of(path)
-        return profile.place(os.path.abspath(path)) if profile else Place(b"", os.path.relpath(path, top))
+        return profile.place(os.path.abspath(path)) if profile else MailboxPlace(b"", os.path.relpath(path, top))
 
     def is_no_mail(self, path: bytes) -> bool:
         """Whether a file of a profile stands beside mailboxes, or is an empty mailbox of an account without mail."""

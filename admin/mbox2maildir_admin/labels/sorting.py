@@ -28,8 +28,6 @@ NO_FOLDER = "message %d has the label %s, which gives no folder: %s"
 IN_QUESTION = "more than half of the messages have %s, so it may be a mark of Gmail's and no folder: %s of %d"
 TOO_MANY = "its labels give %d folders"
 
-Places = Sequence[int]
-
 
 def field_of(header: bytes) -> Optional[bytes]:
     """The value of the first field with labels; None unless it and the number of the thread come before all others."""
@@ -66,7 +64,7 @@ class Sorted(NamedTuple):
     """The places of the messages that each folder gets, by its name on the disk; the labels of different names, if they
     give one folder; and the flags of all messages."""
 
-    places: Mapping[bytes, Places]
+    places: Mapping[bytes, Sequence[int]]
     labels: Mapping[bytes, Sequence[str]]
     kept: Kept
 

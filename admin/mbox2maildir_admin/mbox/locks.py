@@ -26,7 +26,7 @@ KEEPS_CHANGING = "it keeps changing"
 LOCKED, WITHOUT_LOCKS = (errno.EAGAIN, errno.EACCES), (errno.ENOLCK, errno.ENOSYS, errno.EOPNOTSUPP)
 
 
-class Kind(NamedTuple):
+class Locking(NamedTuple):
     """What a mailbox is locked for: how it is opened, and the locks of flock and of fcntl."""
 
     flags: int
@@ -35,25 +35,25 @@ class Kind(NamedTuple):
 
 
 # what is written is appended, wherever the file ends then
-READING = Kind(os.O_RDONLY, fcntl.LOCK_SH, fcntl.F_RDLCK)
-WRITING = Kind(os.O_RDWR | os.O_APPEND, fcntl.LOCK_EX, fcntl.F_WRLCK)
+READING = Locking(os.O_RDONLY, fcntl.LOCK_SH, fcntl.F_RDLCK)
+WRITING = Locking(os.O_RDWR | os.O_APPEND, fcntl.LOCK_EX, fcntl.F_WRLCK)
 
 
-def open_mailbox(path: bytes, say: Say, follow: bool, quiet: bool, kind: Kind = READING) -> Mailbox:
+def open_mailbox(path: bytes, say: Say, follow: bool, quiet: bool, locking: Locking = READING) -> Mailbox:
     """Opens a mailbox, waits until it was left alone for a minute if `quiet` says so, and locks it. It is digested
     while it is read. Raises Left if it can't be opened or locked, or has large holes."""
     try:
-        number = open_plain(path, kind.flags | (0 if follow else os.O_NOFOLLOW))
+        number = open_plain(path, locking.flags | (0 if follow else os.O_NOFOLLOW))
     except OSError as fault:
         raise fault_of(fault, path) from fault
     try:
         mailbox = Mailbox(path, number, Digest(), say)
         if quiet:
-            lock_quiet(mailbox, kind)
+            lock_quiet(mailbox, locking)
         else:
-            lock(number, kind)
+            lock(number, locking)
             mailbox.take_state()
-        if kind is READING:
+        if locking is READING:
             look_for_lock_file(mailbox)
         if has_holes(number, mailbox.size):
             raise Left("more than 16 MB of it are holes, which were never written: find a complete copy", Reason.HOLES)
@@ -63,7 +63,7 @@ def open_mailbox(path: bytes, say: Say, follow: bool, quiet: bool, kind: Kind = 
         raise
 
 
-def lock_quiet(mailbox: Mailbox, kind: Kind) -> None:
+def lock_quiet(mailbox: Mailbox, locking: Locking) -> None:
     """Locks a mailbox once it was left alone for a minute. Until then, deliveries find it unlocked. Raises Left if that
     has not happened after a while."""
     end, is_locked = time.monotonic() + PATIENCE, False
@@ -75,7 +75,7 @@ def lock_quiet(mailbox: Mailbox, kind: Kind) -> None:
         if seconds <= 0 and is_locked:
             return
         if seconds <= 0:
-            lock(mailbox.number, kind)
+            lock(mailbox.number, locking)
             is_locked = True
         elif is_locked:
             # mail was delivered before the lock was taken
@@ -90,10 +90,10 @@ def lock_quiet(mailbox: Mailbox, kind: Kind) -> None:
             time.sleep(min(1, seconds + 0.01))
 
 
-def lock(number: int, kind: Kind) -> None:
+def lock(number: int, locking: Locking) -> None:
     """Locks a text by the locks that deliveries take for writing. Nothing is locked on a disk without locks. Raises
     Left if another program has it locked."""
-    for take, its in ((lock_file, kind.file), (lock_record, kind.record)):
+    for take, its in ((lock_file, locking.file), (lock_record, locking.record)):
         try:
             take(number, its)
         except OSError as fault:
@@ -103,22 +103,22 @@ def lock(number: int, kind: Kind) -> None:
                 raise
 
 
-def lock_file(number: int, kind: int) -> None:
+def lock_file(number: int, operation: int) -> None:
     """Takes the lock of flock, for the whole file."""
-    fcntl.flock(number, kind | fcntl.LOCK_NB)
+    fcntl.flock(number, operation | fcntl.LOCK_NB)
 
 
-def lock_record(number: int, kind: int) -> None:
+def lock_record(number: int, operation: int) -> None:
     """Takes the lock of fcntl, for all bytes, as that of an open file: closing another descriptor does not drop it, and
     a child inherits it."""
-    fcntl.fcntl(number, fcntl.F_OFD_SETLK, struct.pack("hhqqi4x", kind, os.SEEK_SET, 0, 0, 0))
+    fcntl.fcntl(number, fcntl.F_OFD_SETLK, struct.pack("hhqqi4x", operation, os.SEEK_SET, 0, 0, 0))
 
 
 def unlock(number: int) -> None:
     """Releases the locks, so that deliveries can go on."""
-    for give, kind in ((lock_record, fcntl.F_UNLCK), (lock_file, fcntl.LOCK_UN)):
+    for give, operation in ((lock_record, fcntl.F_UNLCK), (lock_file, fcntl.LOCK_UN)):
         with contextlib.suppress(OSError):
-            give(number, kind)
+            give(number, operation)
 
 
 def snapshot(path: bytes, make: Callable[[int], IO[bytes]], say: Say, follow: bool) -> Mailbox:

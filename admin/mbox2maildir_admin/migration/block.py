@@ -23,7 +23,7 @@ from ..nexts import (
 )
 from ..terminal import operand, option
 from ..units import counted
-from .outcomes import Verdict, Row
+from .outcomes import Row, Verdict
 
 # how many mailboxes one answer is for at most, so that a human looks at each of them
 MOST_ALIKE = 20

@@ -37,7 +37,7 @@ from ..remarks import Remark, Says
 from ..terminal import operand
 from ..units import Offset, Place
 from .known import Known
-from .outcomes import Verdict, Outcome, Row
+from .outcomes import Outcome, Row, Verdict
 from .steps import FirstPass, OtherPass, Steps
 
 SYNC_FAILED = (

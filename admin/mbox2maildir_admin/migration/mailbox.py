@@ -52,7 +52,7 @@ from .carrying import SYNC_FAILED, carry_out, names_that_may_be_cut
 from .dovecot import DONE_WITHOUT
 from .known import Known, Opened
 from .options import Options
-from .outcomes import Verdict, Outcome, Row, row_left
+from .outcomes import Outcome, Row, Verdict, row_left
 from .preparing import (
     TENTH,
     Preparation,

@@ -10,7 +10,7 @@ from ..maildir.making import sync_folder
 from ..nexts import Todo, objects_of, task
 from ..terminal import complain, flush, named, put
 from ..version import version
-from .outcomes import VERDICTS, Verdict, Row
+from .outcomes import VERDICTS, Row, Verdict
 from .rows import SUMMED, Reporter
 
 

@@ -77,7 +77,7 @@ from .carrying import PREPARED_SYNC_FAILED, SYNC_FAILED
 from .dovecot import KEYWORDS, LIST, Dovecot, remove_part
 from .known import Known, Opened
 from .options import Options
-from .outcomes import Verdict, Row, row_left
+from .outcomes import Row, Verdict, row_left
 from .places import Planned
 from .steps import Contents, Part
 

@@ -11,11 +11,11 @@ from .. import ADMIN
 from ..faults import Status
 from ..meanings import COUNTED, LOOK
 from ..nexts import COMMAND, Phrase, lines_of
-from ..progress import Doing, Estimate, Progress, Task, duration, length, together
+from ..progress import Actor, Doing, Estimate, Progress, duration, length, together
 from ..terminal import LINE, complain, flush, named, put
 from ..units import WAITING, counted
 from .block import Typed, groups_of
-from .outcomes import VERDICTS, Verdict, Observer, Row
+from .outcomes import VERDICTS, Observer, Row, Verdict
 
 if TYPE_CHECKING:
     from .objects import Objects
@@ -109,7 +109,7 @@ class Reporter(Observer):
         self.at_work[who] = doing, place, size
         if len(self.at_work) > 1:
             who, doing, place, size, step = *together(self.at_work, self.task), ""
-        self.line.say(Task(who, "%d/%d " % (self.begun, self.total), step), doing, place, size)
+        self.line.say(Actor(who, "%d/%d " % (self.begun, self.total), step), doing, place, size)
 
     def rest(self, who: str) -> None:
         """Notes that one is no longer at work."""

@@ -4,7 +4,7 @@ import os
 import re
 import subprocess
 from collections.abc import Iterable, Iterator, Mapping, Sequence
-from typing import NamedTuple, Optional
+from typing import Optional
 
 from ..faults import Fault, Reason
 from ..mbox.files import open_file, read_up_to
@@ -30,13 +30,6 @@ LOOKS = (
 )
 READS = "Dovecot has its mail in %s, so people read %s already"
 DELIVERS = "%s delivers into it already"
-
-
-class Place(NamedTuple):
-    """A Maildir that is to be prepared, and the home of the user whose mail it is."""
-
-    maildir: bytes
-    home: bytes
 
 
 def locations() -> Optional[list[str]]:
@@ -85,31 +78,31 @@ def places_of_blocks(general: Mapping[str, str], lines: Iterable[str]) -> Iterat
             around[-1] = {**settings, found[1]: found[2]}, True
 
 
-def want_unread(place: Place, several: Optional[Sequence[str]], is_said: bool) -> None:
-    """Raises Fault if a server would find a Maildir by these settings, or if there are none and nobody has said that it
-    is unread; or if mail is delivered there."""
+def want_unread(maildir: bytes, home: bytes, several: Optional[Sequence[str]], is_said: bool) -> None:
+    """Raises Fault if a server would find a Maildir, of a user with this home, by these settings, or if there are none
+    and nobody has said that it is unread; or if mail is delivered there."""
     if several is None and not is_said:
         raise Fault(NO_DOVECONF, Reason.PREPARED)
-    maildir, in_home = os.path.abspath(place.maildir), os.path.join(place.home, FOUND_ALONE)
+    is_in_home = os.path.abspath(maildir) == os.path.abspath(os.path.join(home, FOUND_ALONE))
     for location in several or ():
         driver, sign, rest = location.partition(":")
-        is_found, why = False, LOOKS % named(place.maildir)
+        is_found, why = False, LOOKS % named(maildir)
         if not sign or driver in AUTOMATIC:
-            is_found = maildir == os.path.abspath(in_home) or names(os.fsencode(location), place)
+            is_found = is_in_home or names(os.fsencode(location), maildir, home)
         elif driver == "maildir":
-            path, why = os.fsencode(rest.split(":")[0]), READS % (named(location), named(place.maildir))
-            is_found = names(path, place)
+            path, why = os.fsencode(rest.split(":")[0]), READS % (named(location), named(maildir))
+            is_found = names(path, maildir, home)
         if is_found:
             raise Fault(why, Reason.PREPARED, run_next(Runs.DOVECONF))
-    want_not_delivered(place)
+    want_not_delivered(maildir, home)
 
 
-def names(path: bytes, place: Place) -> bool:
+def names(path: bytes, maildir: bytes, home: bytes) -> bool:
     """Whether a path of Dovecot's settings is that of a Maildir, or may be."""
     for variable in (b"~", b"%h", b"%{home}"):
         if path == variable or path.startswith(variable + b"/"):
-            path = place.home + path[len(variable) :]
-    maildir, path = os.path.abspath(place.maildir), path.rstrip(b"/")
+            path = home + path[len(variable) :]
+    maildir, path = os.path.abspath(maildir), path.rstrip(b"/")
     last = os.path.basename(path)
     if b"%" in path:
         # only Dovecot knows what it stands for
@@ -117,12 +110,12 @@ def names(path: bytes, place: Place) -> bool:
     return bool(path) and os.path.abspath(path) == maildir
 
 
-def want_not_delivered(place: Place) -> None:
+def want_not_delivered(maildir: bytes, home: bytes) -> None:
     """Raises Fault if a file of the home names the Maildir as where mail is delivered."""
-    name = re.escape(os.path.basename(os.path.abspath(place.maildir)))
+    name = re.escape(os.path.basename(os.path.abspath(maildir)))
     pattern = re.compile(rb"(?:^|[/\"'\s=:,])%s(?:[/\"'\s:,]|\Z)" % name, re.MULTILINE)
     for file in DELIVERY:
-        path = os.path.join(place.home, file)
+        path = os.path.join(home, file)
         try:
             with open_file(path) as opened:
                 text = read_up_to(opened, LONGEST)

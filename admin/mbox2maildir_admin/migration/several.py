@@ -5,7 +5,7 @@ from collections.abc import Callable, Iterator, Sequence
 from typing import TYPE_CHECKING, Optional
 
 from ..faults import Fault, Left, Reason
-from ..jobs.order import InOrder, Places, groups_of, jobs_of, largest_first
+from ..jobs.order import Group, InOrder, groups_of, jobs_of, largest_first
 from ..kinds.folders import is_maildir
 from ..kinds.making import is_below
 from ..kinds.named import is_spared
@@ -24,10 +24,10 @@ from ..terminal import named, operand, text_of
 from .dovecot import OLD_SUBSCRIPTIONS, SUBSCRIPTIONS, Dovecot, subscribe
 from .carrying import settled
 from .mailbox import Migration
-from .outcomes import Verdict, Observer, Outcome, Row, row_left, seen
+from .outcomes import Observer, Outcome, Row, Verdict, row_left, seen
 from .places import Pairs, Planned, UserHome, as_inbox, as_named, into_inbox, recorded
 from .preparing import Leftovers
-from .servers import Place, locations, want_unread
+from .servers import locations, want_unread
 from .options import Options
 from .steps import Extra
 from .trees import NamesMet, Tree, identity, link_left, other_names
@@ -44,7 +44,7 @@ def migrate_own(root: bytes, names: Sequence[bytes], options: Options, observer:
     root, names = real_place(root), seen(names, observer)
     refuse(root, names, options)
     if options.prepare:
-        want_unread(Place(root, os.fsencode(os.path.expanduser("~"))), locations(), options.unread)
+        want_unread(root, os.fsencode(os.path.expanduser("~")), locations(), options.unread)
     os.umask(0o077)
     run_all(options, root, names, observer, Program(find_program()))
 
@@ -163,7 +163,7 @@ class Several:
             rows.end()
         return [one for one in plan if one.path not in self.found]
 
-    def migrate_at_once(self, plan: Sequence[Planned], groups: Sequence[Places], jobs: int, rows: InOrder) -> None:
+    def migrate_at_once(self, plan: Sequence[Planned], groups: Sequence[Group], jobs: int, rows: InOrder) -> None:
         """Migrates the mailboxes of several folders at the same time. What ends first is noted first."""
         from .workers import Orders, Workers
 

@@ -27,7 +27,7 @@ from ..maildir.folders import INBOX, LONGEST, folder_on_disk, folder_path, name_
 from ..nexts import Runs, Todo, run_next, task
 from ..remarks import Remark, Says
 from ..terminal import is_text, named, operand, text_of
-from .outcomes import Verdict, Row, row_left
+from .outcomes import Row, Verdict, row_left
 from .places import Pairs, Planned, recorded, with_own_folders
 from .options import Options
 

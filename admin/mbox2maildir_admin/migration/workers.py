@@ -7,7 +7,7 @@ from typing import Any, NamedTuple, Optional
 
 from ..faults import Left, Reason
 from ..jobs.crew import Child, Crew, Parent
-from ..jobs.order import Places
+from ..jobs.order import Group
 from ..ledger.history import BY_WORD, Entry, Key
 from ..ledger.record import Record
 from ..maildir.disk import Need, want_room
@@ -22,7 +22,7 @@ from .telling import fields_of, row_of, value_of
 class Work(Parent):
     """The work of a worker: it asks its parent for whatever concerns other workers too."""
 
-    def groups(self) -> Iterator[Places]:
+    def groups(self) -> Iterator[Group]:
         """The next groups of mailboxes, as long as there are any."""
         return iter(lambda: tuple(self.ask("next")), ())
 
@@ -63,7 +63,7 @@ class Orders(NamedTuple):
 class Worker(Child):
     """A process at work for some mailboxes of one folder."""
 
-    def __init__(self, places: Places) -> None:
+    def __init__(self, places: Group) -> None:
         super().__init__()
         # the mailboxes that it has told no row of yet
         self.places = list(places)
@@ -78,7 +78,7 @@ class Workers(Crew):
 
     parent = Work
 
-    def __init__(self, jobs: int, groups: Sequence[Places], orders: Orders) -> None:
+    def __init__(self, jobs: int, groups: Sequence[Group], orders: Orders) -> None:
         super().__init__(jobs)
         self.takes.update(at=self.take_progress, ask=self.take_question, became=self.take_row)
         self.takes["begins"] = lambda _: orders.observer.begin()

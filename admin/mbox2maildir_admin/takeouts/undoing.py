@@ -12,7 +12,7 @@ from ..maildir.folders import folder_path
 from ..maildir.making import real_place
 from ..mbox.locks import open_mailbox
 from ..mbox.mailbox import Mailbox
-from ..migration.outcomes import Verdict, Observer, Row, row_left
+from ..migration.outcomes import Observer, Row, Verdict, row_left
 from ..migration.several import refuse
 from ..migration.known import Opened
 from ..migration.options import Options

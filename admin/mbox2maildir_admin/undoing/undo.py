@@ -33,7 +33,7 @@ from ..mbox.locks import WITHOUT_LOCKS, open_mailbox
 from ..mbox.mailbox import CHANGED_MEANWHILE, Mailbox, is_unchanged
 from ..migration.dovecot import Dovecot, remove_lists
 from ..migration.known import Known, Opened, moved_in
-from ..migration.outcomes import Verdict, Observer, Row, row_left
+from ..migration.outcomes import Observer, Row, Verdict, row_left
 from ..migration.preparing import remove_prepared
 from ..migration.several import refuse
 from ..migration.options import Options

@@ -21,7 +21,7 @@ from ..patterns import compile_all
 from ..signals import ENDING, INTERRUPTS
 from ..terminal import named, shown
 from .clerks import SYNC, Disks
-from .homes import UserWork, Relay
+from .homes import Relay, UserWork
 
 # how long a child may say nothing, and how long it has after a signal, in seconds
 SILENCE, GRACE = 900, 1

@@ -15,11 +15,11 @@ from ..maildir.folders import folders_in
 from ..mbox.bases import BASE
 from ..mbox.lock_file import hold, look_for_lock_file, spot_of
 from ..mbox.mailbox import Mailbox
-from ..migration.outcomes import Verdict, Observer
+from ..migration.outcomes import Observer, Verdict
 from ..migration.trees import Tree
 from ..nexts import Runs
 from .clerks import MAKE, RELEASE, TAKE, InboxClerk, Inboxes
-from .homes import UserWork, Relay, Spool, is_recorded
+from .homes import Relay, Spool, UserWork, is_recorded
 from .spool import for_users
 
 
@@ -132,6 +132,6 @@ def back_users(spool: Spool, observer: Observer) -> None:
         if not spool.options.dry:
             with naming(spool.path):
                 spool = spool._replace(inboxes=stack.enter_context(contextlib.closing(Inboxes(spool.path))))
-        for_users(spool._replace(kind=Returner), observer)
+        for_users(spool._replace(work=Returner), observer)
         # users end in any order
         observer.then = tuple(sorted(observer.then, key=str))

@@ -15,7 +15,7 @@ from ..maildir.folders import folders_in
 from ..maildir.making import want_own
 from ..migration.outcomes import Observer, Row
 from ..migration.places import UserHome
-from ..migration.servers import Place, want_unread
+from ..migration.servers import want_unread
 from ..migration.several import refuse, run_all
 from ..migration.options import Options
 from ..migration.telling import Whose, told
@@ -130,7 +130,7 @@ class UserWork:
             want_own(self.root)
             refuse(self.root, names)
             if self.options.prepare:
-                want_unread(Place(self.root, self.account.home), self.spool.locations, self.options.unread)
+                want_unread(self.root, self.account.home, self.spool.locations, self.options.unread)
             if self.user.why_not and not is_recorded(self.root, names[0]):
                 relay.leave_rest(names, self.user.why_not)
                 return
@@ -165,7 +165,7 @@ class Spool(NamedTuple):
     tree: bytes
     options: Options
     asked: Optional[Mapping[bytes, str]] = None
-    kind: type[UserWork] = UserWork
+    work: type[UserWork] = UserWork
     # the path of mbox2maildir
     program: bytes = b""
     # where Dovecot looks for mail, if that was asked for
@@ -176,7 +176,7 @@ class Spool(NamedTuple):
     @property
     def is_of_homes(self) -> bool:
         """Whether each home is looked at, even if there is no mailbox of its user."""
-        return self.kind.is_back or bool(self.tree)
+        return self.work.is_back or bool(self.tree)
 
     def words(self) -> list[str]:
         """The options of the command that does this for one user."""

@@ -10,7 +10,7 @@ from ..jobs.order import MOST, jobs_of, size_of
 from ..kinds.named import is_auxiliary, is_no_mail
 from ..looks import is_surely, is_there, may_be
 from ..maildir.folders import folder_path, on_disk
-from ..migration.outcomes import Verdict, Observer, Row, row_left
+from ..migration.outcomes import Observer, Row, Verdict, row_left
 from ..migration.servers import locations
 from ..nexts import Answer, Command, Runs, run_next
 from ..program import find_program
@@ -71,7 +71,7 @@ def for_users(spool: Spool, observer: Observer) -> None:
                 # if there are fewer users than jobs, several folders of a user are at work; what is left over goes to
                 # the first ones, which are the largest
                 its = options._replace(jobs=jobs // at_once + (place < jobs % at_once))
-                children.add(spool.kind(one, spool._replace(options=its)))
+                children.add(spool.work(one, spool._replace(options=its)))
             children.wait()
 
 
@@ -102,7 +102,7 @@ def users_of(spool: Spool, observer: Observer, is_by_size: bool) -> tuple[collec
             users.add(name, account)
             counts[source] += 1
     observer.notes += tuple(sums_of(counts, not_asked))
-    if spool.kind.is_back:
+    if spool.work.is_back:
         users.join()
     found: Iterable[Found] = users.found.values()
     if is_by_size:
@@ -218,7 +218,7 @@ class Users:
         account, spool = self.accounts.of_name(name), self.spool
         if self.accounts.is_users(account) or spool.asked is not None and account.uid not in (0, *NOBODY):
             return account
-        command, words, says = spool.kind.command, spool.words(), "a system account"
+        command, words, says = spool.work.command, spool.words(), "a system account"
         mailbox = operand(os.path.join(spool.path, account.name))
         if account.uid == 0:
             then = run_next(command, *words, operand(os.path.join(account.home, b"Maildir")), mailbox)
@@ -287,7 +287,7 @@ class Users:
 
     def why_not(self, account: Account, other: bytes, mailbox: bytes) -> Left:
         """Why the mailbox of a further name of an account is left, and the command that migrates it, or checks it."""
-        root, command = os.path.join(account.home, self.spool.maildir), self.spool.kind.command
+        root, command = os.path.join(account.home, self.spool.maildir), self.spool.work.command
         words = [*self.spool.words(), "--folder", "NAME", operand(root)]
         if command is Runs.VERIFY:
             words = [operand(folder_path(root, on_disk("NAME")))]
@@ -300,7 +300,7 @@ class Users:
         own = self.accounts.of_number(key[0])
         if own and own.name != name and own.home == key[1]:
             # on the way back, an account has its place under its own name, even if no mailbox is there
-            if own.name in self.names or self.spool.kind.is_back and own.name in self.sources:
+            if own.name in self.names or self.spool.work.is_back and own.name in self.sources:
                 return own.name
         taken = self.found.get(key)
         return taken.name if taken and taken.size is not None else None

@@ -3,15 +3,21 @@ import unittest
 from collections.abc import Callable, Sequence
 from typing import Any, Optional
 
-from mbox2maildir_admin.progress import Doing, Estimate, Pace, Spent, Task, amount, composed, cut, duration, fitted
+from mbox2maildir_admin.progress import Actor, Doing, Estimate, Pace, Spent, amount, composed, cut, duration, fitted
 from mbox2maildir_admin.progress import length, together, width_of
 
 GB = 10**9
 MAIL = "\u90f5"
 # what is called with which values, and what it answers
 ROWS: Sequence[tuple[Callable[..., Any], tuple[Any, ...], Any]] = (
-    *((fitted, ("sheds", room), wanted) for room, wanted in ((9, "sheds"), (5, "sheds"), (4, "...s"), (0, "..."))),
-    *((cut, (f"a{MAIL}b", room), wanted) for room, wanted in ((4, f"a{MAIL}b"), (3, f"a{MAIL}"), (2, "a"), (0, ""))),
+    *(
+        (fitted, ("sheds", columns), wanted)
+        for columns, wanted in ((9, "sheds"), (5, "sheds"), (4, "...s"), (0, "..."))
+    ),
+    *(
+        (cut, (f"a{MAIL}b", columns), wanted)
+        for columns, wanted in ((4, f"a{MAIL}b"), (3, f"a{MAIL}"), (2, "a"), (0, ""))
+    ),
     (amount, (1, 2), "1 of 2 bytes"),
     (amount, (1500, 4000), "1.5 of 4.0 kB"),
     (amount, (0, GB), "0.0 of 1.0 GB"),
@@ -51,10 +57,10 @@ class ProgressTest(unittest.TestCase):
     def test_lines(self) -> None:
         """A line that is wider than the terminal could not be overwritten."""
         for who, columns, wanted in LINES:
-            self.assertEqual(composed(Task(who, "1/1 "), "reading", ["50 %", "9 s left"], columns), wanted)
+            self.assertEqual(composed(Actor(who, "1/1 "), "reading", ["50 %", "9 s left"], columns), wanted)
         for columns in range(100):
             for who in ("mia/lists/sheds", MAIL * 100, "/home/" + "x" * 300):
-                line = composed(Task(who, "12/41 "), "verifying file 7", ["50 %", "9 s left"], columns)
+                line = composed(Actor(who, "12/41 "), "verifying file 7", ["50 %", "9 s left"], columns)
                 self.assertLessEqual(width_of(line), columns)
 
     def test_estimates(self) -> None:
