@@ -29,6 +29,7 @@ from ..flags.dovecot_headers import (
     internal_head,
 )
 from ..kinds.starts import text_start
+from ..maildir.files import letters_of
 from ..mbox.bases import before_info
 from ..mbox.fields import Header, headers_at
 from ..mbox.files import BLOCK, open_file
@@ -245,8 +246,7 @@ class Numbering:
     def keywords(self, mail: Mail) -> list[bytes]:
         """The keywords of a file."""
         of_letters = self.listed.keywords if self.listed else {}
-        letters = mail.name.partition(b":2,")[2].decode("latin-1")
-        return [of_letters[letter] for letter in letters if letter in of_letters]
+        return [of_letters[letter] for letter in letters_of(mail.name) if letter in of_letters]
 
     def unknown(self, mails: Iterable[Mail]) -> list[bytes]:
         """The keywords of files that the mailbox does not name, in their order."""

@@ -6,15 +6,13 @@ from collections.abc import Callable, Container, Iterator, Sequence
 from typing import NamedTuple, Optional
 
 from ..looks import is_there
-from ..maildir.files import mail_in
+from ..maildir.files import INFO, letters_of, mail_in
 from ..maildir.making import sync_folder
 from ..mbox.bases import OWN, before_info
 from ..mbox.inventory import Inventory
 from ..units import Place
 from .dovecot_headers import info_of, is_listed
 
-# what follows the base in a name, before the letters of its flags
-INFO = b":2,"
 # by place: what follows the base in the name of a message's file, since names would take much memory; None without a
 # file
 Infos = list[Optional[bytes]]
@@ -54,7 +52,7 @@ def flagged_in(folder: bytes, inventory: Inventory) -> Iterator[Flagged]:
                     infos.append(known.setdefault(info, info))
         for place, info in zip(map(Place, places), infos):
             base = inventory.table.name(place)
-            yield Flagged(place, sub, base + info, base, info[len(INFO) :].decode("latin-1"))
+            yield Flagged(place, sub, base + info, base, letters_of(info))
 
 
 def add_flags(
@@ -93,7 +91,7 @@ def lacking_flags(folder: bytes, flags_of: Callable[[bytes], str]) -> int:
     for name, _ in mail_in(folder):
         base, info = OWN.match(name), name[len(before_info(name)) :]
         if base and (not info or info.startswith(INFO)):
-            count += bool({*flags_of(base[0])} - {*info[len(INFO) :].decode("latin-1")})
+            count += bool({*flags_of(base[0])} - {*letters_of(info)})
     return count
 
 

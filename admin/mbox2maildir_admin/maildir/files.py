@@ -15,6 +15,9 @@ from ..mbox.files import BLOCK, REGULAR, open_file
 PASSES = 5
 CLOCK_TICK = 0.1
 
+# what comes before the letters of flags in the name of a file
+INFO = b":2,"
+
 # the name of a file, and its path
 Named = tuple[bytes, bytes]
 # looks at an open file, whose state this is, and gives its digest if that is known without hashing it
@@ -44,6 +47,11 @@ def names_in(folder: bytes) -> list[bytes]:
         return os.listdir(folder)
     except FileNotFoundError:
         return []
+
+
+def letters_of(name: bytes) -> str:
+    """The letters of the flags in the name of a file."""
+    return name.partition(INFO)[2].decode("latin-1")
 
 
 def listings_of(maildir: bytes) -> Iterator[Iterator[Named]]:
