@@ -1,9 +1,9 @@
-"""What is at a path. A look has three answers: yes, no, and not known. The last one is an OSError, which rises to where
-a mailbox or a folder is left for it, unless the one who looks says what it stands for."""
+"""What is at a path, and what lies below which. A look has three answers: yes, no, and not known. The last one is an
+OSError, which rises to where a mailbox or a folder is left for it, unless the one who looks says what it stands for."""
 import errno
 import os
 import stat
-from collections.abc import Callable
+from collections.abc import Callable, Iterable
 from typing import Optional, Union
 
 # the errors that say that nothing is at a path
@@ -77,6 +77,16 @@ def way_to(path: bytes) -> tuple[bytes, list[bytes]]:
             parts += target.split(b"/")[::-1]
             real = b"/" if target.startswith(b"/") else real
     return real, links
+
+
+def is_below(path: bytes, top: bytes) -> bool:
+    """Whether a path is that of a folder or lies below it, if both are spelled in the same way."""
+    return (path + b"/").startswith(top.rstrip(b"/") + b"/")
+
+
+def top_above(path: bytes, tops: Iterable[bytes]) -> bytes:
+    """The first of these folders that a path lies below; empty if it lies below none."""
+    return next((top for top in tops if path != top and is_below(path, top)), b"")
 
 
 def may_be(look: Callable[[bytes], object], path: bytes) -> bool:

@@ -7,7 +7,7 @@ import stat
 from typing import NamedTuple, Optional
 
 from ..faults import Fault
-from ..looks import is_file, is_folder, may_be, type_at
+from ..looks import is_below, is_file, is_folder, may_be, type_at
 from ..maildir.folders import INBOX, folder_on_disk
 from ..maildir.making import DRAFT, GOES_BACK, SUBFOLDERS
 from ..mbox.files import is_empty, open_file
@@ -15,7 +15,6 @@ from ..mbox.pieces import FROM
 from ..nexts import Next, Template, Todo, run_next, task
 from ..patterns import pattern
 from ..terminal import is_text, operand, text_of
-from .making import is_below
 from .named import BESIDE
 from .others import FROM_LINE, QUOTED
 from .starts import FIELD

@@ -5,6 +5,7 @@ from collections.abc import Callable
 from typing import NamedTuple, Union
 
 from .. import ADMIN
+from ..looks import is_below
 from ..nexts import Answer, Command, Does, Next, Phrase, Single, Step, Task, Template, Todo, User, task
 from ..terminal import operand, text_of
 
@@ -34,11 +35,6 @@ class Makes(NamedTuple):
 # what is to be done with a file of a kind, whatever its name is: what makes a mailbox of it, a command by which a human
 # finds out what it is, and tasks
 Recipe = tuple[Union[Makes, Template, Task], ...]
-
-
-def is_below(path: bytes, top: bytes) -> bool:
-    """Whether a path is that of a folder or lies below it, if both are spelled in the same way."""
-    return (path + b"/").startswith(top.rstrip(b"/") + b"/")
 
 
 def new_folder(above: bytes, path: bytes, before: bytes = b"") -> Single:

@@ -6,6 +6,7 @@ import re
 import stat
 from collections.abc import Sequence
 
+from ..looks import top_above
 from ..maildir.folders import IS_COMPRESSED
 from ..mbox.files import open_file, read_up_to
 from ..patterns import pattern
@@ -64,7 +65,7 @@ def is_spared(words: Sequence[bytes], tops: Sequence[bytes], path: bytes, is_kno
     whole = os.path.abspath(path)
     if any(os.path.abspath(word) == whole for word in words):
         return True
-    above = next((top for top in tops if path.startswith(top.rstrip(b"/") + b"/")), os.path.dirname(path))
+    above = top_above(path, tops) or os.path.dirname(path)
     below = text_of(os.path.relpath(path, above or b"."))
     return not is_known and any(fnmatch.fnmatchcase(below, text_of(word)) for word in words)
 

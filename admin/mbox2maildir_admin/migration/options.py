@@ -3,8 +3,9 @@ import os
 from collections.abc import Callable, Sequence
 from typing import Any, NamedTuple, Optional
 
-from ..kinds.making import Where, is_below
+from ..kinds.making import Where
 from ..labels.choosing import Choosing
+from ..looks import top_above
 from ..maildir.folders import INBOX, words_of
 from ..nexts import Command, Runs
 from ..readings.plans import Question
@@ -78,7 +79,7 @@ class Options(NamedTuple):
     def where(self, opened: Opened) -> Where:
         """Where the next command puts a file of which it makes a mailbox for this folder."""
         path = opened.mailbox.path
-        top = next((name for name in self.names if path != name and is_below(path, name)), b"")
+        top = top_above(path, self.names)
         home = self.home or os.fsencode(os.path.expanduser("~"))
         where = Where.of(path, top, home, may_write)._replace(wants_file=self.is_labelled)
         # what a symbolic link leads to is outside of what was named

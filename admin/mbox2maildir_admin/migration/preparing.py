@@ -58,7 +58,7 @@ from ..ledger.prepared import (
     remove_list,
 )
 from ..ledger.record import Record, unspelled
-from ..looks import is_folder, is_there, may_be, real_path
+from ..looks import is_folder, is_there, may_be, real_path, top_above
 from ..maildir.files import digest_of, mail_in, names_in
 from ..maildir.folders import INBOX, folder_path, folders_in, name_of, words_of
 from ..maildir.making import LEDGER, MARK, PREPARED, SUBFOLDERS, sync_folder
@@ -295,7 +295,7 @@ def reader_in(record: Record, name: bytes, prepared: Prepared) -> Optional[bytes
 def origin_now(known: Known, contents: Contents, names: Iterable[bytes]) -> Origin:
     """What is read of a mailbox now, for the list. It may be in a tree of one of these names."""
     mailbox = known.opened.mailbox
-    tree = tree_above(real_path(mailbox.path), map(real_path, names))
+    tree = top_above(real_path(mailbox.path), map(real_path, names))
     its = len(contents.inventory), contents.reading.words(), spelled(tree) if tree else "", known.path
     return Origin(mailbox.key(), facts_of_mailbox(mailbox.copied or mailbox.state), *its)
 
@@ -312,11 +312,6 @@ def text_to_list(choice: Choice, contents: Contents) -> Optional[ReadText]:
 def facts_of_mailbox(state: os.stat_result) -> tuple[int, ...]:
     """The facts that show, between two passes, that a mailbox has not changed."""
     return state.st_ino, state.st_size, max(0, state.st_mtime_ns), max(0, state.st_ctime_ns)
-
-
-def tree_above(path: bytes, trees: Iterable[bytes]) -> bytes:
-    """The tree among these that a path is in; empty if it is in none. None of them leads over a symbolic link."""
-    return next((tree for tree in trees if path.startswith(tree.rstrip(b"/") + b"/")), b"")
 
 
 def take_prepared(match: Match, prepared: Prepared) -> None:
@@ -453,7 +448,7 @@ class Leftovers:
         now = {tree: unspelled(tree) for tree in map(spelled, self.trees)}
         met = {one.tree: real_path(went[one.name]) for one in self.listed if one.tree and one.name in went}
         for tree, path in met.items():
-            now[tree] = tree_above(path, self.trees)
+            now[tree] = top_above(path, self.trees)
         absent = [one for one in left if now.get(one.tree) and not is_there(one.path_in(now[one.tree]))]
         many, all_of = (collections.Counter(one.tree for one in several) for several in (absent, self.listed))
         for one in left:

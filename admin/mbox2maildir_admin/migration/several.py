@@ -7,10 +7,9 @@ from typing import TYPE_CHECKING, Optional
 from ..faults import Fault, Left, Reason
 from ..jobs.order import Group, InOrder, groups_of, jobs_of, largest_first
 from ..kinds.folders import is_maildir
-from ..kinds.making import is_below
 from ..kinds.named import is_spared
 from ..ledger.record import Record
-from ..looks import is_file, is_folder, is_link, is_surely, is_there, real_path, type_at
+from ..looks import is_below, is_file, is_folder, is_link, is_surely, is_there, real_path, type_at
 from ..maildir.folders import INBOX, folder_of, on_disk
 from ..maildir.making import real_place, want_maildir, want_own, want_roots, want_roots_alone
 from ..maildir.disk import Syncs
