@@ -79,6 +79,11 @@ def way_to(path: bytes) -> tuple[bytes, list[bytes]]:
     return real, links
 
 
+def may_write(folder: AnyPath) -> bool:
+    """Whether this user may make and move files in a folder."""
+    return os.access(folder, os.W_OK | os.X_OK)
+
+
 def is_below(path: bytes, top: bytes) -> bool:
     """Whether a path is that of a folder or lies below it, if both are spelled in the same way."""
     return (path + b"/").startswith(top.rstrip(b"/") + b"/")

@@ -13,7 +13,7 @@ from ..kinds.folders import is_maildir
 from ..kinds.making import Where
 from ..kinds.others import Holds
 from ..ledger.history import History
-from ..looks import is_folder
+from ..looks import is_folder, may_write
 from ..maildir.disk import trial_folder
 from ..maildir.folders import INBOX, words_of
 from ..mbox.mailbox import Mailbox
@@ -144,16 +144,18 @@ def where(found: Found) -> Where:
             user, home = account.pw_name, account.pw_dir
         except KeyError:
             user, home = owner, "/"
-    place = Where.of(path, found.top, os.fsencode(home), lambda folder: may_write(folder, owner))._replace(user=user)
-    if may_write(os.path.dirname(path) or b".", owner):
+    place = Where.of(path, found.top, os.fsencode(home), lambda folder: user_may_write(folder, owner))._replace(
+        user=user
+    )
+    if user_may_write(os.path.dirname(path) or b".", owner):
         return place
     return place._replace(migrate=tuple(found.words()))
 
 
-def may_write(folder: bytes, owner: int) -> bool:
+def user_may_write(folder: bytes, owner: int) -> bool:
     """Whether a user, who may be the one who runs this, may write in a folder."""
     if owner == os.geteuid():
-        return os.access(folder, os.W_OK | os.X_OK)
+        return may_write(folder)
     state = os.stat(folder)
     if owner == state.st_uid:
         return bool(state.st_mode & stat.S_IWUSR)

@@ -14,7 +14,7 @@ from typing import Generic, NamedTuple, Optional, TypeVar
 
 from .. import ADMIN
 from ..faults import Left, Reason
-from ..looks import is_folder, is_there, may_be
+from ..looks import is_folder, is_there, may_be, may_write
 from ..mbox.files import BLOCK
 from ..nexts import Phrase, Todo, task
 from ..remarks import Remark, Says
@@ -50,7 +50,7 @@ def trial_folder() -> bytes:
     """The folder for the copies of a command that fills no Maildir. It is in no home, where copies would count against
     the user's quota, and not /tmp, which many systems have in memory."""
     chosen = os.environ.get("TMPDIR", "")
-    return os.fsencode(chosen if os.access(chosen, os.W_OK | os.X_OK) else "/var/tmp")
+    return os.fsencode(chosen if may_write(chosen) else "/var/tmp")
 
 
 def room_on(disk: os.statvfs_result) -> int:
@@ -125,7 +125,7 @@ def what_fails(folder: bytes, size: int) -> Optional[str]:
         path = None
         for sub in (b"new", b"cur"):
             step = "write in %s" % sub.decode()
-            if not os.access(os.path.join(folder, sub), os.W_OK | os.X_OK):
+            if not may_write(os.path.join(folder, sub)):
                 raise PermissionError(errno.EACCES, os.strerror(errno.EACCES))
     except OSError as fault:
         return "could not %s: %s" % (step, why(fault, folder))

@@ -5,7 +5,7 @@ from typing import Any, NamedTuple, Optional
 
 from ..kinds.making import Where
 from ..labels.choosing import Choosing
-from ..looks import top_above
+from ..looks import may_write, top_above
 from ..maildir.folders import INBOX, words_of
 from ..nexts import Command, Runs
 from ..readings.plans import Question
@@ -105,8 +105,3 @@ class Options(NamedTuple):
         """The command that undoes a mailbox, or the one at a path."""
         given = {"decision": UNDECIDED, "dovecot": False, "no_mail": (), "any_disk": False, "labels": None}
         return self.command(opened, path, undo=True, **given)
-
-
-def may_write(folder: bytes) -> bool:
-    """Whether this user may make and move files in a folder."""
-    return os.access(folder, os.W_OK | os.X_OK)

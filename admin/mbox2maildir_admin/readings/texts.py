@@ -15,7 +15,7 @@ from ..kinds.look import Look, Read
 from ..kinds.making import Makes, Recipe
 from ..kinds.others import ARCHIVE, LIKE_MAIL, NOT_KNOWN, Form, other_of
 from ..kinds.starts import text_start
-from ..looks import is_folder
+from ..looks import is_folder, may_write
 from ..maildir.files import paths_of
 from ..maildir.disk import trial_folder
 from ..mbox.fields import bared
@@ -293,7 +293,7 @@ def folder_for_copies(maildir: bytes, is_trial: bool = False) -> bytes:
     if is_folder(maildir):
         return maildir
     above = os.path.dirname(os.path.abspath(maildir))
-    return above if os.access(above, os.W_OK | os.X_OK) else trial_folder()
+    return above if may_write(above) else trial_folder()
 
 
 def is_mbox(path: bytes) -> bool:
