@@ -7,7 +7,7 @@ from typing import NamedTuple, Optional
 
 from ..looks import is_there
 from ..maildir.files import INFO, letters_of, mail_in
-from ..maildir.making import sync_folder
+from ..maildir.making import WITH_MAIL, sync_folder
 from ..mbox.bases import OWN, before_info
 from ..mbox.inventory import Inventory
 from ..units import Place
@@ -41,7 +41,7 @@ class Flagged(NamedTuple):
 
 def flagged_in(folder: bytes, inventory: Inventory) -> Iterator[Flagged]:
     """The files of a Maildir that belong to messages. A file that gets flags meanwhile comes twice."""
-    for sub in (b"new", b"cur"):
+    for sub in WITH_MAIL:
         # what follows the bases: files share few of these infos, while a list of their names would take much memory
         places, infos, known = array.array("Q"), list[bytes](), {b"": b""}
         with os.scandir(os.path.join(folder, sub)) as entries:
@@ -97,5 +97,5 @@ def lacking_flags(folder: bytes, flags_of: Callable[[bytes], str]) -> int:
 
 def sync_names(folder: bytes) -> None:
     """Syncs the folders of a Maildir in which files were renamed, beginning with the one that they went into."""
-    for sub in (b"cur", b"new"):
+    for sub in reversed(WITH_MAIL):
         sync_folder(os.path.join(folder, sub))

@@ -17,7 +17,7 @@ from typing import NamedTuple, Optional
 from ..faults import Fault, Reason
 from ..looks import is_there
 from ..maildir.files import CLOCK_TICK, digest_of, mail_in, names_in
-from ..maildir.making import PREPARED, sync_folder
+from ..maildir.making import PREPARED, WITH_MAIL, sync_folder
 from ..mbox.bases import FIRST, Table, base_in, before_info
 from ..mbox.core import SHORT
 from ..mbox.inventory import NO_DATE, Inventory
@@ -377,7 +377,7 @@ class Prepared:
                 os.unlink(path)
             else:
                 self.edited.add(path)
-        for sub in (b"new", b"cur"):
+        for sub in WITH_MAIL:
             sync_folder(os.path.join(self.folder, sub))
         return len(self.edited) - before
 

@@ -21,7 +21,7 @@ from ..remarks import Remark, Says
 from ..signals import INTERRUPTS
 from ..terminal import is_text, named
 from .files import changed_at, paths_of
-from .making import SUBFOLDERS, sync_folder
+from .making import SUBFOLDERS, WITH_MAIL, sync_folder
 
 # the beginning of the names of files that are made to see what fails, and of copies until they are complete
 PREFIX = b"." + ADMIN.encode() + b"-"
@@ -123,7 +123,7 @@ def what_fails(folder: bytes, size: int) -> Optional[str]:
         step = "remove a file in tmp"
         os.unlink(path)
         path = None
-        for sub in (b"new", b"cur"):
+        for sub in WITH_MAIL:
             step = "write in %s" % sub.decode()
             if not may_write(os.path.join(folder, sub)):
                 raise PermissionError(errno.EACCES, os.strerror(errno.EACCES))
@@ -152,7 +152,7 @@ def why_not_listed(folder: bytes) -> Optional[str]:
     except OSError as fault:
         return "could not list it: %s" % fault.strerror
     try:
-        for sub in (b"new", b"cur"):
+        for sub in WITH_MAIL:
             sync_folder(os.path.join(folder, sub))
     except OSError as fault:
         return "its disk cannot sync folders: %s" % fault.strerror if fault.errno in UNSYNCED else None
@@ -215,7 +215,7 @@ def want_syncs(maildir: bytes, any_disk: bool) -> list[Remark]:
     """Checks that nothing speaks against syncs of the folders in which a Maildir has, or will have, its mail. Returns
     what does. Raises Left if it is known that they do not reach the disk, unless any disk will do."""
     # symbolic links may put its mail on other disks
-    folders = {folder_there(os.path.join(maildir, sub)) for sub in (b"", b"new", b"cur")}
+    folders = {folder_there(os.path.join(maildir, sub)) for sub in (b"", *WITH_MAIL)}
     mounts = filter(None, map(mount_of, folders))
     doubts = sorted(set(filter(None, map(doubt_of, mounts))))
     for doubt in doubts:

@@ -10,6 +10,7 @@ from typing import Optional
 from ..faults import Fault
 from ..mbox.core import forms_of
 from ..mbox.files import BLOCK, REGULAR, open_file
+from .making import WITH_MAIL
 
 # how often a Maildir is listed at most, and for how many seconds the clock of a file system may stand still
 PASSES = 5
@@ -27,7 +28,7 @@ Look = Callable[[int, os.stat_result], Optional[bytes]]
 def paths_of(maildir: bytes) -> Iterator[Named]:
     """The names of a Maildir's mail, each with its path. `new` comes before `cur`, since mail programs move files that
     way."""
-    for sub in (b"new", b"cur"):
+    for sub in WITH_MAIL:
         with os.scandir(os.path.join(maildir, sub)) as entries:
             for entry in entries:
                 yield entry.name, entry.path
@@ -67,7 +68,7 @@ def listings_of(maildir: bytes) -> Iterator[Iterator[Named]]:
 
 def changed_at(maildir: bytes) -> list[float]:
     """The times at which files of a Maildir's two folders were last added, renamed or removed."""
-    return [os.stat(os.path.join(maildir, sub)).st_mtime for sub in (b"new", b"cur")]
+    return [os.stat(os.path.join(maildir, sub)).st_mtime for sub in WITH_MAIL]
 
 
 def digest_of(

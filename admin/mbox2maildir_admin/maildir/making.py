@@ -12,7 +12,9 @@ from ..looks import is_folder, is_there, real_path, way_to
 from ..nexts import Answer, Command, Runs, Todo, run_next, task
 from ..terminal import named, operand, text_of
 
-SUBFOLDERS = b"tmp", b"new", b"cur"
+# the folders that have the mail: programs move files from the first one into the second
+WITH_MAIL = b"new", b"cur"
+SUBFOLDERS = b"tmp", *WITH_MAIL
 # marks a folder of a Maildir
 MARK = b"maildirfolder"
 # the record of a migration has this name; a Maildir without other names is known by it

@@ -61,7 +61,7 @@ from ..ledger.record import Record, unspelled
 from ..looks import is_folder, is_there, may_be, real_path, top_above
 from ..maildir.files import digest_of, mail_in, names_in
 from ..maildir.folders import INBOX, folder_path, folders_in, name_of, words_of
-from ..maildir.making import LEDGER, MARK, PREPARED, SUBFOLDERS, sync_folder
+from ..maildir.making import LEDGER, MARK, PREPARED, SUBFOLDERS, WITH_MAIL, sync_folder
 from ..mbox.bases import base_in, before_info, own_base_in
 from ..mbox.dates import seconds_of
 from ..mbox.inventory import NO_DATE
@@ -160,7 +160,7 @@ class Preparation:
                     os.unlink(os.path.join(folder, file))
             for file in (KEYWORDS, LIST):
                 remove_part(folder, file)
-            if all(is_folder(os.path.join(folder, sub)) for sub in (b"new", b"cur")):
+            if all(is_folder(os.path.join(folder, sub)) for sub in WITH_MAIL):
                 # a run may have been killed before it made them
                 sync_names(folder)
         for path in self.ledger.paths():
