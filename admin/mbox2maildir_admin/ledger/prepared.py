@@ -25,6 +25,8 @@ from ..remarks import SAYS, Remark
 from ..patterns import pattern
 from ..units import Say
 from .lines import CUT, FIRST_LINE, append, lines_in
+from .match import Match
+from .placing import Placing
 
 BEGUN = pattern(
     rb"@\t(\d{1,18})-([0-9a-f]{64})\t(\d{1,20}(?:,\d{1,20})*)\t(\d{1,18})\t([!-~][ -~]*)\t([^\t]*)\t([^\t]+)\Z"
@@ -319,6 +321,16 @@ class Prepared:
                 self.files[place] = OURS
                 self.set_facts(place, facts_of(state))
         self.verified, self.looking = self.files[:], milliseconds_since(began)
+
+    def give_to(self, match: Match) -> None:
+        """Gives the files to those messages that are to be placed under their names. Then no message wants the
+        others."""
+        placing = Placing(match)
+        for place in placing.nowhere:
+            at = self.note(placing.base(place))
+            self.wanted[at] = 1
+            if self.files[at]:
+                match.take_prepared(place, self.table.base(at), placing.names.get(place))
 
     def foreseen(self) -> int:
         """How many milliseconds a last pass would take for the mailbox as it is. It looks at the files several times:

@@ -61,7 +61,6 @@ from .preparing import (
     remarks_on_prepared,
     row_unchanged,
     same_as_prepared,
-    take_prepared,
     text_to_list,
     want_free,
     want_usable,
@@ -423,7 +422,7 @@ class Transfer:
         if not again:
             self.want_sure(contents, match)
             if prepared:
-                take_prepared(match, prepared)
+                prepared.give_to(match)
         if part.is_as_prepared and match.count(Stand.NOWHERE):
             raise Left(CHANGED_MEANWHILE, Reason.CHANGED)
         if Says.AS_BROUGHT.of() not in self.remarks:

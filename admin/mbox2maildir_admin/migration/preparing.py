@@ -40,8 +40,6 @@ from ..flags.renaming import sync_names
 from ..ledger.history import Note, Step, names_of
 from ..ledger.ledger import Ledger, has_failed
 from ..ledger.lines import PLACED
-from ..ledger.match import Match
-from ..ledger.placing import Placing
 from ..ledger.prepared import (
     ASIDE,
     NEXT_LIST,
@@ -312,17 +310,6 @@ def text_to_list(choice: Choice, contents: Contents) -> Optional[ReadText]:
 def facts_of_mailbox(state: os.stat_result) -> tuple[int, ...]:
     """The facts that show, between two passes, that a mailbox has not changed."""
     return state.st_ino, state.st_size, max(0, state.st_mtime_ns), max(0, state.st_ctime_ns)
-
-
-def take_prepared(match: Match, prepared: Prepared) -> None:
-    """Takes the files that were prepared for those messages that are to be placed under their names. Then no message
-    wants the others."""
-    placing = Placing(match)
-    for place in placing.nowhere:
-        at = prepared.note(placing.base(place))
-        prepared.wanted[at] = 1
-        if prepared.files[at]:
-            match.take_prepared(place, prepared.table.base(at), placing.names.get(place))
 
 
 def remarks_on_prepared(prepared: Prepared, options: Options, say: Say) -> list[Remark]:
