@@ -111,8 +111,11 @@ def meanwhile(home: Home) -> None:
         places = {"box": str(box), "new": f"{home.folder('a')}/new/0.M1.host"}
         ran = ran_first(home, FIRST % {**NOTHING, **case.does, **places})
         reasons = [row["reason"] for row in ran.rows if row["reason"]]
-        wanted = (case.status, [case.reason] * bool(case.reason))
-        equal(f"{what}: status and reason: {ran.err}", (ran.status, reasons), wanted)
+        equal(
+            f"{what}: status and reason: {ran.err}",
+            (ran.status, reasons),
+            (case.status, [case.reason] * bool(case.reason)),
+        )
         text, has_part = box.read_bytes(), "keeps" in case.does
         if case.status and not has_part and "fsync" not in case.does or what in ("a signal", "a sync that fails"):
             equal(f"{what}: the mailbox", text, OLD)
@@ -193,8 +196,11 @@ def left(home: Home) -> None:
         wanted = [f"the message that begins in line {line} is cut: "] * (line is not None)
         equal(f"{what}: what is cut", [one[: len(wanted[0])] for one in torn] if wanted else torn, wanted)
         now = box.read_bytes()
-        found = (ran.status, now.startswith(old if is_ours else edited))
-        equal(f"{what}: the status, and what stays: {ran.output}", found, (bool(wanted), True))
+        equal(
+            f"{what}: the status, and what stays: {ran.output}",
+            (ran.status, now.startswith(old if is_ours else edited)),
+            (bool(wanted), True),
+        )
         if not is_ours:
             home.place.run([*BACK, "mail"])
         counts = [box.read_bytes().count(b"\nSubject: %s\n" % one) for one in (b"new", b"more")]
@@ -396,8 +402,11 @@ def standing(home: Home) -> None:
     ran = home.place.run([*BACK, "x", "y"])
     (row,) = (row for row in ran.rows if row["path"] == "x")
     ends = [one["says"].endswith("unless somebody has removed it from the mailbox") for one in row["remarks"]]
-    expected = ([True] * 2, {"deleted": 1, "changed": 0})
-    equal(f"a mailbox that has changed: {row}", (ends, ran.sums["still_there"]), expected)
+    equal(
+        f"a mailbox that has changed: {row}",
+        (ends, ran.sums["still_there"]),
+        ([True] * 2, {"deleted": 1, "changed": 0}),
+    )
 
 
 RULES = meanwhile, left, left_elsewhere, locks, nothing_shows_what_is_new, where_it_goes, a_power_cut, standing

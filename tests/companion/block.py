@@ -65,8 +65,11 @@ def groups(home: Path) -> None:
     question, not_known, no_file, look = groups_in(out)
     equal("a question", question.title, TITLE("3 mailboxes"))
     equal("its mailboxes", question.rows, {f"old/ask{number}": ASKED.format(number) for number in range(3)})
-    expected = [f"{BELONGS}: 3 messages:", f"{BEGINS}: 6 messages:"]
-    equal("its answers", [reply.says for reply in question.answers()], expected)
+    equal(
+        "its answers",
+        [reply.says for reply in question.answers()],
+        [f"{BELONGS}: 3 messages:", f"{BEGINS}: 6 messages:"],
+    )
     equal("not known", not_known.title, "not-known: 3 mailboxes: It is not known what it is.")
     equal(
         "the one that looks like mail comes last",
@@ -83,8 +86,11 @@ def groups(home: Path) -> None:
     assert "rehearsal" not in out, out
     status, out, _ = run_printed(command, home)
     equal("what was done before has no row", out.splitlines()[0], "")
-    found = [one.word for one in groups_in(out)]
-    equal("what was passed over is left no more", found, ["unclear", "not-known", "no-file"])
+    equal(
+        "what was passed over is left no more",
+        [one.word for one in groups_in(out)],
+        ["unclear", "not-known", "no-file"],
+    )
 
 
 def moved_into_one(home: Path) -> None:
@@ -135,8 +141,11 @@ def one_answer_for_many(home: Path) -> None:
     assert f"--of {second} " in out and "--of" not in out.replace(f"--of {second} ", ""), out
     mailbox(home / "old/ask1", asked(1) + b"From the shed\n\n")
     status, out, err = run_printed(begins.replace(ties, f"{second},{first}"), home)
-    wanted = f"mbox2maildir-admin: --of {second},{first}: no question has this tie: ...\n"
-    matches("a question that has changed", err, wanted)
+    matches(
+        "a question that has changed",
+        err,
+        f"mbox2maildir-admin: --of {second},{first}: no question has this tie: ...\n",
+    )
     assert "line 5: " in out and status == 1, out
     err = run_printed(begins.replace(ties, first), home).err
     matches("a single tie of nothing", err, f"mbox2maildir-admin: --of {first}: no question has this tie: ...\n")

@@ -169,8 +169,8 @@ def locks(home: Path) -> None:
     mailbox(home / "empty", b"")
     expect("migrate --all M empty", home, 0, "empty -> INBOX: empty, messages 0: done\n1 mailbox: 1 done\n")
     with holding(home / "M" / RECORD, "flock"):
-        says_of_it = "another migrate is at work in M, or a convert that an interrupted one left behind\n    wait until ..."
-        expect("migrate M box", home, LATER, "", f"mbox2maildir-admin: {says_of_it}\n")
+        says_of_it = "another migrate is at work in M, or a convert that an interrupted one left behind"
+        expect("migrate M box", home, LATER, "", f"mbox2maildir-admin: {says_of_it}\n    wait until ...\n")
     done(home, "messages 1: done, box.lock is older than 20 minutes and was ignored")
     # nobody may write to it while it is converted
     (home / "box.lock").unlink()

@@ -162,8 +162,11 @@ def dates(home: Path) -> None:
         TZ=NEW_YORK,
     )
     for (form, moment), base in zip(forms, bases):
-        seen = moments()[base]
-        equal(f"the date of {form}", seen, datetime.fromisoformat(moment).timestamp() if moment else before[base])
+        equal(
+            f"the date of {form}",
+            moments()[base],
+            datetime.fromisoformat(moment).timestamp() if moment else before[base],
+        )
 
     files_of(home / "-M")[bases[1]].unlink()
     expect(
@@ -188,8 +191,11 @@ def dates(home: Path) -> None:
         "lines have the same date: 'From alva@example.org Mon Mar  3 09:12:44 2025'\n"
         "mbox2maildir-admin: none: No such file or directory\n    run this next:\n        ls .\n",
     )
-    found = {path.stat().st_mtime for path in files_of(home / "One").values()}
-    equal("dates of messages with one date", found, {by_header})
+    equal(
+        "dates of messages with one date",
+        {path.stat().st_mtime for path in files_of(home / "One").values()},
+        {by_header},
+    )
     # which the option takes if all From_ lines have one date, and only then, as the help says
     (home / "two").write_bytes((A + b"Date: 4 Mar 2025 10:00 Z\n\n") + B + b"Date: 4 Mar 2025 10:00 Z\n\n")
     run("mbox2maildir convert Two two", home)
@@ -295,7 +301,7 @@ def what_is_not_kept(home: Path) -> None:
     equal("convert", run("mbox2maildir convert M box", home)[0], 0)
     for code, says in (
         (FAILING, "its sync failed: read the system's log, mount the disk again, and run this again"),
-        (SYNCING % (f"open('{box}', 'ab').write(b'x')", 0), "it changed in the meantime\n    stop the program that writes to it, ..."),
+        (SYNCING % (f"open('{box}', 'ab').write(b'x')", 0), "it changed in the meantime\n    stop the program ..."),
     ):
         expect(
             [doing_first(code, home / "bin"), "dates", "M", "box"], home, 1, "", f"mbox2maildir-admin: box: {says}\n"
