@@ -16,7 +16,7 @@ from typing import NamedTuple, Optional
 from ..faults import Fault, Left, Reason
 from ..flags.clients import CLIENTS, EVOLUTION, THUNDERBIRD, kept_in
 from ..kinds.starts import FIELD, text_start
-from ..maildir.files import mail_in
+from ..maildir.files import letters_of, mail_in
 from ..mbox.bases import before_info
 from ..mbox.core import forms_of
 from ..mbox.dates import TOO_LATE
@@ -73,8 +73,8 @@ class Letter(NamedTuple):
             if before_info(name) != mail.before:
                 continue
             with contextlib.suppress(FileNotFoundError), open_file(path, os.O_NOFOLLOW) as file:
-                flags = name.partition(b":2,")[2].decode("ascii", "replace")
-                return cls(file.readall(), flags, os.path.basename(os.path.dirname(path)) == b"cur", mail.time)
+                is_old = os.path.basename(os.path.dirname(path)) == b"cur"
+                return cls(file.readall(), letters_of(name), is_old, mail.time)
         return None
 
 
