@@ -95,7 +95,7 @@ TO_DO = {
         "and run `migrate --again`, which also brings back deleted mail"
     ),
     Reason.NO_USER: "Find out whose mail it is. If it is nobody's, [move it away](SERVER.md#nobodys)",
-    Reason.SYSTEM_ACCOUNT: "Name it on the command line, or choose a Maildir for it, as the line says",
+    Reason.SYSTEM_ACCOUNT: "Its command, with [a folder of its own](SERVER.md#nobodys) for `MAILDIR`",
     Reason.NO_MAILBOX: "Correct the name, or do as the line says",
     Reason.OTHER_OWNER: "In a spool, give the file to its user. Otherwise run `migrate` as the owner",
     Reason.SAME_USER: "Its command. Choose the folder in it, such as `info` for mia's mailbox `info`",
