@@ -86,7 +86,7 @@ RIGHT = (
     Right("commands.migrate.joined", "b'M tree'", "the words are looked at one by one"),
     Right("migration.several.refuse", "b'tree/tmp'", "whoever reads the tree sees whether it is a Maildir"),
     Right("migration.places.recorded", "", "no folder is wanted for what holds no mail"),
-    Right("migration.places.beside", NO_MAIL, "what holds no mail is no copy, and has none"),
+    Right("migration.places.paired_with", NO_MAIL, "what holds no mail is no copy, and has none"),
     Right("ledger.record.look", "", "a ledger that cannot be read is said where it is needed"),
     Right("ledger.record.changes", "", "what the index lacks is found in the ledgers"),
 )
