@@ -138,6 +138,10 @@ class Stand(enum.IntEnum):
     FRESH = 4
 
 
+# how messages stand that the mailbox did not bring before: they are new, whatever stands for them
+NEW = tuple(one for one in Stand if one is not Stand.KNOWN)
+
+
 class Seen:
     """What is to be said of new messages."""
 
@@ -395,12 +399,12 @@ class Match:
 
     @property
     def new(self) -> Sequence[int]:
-        """The places of what is new: the mailbox did not bring it before, whatever stands for it."""
-        return self.places(*(one for one in Stand if one is not Stand.KNOWN))
+        """The places of what is new."""
+        return self.places(*NEW)
 
     def count_new(self) -> int:
         """How many messages are new."""
-        return len(self.states) - self.count(Stand.KNOWN)
+        return sum(map(self.count, NEW))
 
     def count_lost(self) -> int:
         """How many messages the mailbox no longer has that it brought."""
