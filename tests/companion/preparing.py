@@ -170,7 +170,8 @@ def one_at_work(home: Path) -> None:
                 time.sleep(0.1)
             status, out, err = run("migrate --all --now M box", home)
             equal("the last pass", (status, out), (LATER, ""))
-            matches("what it says", err, "mbox2maildir-admin: another migrate is at work in M, ...\n")
+            says = "mbox2maildir-admin: another migrate is at work in M, ...\n    wait until ...\n"
+            matches("what it says", err, says)
         finally:
             (home / "go").touch()
     equal("the status of the first pass", first.returncode, 0)
