@@ -290,9 +290,8 @@ class Oracle:
         """A mailbox has brought this into a folder."""
         self.shelves[folder].sure[mailbox] = contents
 
-    def undoes(self, mailboxes: Sequence[int], row: Optional[Row], is_blurred: bool = False) -> Iterator[str]:
-        """Mailboxes are undone. When that is over, a row says what is kept: also as nobody's, if another program may
-        have renamed what killed runs had placed."""
+    def undoes(self, mailboxes: Sequence[int], row: Optional[Row], more: Sequence[str] = ()) -> Iterator[str]:
+        """Mailboxes are undone. When that is over, a row says what is kept, also by the remarks with these words."""
         here, ids = self.counts()
         apart = self.apart()
         told: typing.Counter[str] = Counter()
@@ -302,8 +301,7 @@ class Oracle:
         if told["gone"]:
             yield f"{told['gone']} removed that others have"
         remarks = row["remarks"] if row else []
-        words = (*KEPT, *["kept-foreign"] * is_blurred)
-        said = " ".join(one["says"] for one in remarks if one["remark"] in words)
+        said = " ".join(one["says"] for one in remarks if one["remark"] in (*KEPT, *more))
         if told["kept"] > sum(map(int, re.findall(r"\d+", said))):
             yield f"{told['kept']} still there of what was undone, unsaid"
         self.all.undoes(ids, mailboxes, row is not None, Counter())

@@ -123,7 +123,8 @@ class Shared(History):
         if ran.status:
             self.wrong.append(f"it is not undone: {ran.output[-600:]}")
             return
-        self.wrong += self.oracle.undoes([box.number], ran.row, self.is_blurred)
+        # another program may have renamed what killed runs had placed
+        self.wrong += self.oracle.undoes([box.number], ran.row, ["kept-foreign"] * self.is_blurred)
         self.clear_up(self.oracle.shelves[self.folder])
 
     def clear_up(self, shelf: Shelf) -> None:

@@ -27,7 +27,7 @@ class Undone(Rewritten):
         self.oracle = Oracle(self.maildir)
         self.dovecot = DOVECOT * (self.draw.random() < 0.25)
         # what happened to it, or to another mailbox, before it is undone; and which is missing
-        self.hindrance = "nothing"
+        self.hindrance, self.goes_on = "nothing", False
         self.missing: list[Box] = []
         # the numbers of those whose last run was killed
         self.begun: set[int] = set()
@@ -91,6 +91,7 @@ class Undone(Rewritten):
         elif self.hindrance == "was looked at":
             self.rewrite(box, by_dovecot)
         elif self.hindrance != "nothing":
+            self.goes_on = self.hindrance == "grew" and not (self.home / box.path).read_bytes().endswith(b"\n")
             with open(self.home / box.path, "ab" if self.hindrance == "grew" else "wb") as file:
                 file.write(self.mailbox(box).letter())
             self.steps.append(f"({box.path} {self.hindrance})")
@@ -155,5 +156,7 @@ class Undone(Rewritten):
         ways = [[box.number for box in boxes] for boxes in ([self.box, *self.missing], [self.box])]
         if row and "kept-shared" in row.remarks:
             ways.reverse()
-        numbers = min(ways, key=lambda one: len([*self.oracle.kept().undoes(one, row)]))
-        return [*self.oracle.undoes(numbers, row)]
+        # what is appended to a last line without an end makes another message of the last one, which is kept then
+        more = ["kept-lost"] * self.goes_on
+        numbers = min(ways, key=lambda one: len([*self.oracle.kept().undoes(one, row, more)]))
+        return [*self.oracle.undoes(numbers, row, more)]
