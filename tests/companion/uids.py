@@ -1,17 +1,18 @@
 """mbox2maildir-admin migrate --dovecot: the list of UIDs and the subscriptions that it writes, which Dovecot may have
 changed by the next run, or a kill have left. What the fields of headers give is in tests/tables/hidden_fields.py."""
 import fcntl
+import itertools
 import os
 import shutil
 import signal
 from pathlib import Path
 
 from tests.support.checks import LATER, equal
-from tests.support.copies import Meanwhile
-from tests.support.homes import by_json, check_all, expect, mail_in, mailbox, make_maildir, subjects
+from tests.support.copies import Copies, Meanwhile
+from tests.support.homes import by_json, check_all, checks_in, expect, mail_in, mailbox, make_maildir, subjects
 from tests.support.ledgers import RECORD, take_back_ends
 from tests.support.mail import ONE
-from tests.support.running import BY_OTHERS, Run
+from tests.support.running import BY_OTHERS, Kill, Run
 
 HEAD = "From a@b Mon Mar  3 09:12:44 2025\n"
 MIGRATE = ["migrate", "--dovecot", "--now", "M"]
@@ -91,6 +92,19 @@ def who_changes_the_list(home: Path) -> None:
     mailbox(lock, b"")
     equal("an old lock", migrated(home, text_of(*FIELDS, FOURTH, base="222 12")).status, 0)
     equal("the list", (path.read_text(), lock.exists()), (f"{before}12 :a\n".replace("N10", "N13"), False))
+
+
+def moved_by_a_killed_run(home: Path) -> None:
+    """A run is killed while it notes that a mailbox was moved: the folder keeps the UIDs that it has from it."""
+    for event in itertools.count(1, 2):
+        migrated(home, text_of(*FIELDS))
+        (home / "box").rename(home / "moved")
+        killed = Copies(home, home / "bin").run([*MIGRATE, "moved"], Kill(event=event))
+        row = by_json([*MIGRATE, "moved"], home).row
+        equal(f"{event}: what is said", (row["verdict"], row["remarks"]), ("done before", []))
+        shutil.rmtree(home / "M")
+        if not killed.is_killed:
+            break
 
 
 def left_by_a_killed_run(home: Path) -> None:
@@ -181,4 +195,4 @@ def subscriptions(home: Path) -> None:
 
 
 if __name__ == "__main__":
-    check_all(uids_given_meanwhile, who_changes_the_list, left_by_a_killed_run, begun, another_list, subscriptions)
+    check_all(*checks_in(globals()))

@@ -168,9 +168,10 @@ class Known:
     def move(self, path: str) -> None:
         """Notes that what the mailbox of a path brought, and the UIDs that the folder has from it, are this one's."""
         numbered = self.record.numbered(self.opened.name)
-        self.ledger.move(path, self.path)
+        # a run that is killed after the ledger says it would never say whose the UIDs are
         if numbered and numbered.path == path:
             self.record.add(Note.NUMBERED, numbered.key, numbered.messages, self.opened.mailbox.path)
+        self.ledger.move(path, self.path)
 
 
 def moved_in(ledger: Ledger, mailbox: Mailbox) -> list[str]:
