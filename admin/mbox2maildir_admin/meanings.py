@@ -128,8 +128,8 @@ LOOK = by_words(
         Says.DOUBTFUL_LINE: "Lines in it may begin messages that were not counted.",
         Says.ELSEWHERE: "It went into another folder before. Its command removes it there.",
         Says.FIRST_APPEARS: "A message in which an IMAP server kept its own notes becomes mail: delete that message.",
-        Says.FLAGS_DIFFER: "Messages are marked in it, as read or flagged, but not in the Maildir: another mailbox "
-        "brought them first, and its marks stay.",
+        Says.FLAGS_DIFFER: "Messages are marked in it, such as flagged or answered, but not in the Maildir: another "
+        "mailbox brought them first, and its marks stay. Mark them there if you want that.",
         Says.FOLDER_GONE: "The folder was removed. If nobody meant that, migrate the mailbox with --again.",
         Says.GONE: "Mail of its folder was deleted in the Maildir.",
         Says.GONE_ELSEWHERE: "Mail that another mailbox brought too was deleted in the Maildir. Its command brings it "
