@@ -26,8 +26,9 @@ TO_DO = {
     Reason.LABELS: "Its command. If there is none, migrate the mailbox without `--labels`",
     Reason.OTHER_KIND: "Its command, which [makes a mailbox of it](FORMATS.md#files-of-another-format)",
     Reason.NOT_KNOWN: (
-        "Its command, or the program `file`, says more. If it holds no mail, add `--no-mail PATTERN` once. PATTERN is "
-        "its path, or a shell pattern such as `*.txt` for its path below the home or the folder that you named"
+        "`mbox2maildir-admin kind FILE`, or the program `file`, says more. If the file holds no mail, add "
+        "`--no-mail PATTERN` once. PATTERN is its path, or a shell pattern such as `*.txt` for its path below the home "
+        "or the folder that you named"
     ),
     Reason.PACKED: (
         "Find a complete copy, [unpack it](FORMATS.md#compressed-files), or install the program that the line names"
@@ -51,8 +52,8 @@ TO_DO = {
     Reason.NOT_OWN: "Its command. If there is none, name a folder of the user's own, or run `migrate` as the owner",
     Reason.NO_ROOM: "Make room, or raise the quota, and run the same command again",
     Reason.NO_SYNC: (
-        "A power cut could take its mail away. Name the Maildir by its path on another [file "
-        "system](LARGE.md#file-systems), or add `--any-disk`"
+        "A power cut could take its mail away. Name the Maildir by its path on the [file system "
+        "below](LARGE.md#file-systems), or add `--any-disk` to accept this"
     ),
     Reason.PARTLY_THERE: (
         "Restore `mbox2maildir-messages`, the [ledger](LEDGER.md), from a backup. Otherwise its command, which stores "
@@ -60,9 +61,9 @@ TO_DO = {
     ),
     Reason.REWRITTEN: "If it is another mailbox, give it a path of its own. Otherwise its command",
     Reason.LEDGER: (
-        "Read the line. If others may write to it, look at it and `chmod 600` it. If another version wrote it, finish "
-        "with that version. For an undo, first migrate the folder's other mailboxes. Otherwise restore the newest "
-        "`mbox2maildir-messages` from a backup, or run its command, which brings back deleted mail"
+        "Read the line. If others may write to the ledger, look at it and `chmod 600` it. If another version wrote it, "
+        "finish with that version. For an undo, first migrate the folder's other mailboxes. Otherwise restore the "
+        "newest `mbox2maildir-messages` from a backup, or run its command, which brings back deleted mail"
     ),
     Reason.ANOTHER_READING: (
         "Its command, which goes on as before, or undoes the mailbox. After an undo, migrate it as you meant to"
@@ -72,7 +73,7 @@ TO_DO = {
     Reason.PREPARED: "Its command. [A table](LARGE.md#prepare) has what can be prepared",
     Reason.SUBSCRIPTIONS: "Its command, which adds the missing lines",
     Reason.WRONG_LINES: "Give the numbers that `kind` prints",
-    Reason.MISREAD: "Run the same command again. If the reason is the same again, keep the file, and report it",
+    Reason.MISREAD: "Run the same command again. If the reason is the same again, keep the file, and report the fault",
     Reason.CONVERT_FAILED: (
         "If it was killed, run the same command again. If it is missing, install it. [Its manual](mbox2maildir.1) "
         "explains its errors"
@@ -82,8 +83,8 @@ TO_DO = {
     Reason.NOT_HELD: "The mail stays in the Maildir: copy by hand the files that the line names",
     Reason.TORN: "The whole message was appended again. Remove the cut one, which begins at the line that is named",
     Reason.UNDO: (
-        "Its command. If the ledger is older than the record, first run `migrate --again` for the mailbox that is "
-        "named"
+        "Its command. If the ledger is older than the record (`mbox2maildir-record`), first run `migrate --again` for "
+        "the mailbox that is named"
     ),
     Reason.NO_MAILDIR: (
         "Name another Maildir, or move away what is there. For `verify`, migrate the mailbox first. For `back "

@@ -96,7 +96,7 @@ the same command ran once more.
 
 - `doveadm backup` keeps keywords and UIDs, as `mbox2maildir-admin migrate --dovecot` does. You can start it again: it
   compares both sides. But like `doveadm import`, it writes fields `X-UID` into the old mailbox. A kill during that
-  write left some messages twice there. After a later kill, the same command failed: `INBOX can't be deleted`.
+  write left some messages twice there. After a kill at a later moment of the run, the same command failed: `INBOX can't be deleted`.
 - `mutt`, Dovecot's commands, Python and Mail::Box read many formats. `convert` reads one.
 """
 
