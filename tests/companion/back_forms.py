@@ -31,6 +31,8 @@ ODD = {
 BLANK = b" Subject: blank\n\nbody\n"
 # mail within a line, about which each mailbox is asked
 JOINED = b"Subject: joined\n\nthe endFrom a@b Mon Mar  3 09:12:44 2025\nFrom: x\nSubject: y\n\nbody\n"
+# one that Thunderbird has marked as deleted, about which each mailbox is asked that has nothing else
+DELETED = b"Subject: deleted\nX-Mozilla-Status: 0009\n\nbody\n"
 PLAIN = [b"Subject: plain %d\n\nFrom me\n" % number for number in range(3)]
 OLD = letters(1, 2)
 # the mailboxes by their folders, each with the place that an odd message has among plain ones
@@ -60,6 +62,7 @@ FORMATS = {
     },
     "--as mboxo": {"mboxo": OLD},
     "--as mboxcl": {"mboxcl": BY_LENGTH + letters(2)},
+    "--as mboxcl2": {"mboxcl2": OLD},
     "--as unquoted": {"unquoted": OLD},
 }
 LINES = {
@@ -68,9 +71,13 @@ LINES = {
     "quoted": b"Subject: new\n\nhello\n>From here on\n",
     "twice": b"Subject: new\n\nhello\n>>From here on\n",
 }
-IN_PART = "mboxcl2-part", "mboxcl2-quoted", "mboxcl"
-GO_BESIDE = {("mboxo", "quoted"), *((name, line) for name in IN_PART for line in ("quoted", "twice"))}
-GO_BESIDE.update(("unquoted", line) for line in LINES)
+IN_PART = "mboxcl2-part", "mboxcl2-quoted"
+GO_BESIDE = {
+    "": {(name, line) for name in IN_PART for line in ("quoted", "twice")},
+    "--as mboxcl": {("mboxcl", "quoted"), ("mboxcl", "twice")},
+    "--as mboxo": {("mboxo", "quoted")},
+    "--as unquoted": {("unquoted", line) for line in LINES},
+}
 
 
 class Told(NamedTuple):
@@ -268,12 +275,26 @@ def lines_like_from(home: Home) -> None:
         house = House(home, {"spool": OLD, **texts}, answer=answer)
         for path, (_, line) in paths.items():
             house.deliver([LINES[line]], f".{Path(path).name}")
-        wanted = {path: f"{path}-back" if its in GO_BESIDE else path for path, its in paths.items()}
+        beside_it = GO_BESIDE.get(answer, ())
+        wanted = {path: f"{path}-back" if its in beside_it else path for path, its in paths.items()}
         equal(f"{answer}: rows", [row.path for row in house.back()], sorted(wanted.values()))
         for path, (name, line) in paths.items():
             word = name.split("-")[0] if wanted[path] == path else "mboxrd"
             found = split(house.texts()[wanted[path]], word)[-1]
             equal(f"{answer}: the mail in {wanted[path]}", bare(found), LINES[line])
+
+
+def decided_again(home: Home) -> None:
+    """What was decided about several mailboxes is decided again by who migrates next: mail that went back then comes as
+    it was. So it does from a mailbox that was made for Dovecot, which has lengths, whatever is decided."""
+    house = House(home, {"spool": OLD, "mail/old": OLD}, ["--dovecot"], "--as mboxcl2")
+    for folder in ("", ".new"):
+        house.deliver(LINES.values(), folder)
+    house.back()
+    for words, maildir, folder in (("--as mboxcl2", "A", "**"), ("", "B", ".new"), ("--as mboxo", "C", ".new")):
+        home.place.run(["migrate", "--json", "--now", *words.split(), maildir, "spool", "mail"])
+        there = {bare(path.read_bytes()) for path in (home.path / maildir).glob(f"{folder}/[nc]*/*")}
+        equal(f"{words}: what {maildir} lacks", set(LINES.values()) - there, set())
 
 
 def held_by_none(home: Home) -> None:
@@ -321,7 +342,7 @@ def subscriptions(home: Home) -> None:
         house.deliver([BLANK], folder)
     for folder in (".empty", ".stays"):
         house.deliver([], folder)
-    house.deliver([JOINED], ".stays")
+    house.deliver([DELETED], ".stays")
     with open(home.maildir / "subscriptions", "ab") as file:
         file.write(b"INBOX\nnew\nlists\tone\nempty\nstays\nnowhere\n")
     ran = [house.run("--dry-run"), house.run()]
@@ -355,6 +376,7 @@ if __name__ == "__main__":
         without_an_end,
         a_line_in_a_header,
         lines_like_from,
+        decided_again,
         held_by_none,
         fields_of_programs,
         subscriptions,

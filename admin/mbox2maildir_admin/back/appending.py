@@ -28,11 +28,12 @@ from ..migration.options import Options
 from ..nexts import Todo, task
 from ..program import Program
 from ..readings.copies import copy_of, unnamed
+from ..readings.reading import MBOXRD
 from ..readings.texts import folder_for_copies
 from ..remarks import Says
 from ..terminal import first_of, named
 from ..units import Size, counted
-from .dialect import Appended, Client, Letter, Style, are_at, forms_of_letter, reading_now, styles_of
+from .dialect import Appended, Client, Dialect, Letter, Style, are_at, forms_of_letter, reading_now, styles_of
 from .journal import Draft, Journal
 from .mails import Mail, Target
 from .numbers import Listed, Numbering
@@ -119,7 +120,7 @@ class Way(NamedTuple):
                 # a message without labels would keep all others from their folders
                 raise TakesNothing("it is a Takeout in the folders of its labels", Reason.OTHER_KIND)
             numbering, known = self.say_numbers(target, mailbox)
-            for style in styles_of(known, self.disk):
+            for style in styles_of(known, self.disk, self.options.dovecot):
                 with contextlib.suppress(NotAsItIs):
                     return Appending(self, target, known, style, numbering).run()
         raise TakesNothing("nothing can be appended to it", Reason.OTHER_KIND)
@@ -135,7 +136,7 @@ class Way(NamedTuple):
             if numbering.is_incomplete:
                 # what cannot be read as it was is said once mail goes back
                 with contextlib.suppress(Left):
-                    for style in itertools.islice(styles_of(known, self.disk), 1):
+                    for style in itertools.islice(styles_of(known, self.disk, self.options.dovecot), 1):
                         style.messages(mailbox, look=numbering.take)
                 numbering.end(target.returned, self.options.dry)
         return row._replace(remarks=(*numbering.remarks, *row.remarks), next=numbering.next)
@@ -186,7 +187,7 @@ class Appending:
                 # a copy of the mailbox with it shows how that would be read
                 blocks = itertools.chain(self.mailbox.again().blocks(), Reader(draft.number, end=draft.size).blocks())
                 with copy_of(self.mailbox, blocks, self.way.disk) as text:
-                    self.want_right(text, goes.entries, reading_now(self.mailbox))
+                    self.want_right(text, goes.entries, self.reads())
         self.numbering.end(
             [*self.target.returned, *(mail for mail, _ in goes.there), *(one.mail for one in goes.entries)], dry
         )
@@ -244,11 +245,13 @@ class Appending:
 
     def unheld(self, draft: Draft, entries: Sequence[Appended]) -> list[Mail]:
         """The messages of a draft that the mailbox does not give back, each behind another one, as it is going to
-        stand. Raises NotAsItIs if it gives each of them back, but not all."""
-        style, bad = self.style, list[Mail]()
+        stand. Raises NotAsItIs if it gives each of them back, but not all, or if a new mailbox may hold them in another
+        style."""
+        style = self.style
         # in an empty mailbox, the first one of these is the first of all
         before = style.dialect.spelled(Letter(ANOTHER)) if self.mailbox.size else b""
         with Mailbox(draft.path, os.dup(draft.number)) as text:
+            bad = self.others_again(text, entries)
             are_held = not entries or style.gives(text, entries)
             if are_held:
                 # nothing was asked about the first one here, which is not the first one of a mailbox that has some
@@ -260,9 +263,20 @@ class Appending:
                         bad.append(one.mail)
                     else:
                         before = before or its
-        if not bad and not are_held:
+        if not bad and not are_held or bad and style.again and not self.mailbox.size:
             raise NotAsItIs(MISREAD, Reason.MISREAD)
         return bad
+
+    def others_again(self, text: Mailbox, entries: Sequence[Appended]) -> list[Mail]:
+        """The messages of a draft that would be other ones if the same was decided about the mailbox again, each behind
+        one without a length."""
+        if not self.style.again:
+            return []
+        others, before = list[Mail](), Dialect(MBOXRD, self.style.dialect.crlf).spelled(Letter(ANOTHER))
+        for one in entries:
+            with copy_of(text, [before, text.at(one.start, one.size)], self.style.disk) as alone:
+                others += [one.mail] * (not self.style.gives_again(alone, [one]))
+        return others
 
     def carry_out(self, goes: Goes, draft: Draft) -> None:
         """Appends what was drafted, and has the ledger say so."""
@@ -273,7 +287,7 @@ class Appending:
                 ledger.note(END_LINE % self.begin(goes, draft))
             return
         want_room(Need.of(os.path.dirname(mailbox.path), [], goes.size))
-        reads = reading_now(mailbox)
+        reads = self.reads()
         journal = Journal.made(draft, self.opened.folder, mailbox, [one.start for one in goes.entries])
         number = self.begin(goes, draft)
         journal.append_to(mailbox)
@@ -306,6 +320,10 @@ class Appending:
             self.way.record.add(Note.NUMBERED, Key(self.opened.name, *key), len(goes.entries), mailbox.path)
         return number
 
+    def reads(self) -> str:
+        """The words by which the mailbox is read as it is now."""
+        return reading_now(self.mailbox) if self.mailbox.size else self.style.words
+
     def want_right(self, text: Mailbox, entries: Sequence[Appended], reads: str) -> None:
         """Raises NotAsItIs if a message of the mailbox with what was appended, which is this text, is not as it is to
         be, or if that is no longer read as the mailbox was."""
@@ -313,7 +331,7 @@ class Appending:
         look = self.numbering.take if self.numbering.is_incomplete else None
         found = self.style.messages(text, self.way.program, look)
         is_right = are_at(entries, found, len(self.inventory)) and found.cores[: len(cores)] == cores
-        if not is_right or reading_now(text) != reads:
+        if not is_right or reading_now(text) != reads or not self.style.gives_again(text, entries):
             raise NotAsItIs(MISREAD, Reason.MISREAD)
 
     def row(self, goes: Goes) -> Row:

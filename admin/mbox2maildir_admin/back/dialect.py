@@ -28,7 +28,7 @@ from ..mbox.pieces import header_of
 from ..migration.known import Known, moved_in
 from ..program import Program
 from ..readings.plans import plan_of
-from ..readings.reading import BY_LENGTHS, CR, CRLF, MBOXCL2, MBOXO, MBOXRD, UNQUOTED, Reading
+from ..readings.reading import BY_LENGTHS, CR, CRLF, MBOXCL2, MBOXO, MBOXRD, UNDECIDED, UNQUOTED, Reading
 from ..readings.texts import NO_LONGER, form_of, text_then
 from .mails import Mail
 
@@ -200,12 +200,14 @@ class Appended(NamedTuple):
 
 class Style(NamedTuple):
     """How a mailbox is read and written: by which words, in which dialect, what is missing at its end, whether
-    something is asked about it anyhow, and a folder on whose disk copies are made."""
+    something is asked about it anyhow, what may be decided about it again by which it is read otherwise, and a folder
+    on whose disk copies are made."""
 
     words: str
     dialect: Dialect
     gap: bytes
     is_asked: bool
+    again: Optional[Reading]
     disk: bytes
 
     def messages(self, mailbox: Mailbox, program: Optional[Program] = None, look: Optional[Look] = None) -> Inventory:
@@ -231,33 +233,50 @@ class Style(NamedTuple):
         except Fault:
             return False
 
+    def gives_again(self, text: Mailbox, entries: Sequence[Appended]) -> bool:
+        """Whether a text with a message that has no length ends with these ones also if the same is decided about it
+        again. Who is asked then sees them."""
+        words = reading_now(text, self.again) if self.again else ASKED
+        if words.startswith(ASKED):
+            return True
+        inventory = self._replace(words=words).messages(text)
+        return are_at(entries, inventory, len(inventory) - len(entries))
 
-def styles_of(known: Known, disk: bytes) -> Iterator[Style]:
+
+def styles_of(known: Known, disk: bytes, is_dovecots: bool) -> Iterator[Style]:
     """How an open mailbox may be read and written: by the words of its ledger, also if it was moved from its path
     there, and by those by which it is read now. Programs that deliver without lengths may have changed that since it
-    was migrated. Nothing can be appended to one that is packed, or of another kind."""
+    was migrated, or a human had decided it, who may decide the same again. Nothing can be appended to one that is
+    packed, or of another kind."""
     ledger, mailbox = known.ledger, known.opened.mailbox
-    if mailbox.size and (text_start(mailbox) is None or form_of(mailbox)):
+    if not mailbox.size:
+        # Dovecot's mailboxes may all be read by lengths, whoever has written them
+        again = Reading(MBOXCL2, alone=False)
+        for word, decision in ((MBOXRD, again), (MBOXCL2, again), (MBOXRD, None))[0 if is_dovecots else -1 :]:
+            yield Style(word, Dialect(word, False), b"", False, decision, disk)
+        return
+    if text_start(mailbox) is None or form_of(mailbox):
         return
     now, paths = reading_now(mailbox), [known.path]
     if known.path not in ledger.paths():
         # whether it has all that one had, its messages show once they are read
         paths = moved_in(ledger, mailbox)
-    for words in dict.fromkeys([*(ledger.last_read(one).words for one in paths[:1]), now]):
+    last = [ledger.last_read(one).words for one in paths[:1]]
+    for words in dict.fromkeys([*last, now]):
         dialect = Dialect.of_words(words)
         if not dialect:
             # whoever reads it so again would keep each `>` that another dialect adds
             return
+        word = Reading.of_words(last[0]).word if last else ""
+        again = Reading(word, alone=False) if word not in ("", dialect.word) else None
         for gap in dialect.gaps_after(mailbox.at(mailbox.size - ENDS, ENDS)):
-            yield Style(words, dialect, gap, now.startswith(ASKED), disk)
+            yield Style(words, dialect, gap, now.startswith(ASKED), again, disk)
 
 
-def reading_now(mailbox: Mailbox) -> str:
+def reading_now(mailbox: Mailbox, decision: Reading = UNDECIDED) -> str:
     """The words by which a mailbox is read as it is now; a word for why not, if it would be left."""
-    if not mailbox.size:
-        return MBOXRD
     try:
-        return plan_of(mailbox).reading.words()
+        return plan_of(mailbox, decision=decision).reading.words()
     except Left as left:
         return ASKED + left.reason.word
 

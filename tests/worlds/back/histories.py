@@ -75,6 +75,11 @@ def read(text: bytes, dialect: str) -> list[tuple[bytes, bytes]]:
     return pieces(text, dialect.replace("crlf", "mboxrd"))
 
 
+def of_new(text: bytes) -> str:
+    """The dialect of a mailbox that `back` has made: each message has a length, or none."""
+    return "mboxcl2" if re.search(rb"(?m)^Content-Length: ", text[: text.find(b"\n\n")]) else "mboxrd"
+
+
 class History:
     """A home with mailboxes of one dialect, which were migrated, and what people did in the Maildir then."""
 

@@ -5,7 +5,18 @@ from collections.abc import Sequence
 
 from tests.support.archives import Home, want
 from tests.support.running import Run
-from tests.worlds.back.histories import BESIDE, DIALECTS, Appended, History, flags_of, read, shown_of, tail_of, text_at
+from tests.worlds.back.histories import (
+    BESIDE,
+    DIALECTS,
+    Appended,
+    History,
+    flags_of,
+    of_new,
+    read,
+    shown_of,
+    tail_of,
+    text_at,
+)
 from tests.worlds.back.programs import KEEPERS, Deliver, listed_in, numbers_of
 from tests.worlds.letters import bare, without
 from tests.worlds.stage import Stage
@@ -75,7 +86,7 @@ class Trial:
 
     def dialect_of(self, folder: str) -> str:
         """The dialect of the mailbox of a folder."""
-        return self.history.dialect if self.before[folder] else "mboxrd"
+        return self.history.dialect if self.before[folder] else of_new(self.texts()[folder])
 
     def run(self) -> None:
         """Goes back, twice, and migrates again, into the same Maildir and into a new one."""
