@@ -152,7 +152,7 @@ class Says:
     KEYWORDS_ADDED = Sentence("keywords-added", "Dovecot is to add keywords, because {}: {}")
     SUBSCRIPTIONS = Sentence("subscriptions", "subscribed to {}")
     # of mail that people moved, deleted or changed in the Maildir
-    MOVED = Sentence("moved", "{} that people moved here from {} {stays} in the mailbox of that")
+    MOVED = Sentence("moved", "{} that people moved here {stays} in the mailbox of {}")
     DELETED = Sentence("deleted", "{} that {was} deleted in the Maildir {is} still there{}")
     CHANGED = Sentence("changed", "{} that {was} changed in the Maildir {is} there as before{}")
     # of its names

@@ -396,7 +396,7 @@ def standing(home: Home) -> None:
     (moved,) = home.those(3, name="a")
     moved.rename(home.folder("b") / "new" / moved.name)
     remarks = [one["says"] for row in home.place.run([*BACK, "x", "y"]).rows for one in row["remarks"]]
-    wanted = "1 message that people moved here from a stays in the mailbox of that"
+    wanted = "1 message that people moved here stays in the mailbox of a"
     equal(f"what was moved: {remarks}", remarks.count(wanted), 1)
     home.write("x", letters(1, 2))
     ran = home.place.run([*BACK, "x", "y"])

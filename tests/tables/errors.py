@@ -62,9 +62,9 @@ REFUSED = [
     ("migrate M box --tree mail", "--tree needs --users"),
     ("migrate M box --jobs 0", "--jobs 0: it takes a number from 1 on"),
     ("migrate M box -1", "-1: no such option"),
-    ("migrate --folder x M box old", "--folder needs a MAILBOX that is a file"),
+    ("migrate --folder x M box old", "--folder needs a MAILBOX that is a file: old is a folder"),
     ("migrate --names - M box", "--names needs --users"),
-    ("migrate --undo M old", "--undo needs exactly one MAILBOX, which is a file"),
+    ("migrate --undo M old", "--undo needs exactly one MAILBOX, which is a file: old is a folder"),
     ("migrate --undo M box two", "--undo needs exactly one MAILBOX, which is a file"),
     *(
         (f"migrate --undo {word} M box", f"--undo does not go with {word.partition('=')[0]}")
@@ -82,11 +82,11 @@ REFUSED = [
         for label in ("x", "=folder", "x=y")
     ),
     ("migrate --labels --folder x M box", "--labels does not go with --folder"),
-    ("migrate --labels M old", "--labels needs a MAILBOX that is a file"),
+    ("migrate --labels M old", "--labels needs a MAILBOX that is a file: old is a folder"),
     ("migrate --labels=two M box", "..."),
     ("migrate --as mboxo --text 6 M box", "--text needs --of"),
     ("migrate --as mboxo --text 6 --of 1-a M box two", ONE_FILE),
-    ("migrate --as mboxo --text 6 --of 1-a M old", ONE_FILE),
+    ("migrate --as mboxo --text 6 --of 1-a M old", ONE_FILE + ": old is a folder"),
 ]
 # the same, if root gives them
 BY_ROOT = [

@@ -250,9 +250,9 @@ def styles_of(known: Known, disk: bytes, is_dovecots: bool) -> Iterator[Style]:
     packed, or of another kind."""
     ledger, mailbox = known.ledger, known.opened.mailbox
     if not mailbox.size:
-        # Dovecot's mailboxes may all be read by lengths, whoever has written them
-        again = Reading(MBOXCL2, alone=False)
-        for word, decision in ((MBOXRD, again), (MBOXCL2, again), (MBOXRD, None))[0 if is_dovecots else -1 :]:
+        # it may be decided that all mailboxes of Dovecot's users are read by lengths
+        lengths = Reading(MBOXCL2, alone=False)
+        for word, decision in ((MBOXRD, lengths), (MBOXCL2, lengths), (MBOXRD, None))[0 if is_dovecots else -1 :]:
             yield Style(word, Dialect(word, False), b"", False, decision, disk)
         return
     if text_start(mailbox) is None or form_of(mailbox):

@@ -236,8 +236,10 @@ def want_together(command: str, given: Given) -> None:
             for other in one.excludes.split():
                 if other in names:
                     raise WrongOptions("%s does not go with %s" % (one.name, other))
-            if one.mailboxes and (one.mailboxes == ONE and len(mailboxes) > 1 or any(map(is_folder, mailboxes))):
-                raise WrongOptions("%s needs %s" % (one.name, one.mailboxes))
+            folder = next(filter(is_folder, mailboxes), None)
+            if one.mailboxes and (folder is not None or one.mailboxes == ONE and len(mailboxes) > 1):
+                which = "" if folder is None else ": %s is a folder" % named(folder)
+                raise WrongOptions("%s needs %s%s" % (one.name, one.mailboxes, which))
 
 
 def jobs_in(given: Given) -> Optional[int]:
