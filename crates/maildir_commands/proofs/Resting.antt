@@ -4,6 +4,7 @@ use Rattle.maildir_commands.proofs.Common.{Action, AreAt, ClosesMaildir, Files, 
 use Rattle.maildir_commands.proofs.Common.{SeenMachine, Untouched, acted, all_acted, Spared}
 use Rattle.maildir_run.proofs.Call.Touching.{touched_same, touched_then}
 use Rattle.maildir_run.proofs.Tasks.QuietRuns.{others_same}
+use Rattle.maildir_disk.proofs.Calls.Passing.{all_acted-append}
 use Rattle.maildir_disk.proofs.Left.Lefts.{left_by_no_others, left_by_others_then}
 use Rattle.maildir_run.specs.Files.{Honestly}
 
@@ -14,14 +15,10 @@ rest_same = record { actions = []; files_are = refl; left = left_by_no_others; s
 pub same_at : {spared : Spared} {maildir : HeldMaildir} → AreAt spared maildir maildir
 same_at = (rest_same, rest_same)
 
-acted-both : (spared : Spared) (xs ys : List Action) (s : Files) → all_acted spared (xs ++ ys) s ≡ all_acted spared ys (all_acted spared xs s)
-acted-both spared [] ys s = refl
-acted-both spared (x ∷ xs) ys s = acted-both spared xs ys (acted spared x s)
-
 pub rest_then : {spared : Spared} {a b c : HeldMaildir} → Rests spared a b → Rests spared b c → Rests spared a c
 rest_then {spared} {a} first then = record {
   actions = first.actions ++ then.actions;
-  files_are = then.files_are ∙ (ap (all_acted spared then.actions) first.files_are ∙ sym (acted-both spared first.actions then.actions a.files));
+  files_are = then.files_are ∙ (ap (all_acted spared then.actions) first.files_are ∙ sym (all_acted-append spared first.actions then.actions a.files));
   left = left_by_others_then first.left then.left;
   still_rooted = λ h. then.still_rooted (first.still_rooted h);
   touches = touched_then first.touches then.touches;

@@ -298,10 +298,6 @@ pub on_err_then : {A E : Type 0} (answer : Result A E) {P Q : Type 0} → (P →
 on_err_then (Ok x) f h = tt
 on_err_then (Err e) f h = f h
 
-pub on_ok : {A E : Type 0} (answer : Result A E) {P : Type 0} → P → OnOk answer P
-on_ok (Ok x) h = h
-on_ok (Err e) h = tt
-
 pub both_of : {A E : Type 0} (answer : Result A E) (P Q : Type 0) → OnOk answer P → OnOk answer Q → OnOk answer (P × Q)
 both_of (Ok x) P Q p q = (p, q)
 both_of (Err e) P Q p q = tt

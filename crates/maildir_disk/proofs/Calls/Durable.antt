@@ -8,14 +8,15 @@ use Rattle.maildir_disk.proofs.Common.{is_spared_name, acted_kept, all_acted, Ac
 use Rattle.maildir_disk.proofs.Common.{held_none, World, Acts, KeepsNames, Follows, Leaves, LeftByOthers}
 use Rattle.maildir_run.specs.Calls.{names_of}
 use Rattle.maildir_run.proofs.Call.ListedNowhere.{all_acted_new, listed_cur, listed_new}
-use Rattle.maildir_run.proofs.Call.Moves.{both_none, homes_none}
+use Rattle.maildir_run.proofs.Call.Moves.{after-append, both_none, homes_none}
+use Rattle.maildir_run.proofs.Names.Maps.{none_if_not_some}
 use Rattle.maildir_run.proofs.Tasks.Firsts.{leaves_none_new, leaves_none_of}
 use Rattle.maildir_run.specs.Files.{Honestly}
 use Rattle.maildir_disk.specs.SeenSystem.{Looks, SeenSystem}
 use Rattle.maildir_disk.specs.Private.Look.{ReadsAtOnce, ReadsDurably}
 use Rattle.maildir_disk.proofs.Calls.Answered.{whole_both}
 use Rattle.maildir_disk.proofs.Calls.Looking.{looks_then}
-use Rattle.maildir_disk.proofs.Calls.Passing.{after-append, after-others, others_whole}
+use Rattle.maildir_disk.proofs.Calls.Passing.{after-others, others_whole}
 use Rattle.maildir_disk.proofs.Left.Lefts.{others_leave, others_then}
 
 -- the names of one moment of an earlier part of the call
@@ -34,7 +35,7 @@ lists_then {spared} {sub} {a} {b} {c} {names} lists acts =
           acts.files_are
           ∙ (ap (all_acted spared acts.actions) lists.left
           ∙ (sym (after-others spared acts.actions call (after spared a call (lists.before ++ Again ∷ lists.rest)))
-          ∙ (sym (after-append spared call (lists.before ++ Again ∷ lists.rest) others a)
+          ∙ (sym (after-append spared a call (lists.before ++ Again ∷ lists.rest) others)
           ∙ ap (after spared a call) (append_assoc lists.before (Again ∷ lists.rest) others))));
     }
 
@@ -46,10 +47,6 @@ reads_then reads looks = record {
   listed = λ spared h. lists_then (reads.listed spared h) (looks.acts spared (reads.looks.honest spared h));
   exact = reads.exact;
 }
-
-not_some : (o : Option (List ℕ)) → is_some o ≡ false → o ≡ None
-not_some None e = refl
-not_some (Some x) e = cc
 
 -- ---- a base of which the folder had no file
 module _ (spared : Spared) (b : List ℕ) (named : IsTrue (is_spared spared b)) where
@@ -65,7 +62,7 @@ module _ (spared : Spared) (b : List ℕ) (named : IsTrue (is_spared spared b)) 
   none_there there moment alike none =
       held_none b there (λ q on.
       let ours : IsTrue (is_spared_name spared q) = subst (λ x. IsTrue (is_spared spared x)) (is_name-true _ _ on) named in
-      not_some (get there q) (alike q ours ∙ ap is_some (none_held b moment none q on)))
+      none_if_not_some (get there q) (alike q ours ∙ ap is_some (none_held b moment none q on)))
 
   kept_new : {s before t left : Files} → KeepsNames spared New s before t left → held_under b s.new ≡ [] → held_under b left.new ≡ []
   kept_new {s} {left = left} keeps none =

@@ -4,6 +4,7 @@ use Rattle.std.proofs.Common.{subst, arith, IsPermutation, rules}
 use Rattle.maildir_disk.proofs.Common.{keys, Sub, Files, Action, acted, all_acted, Call, Listing, Move, Other, Again, moved, after, folder_of, IsWhole, Lists}
 use Rattle.maildir_disk.proofs.Common.{AnyMoves, IsSettled, IsFarAhead, World, margin_of, IsOfChange, Acts, Passes, IsStampWithin, ReadsNames, Spared}
 use Rattle.maildir_disk.specs.Private.Look.{Watched}
+use Rattle.maildir_run.proofs.Call.Moves.{after-append}
 
 pub all_acted-append : (spared : Spared) (xs ys : List Action) (s : Files) → all_acted spared (xs ++ ys) s ≡ all_acted spared ys (all_acted spared xs s)
 all_acted-append spared [] ys s = refl
@@ -13,11 +14,6 @@ all_acted-append spared (a ∷ xs) ys s = all_acted-append spared xs ys (acted s
 pub after-others : (spared : Spared) (xs : List Action) (call : Call) (s : Files) → after spared s call (map Other xs) ≡ all_acted spared xs s
 after-others spared [] call s = refl
 after-others spared (a ∷ xs) call s = after-others spared xs call (acted spared a s)
-
-pub after-append : (spared : Spared) (call : Call) (ms ns : List Move) (s : Files)
-    → after spared s call (ms ++ ns) ≡ after spared (after spared s call ms) call ns
-after-append spared call [] ns s = refl
-after-append spared call (m ∷ ms) ns s = after-append spared call ms ns (moved spared call m s)
 
 pub others_whole : (xs : List Action) → IsWhole (map Other xs)
 others_whole [] = tt
@@ -61,7 +57,7 @@ lists_at {spared} {sub} {a} {b} {names} p q are =
       names_are = subst (λ s. IsPermutation names (keys (folder_of sub s))) at are;
       left =
           q.files_are ∙ (sym (after-others spared q.actions call b.files) ∙
-          (ap (λ s. after spared s call rest) at ∙ sym (after-append spared call before (Again ∷ rest) a.files)));
+          (ap (λ s. after spared s call rest) at ∙ sym (after-append spared a.files call before (Again ∷ rest))));
     }
 
 -- the names of one moment of a later part of the call

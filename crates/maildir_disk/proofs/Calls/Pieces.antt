@@ -7,7 +7,8 @@ use Rattle.maildir_disk.proofs.Common.{acted, all_acted, Call, Writing, Other, A
 use Rattle.maildir_disk.proofs.Common.{alike, is_name-true, get-insert_same, get-outsiders_of, World, Acts, Comes, rewritten, changed, Appended}
 use Rattle.maildir_disk.proofs.Common.{Written}
 use Rattle.maildir_run.proofs.Call.Outsiders.{outside_reaches, get-outsiders_other}
-use Rattle.maildir_disk.proofs.Calls.Passing.{all_acted-append, after-others, after-append, others_whole, acts_on, acts_failed}
+use Rattle.maildir_run.proofs.Call.Moves.{after-append}
+use Rattle.maildir_disk.proofs.Calls.Passing.{all_acted-append, after-others, others_whole, acts_on, acts_failed}
 
 -- ---- a change of one file, name by name
 abbrev mapped : Bool → (List ℕ → List ℕ) → Option (List ℕ) → Option (List ℕ)

@@ -1,13 +1,8 @@
 -- Calls that failed.
-use Rattle.std.proofs.Common.{◌≡◌, refl, Result, Ok, Err, IsErr}
+use Rattle.std.proofs.Common.{Result, Ok, Err, IsErr}
 use Rattle.std.proofs.lemmas.Bool.{false≢true}
 use Rattle.maildir_disk.specs.Seen.{SyncsMaildir}
 use Rattle.maildir_disk.specs.SeenSystem.{Looks, SeenSystem}
-
--- a clause on an error applies to a call that failed
-pub an_error : {A E : Type 0} (outcome : Result A E) → IsErr outcome → (e : E) × (outcome ≡ Err e)
-an_error (Ok x) is_err = cc
-an_error (Err e) is_err = (e, refl)
 
 -- a sync that failed
 pub sync_failed : {A E : Type 0} {old new : SeenSystem} (result : Result A E) → IsErr result → Looks old new → SyncsMaildir old result new

@@ -7,6 +7,7 @@ use Rattle.maildir_disk.proofs.Common.{is_name-true, homes_one, none_held, held_
 use Rattle.maildir_disk.proofs.Calls.Passing.{all_acted-append}
 use Rattle.maildir_disk.proofs.Left.Lefts.{others_then}
 use Rattle.maildir_run.proofs.Call.ListedNowhere.{all_acted_new}
+use Rattle.maildir_run.proofs.Names.Maps.{none_if_not_some}
 use Rattle.maildir_disk.proofs.Left.LeftHomes.{first_in, intact_on, others_hold}
 use Rattle.maildir_disk.proofs.Common.{Spared, is_spared, is_spared_name, AllSpared, spared_named}
 
@@ -14,10 +15,6 @@ use Rattle.maildir_disk.proofs.Common.{Spared, is_spared, is_spared_name, AllSpa
 only : {x : List ℕ} (found : List (List ℕ)) → ((y : List ℕ) → Contains found y → y ≡ x) → (found ≡ [] → ⊥) → Contains found x
 only [] is some = absurd (some refl)
 only (y ∷ found) is some = search (rules, first_in)
-
-none_if_not_some : (o : Option (List ℕ)) → is_some o ≡ false → o ≡ None
-none_if_not_some None e = refl
-none_if_not_some (Some x) e = cc
 
 module _ (spared : Spared) (m : Message) (named : IsTrue (is_spared spared m.target.base)) where
   -- two folders that have the same converter's names
