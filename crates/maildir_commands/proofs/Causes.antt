@@ -1,8 +1,8 @@
 -- Why a command ended with a fault.
 use Rattle.std.proofs.Common.{◌≡◌, ℕ, ◌≤◌, ◌⊎◌, ◌^◌, List, [], ◌∷◌, ◌++◌, length}
 use Rattle.std.proofs.Common.{Some, None, Err, refl, sym, ap, subst, inl, inr, arith}
-use Rattle.maildir_commands.proofs.Common.{Bytes, Contains, Fault, Folder, Form, GivesNothing, IsCauseOf, IsFailedCall, IsNoMbox, IsOfDelivery, IsOfFiles}
-use Rattle.maildir_commands.proofs.Common.{IsReading, IsTooLong, Locked, OpenFault, Possible, ReadsAtLeast, ReadsAtMost}
+use Rattle.maildir_commands.proofs.Common.{Bytes, Contains, Fault, Folder, Form, GivesNothing, IsCauseOf, IsFailedCall, IsOfDelivery, IsOfFiles}
+use Rattle.maildir_commands.proofs.Common.{IsReading, IsTooLong, IsUnreadable, Locked, OpenFault, Possible, ReadsAtLeast, ReadsAtMost}
 use Rattle.maildir_commands.proofs.Common.{Report, Run, RunFault, SeenMachine, SeenProgram, Source, ToConvert, ToWrite, fault_of_opening, length-append}
 use Rattle.maildir_run.specs.declared.fault.RunFault.TheVariants as run
 use Rattle.maildir_run.specs.declared.folder.FolderFault.TheVariants as folder
@@ -11,7 +11,7 @@ use Rattle.maildir_disk.specs.declared.faults.OpenFault.TheVariants as opening
 use Rattle.maildir_commands.proofs.Several.{possible_whole}
 
 -- ---- a run
-pub of_run : (before after : Bytes) (fault : RunFault) → (fault ≡ run.NoFromLine → (t : List ℕ) → Possible before after t → IsNoMbox t)
+pub of_run : (before after : Bytes) (fault : RunFault) → (fault ≡ run.NoFromLine → (t : List ℕ) → Possible before after t → IsUnreadable t)
     → (fault ≡ run.TooManyReads → (t : List ℕ) → Possible before after t → IsTooLong t) → IsOfDelivery before after (Run fault)
 of_run before after run.NoFromLine none long = none refl
 of_run before after run.TooManyReads none long = long refl
@@ -52,7 +52,7 @@ long_possible {before} {after} reads = λ t possible. long_enough before after r
 
 -- what is so where a run ended with this fault that reads a text, and makes no folder calls
 abbrev IsOfReads : Bytes → Bytes → RunFault → Type 0
-IsOfReads before after run.NoFromLine = (t : List ℕ) → Possible before after t → IsNoMbox t
+IsOfReads before after run.NoFromLine = (t : List ℕ) → Possible before after t → IsUnreadable t
 IsOfReads before after run.TooManyReads = (t : List ℕ) → Possible before after t → IsTooLong t
 IsOfReads before after run.FolderAbsent = ⊥
 IsOfReads before after (run.FolderFailed _) = ⊥
@@ -97,7 +97,7 @@ pub files_before : (old new : SeenMachine) (files : List (List ℕ)) → new.tex
 files_before old new files same earlier Source (name, named, refused) = (name, named, earlier name refused)
 files_before old new files same earlier Folder is = absurd is
 files_before old new files same earlier Locked is = absurd is
-files_before old new files same earlier (Run run.NoFromLine) (name, named, is) = (name, named, subst (λ f. IsNoMbox (f name)) same is)
+files_before old new files same earlier (Run run.NoFromLine) (name, named, is) = (name, named, subst (λ f. IsUnreadable (f name)) same is)
 files_before old new files same earlier (Run run.TooManyReads) (name, named, is) = (name, named, subst (λ f. IsTooLong (f name)) same is)
 files_before old new files same earlier (Run other) is = tt
 

@@ -1,6 +1,7 @@
 -- The definitions and lemmas that the proofs use, imported in one place.
 use Rattle.std.proofs.Common.{ℕ, List, Option}
-pub use Rattle.maildir_commands.specs.Causes.{IsCauseOf, IsFailedCall, IsNoMbox, IsOfDelivery, IsTooLong}
+pub use Rattle.mbox_text.specs.Mbox.{IsUnreadable}
+pub use Rattle.maildir_commands.specs.Causes.{IsCauseOf, IsFailedCall, IsOfDelivery, IsTooLong}
 pub use Rattle.maildir_commands.specs.Faults.{fault_of_opening}
 pub use Rattle.maildir_commands.specs.Machines.{AreAllSafe, AreAt, AreFit, GivesTexts, HasAlso, HasItsMessages, HeldMaildir, IsSafeIn}
 pub use Rattle.maildir_commands.specs.Machines.{IsSoundFor, OthersStay, Rests, bytes_of}

@@ -1,7 +1,6 @@
 -- Why a command ended with a fault.
 use Rattle.std.specs.Prelude.{◌≡◌, ◌≤◌, ◌⊎◌, ℕ, ◌+◌, ◌*◌, ◌^◌, List, [], ◌∷◌, Contains, length, Option}
-use Rattle.mbox_text.specs.declared.entry.Entry.{Entry}
-use Rattle.mbox_text.specs.Mbox.{Mbox}
+use Rattle.mbox_text.specs.Mbox.{IsUnreadable}
 use Rattle.maildir_run.specs.declared.fault.RunFault.TheVariants as run
 use Rattle.maildir_run.specs.declared.report.Report.{Report}
 use Rattle.maildir_run.specs.Calls.{GoesUp}
@@ -14,10 +13,6 @@ use Rattle.maildir_commands.specs.Faults.{fault_of_opening}
 use Rattle.maildir_commands.specs.Seen.{SeenMachine, SeenProgram}
 use Rattle.maildir_commands.specs.Words.{Request, named_files}
 use Rattle.maildir_commands.specs.Words.Request.{ToWrite, ToConvert}
-
--- the text is no mbox text
-abbrev pub IsNoMbox : List ℕ → Type 0
-IsNoMbox t = (entries : List Entry) → ¬ Mbox t entries
 
 -- the text has at least as many bytes as a run may make reads, each of which gives at least one byte
 abbrev pub IsTooLong : List ℕ → Type 0
@@ -44,7 +39,7 @@ abbrev pub IsCauseOf : Request → SeenProgram → Option (List ℕ) → Fault �
 IsCauseOf request old after Source = (name : List ℕ) × Contains (named_files request) name × old.machine.refuses_source name
 IsCauseOf request old after Folder = MayRefuse old.machine request Folder
 IsCauseOf request old after Locked = MayRefuse old.machine request Locked
-IsCauseOf request old after (Run run.NoFromLine) = IsOfOne old.machine.text_of old.input after (named_files request) IsNoMbox
+IsCauseOf request old after (Run run.NoFromLine) = IsOfOne old.machine.text_of old.input after (named_files request) IsUnreadable
 IsCauseOf request old after (Run run.TooManyReads) = IsOfOne old.machine.text_of old.input after (named_files request) IsTooLong
 IsCauseOf request old after (Run run.FolderAbsent) = IsConversion request
 IsCauseOf request old after (Run (run.FolderFailed _)) = IsConversion request
@@ -52,7 +47,7 @@ IsCauseOf request old after (Run other) = Unit {0}
 
 -- the cause of a fault, for the delivery of one source: so it is with each text that this may have had
 abbrev pub IsOfDelivery : Option (List ℕ) → Option (List ℕ) → Fault → Type 0
-IsOfDelivery before after (Run run.NoFromLine) = (t : List ℕ) → Possible before after t → IsNoMbox t
+IsOfDelivery before after (Run run.NoFromLine) = (t : List ℕ) → Possible before after t → IsUnreadable t
 IsOfDelivery before after (Run run.TooManyReads) = (t : List ℕ) → Possible before after t → IsTooLong t
 IsOfDelivery before after (Run other) = Unit {0}
 IsOfDelivery before after other = ⊥
