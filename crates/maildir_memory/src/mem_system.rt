@@ -160,15 +160,11 @@ impl System for MemSystem {
 
     fn names(&mut self, sub: Sub) -> io::Result<Vec<String>> {
         let stamp = self.stamp;
-        match self.folder.list(sub) {
-            Err(fault) => Err(error_of(fault)),
-            Ok(names) => {
-                self.pass_shortly()?;
-                match self.stamp.duration_since(stamp) {
-                    Ok(later) if !later.is_zero() => Ok(Vec::new(self.alloc)),
-                    _ => Ok(names),
-                }
-            }
+        let names = self.folder.list(sub).map_err(error_of)?;
+        self.pass_shortly()?;
+        match self.stamp.duration_since(stamp) {
+            Ok(later) if !later.is_zero() => Ok(Vec::new(self.alloc)),
+            _ => Ok(names),
         }
     }
 
@@ -202,10 +198,8 @@ impl System for MemSystem {
             .may_lose(&self.folder, &Change::Make(name))
             .map_err(error_of)?;
         self.stamp = stamp_at(self.clock, self.stamps);
-        match self.folder.write(name, &[]) {
-            Ok(()) => Ok(file),
-            Err(fault) => Err(error_of(fault)),
-        }
+        self.folder.write(name, &[]).map_err(error_of)?;
+        Ok(file)
     }
 
     fn append(&mut self, file: &mut MemFile, bytes: &[u8]) -> io::Result<usize> {
@@ -219,10 +213,10 @@ impl System for MemSystem {
         self.cases
             .may_lose_bytes(&self.folder, file.name.as_str(), &holds, before)
             .map_err(error_of)?;
-        match self.folder.write(file.name.as_str(), &holds) {
-            Ok(()) => Ok(taken),
-            Err(fault) => Err(error_of(fault)),
-        }
+        self.folder
+            .write(file.name.as_str(), &holds)
+            .map_err(error_of)?;
+        Ok(taken)
     }
 
     fn sync_file(&mut self, file: &MemFile) -> io::Result<()> {
@@ -239,10 +233,7 @@ impl System for MemSystem {
             .may_lose(&self.folder, &Change::Place(name, place, target))
             .map_err(error_of)?;
         self.stamp = stamp_at(self.clock, self.stamps);
-        match self.folder.place(name, place, target) {
-            Ok(()) => Ok(()),
-            Err(fault) => Err(error_of(fault)),
-        }
+        self.folder.place(name, place, target).map_err(error_of)
     }
 
     fn unlink(&mut self, name: &str) -> io::Result<()> {
@@ -252,10 +243,7 @@ impl System for MemSystem {
             .may_lose(&self.folder, &Change::Remove(name))
             .map_err(error_of)?;
         self.stamp = stamp_at(self.clock, self.stamps);
-        match self.folder.remove(name) {
-            Ok(()) => Ok(()),
-            Err(fault) => Err(error_of(fault)),
-        }
+        self.folder.remove(name).map_err(error_of)
     }
 
     fn sync_folder(&mut self, place: Place) -> io::Result<()> {
