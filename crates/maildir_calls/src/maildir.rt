@@ -1,7 +1,5 @@
 // A Maildir that is open.
 ghost use Rattle.std.specs.Prelude.{◌≡◌, ◌≤◌, ◌∷◌, [], IfErr, IfOk, length, string_bytes};
-ghost use Rattle.std.specs.IoError.{error_kind};
-ghost use Rattle.std.specs.declared.io.ErrorKind.TheVariants.{OutOfMemory};
 ghost use Rattle.maildir_run.specs.Calls.Call.{Placing, Removing};
 ghost use Rattle.maildir_run.specs.Folders.{folder_of_place};
 ghost use Rattle.maildir_disk.specs.SeenSystem.{AppendsToFile, Asks, Looks, MakesFile, TakesFromTmp};
@@ -24,7 +22,7 @@ use crate::syncs::{sync_folder, sync_root};
 use maildir_disk::{OpenFault, System};
 use maildir_name::Place;
 use maildir_run::{FolderFault, Sub};
-use std::alloc::{AllocError, Global};
+use std::alloc::Global;
 use std::io;
 use std::time::{Duration, Instant, SystemTime};
 
@@ -97,7 +95,7 @@ impl<C: Calls> System for MaildirAt<C, C::File> {
             new ≡ Listed (folder_at (string_bytes self.old.paths.root) sub) (listed result) ∷ old))
             (C.trace self.old.calls) (C.trace self.new.calls) }
     {
-        let path = self.paths.folder(sub).map_err(no_memory)?;
+        let path = self.paths.folder(sub)?;
         self.calls.list(path.as_str())
     }
 
@@ -109,7 +107,7 @@ impl<C: Calls> System for MaildirAt<C, C::File> {
             (TellsStamp (folder_at (string_bytes self.old.paths.root) sub) result))
             (C.trace self.old.calls) (C.trace self.new.calls) }
     {
-        let path = self.paths.folder(sub).map_err(no_memory)?;
+        let path = self.paths.folder(sub)?;
         let found = self.calls.look(path.as_str())?;
         time_of_change(&found)
     }
@@ -148,8 +146,8 @@ impl<C: Calls> System for MaildirAt<C, C::File> {
             (CreatesFile (folder_at root Sub.Tmp) (file_at root Sub.Tmp name.now) result))
             (C.trace self.old.calls) (C.trace self.new.calls) }
     {
-        let folder = self.paths.folder(Sub::Tmp).map_err(no_memory)?;
-        let path = self.paths.file(Sub::Tmp, name).map_err(no_memory)?;
+        let folder = self.paths.folder(Sub::Tmp)?;
+        let path = self.paths.file(Sub::Tmp, name)?;
         create_file(&mut self.calls, folder.as_str(), path.as_str())
     }
 
@@ -182,11 +180,8 @@ impl<C: Calls> System for MaildirAt<C, C::File> {
             (file_at root (folder_of_place place) target.now) result))
             (C.trace self.old.calls) (C.trace self.new.calls) }
     {
-        let from = self.paths.file(Sub::Tmp, name).map_err(no_memory)?;
-        let to = self
-            .paths
-            .file(Sub::of_place(place), target)
-            .map_err(no_memory)?;
+        let from = self.paths.file(Sub::Tmp, name)?;
+        let to = self.paths.file(Sub::of_place(place), target)?;
         move_file(&mut self.calls, from.as_str(), to.as_str())
     }
 
@@ -197,7 +192,7 @@ impl<C: Calls> System for MaildirAt<C, C::File> {
             (RemovesFile (file_at (string_bytes self.old.paths.root) Sub.Tmp name.now) result))
             (C.trace self.old.calls) (C.trace self.new.calls) }
     {
-        let path = self.paths.file(Sub::Tmp, name).map_err(no_memory)?;
+        let path = self.paths.file(Sub::Tmp, name)?;
         remove_file(&mut self.calls, path.as_str())
     }
 
@@ -208,7 +203,7 @@ impl<C: Calls> System for MaildirAt<C, C::File> {
             (SyncsFolder (folder_at (string_bytes self.old.paths.root) (folder_of_place place))
             result)) (C.trace self.old.calls) (C.trace self.new.calls) }
     {
-        let path = self.paths.folder(Sub::of_place(place)).map_err(no_memory)?;
+        let path = self.paths.folder(Sub::of_place(place))?;
         sync_folder(&mut self.calls, path.as_str())
     }
 
@@ -220,7 +215,7 @@ impl<C: Calls> System for MaildirAt<C, C::File> {
             (SyncsRoot root (parent_at root) self.old.held.parent result))
             (C.trace self.old.calls) (C.trace self.new.calls) }
     {
-        let above = self.paths.parent().map_err(no_memory)?;
+        let above = self.paths.parent()?;
         sync_root(
             &mut self.calls,
             self.paths.root(),
@@ -228,11 +223,4 @@ impl<C: Calls> System for MaildirAt<C, C::File> {
             &self.held.parent,
         )
     }
-}
-
-// The error of a path for which there was no memory.
-fn no_memory(error: AllocError) -> io::Error
-    ensures { error_kind result ≡ OutOfMemory }
-{
-    io::Error::from(error)
 }
