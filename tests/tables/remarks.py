@@ -66,6 +66,7 @@ STORIES: list[tuple[list[Step], set[str]]] = [
     ),
     ([("a", thunderbird(ONE, 1) + thunderbird(TWO, 9)), "migrate --drop-deleted M a"], {"deleted-left-out", "flags"}),
     ([("a", thunderbird(ONE, 1) + thunderbird(TWO, 9) + THREE), "migrate --drop-deleted M a"], {"deleted-kept"}),
+    ([("a", QUOTED), "migrate --drop-deleted M a"], {"deleted-kept", "loses-quote"}),
     ([("a", INTERNAL + fields(ONE, b"X-UID: 1")), "migrate --dovecot M a"], {"without-internal"}),
     # of several names, and of files without mail
     ([("old/a", ONE), "!ln old/a old/b", "migrate M old"], {"also-named"}),

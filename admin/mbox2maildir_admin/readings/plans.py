@@ -242,7 +242,9 @@ def plan_by(diagnosis: Diagnosis, reading: Reading, decision: Reading, kind: str
     counts.check(counts.given, counts.messages)
     if reading.ends == CRLF and not counts.crlf:
         reading = reading._replace(ends="")
-    says, without = diagnosis.remarks_on_text(), counts.messages - counts.marked
+    # who decides about deleted mail alone has not decided about quotes
+    says = [*diagnosis.remarks_on_text(), *([] if decision.word else diagnosis.remarks_on_quotes())]
+    without = counts.messages - counts.marked
     # those without a mark about which a human has decided here
     known = diagnosis.look.count("unmarked") if decision.of else 0
     if decision.drop and without > known:
