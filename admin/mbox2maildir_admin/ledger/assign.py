@@ -149,6 +149,11 @@ class Offer(NamedTuple):
     line: Line
     in_any_form: bool = False
 
+    @property
+    def is_limited(self) -> bool:
+        """Whether it stands for no more messages than another mailbox brought beyond those that this one has."""
+        return self.why in (Why.SHARED, Why.GONE)
+
 
 def offers_of(files: Iterable[File], path: str) -> list[Offer]:
     """What may stand for new messages of the mailbox at a path, in the order in which it is to be taken. A file may be

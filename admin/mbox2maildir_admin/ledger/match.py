@@ -82,30 +82,6 @@ class Files:
         there = [table.counts[place] for place in table.places_of(digest) if self.there[place]]
         return sorted([*there, *self.counts.get(digest, ())])
 
-    def foreign(self, places: Sequence[int], known: Container[bytes], is_first: bool) -> dict[bytes, list[bytes]]:
-        """The files that hold messages at these places, by their bare forms, but for those that are known. All are read
-        if the mailbox has brought nothing so far; later, since people may have much mail there, only those of other
-        programs that may have the bytes of a message as it is, and those that an undo may have kept."""
-        inventory, table = self.inventory, self.inventory.table
-        found: collections.defaultdict[bytes, list[bytes]] = collections.defaultdict(list)
-        is_worthwhile = self.has_named or self.kept or is_first and self.has_strange
-        sizes = {inventory.sizes[place] for place in places} if is_worthwhile else set()
-        for before, path in self.numbered() if sizes else ():
-            bare: Optional[bytes] = None
-            if before in known:
-                continue
-            if before in self.kept or is_first and table.own_place(before) is None:
-                forms = forms_in(path)
-                bare = forms[1] if forms else None
-            elif not is_own(before):
-                with contextlib.suppress(OSError):
-                    digest = digest_of(path, sizes)[0]
-                    place = table.place_of(digest + FIRST) if digest else None
-                    bare = None if place is None else inventory.bare(place)
-            if bare:
-                found[bare].append(before)
-        return found
-
     def by_core(self, known: Container[bytes]) -> dict[bytes, list[tuple[bytes, bytes]]]:
         """All files but those that are known, by the cores of what they hold, with its bare form. They are read."""
         found: collections.defaultdict[bytes, list[tuple[bytes, bytes]]] = collections.defaultdict(list)
@@ -176,7 +152,7 @@ class Match:
         self.lines: dict[bytes, list[Line]] = {}
         # those of the names in these lines that are there, and files of other programs by their bare forms
         self.present: set[bytes] = set()
-        self.strangers: dict[bytes, list[bytes]] = {}
+        self.strangers: collections.defaultdict[bytes, list[bytes]] = collections.defaultdict(list)
         self.seen = Seen()
 
     @classmethod
@@ -266,15 +242,34 @@ class Match:
         return {line.message.name for lines in self.lines.values() for line in lines} - {NAMELESS}
 
     def find_strangers(self) -> None:
-        """Finds the files that no line explains. At first sight, and after a killed run, they may be in another form,
-        and all lines count."""
-        ledger, path = self.ledger, self.path
+        """Finds the files that no line explains, by the bare forms of what they hold. If the mailbox has brought
+        nothing so far, or a run of it was killed, all lines count, and all other files are read. Later, since people
+        may have much mail there, only files of other programs are read that may have the bytes of a message as it is,
+        and those that an undo may have kept."""
+        ledger, path, files, table = self.ledger, self.path, self.files, self.inventory.table
         # what a killed run has placed may have another name, and the text other bytes
         is_first = path not in ledger.sources or ledger.pending(path) is not None
+        is_worthwhile = files.has_named or files.kept or is_first and files.has_strange
+        sizes = {self.inventory.sizes[place] for place in self.nowhere} if is_worthwhile else set[int]()
+        if not sizes:
+            return
         several = ledger.messages({*ledger.ended, *ledger.open} if is_first else ())
         named = (one.name for number, one in several if says_whose(one, number in ledger.ended))
         known = Hashes(itertools.chain(self.taken(), self.names_of_lines(), named))
-        self.strangers = self.files.foreign(self.nowhere, known, is_first)
+        for before, file in files.numbered():
+            bare: Optional[bytes] = None
+            if before in known:
+                continue
+            if before in files.kept or is_first and table.own_place(before) is None:
+                forms = forms_in(file)
+                bare = forms[1] if forms else None
+            elif not is_own(before):
+                with contextlib.suppress(OSError):
+                    digest = digest_of(file, sizes)[0]
+                    place = table.place_of(digest + FIRST) if digest else None
+                    bare = None if place is None else self.inventory.bare(place)
+            if bare:
+                self.strangers[bare].append(before)
 
     def taken(self) -> set[bytes]:
         """The names of what stands for new messages."""
@@ -329,7 +324,7 @@ class Match:
             waiting.setdefault(self.inventory.bare(place), []).append(place)
         for one, is_same in [*((one, True) for one in offers), *((one, False) for one in offers if one.in_any_form)]:
             bare = one.file.bare if one.why is Why.ANY else one.line.message.bare
-            if one.file in served or one.why in (Why.SHARED, Why.GONE) and most[bare] <= 0:
+            if one.file in served or one.is_limited and most[bare] <= 0:
                 continue
             forms = [bare] if is_same else list(waiting)
             waits = (at for form in forms for at in waiting.get(form, ()))
