@@ -183,8 +183,8 @@ COUNTED = by_words(
         Says.NEW_UIDS: "Some messages have new UIDs: clients fetch them again.",
         Says.NO_UIDS: "No IMAP client has seen it so far, so there are no UIDs to keep.",
         Says.OLD_LOCK: "A lock that nobody holds any more was passed over.",
-        Says.OTHER_FORM: "Another mailbox has some of its mail with other `>` or line ends. Both forms are there. To "
-        "have one, undo one of the two, and migrate it with another --as.",
+        Says.OTHER_FORM: "Another mailbox has some of its mail with other `>` or line ends. Both forms are there. If "
+        "you want only one, delete the other.",
         Says.OTHER_PROGRAMS: "Other programs had put mail into the folder. It stays.",
         Says.REGAINED: "Mail that was gone from it is in it again.",
         Says.RENAMED: "Other programs gave files new names: `mbox2maildir convert` would deliver their messages again.",

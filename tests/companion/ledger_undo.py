@@ -293,6 +293,25 @@ def rule_6_both_files_are_gone(home: Home) -> None:
     want_unsaid(row, "kept")
 
 
+def rule_6_a_file_in_another_form(home: Home) -> None:
+    """A reader deletes one of the two forms of a message. The undo of the mailbox of the other form leaves its file to
+    the first mailbox; migrated again, the two share it. No file is there twice, and the last undo removes it."""
+    texts = {name: letter(50, body=b"hello\n%sFrom the shed.\n" % by) for name, by in (("OLD", b">"), ("OTHER", b">>"))}
+    home.bring(OLD=texts["OLD"])
+    (first,) = home.those(50)
+    home.bring(OTHER=texts["OTHER"])
+    home.has(50, 50)
+    first.unlink()
+    want_said(home.undo("OTHER")["OTHER"], "removed 0 messages", 1, "has too")
+    home.has(50)
+    home.bring(OTHER=texts["OTHER"])
+    home.has(50)
+    home.undo("OLD")
+    home.has(50)
+    home.undo("OTHER")
+    home.has()
+
+
 def rule_6_the_file_that_stays_anyhow(home: Home) -> None:
     """A mailbox lacks its file, and another one has the message twice, of which a third one shares the second file.
     That one is left to the first too, and the other file goes."""

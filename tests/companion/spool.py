@@ -504,8 +504,8 @@ OF_SYSTEM = {
 }
 # what migrates their mail
 NAMED = {
-    "m61one": "mbox2maildir-admin migrate --users --dry-run {spool} m61one",
-    "m61three": "runuser -u m61three -- mbox2maildir-admin migrate --dry-run MAILDIR {spool}/m61three",
+    "m61one": "mbox2maildir-admin migrate --users --dry-run --as mboxcl2 {spool} m61one",
+    "m61three": "runuser -u m61three -- mbox2maildir-admin migrate --dry-run --as mboxcl2 MAILDIR {spool}/m61three",
 }
 
 
@@ -513,7 +513,7 @@ def whose(home: Path) -> None:
     """Names whose mailboxes are left, and what stands beside them, each with its reason. An account of the system has
     to be named, and to have a home of its own."""
     want_users()
-    here, words = home / "spool", ["migrate", "--all", "--users", "--dry-run", "spool"]
+    here, words = home / "spool", ["migrate", "--all", "--users", "--dry-run", "--as", "mboxcl2", "spool"]
 
     def rows(settings: str, *names: str) -> dict[str, Printed]:
         with own_settings(settings):
@@ -544,7 +544,7 @@ def whose(home: Path) -> None:
         (here / "m61three").unlink()
         says = [row.line for row in rows("UID_MIN 99999", "m61one", "nobody").values()][:2]
         equal("if they are named", sorted(says), [
-            "m61one -> INBOX: mboxrd or mboxo, messages 1: would be done", lines(WHOSE)["nobody"]
+            "m61one -> INBOX: mboxcl2 by --as, messages 1: would be done", lines(WHOSE)["nobody"]
         ])  # fmt: skip
         with no_settings():
             equal("without settings", run([*words, "m61one"], home).status, 0)

@@ -90,7 +90,7 @@ STORIES: list[tuple[list[Step], set[str]]] = [
     ([("a", ONE), "!mkdir -p M/new M/cur M/tmp; echo >M/new/1.host", "migrate M a"], {"other-programs"}),
     ([*DONE, "!for a in M/new/*; do mv $a M/cur/${a##*/}:2,T; done", ("b", ONE), "migrate M b"], {"joins", "marked"}),
     ([*DONE, "!rm M/new/*", "migrate M a"], {"gone"}),
-    ([("a", ONE), ("b", ONE), "migrate M a", "!rm M/new/*", "migrate M b"], {"shared", "gone-elsewhere"}),
+    ([("a", ONE), ("b", ONE), "migrate M a", "!rm M/new/*", "migrate M b"], {"gone-elsewhere"}),
     ([*OF_TREE, "!rm -r M/.a", "migrate M old"], {"folder-gone"}),
     ([*OF_TREE, "!rm M/.a/mbox2maildir-messages", "migrate M old"], {"ledger-gone"}),
     (

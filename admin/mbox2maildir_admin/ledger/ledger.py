@@ -86,8 +86,10 @@ class Source:
     def __init__(self) -> None:
         self.words, self.key, self.inode = "", (0, ""), 0
         self.cores, self.bares = bytearray(), bytearray()
-        # how often each core is no longer in the mailbox; and how many messages may have come back
+        # how often each core is no longer in the mailbox, and the bare forms that these messages had; and how many
+        # messages may have come back
         self.lost: collections.Counter[bytes] = collections.Counter()
+        self.forms: collections.defaultdict[bytes, list[bytes]] = collections.defaultdict(list)
         self.back = 0
 
     def take(self, batch: Batch) -> None:
@@ -104,14 +106,27 @@ class Source:
             core, bare = digest_at(batch.cores, at), digest_at(batch.bares, at)
             if letter == LOST[0]:
                 self.lost[core] += 1
+                self.forms[core].append(bare)
             elif core in self.lost:
-                # what it has again it had before
-                self.lost[core] -= 1
-                if not self.lost[core]:
-                    del self.lost[core]
+                self.take_again(core, bare)
             else:
                 self.cores += core
                 self.bares += bare
+
+    def take_again(self, core: bytes, bare: bytes) -> None:
+        """Takes a message with a core that it no longer had. What it has again it had before, perhaps in another
+        form."""
+        self.lost[core] -= 1
+        if not self.lost[core]:
+            del self.lost[core]
+        forms = self.forms[core]
+        was = bare if bare in forms else forms[0]
+        forms.remove(was)
+        at = -1 if was == bare else self.cores.find(core)
+        while at >= 0 and (at % SHORT or self.bares[at : at + SHORT] != was):
+            at = self.cores.find(core, at + 1)
+        if at >= 0:
+            self.bares[at : at + SHORT] = bare
 
     def has(self, first: int = 0) -> collections.Counter[bytes]:
         """How often it had each core when it was read last, from a message on."""

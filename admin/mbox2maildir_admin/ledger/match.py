@@ -38,7 +38,7 @@ class Files:
         self.there = bytearray(len(inventory))
         self.counts: collections.defaultdict[bytes, list[int]] = collections.defaultdict(list)
         # the names of files that are marked as deleted; how many files of other programs there are, and whether
-        # programs have named any file, and any file has a base that the text has not
+        # programs have named any file, and any file has no base of the text
         self.trashed: set[bytes] = set()
         self.others, self.has_named, self.has_strange = 0, False, False
         # the names that mailboxes gave which were undone
@@ -243,10 +243,8 @@ class Match:
 
     def find_strangers(self) -> None:
         """Finds the files that no line explains, by the bare forms of what they hold. If the mailbox has brought
-        nothing so far, or a run of it was killed, all lines count, and all other files are read. Later, since people
-        may have much mail there, only files of other programs are read that may have the bytes of a message as it is,
-        and those that an undo may have kept."""
-        ledger, path, files, table = self.ledger, self.path, self.files, self.inventory.table
+        nothing so far, or a run of it was killed, all lines count, and all other files are read."""
+        ledger, path, files = self.ledger, self.path, self.files
         # what a killed run has placed may have another name, and the text other bytes
         is_first = path not in ledger.sources or ledger.pending(path) is not None
         is_worthwhile = files.has_named or files.kept or is_first and files.has_strange
@@ -257,19 +255,24 @@ class Match:
         named = (one.name for number, one in several if says_whose(one, number in ledger.ended))
         known = Hashes(itertools.chain(self.taken(), self.names_of_lines(), named))
         for before, file in files.numbered():
-            bare: Optional[bytes] = None
-            if before in known:
-                continue
-            if before in files.kept or is_first and table.own_place(before) is None:
-                forms = forms_in(file)
-                bare = forms[1] if forms else None
-            elif not is_own(before):
-                with contextlib.suppress(OSError):
-                    digest = digest_of(file, sizes)[0]
-                    place = table.place_of(digest + FIRST) if digest else None
-                    bare = None if place is None else self.inventory.bare(place)
+            bare = None if before in known else self.form_of(before, file, is_first, sizes)
             if bare:
                 self.strangers[bare].append(before)
+
+    def form_of(self, before: bytes, path: bytes, is_first: bool, sizes: Container[int]) -> Optional[bytes]:
+        """The bare form of a file that no line explains; None if it is not read. Since people may have much mail there,
+        it is read at first, or if an undo may have kept it; later only if another program has placed it, and it may
+        have the bytes of a message as it is."""
+        table = self.inventory.table
+        if before in self.files.kept or is_first and table.own_place(before) is None:
+            forms = forms_in(path)
+            return forms[1] if forms else None
+        if not is_own(before):
+            with contextlib.suppress(OSError):
+                digest = digest_of(path, sizes)[0]
+                place = table.place_of(digest + FIRST) if digest else None
+                return None if place is None else self.inventory.bare(place)
+        return None
 
     def taken(self) -> set[bytes]:
         """The names of what stands for new messages."""

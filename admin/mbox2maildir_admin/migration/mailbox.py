@@ -171,6 +171,7 @@ class Migration:
         ended = Transfer(self, opened, ledger, preparation, part).bring_rest()
         if ended.batch:
             verified.add(ended.batch)
+            # it ends on the disk once that is synced
             ledger.end(ended.batch)
         self.kept = None if ended.row.verdict == Verdict.LEFT else ledger
         return ended
@@ -382,7 +383,8 @@ class Transfer:
 
     def row_of(self, part: Part, steps: Steps, said: Sequence[Remark]) -> Row:
         """The row of a mailbox that brings something, or would; with what is to be said of other folders, into which
-        mail of it went, and of other mailboxes."""
+        mail of it went, and of other mailboxes. What is said of flags and UIDs comes once they are set, but in a
+        rehearsal."""
         # a message of a Takeout may be in many folders
         elsewhere = [] if self.part else self.known.elsewhere(steps.contents.inventory)
         said = [*said, *remarks_on(steps, self.options.dry), *back_in(self.ledger)]

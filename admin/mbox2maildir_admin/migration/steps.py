@@ -1,5 +1,5 @@
-"""What a run does with a mailbox and its folder: a value, which is made before anything is placed or removed for it. A
-rehearsal ends with it, and `carrying.py` carries it out."""
+"""What a run does with a mailbox and its folder: a value, which is made before anything is placed for it. A rehearsal
+ends with it, and `carrying.py` carries it out."""
 import collections
 import contextlib
 import os
@@ -222,8 +222,9 @@ def remarks_on(one: Steps, dry: bool) -> Iterator[Remark]:
         elif others and one.opened.name == INBOX and not seen.shared:
             yield Says.JOINS.of(first_of(others, most=1))
     # what other mailboxes brought
-    paths = [unspelled(path) for path, _ in seen.shared.most_common()]
-    yield from Says.SHARED.of_any(sum(seen.shared.values()), first_of(paths, most=1), there=sum(seen.shared.values()))
+    shared = seen.shared - seen.gone
+    paths, there = [unspelled(path) for path, _ in shared.most_common()], sum(shared.values())
+    yield from Says.SHARED.of_any(there, first_of(paths, most=1), there=there)
     for path, count in seen.gone.items():
         if count:
             yield Says.GONE_ELSEWHERE.of(count, named(unspelled(path)))

@@ -179,8 +179,8 @@ class Spool(NamedTuple):
         return self.work.is_back or bool(self.tree)
 
     def words(self) -> list[str]:
-        """The options of the command that does this for one user."""
-        return self.options.of_next().words()
+        """The options of the command that does this for one user, with what was decided for all."""
+        return self.options.of_next()._replace(decision=self.options.decision).words()
 
 
 def is_recorded(maildir: bytes, mailbox: bytes) -> bool:
