@@ -391,6 +391,8 @@ def standing(home: Home) -> None:
     changed = "1 message that was changed in the Maildir is there as before"
     equal("what is said", says, {"x": [deleted, changed], "y": [deleted]})
     equal("the sums", ran.sums["still_there"], {"deleted": 2, "changed": 1})
+    # of what only the other mailbox has, nothing is said of one that is named alone
+    equal("y alone", home.place.run([*BACK, "y"]).sums["still_there"], {"deleted": 1, "changed": 0})
     make_maildir(home.folder("b"))
     home.place.own(home.folder("b"), *home.folder("b").iterdir())
     (moved,) = home.those(3, name="a")

@@ -75,7 +75,7 @@ def once_and_never_again(home: Path) -> None:
     equal("what is there", subjects(home / "M"), ["three", "two"])
     # a copy of it brings nothing either, and under another name, and in another folder, it is the same mailbox
     mailbox(home / "copy", ONE + TWO + THREE)
-    says = "3 messages there already, from .../box; 1 that .../box brought are gone; 1 message of other programs ..."
+    says = "2 messages there already, from .../box; 1 that .../box brought are gone; 1 message of other programs ..."
     back = "this stores the messages that are nowhere, and brings back deleted mail"
     out = f"copy -> INBOX: ...: done, {says}\n    {back}:\n        mbox2maildir-admin migrate --again M copy\n...\n"
     expect("migrate --all M copy", home, 0, out)

@@ -391,7 +391,7 @@ def kind_of(mailbox: bytes) -> str:
     lengths = re.search(rb"(?mi)^content-length:", mailbox) is not None
     return {
         ((False, False, False), False): "not quoted",
-        ((True, False, False), False): "quoted after blank lines",
+        ((True, False, False), False): "a line `From ` is quoted only after a blank line",
         ((True, True, False), False): "mboxo",
         ((True, True, True), False): "mboxrd",
         ((False, False, False), True): "mboxcl2",
@@ -405,7 +405,7 @@ KINDS = {
     "mboxo": (["mboxrd or mboxo"], LESS_ONE),
     "mboxcl": (["mboxcl2"], BODY),
     "mboxcl2": (["mboxcl2", "mboxcl2 in part"], BODY),
-    "quoted after blank lines": (["not quoted"], LESS_ONE),
+    "a line `From ` is quoted only after a blank line": (["not quoted"], LESS_ONE),
     "not quoted": (["not quoted", "git's patches"], BODY),
 }
 

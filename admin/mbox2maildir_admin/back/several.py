@@ -7,7 +7,7 @@ from typing import Optional, Union
 from ..faults import Fault, Left, Reason
 from ..ledger.history import names_of
 from ..ledger.ledger import Ledger
-from ..ledger.record import Record, unspelled
+from ..ledger.record import Record, is_gone, unspelled
 from ..looks import is_file, is_there, may_be
 from ..maildir.folders import folder_path, folder_shown, folders_in, name_of
 from ..maildir.making import GOES_BACK, RECORD, real_place, want_roots_alone
@@ -138,8 +138,9 @@ class Folders:
         for says, slots in ((Says.DELETED, found.deleted), (Says.CHANGED, found.changed)):
             counts: collections.Counter[bytes] = collections.Counter()
             for slot in slots.get(folder, ()):
-                # one that the record knows by another path has the place of the first one
-                counts.update([one for one in paths if names[one] & slot.paths] or paths[:1])
+                # one that is gone from its path may be the first one; what is not named now, nothing is said of
+                its = [one for one in paths if names[one] & slot.paths]
+                counts.update(its or (paths[:1] if all(map(is_gone, slot.paths)) else ()))
             for path, count in counts.items():
                 is_sure = not may_be(lambda one: (os.path.getsize(one) if is_file(one) else 0) not in sizes, path)
                 unless = "" if is_sure else UNLESS % ("it" if count == 1 else "them")
