@@ -370,6 +370,14 @@ def with_edited(count: int, edited: int) -> bytes:
     return changed + letters(*range(edited, count))
 
 
+def rule_3_one_more_of_the_core(home: Home) -> None:
+    """The mailbox has a message in another form, and once more: one is known, and the other one is new."""
+    old, other = (letter(50, body=b"hello\n%sFrom the shed.\n" % quoted) for quoted in (b">", b">>"))
+    home.bring(OLD=old)
+    home.bring(OLD=other * 2)
+    home.has(50, 50)
+
+
 def rule_3_edited(home: Home) -> None:
     """A message whose text was edited counts as new, and the row says so. The one of before stays."""
     for count, edited in home.each(((2, 1), (10, 3), (5, 3), (60, 6))):
