@@ -77,7 +77,8 @@ def read(text: bytes, dialect: str) -> list[tuple[bytes, bytes]]:
 
 def of_new(text: bytes) -> str:
     """The dialect of a mailbox that `back` has made: each message has a length, or none."""
-    return "mboxcl2" if re.search(rb"(?m)^Content-Length: ", text[: text.find(b"\n\n")]) else "mboxrd"
+    header = re.split(rb"\n\r?\n", text, 1)[0]
+    return "mboxcl2" if re.search(rb"(?m)^Content-Length: ", header) else "mboxrd"
 
 
 class History:
