@@ -1,7 +1,7 @@
 """The mail of a Maildir on its way back, folder by folder."""
 import collections
 import os
-from collections.abc import Iterator, Sequence
+from collections.abc import Iterator, Mapping, Sequence
 from typing import Optional, Union
 
 from ..faults import Fault, Left, Reason
@@ -20,7 +20,7 @@ from ..remarks import Remark, Says, Sentence
 from ..terminal import first_of, named, operand
 from .appending import Returned, TakesNothing, Way, nothing_new
 from .journal import FULL, Journal
-from .mails import Sorted, Target, sorted_mail
+from .mails import Slot, Sorted, Target, sorted_mail
 from .places import Keeper, Names, Places
 from .subscriptions import rows_of
 
@@ -138,9 +138,7 @@ class Folders:
         for says, slots in ((Says.DELETED, found.deleted), (Says.CHANGED, found.changed)):
             counts: collections.Counter[bytes] = collections.Counter()
             for slot in slots.get(folder, ()):
-                # one that is gone from its path may be the first one; what is not named now, nothing is said of
-                its = [one for one in paths if names[one] & slot.paths]
-                counts.update(its or (paths[:1] if all(map(is_gone, slot.paths)) else ()))
+                counts.update(holders_of(slot, names))
             for path, count in counts.items():
                 is_sure = not may_be(lambda one: (os.path.getsize(one) if is_file(one) else 0) not in sizes, path)
                 unless = "" if is_sure else UNLESS % ("it" if count == 1 else "them")
@@ -237,3 +235,13 @@ def left(target: Target, fault: Union[Fault, OSError]) -> Row:
         fault = Left(DISK_FULL, Reason.NO_ROOM)
     row = row_left(target.path, target.folder, fault)
     return row._replace(messages=len(target.mails), remarks=target.remarks, is_back=True)
+
+
+def holders_of(slot: Slot, names: Mapping[bytes, set[str]]) -> Iterator[bytes]:
+    """The mailboxes, by their paths with all names of these, that have a message. A mailbox that is gone from its path
+    may be the first of them; of one that is not named now, nothing is said."""
+    several = [path for path, its in names.items() if its & slot.paths]
+    if several:
+        yield from several
+    elif all(map(is_gone, slot.paths)):
+        yield next(iter(names))
