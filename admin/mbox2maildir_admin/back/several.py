@@ -244,4 +244,4 @@ def holders_of(slot: Slot, names: Mapping[bytes, set[str]]) -> Iterator[bytes]:
     if several:
         yield from several
     elif all(map(is_gone, slot.paths)):
-        yield next(iter(names))
+        yield from list(names)[:1]
