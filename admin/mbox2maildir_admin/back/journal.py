@@ -15,7 +15,7 @@ from typing import NamedTuple, Optional
 
 from ..faults import Fault, Left, Reason
 from ..maildir.making import GOES_BACK, sync_folder
-from ..mbox.files import Reader, open_plain, write_all
+from ..mbox.files import Reader, open_regular, write_all
 from ..mbox.mailbox import Mailbox
 from ..terminal import named, spelled
 from ..units import Line, Offset
@@ -74,7 +74,7 @@ class Journal(NamedTuple):
         and goes. Raises Left if something else has its name, or if another version wrote it."""
         path = os.path.join(folder, GOES_BACK)
         try:
-            number = open_plain(path, os.O_NOFOLLOW)
+            number = open_regular(path, os.O_NOFOLLOW)
         except FileNotFoundError:
             return None
         except Fault as fault:

@@ -55,7 +55,7 @@ def has_holes(number: int, size: int) -> bool:
     return holes > MOST_HOLES
 
 
-def open_plain(path: bytes, flags: int) -> int:
+def open_regular(path: bytes, flags: int) -> int:
     """Opens a regular file for reading, and returns its descriptor. Raises Fault for anything else."""
     try:
         number = os.open(path, REGULAR | flags)
@@ -71,7 +71,7 @@ def open_plain(path: bytes, flags: int) -> int:
 
 def open_file(path: bytes, flags: int = 0) -> io.FileIO:
     """Opens a regular file for reading. Raises Fault for anything else."""
-    return io.FileIO(open_plain(path, flags))
+    return io.FileIO(open_regular(path, flags))
 
 
 def read_up_to(file: io.FileIO, most: int) -> bytes:

@@ -123,11 +123,6 @@ def drop_lock(spot: Spot, owner: Optional[bytes] = None, content: re.Pattern[byt
                 spot.unlink()
 
 
-def make_lock(spot: Spot, owner: bytes) -> int:
-    """Makes a lock for an owner. Raises FileExistsError if it is there already."""
-    return make_held(spot, b"%d %s %s\n" % (os.getpid(), ADMIN.encode(), stands_for(owner)), 0o444)
-
-
 def make_held(spot: Spot, content: bytes, mode: int) -> int:
     """Makes a lock, which has its content, and is held, from the first moment. Returns its descriptor, which holds it
     until it is closed. Raises FileExistsError if it is there already."""
@@ -198,10 +193,10 @@ def spot_of(mailbox: bytes) -> Spot:
 
 
 def taken(spot: Spot, owner: bytes) -> Optional[int]:
-    """Makes a lock, and returns its descriptor; None where this user may make none. Raises Left if another program
-    was faster."""
+    """Makes a lock for an owner, and returns its descriptor; None where this user may make none. Raises Left if another
+    program was faster."""
     try:
-        return make_lock(spot, owner)
+        return make_held(spot, b"%d %s %s\n" % (os.getpid(), ADMIN.encode(), stands_for(owner)), 0o444)
     except FileExistsError as fault:
         raise Left(LOCKED_WITH % named(spot.name), Reason.LOCKED) from fault
     except OSError as fault:

@@ -11,7 +11,7 @@ from typing import IO, Callable, NamedTuple
 from ..faults import Left, Reason, fault_of
 from ..nexts import Todo, task
 from ..units import WAITING, Say
-from .files import has_holes, open_plain
+from .files import has_holes, open_regular
 from .lock_file import look_for_lock_file
 from .mailbox import Digest, Mailbox
 from .pieces import FROM
@@ -20,30 +20,30 @@ from .pieces import FROM
 QUIET, PATIENCE = 60, 300
 # in seconds: for how long a mailbox is locked at most, and how long the lock of another program is waited for; and how
 # often a copy is tried
-LONGEST_LOCK, LONGEST_WAIT, TRIES = 10, 15, 3
+LONGEST_HELD, LONGEST_WAIT, TRIES = 10, 15, 3
 KEEPS_CHANGING = "it keeps changing"
 # the errors that say that another program has the lock, and that a disk has no locks
 LOCKED, WITHOUT_LOCKS = (errno.EAGAIN, errno.EACCES), (errno.ENOLCK, errno.ENOSYS, errno.EOPNOTSUPP)
 
 
 class Locking(NamedTuple):
-    """What a mailbox is locked for: how it is opened, and the locks of flock and of fcntl."""
+    """What a mailbox is locked for: how it is opened, and the operations of flock and of fcntl."""
 
     flags: int
-    file: int
-    record: int
+    of_flock: int
+    of_fcntl: int
 
 
 # what is written is appended, wherever the file ends then
-READING = Locking(os.O_RDONLY, fcntl.LOCK_SH, fcntl.F_RDLCK)
-WRITING = Locking(os.O_RDWR | os.O_APPEND, fcntl.LOCK_EX, fcntl.F_WRLCK)
+READING = Locking(os.O_RDONLY, fcntl.LOCK_SH | fcntl.LOCK_NB, fcntl.F_RDLCK)
+WRITING = Locking(os.O_RDWR | os.O_APPEND, fcntl.LOCK_EX | fcntl.LOCK_NB, fcntl.F_WRLCK)
 
 
 def open_mailbox(path: bytes, say: Say, follow: bool, quiet: bool, locking: Locking = READING) -> Mailbox:
     """Opens a mailbox, waits until it was left alone for a minute if `quiet` says so, and locks it. It is digested
     while it is read. Raises Left if it can't be opened or locked, or has large holes."""
     try:
-        number = open_plain(path, locking.flags | (0 if follow else os.O_NOFOLLOW))
+        number = open_regular(path, locking.flags | (0 if follow else os.O_NOFOLLOW))
     except OSError as fault:
         raise fault_of(fault, path) from fault
     try:
@@ -93,9 +93,9 @@ def lock_quiet(mailbox: Mailbox, locking: Locking) -> None:
 def lock(number: int, locking: Locking) -> None:
     """Locks a text by the locks that deliveries take for writing. Nothing is locked on a disk without locks. Raises
     Left if another program has it locked."""
-    for take, its in ((lock_file, locking.file), (lock_record, locking.record)):
+    for take, operation in ((fcntl.flock, locking.of_flock), (lock_bytes, locking.of_fcntl)):
         try:
-            take(number, its)
+            take(number, operation)
         except OSError as fault:
             if fault.errno in LOCKED:
                 raise Left("another program has locked it", Reason.LOCKED) from fault
@@ -103,12 +103,7 @@ def lock(number: int, locking: Locking) -> None:
                 raise
 
 
-def lock_file(number: int, operation: int) -> None:
-    """Takes the lock of flock, for the whole file."""
-    fcntl.flock(number, operation | fcntl.LOCK_NB)
-
-
-def lock_record(number: int, operation: int) -> None:
+def lock_bytes(number: int, operation: int) -> None:
     """Takes the lock of fcntl, for all bytes, as that of an open file: closing another descriptor does not drop it, and
     a child inherits it."""
     fcntl.fcntl(number, fcntl.F_OFD_SETLK, struct.pack("hhqqi4x", operation, os.SEEK_SET, 0, 0, 0))
@@ -116,7 +111,7 @@ def lock_record(number: int, operation: int) -> None:
 
 def unlock(number: int) -> None:
     """Releases the locks, so that deliveries can go on."""
-    for give, operation in ((lock_record, fcntl.F_UNLCK), (lock_file, fcntl.LOCK_UN)):
+    for give, operation in ((lock_bytes, fcntl.F_UNLCK), (fcntl.flock, fcntl.LOCK_UN)):
         with contextlib.suppress(OSError):
             give(number, operation)
 
@@ -131,7 +126,7 @@ def snapshot(path: bytes, make: Callable[[int], IO[bytes]], say: Say, follow: bo
             for block in reader.blocks():
                 file.write(block)
                 digest.update(block)
-                if is_locked and time.monotonic() > began + LONGEST_LOCK:
+                if is_locked and time.monotonic() > began + LONGEST_HELD:
                     unlock(mailbox.number)
                     is_locked = False
                 if not is_locked:

@@ -8,12 +8,11 @@ from typing import Optional, Union
 from ..faults import Fault, Reason
 from ..remarks import Remark
 from ..units import Line, Offset, Say, Size, silent
-from .files import BLOCK, LONG, Reader, open_file, open_plain
+from .files import BLOCK, LONG, Reader, open_file, open_regular
 from .pieces import Piece, pieces_of
 
-# the facts that show that a file has changed, and that it is no other one
-FACTS = "st_size", "st_mtime_ns", "st_ctime_ns"
-FACTS_OF_FILE = "st_dev", "st_ino", *FACTS
+# the facts that show that a file is no other one, and that it has changed
+FACTS = "st_dev", "st_ino", "st_size", "st_mtime_ns", "st_ctime_ns"
 CHANGED = "it changed while it was read"
 CHANGED_MEANWHILE = "it changed in the meantime"
 
@@ -30,7 +29,7 @@ def is_still(path: bytes, state: os.stat_result) -> bool:
 
 def is_unchanged(before: os.stat_result, now: os.stat_result) -> bool:
     """Whether two states are of one file, which has not changed between them."""
-    return all(getattr(now, fact) == getattr(before, fact) for fact in FACTS_OF_FILE)
+    return all(getattr(now, fact) == getattr(before, fact) for fact in FACTS)
 
 
 def lines_at(reader: Reader, offsets: Iterable[int]) -> Iterator[Line]:
@@ -79,7 +78,7 @@ class Watched(Reader):
 
     def __init__(self, number: int, end: Size, digest: Optional[Digest] = None, say: Say = silent) -> None:
         super().__init__(number, end=end)
-        self.size, self.digest, self.say = end, digest, say
+        self.digest, self.say = digest, say
         # the last bytes that were read, and where they begin
         self.block, self.begins = b"", 0
 
@@ -90,7 +89,7 @@ class Watched(Reader):
             self.block, self.begins = block, begins
         if self.digest and begins == self.digest.place:
             self.digest.update(block)
-        self.say("reading", self.offset, self.size)
+        self.say("reading", self.offset, self.end)
         return block
 
 
@@ -110,7 +109,7 @@ class Mailbox:
     @classmethod
     def open(cls, path: bytes, say: Say = silent, follow: bool = True) -> "Mailbox":
         """Opens a text without a lock."""
-        return cls(path, open_plain(path, 0 if follow else os.O_NOFOLLOW), say=say)
+        return cls(path, open_regular(path, 0 if follow else os.O_NOFOLLOW), say=say)
 
     def take_state(self) -> None:
         """Takes the state of the file as it is now."""
@@ -186,8 +185,7 @@ class Mailbox:
 
     def has_changed(self) -> bool:
         """Whether the text has changed since it was opened."""
-        now = os.fstat(self.number)
-        return any(getattr(now, fact) != getattr(self.state, fact) for fact in FACTS)
+        return not is_unchanged(self.state, os.fstat(self.number))
 
     def check(self) -> None:
         """Raises Fault if the text has changed."""
