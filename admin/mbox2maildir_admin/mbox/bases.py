@@ -18,8 +18,8 @@ FREE = -1
 
 
 def is_own(name: bytes) -> bool:
-    """Whether a name up to its colon is one that mbox2maildir gives: a base and nothing else."""
-    return BASE.match(name) is not None and b"," not in name
+    """Whether a name, without its info, is one that mbox2maildir gives: a base and nothing else."""
+    return BASE.fullmatch(name) is not None
 
 
 def before_info(name: bytes) -> bytes:
