@@ -96,7 +96,7 @@ def load_companion() -> None:
         importlib.import_module(".".join(module.relative_to(package.parent).with_suffix("").parts))
     load_for_children()
     version()
-    folder_of((labels_in("=?UTF-8?Q?=C3=BC?=") or [""])[0])
+    folder_of((labels_in(b"=?UTF-8?Q?=C3=BC?=") or [""])[0])
 
 
 def die_at(event: int) -> None:

@@ -56,25 +56,25 @@ def is_deleted(header: bytes) -> Optional[bool]:
     return None if status is None else bool(int(status, 16) & EXPUNGED)
 
 
-def letters_of(bits: Optional[str], table: dict[int, str]) -> Optional[str]:
+def letters_by_bits(bits: Optional[str], table: dict[int, str]) -> Optional[str]:
     """The flags of a number in hexadecimal digits; None without a number."""
     return None if bits is None else "".join(letter for bit, letter in table.items() if int(bits, 16) & bit)
 
 
 def letters_of_evolution(header: bytes) -> Optional[str]:
     """The flags that Evolution keeps in a header; None if it keeps none there."""
-    return letters_of(evolution_flags(header), EVOLUTION)
+    return letters_by_bits(evolution_flags(header), EVOLUTION)
 
 
-def labels_in(text: str) -> Optional[list[str]]:
-    """The labels of a field, each byte of which is a letter, and whose words may be encoded; None if it can't be
-    read."""
+def labels_in(value: bytes) -> Optional[tuple[str, ...]]:
+    """The labels that the value of a field has, each once. Its words may be encoded. None if it can't be read."""
     import csv
 
     try:
-        unfolded = BETWEEN_ENCODED.sub("", FOLD.sub(" ", text.encode("latin-1").decode("utf-8", "surrogateescape")))
+        unfolded = BETWEEN_ENCODED.sub("", FOLD.sub(" ", value.decode("utf-8", "surrogateescape")))
         decoded = ENCODED.sub(decoded_words, unfolded)
-        return [label.strip() for label in next(csv.reader([decoded], skipinitialspace=True), [])]
+        labels = (label.strip() for label in next(csv.reader([decoded], skipinitialspace=True), []))
+        return tuple(dict.fromkeys(filter(None, labels)))
     except Exception:  # pylint: disable=broad-except
         # the libraries raise anything for strangers' headers
         return None
@@ -92,7 +92,7 @@ MOZILLA, GMAIL = "Thunderbird", "Gmail"
 # what a program has in the header of each message: its flags or, since only the labels of all messages show these,
 # Gmail's labels; None if a message is not from it
 CLIENTS: dict[str, Callable[[bytes], Optional[str]]] = {
-    MOZILLA: lambda header: letters_of(mozilla_status(header), THUNDERBIRD),
+    MOZILLA: lambda header: letters_by_bits(mozilla_status(header), THUNDERBIRD),
     "Evolution": letters_of_evolution,
     GMAIL: lambda header: None if gmail_thread(header) is None else gmail_labels(header) or "",
 }
@@ -111,14 +111,6 @@ class Kept(NamedTuple):
     program: str
     letters: list[str]
     unsaid: bytes = b""
-
-    @classmethod
-    def by_labels(cls, fields: Sequence[str]) -> "Kept":
-        """Those of a Takeout with these fields."""
-        from .gmail import letters_by, own_names
-
-        known = {one: tuple(labels_in(one) or ()) for one in set(fields)}
-        return cls(GMAIL, *letters_by([known[one] for one in fields], own_names(known.values())))
 
     def at(self, places: Iterable[int]) -> "Kept":
         """Those of the messages at some places."""
@@ -145,5 +137,10 @@ def kept_in(mailbox: Mailbox, inventory: Inventory) -> Optional[Kept]:
         lacking = several.count(None)
         if several and several[-1] is not None and are_few(lacking, len(several) - lacking):
             letters = [one or "" for one in several]
-            return Kept.by_labels(letters) if program == GMAIL else Kept(program, letters)
+            if program != GMAIL:
+                return Kept(program, letters)
+            from .gmail import letters_by, own_names
+
+            known = {one: labels_in(one.encode("latin-1")) or () for one in set(letters)}
+            return Kept(program, *letters_by([known[one] for one in letters], own_names(known.values())))
     return None

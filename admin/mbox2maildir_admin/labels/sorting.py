@@ -37,15 +37,9 @@ def field_of(header: bytes) -> Optional[bytes]:
     return values[b"x-gmail-labels"] if len(values) == 2 else None
 
 
-def labels_of(field: bytes) -> Optional[tuple[str, ...]]:
-    """The labels that are the value of a field, each once; None if they cannot be read."""
-    labels = labels_in(field.decode("latin-1"))
-    return None if labels is None else tuple(dict.fromkeys(filter(None, labels)))
-
-
 def remarks_on_labels(headers: Iterable[bytes]) -> list[Remark]:
     """How many of some messages have labels of Gmail's folders that are not INBOX."""
-    several = [set(labels_of(field_of(header) or b"") or ()) for header in headers]
+    several = [set(labels_in(field_of(header) or b"") or ()) for header in headers]
     own = own_names(several)
     roles = collections.Counter(role for labels in several for role in {own.get(label) for label in labels})
     counts = ["%s %d" % (name, roles[role]) for role, name in SAID.items() if roles[role]]
@@ -85,7 +79,7 @@ class Sorting:
             if field is None:
                 raise LabelsLeft(NO_LABELS % number)
             if field not in known:
-                labels = labels_of(field)
+                labels = labels_in(field)
                 if labels is None:
                     raise LabelsLeft(UNREADABLE % number)
                 known[field] = labels
