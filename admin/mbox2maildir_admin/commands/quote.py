@@ -8,7 +8,7 @@ from ..nexts import Command, Runs
 from ..progress import say_of
 from ..readings.copies import Copy
 from ..readings.plans import Plan, Question, plan_of
-from ..readings.quoting import Quoter, write_copy, written
+from ..readings.quoting import Quoter, give_all, write_copy
 from ..readings.reading import PLAIN, Reading
 from ..terminal import named, operand, put, write
 from ..units import Say, silent
@@ -41,7 +41,7 @@ def quote_file(decision: Reading, file: bytes, output: bytes, is_bare: bool) -> 
             start, messages = (end, messages - 1) if head else (start, messages)
         if output == STANDARD_OUTPUT:
             quoter = Quoter(reading, mailbox, start, keeps_lengths=False)
-            written(quoter, write, is_bare)
+            give_all(quoter, write, is_bare)
             quoter.check(quoter.given, quoter.messages, messages)
             return True
         with Copy(output) as copy:

@@ -177,7 +177,7 @@ class Quoter:
             raise Fault(says + "".join(", and %d expected" % one for one in wanted), Reason.MISREAD)
 
 
-def written(quoter: Quoter, take: Callable[[bytes], object], is_bare: bool = False) -> int:
+def give_all(quoter: Quoter, take: Callable[[bytes], object], is_bare: bool) -> int:
     """Gives a text as it is read, bare or not, to a function that takes bytes. Returns how many it was given."""
     read, given = quoter.run(), 0
     if is_bare:
@@ -193,7 +193,7 @@ def write_copy(reading: Reading, mailbox: Mailbox, start: Offset, wanted: int, c
     """Writes a copy without right lengths that has as many messages as wanted, bare or not, and gives it its name.
     Returns its Quoter."""
     quoter = Quoter(reading, mailbox, start, keeps_lengths=False)
-    given = written(quoter, copy.write, is_bare)
+    given = give_all(quoter, copy.write, is_bare)
     size, messages = copy.written()
     quoter.check(quoter.given - given + size, messages, wanted)
     copy.place(mailbox.state)
