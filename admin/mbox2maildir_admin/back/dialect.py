@@ -15,7 +15,7 @@ from typing import NamedTuple, Optional
 
 from ..faults import Fault, Left, Reason
 from ..flags.clients import CLIENTS, EVOLUTION, THUNDERBIRD, kept_in
-from ..kinds.starts import FIELD, text_start
+from ..kinds.starts import OPENING, text_start
 from ..maildir.files import letters_of, mail_in
 from ..mbox.bases import before_info
 from ..mbox.core import forms_of
@@ -110,7 +110,7 @@ class Dialect(NamedTuple):
         # a line that begins with a blank would go on with a field; what no field follows is not certainly a From_ line
         if header.startswith((b" ", b"\t")):
             header += fields
-        elif fields or FIELD.match(header):
+        elif fields or OPENING.match(header):
             header = fields + header
         else:
             header = b"Status:" + end + header

@@ -99,10 +99,9 @@ class Doubts:
             self.add(piece.offset, LIKE_FIRST if is_like_first else MAY_BEGIN)
 
     def add(self, offset: Offset, why: int = MAY_BEGIN) -> None:
-        """Adds the line that has an offset, unless it was added for the same reason."""
-        if not self.offsets or (self.offsets[-1], self.whys[-1]) != (offset, why):
-            self.offsets.append(offset)
-            self.whys.append(why)
+        """Adds the line that has an offset."""
+        self.offsets.append(offset)
+        self.whys.append(why)
 
     def add_unmarked(self, offset: Offset) -> None:
         """Adds a message without a mark, unless something else is doubtful about its line."""

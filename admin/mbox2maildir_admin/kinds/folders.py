@@ -17,7 +17,7 @@ from ..patterns import pattern
 from ..terminal import is_text, operand, text_of
 from .named import BESIDE
 from .others import FROM_LINE, QUOTED
-from .starts import FIELD
+from .starts import OPENING
 
 Entry = os.DirEntry[bytes]
 MAILDIR, MH = "it is a Maildir", "an MH folder"
@@ -78,7 +78,7 @@ def messages_of_mh(entries: list[Entry]) -> list[Entry]:
     return [
         entry
         for entry in entries
-        if NUMBER.fullmatch(entry.name) and entry.is_file(follow_symlinks=False) and FIELD.match(head_of(entry.path))
+        if NUMBER.fullmatch(entry.name) and entry.is_file(follow_symlinks=False) and OPENING.match(head_of(entry.path))
     ]
 
 

@@ -10,18 +10,16 @@ from ..flags.dovecot_headers import internal_head
 from ..mbox.dates import is_dated
 from ..mbox.fields import LENGTH, Header
 from ..mbox.files import LONG
-from ..mbox.inventory import NOTE, Marked, may_hold_mail, plain_of
+from ..mbox.inventory import NOTE, WithPlain, has_marks, may_hold_mail, plain_of
 from ..mbox.lines import Lines, Reasons, Said
 from ..mbox.mailbox import Mailbox
 from ..mbox.pieces import FROM, Piece, header_of
 from ..terminal import NAMED
 from ..units import Line, Offset
 from .doubts import AGAINST, CUT, DELETED, DOUBTFUL, KEEPING, MAY_BE_MAIL, SAID, Doubts
-from .starts import ADDRESS, FIELD, Ending, end_of_row, ending_of, is_after_blank, joins_in, may_be_mail, shape_of
+from .starts import ADDRESS, OPENING, Ending, end_of_row, ending_of, is_after_blank, joins_in, may_be_mail, shape_of
 
 GIT = re.compile(rb"From [0-9a-f]{40,64} Mon Sep 17 00:00:00 2001\r?\Z")
-# what the header of a message has of which something is to be said, in lower case
-LOOKED_AT = b"content-length", b"x-mozilla-status", b"x-gm-thrid", NOTE.lower()
 # the words by which a line `From ` is quoted
 QUOTES = re.compile(rb"\n(>+)From [^\n]*")
 # what a line has before its end
@@ -33,7 +31,7 @@ def signs_of(mailbox: Mailbox, piece: Piece) -> tuple[bool, bool]:
     data, body = piece.data, piece.body
     if body == len(data) and not piece.ends:
         data, body = mailbox.at(end_of_row(mailbox, piece.offset, IN_LINE) + 1, LONG), 0
-    return is_dated(piece.from_line), FIELD.match(data, body) is not None
+    return is_dated(piece.from_line), OPENING.match(data, body) is not None
 
 
 class Look:
@@ -54,7 +52,7 @@ class Look:
         # the messages with right lengths, by their offsets, that have a line `>From `, and those that have a line
         # `From ` after a blank one, so that no program has escaped it
         self.with_quotes, self.unescaped = set[int](), set[int]()
-        self.first_line = mailbox.at(start, LONG).split(b"\n")[0]
+        self.first_line = mailbox.from_line_at(start)
         # whether the length of the last message says that something is missing, and whether all was looked at
         self.is_cut = self.is_whole = False
         # the last message that has a mark of a program
@@ -80,7 +78,7 @@ class Look:
         lacks_length = self.without or self.count("wrong")
         return bool(not self.start and lacks_length and not self.count("CR LF"))
 
-    def passed(self) -> Iterator[Marked]:
+    def passed(self) -> Iterator[WithPlain]:
         """Looks at each piece of the text, and passes it on."""
         piece = None
         for piece in self.mailbox.pieces(self.start):
@@ -88,7 +86,7 @@ class Look:
             if plain and piece.offset >= self.claimed and piece.offset > self.start:
                 # a plain message, but the first one
                 self.seen["dated"].count += 1
-                self.header(piece, plain.end + 1, plain.has_marks)
+                self.header(piece, plain.end + 1, plain.is_marked)
             elif piece.begins:
                 self.begin(piece)
             if piece.has_word or not plain:
@@ -188,15 +186,14 @@ class Look:
             self.seen["git"].add(piece.offset)
         begin = piece.body
         end, body = header_of(piece.data, begin)
-        lower = piece.data[begin:end].lower()
-        self.header(piece, body, any(map(lower.__contains__, LOOKED_AT)))
+        self.header(piece, body, has_marks(piece.data[begin:end]))
         self.is_crlf = from_line.endswith(b"\r")
 
-    def header(self, piece: Piece, body: int, has_marks: bool) -> None:
+    def header(self, piece: Piece, body: int, is_marked: bool) -> None:
         """Begins a message, whose body begins at a place of its piece. Looks at what programs wrote into its header, if
         that has anything of it, and at its length."""
         # what a right length has ended is whole
-        header, is_after_whole = Header.of(piece) if has_marks else None, self.claimed > 0
+        header, is_after_whole = Header.of(piece) if is_marked else None, self.claimed > 0
         self.messages += 1
         self.claimed, self.claimed_by, self.body = 0, piece.offset, piece.offset + body
         self.is_cut = self.is_crlf = False
@@ -266,23 +263,22 @@ class Look:
 
     def count(self, *sorts: str) -> int:
         """How many lines are of these sorts."""
-        return sum(self.seen[sort].count for sort in sorts if sort in self.seen)
+        return sum(self.seen[sort].count for sort in sorts)
 
     def numbers(self, *sorts: str) -> Optional[set[Line]]:
         """The numbers of the lines of these sorts; None if there are too many of them."""
-        numbers = {self.lines[offset] for sort in sorts if sort in self.seen for offset in self.seen[sort].offsets}
+        numbers = {self.lines[offset] for sort in sorts for offset in self.seen[sort].offsets}
         return numbers if len(numbers) == self.count(*sorts) else None
 
     def first(self, sort: str) -> list[tuple[Line, str, Line]]:
         """The first lines of a sort, and what is said of each."""
-        begun = self.seen[sort].begun if sort in self.seen else []
-        return [(self.lines[offset], text, self.lines[other]) for offset, text, other in begun]
+        return [(self.lines[offset], text, self.lines[other]) for offset, text, other in self.seen[sort].first]
 
     @functools.cached_property
     def lines(self) -> Mapping[Optional[int], Line]:
         """The numbers of the lines that were seen, by their offsets. Most mail has none of which anything is said."""
         several = self.seen.values()
-        others = {other for lines in several for *_, other in lines.begun if other is not None}
+        others = {other for lines in several for *_, other in lines.first if other is not None}
         offsets = sorted(others.union(*(lines.offsets for lines in several)))
         at: dict[Optional[int], Line] = {None: Line(0), **dict(zip(offsets, self.mailbox.lines_at(offsets)))}
         self.mailbox.check()
@@ -327,5 +323,5 @@ class Look:
         return Reasons(found, self.count(sort))
 
 
-# what looks at as much of a text as is wanted
-Read = Callable[[Look], Look]
+# looks at as much of a text as is wanted
+HowFar = Callable[[Look], Look]

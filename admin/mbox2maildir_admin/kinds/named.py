@@ -11,7 +11,7 @@ from ..maildir.folders import IS_COMPRESSED
 from ..mbox.files import open_file, read_up_to
 from ..patterns import pattern
 from ..terminal import text_of
-from .starts import FIELD
+from .starts import OPENING
 
 # mutt's muttrc and manual (mbox, record, postponed), Alpine's technical notes, Thunderbird's, Evolution's and KMail's
 # own folders, Apple Mail, Outlook; in lower case
@@ -46,7 +46,7 @@ INDEXES = {
 INDEX = pattern(b"|".join(b"(%s)" % names for names in INDEXES.values()), re.DOTALL)
 # the most bytes of a line that a program writes into its lock: ASCII, such as its number, which Dovecot's host follows
 LONGEST_LOCK = 256
-LINE_OF_LOCK = pattern(rb"(?:\d+:|(?!From |%s))[\t -~]*(?:\r?\n)?\Z" % FIELD.pattern)
+LINE_OF_LOCK = pattern(rb"(?:\d+:|(?!From |%s))[\t -~]*(?:\r?\n)?\Z" % OPENING.pattern)
 
 
 def name_of_folder(path: bytes) -> str:

@@ -7,6 +7,7 @@ from collections.abc import Callable, Sequence
 from typing import NamedTuple, Optional
 
 from ..mbox.dates import is_dated
+from ..mbox.fields import NAME
 from ..mbox.files import LONG, WHOLE
 from ..mbox.lines import Said, cut
 from ..mbox.mailbox import Mailbox
@@ -28,7 +29,7 @@ FROM_LINE = "echo '%s'" % UNDATED
 # quotes the lines of one message, exactly
 QUOTED = "sed 's/^>*From />&/'"
 TAR = "mkdir {copy} && tar %s-xC {copy} <{}"
-FIRST_FIELD = pattern(rb"[!-9;-~]+[ \t]*:")
+FIRST_FIELD = pattern(NAME)
 PROPERTY_LIST = pattern(rb"\s*<(?:\?xml|!DOCTYPE plist|plist)")
 # the names of subscription files of Dovecot and UW-IMAP; a line of such a file in the older form, and in version 2
 SUBSCRIPTIONS = b".subscriptions", b".mailboxlist"
@@ -37,6 +38,9 @@ TABBED_NAME = pattern(rb"(?!From )[^\0-\x08\x0b-\x1f\x7f]{1,1024}\Z")
 RULE = pattern(rb'[A-Za-z]+="[^\r\n]*"\r?\Z')
 # records of 24 bytes
 LOG = pattern(rb"(?:[\x01-\x0c]\0{3}.{20})*\Z", re.DOTALL)
+# how the name of a kind begins that holds no mail, and what to do with such a file
+NO_MAIL = "no mail: "
+LEAVE: Recipe = (Task(Todo.LEAVE),)
 
 
 class Holds(enum.Enum):
@@ -140,7 +144,7 @@ def packed(start: bytes, form: Form, package: str = "") -> Other:
 
 def no_mail(start: bytes, kind: str, check: Optional[Callable[[Mailbox], bool]] = None) -> Other:
     """A kind that holds no mail."""
-    return Other(pattern(start, re.DOTALL), "no mail: " + kind, (Task(Todo.LEAVE),), Holds.NO_MAIL, check)
+    return Other(pattern(start, re.DOTALL), NO_MAIL + kind, LEAVE, Holds.NO_MAIL, check)
 
 
 ONE_MAIL = "(%s && %s {} && echo) >{copy}" % (FROM_LINE, QUOTED)
@@ -245,7 +249,7 @@ WITHOUT_MAIL = [
 ]
 OTHERS = MESSAGES + PACKED + WITHOUT_MAIL
 # a header, and a line of text without a colon before it
-HEADER = pattern(rb"(?:[!-9;-~]+[ \t]*:[^\n]*\n(?:[ \t][^\n]*\n)*)+")
+HEADER = pattern(rb"(?:%s[^\n]*\n(?:[ \t][^\n]*\n)*)+" % NAME)
 BEFORE_HEADER = pattern(rb"[^\0\n:]*\n")
 # what the header of a mail has: who sent it or which server took it, and one of the other fields. Notes, vCards,
 # calendars and settings have lines like a header too
@@ -269,7 +273,6 @@ NOT_KNOWN: Recipe = (FILE, Task(Todo.PASS_OVER))
 ALONE = Task(Todo.PASS_OVER_ALONE)
 ASK_FILE: Recipe = (WITH_DATE, ALONE)
 LIKE_MAIL: Recipe = (FILE, ALONE)
-LEAVE: Recipe = (Task(Todo.LEAVE),)
 # a line of this form may be one of mail
 LINE_OF_MAIL = pattern(rb"(?m)^(?:>*From |(?i:%s|%s)[ \t]*:)" % (SENT, OTHER_FIELDS))
 
@@ -327,7 +330,7 @@ def unknown(mailbox: Mailbox, line: str) -> Finding:
     is_like_mail = any(LINE_OF_MAIL.search(piece.data) for piece in pieces_of(mailbox.again().read))
     index = index_of(mailbox.path)
     if index and not is_like_mail:
-        return Finding("no mail: " + index, LEAVE, Holds.NO_MAIL)
+        return Finding(NO_MAIL + index, LEAVE, Holds.NO_MAIL)
     said = [Said(Line(1), "", line)]
     return Finding("not known", LIKE_MAIL if is_like_mail else NOT_KNOWN, Holds.UNKNOWN, said)
 

@@ -7,6 +7,7 @@ from collections.abc import Iterator
 from typing import Optional
 
 from ..mbox.dates import ends_in_iso, is_dated
+from ..mbox.fields import NAME
 from ..mbox.files import BLOCK, LONG
 from ..mbox.mailbox import Mailbox
 from ..mbox.pieces import FROM, Piece, header_of
@@ -16,8 +17,8 @@ from ..units import Offset
 # how many bytes of a file are looked at to know it
 HEAD = 1 << 16
 BEFORE_TEXT = re.compile(rb"(?:\xef\xbb\xbf)?(?:[ \t]*\r?\n)*")
-# the beginning of a header
-FIELD = re.compile(rb"[!-9;-~]+[ \t]*:|>From ")
+# how a header begins
+OPENING = re.compile(NAME + rb"|>From ")
 # a block of tar, the place of its checksum, and the digits of that
 TAR_BLOCK, SUM = 512, slice(148, 156)
 OCTAL = pattern(rb" *[0-7]{1,7}[ \0]")
@@ -94,7 +95,7 @@ def signs_in(text: bytes) -> tuple[bool, bool]:
     """Whether a text begins with a line `From ` that ends in a date, and whether with one that a header follows."""
     line, _, header = text.partition(b"\n")
     is_from = line.startswith(FROM)
-    return is_from and is_dated(line), is_from and FIELD.match(header) is not None
+    return is_from and is_dated(line), is_from and OPENING.match(header) is not None
 
 
 def end_of_row(mailbox: Mailbox, offset: Offset, row: bytes) -> Offset:
@@ -121,7 +122,7 @@ def may_be_mail(mailbox: Mailbox, piece: Piece, end: int) -> bool:
     from_line, offset = piece.from_line, piece.offset + piece.body
     begins = mailbox.at(offset, LONG)
     by_rmail = BY_RMAIL.match(begins)
-    if ADDRESS.match(from_line) or FIELD.match(begins, by_rmail.end() if by_rmail else 0):
+    if ADDRESS.match(from_line) or OPENING.match(begins, by_rmail.end() if by_rmail else 0):
         return True
     is_between = offset < end and begins.startswith((b"\n", b"\r\n")) and is_after_blank(mailbox, piece)
     return is_between and ONE_WORD.match(from_line) is not None
@@ -147,7 +148,7 @@ def may_begin(mailbox: Mailbox, before: bytes, from_line: bytes, end: int, in_bo
     """Whether a From_ line may follow what is before it in its line, which ends at an offset."""
     is_after_nulls = before.endswith(b"\0")
     if not is_dated(from_line):
-        return is_after_nulls and FIELD.match(mailbox.at(end + 1, HEAD)) is not None
+        return is_after_nulls and OPENING.match(mailbox.at(end + 1, HEAD)) is not None
     if is_after_nulls:
         return True
     if REPLY.match(before):
@@ -155,7 +156,7 @@ def may_begin(mailbox: Mailbox, before: bytes, from_line: bytes, end: int, in_bo
     text = mailbox.at(end + 1, HEAD)
     header = text[: header_of(text, 0)[0]]
     is_close = not before[-1:].isspace()
-    return FIELD.match(header) is not None and (is_close or in_body and MAIL_FIELD.search(header) is not None)
+    return OPENING.match(header) is not None and (is_close or in_body and MAIL_FIELD.search(header) is not None)
 
 
 def ending_of(line: bytes) -> Optional[Ending]:

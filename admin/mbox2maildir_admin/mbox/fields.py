@@ -23,6 +23,8 @@ OF_THUNDERBIRD = b"x-mozilla-keys", b"x-mozilla-status", b"x-mozilla-status2"
 OF_EVOLUTION = (b"x-evolution",)
 OF_GMAIL = b"x-gm-thrid", b"x-gmail-labels"
 NOTED = (*HIDDEN, b"lines", *OF_EVOLUTION, *OF_GMAIL, *OF_THUNDERBIRD)
+# the name of a field in any text, with its colon
+NAME = rb"[!-9;-~]+[ \t]*:"
 # the value of a field after its colon, with the lines that continue it: a repeated group would keep a mark for each
 VALUE = rb":([^\n]*(?:(?=\n[ \t])(?s:.*?)(?=\n(?![ \t])|\Z))?)"
 ITS_VALUE = pattern(VALUE)

@@ -16,7 +16,7 @@ from ..units import Offset, Place
 from .bases import Table
 from .core import SHORT, Digests
 from .dates import seconds_of, seconds_of_plain
-from .fields import NOTED_FIELD, bare_pieces
+from .fields import NAME, NOTED_FIELD, bare_pieces
 from .files import LONG, Reader
 from .mailbox import Mailbox, lines_at
 from .pieces import FROM, Piece, pieces_of
@@ -30,10 +30,12 @@ FIRST_QUOTE = re.compile(rb"\n>(?=>*From )")
 # a From_ line that may hold no mail and is dated like most, and what begins the header after it
 BEGINS = re.compile(
     rb"From [^:\0\r\n]{0,900}[ \t](\w{3} \w{3} [ \d]\d) ([01]\d|2[0-3]):([0-5]\d):([0-5]\d) (\d{4})\n"
-    + rb"(?=[!-9;-~]+[ \t]*:)"
+    + rb"(?=%s)" % NAME
 )
 # the time that git writes into each From_ line, and the subject of a message that an IMAP server wrote for itself
 GIT, NOTE = (b"Mon Sep 17", b"00", b"00", b"00", b"2001"), b"DON'T DELETE THIS MESSAGE -- FOLDER INTERNAL DATA"
+# what a header has that is looked at, in lower case
+MARKS = b"content-length", b"x-mozilla-status", b"x-gm-thrid", NOTE.lower()
 DIFFERS = "line %%d: message %%d differs from what `%s list` gave" % PROGRAM
 
 
@@ -47,11 +49,11 @@ class Plain(NamedTuple):
     last: int
     date: int
     bare: Optional[bytes]
-    has_marks: bool
+    is_marked: bool
 
 
 # a piece of a text, and what is known of it if it is a plain message
-Marked = tuple[Piece, Optional[Plain]]
+WithPlain = tuple[Piece, Optional[Plain]]
 
 
 def plain_of(piece: Piece) -> Optional[Plain]:
@@ -69,9 +71,14 @@ def plain_of(piece: Piece) -> Optional[Plain]:
     bare, count = NOTED_FIELD.subn(b"", header)
     if count and len(bare) < 2:
         return None
-    lower = header.lower() if count else b""
-    has_marks = b"content-length" in lower or b"x-mozilla-status" in lower or b"x-gm-thrid" in lower
-    return Plain(body, end, len(data) - data.endswith(b"\n\n"), date, bare[1:] if count else None, has_marks)
+    last, is_marked = len(data) - data.endswith(b"\n\n"), count > 0 and has_marks(header)
+    return Plain(body, end, last, date, bare[1:] if count else None, is_marked)
+
+
+def has_marks(header: bytes) -> bool:
+    """Whether a header may have a mark of a program, or its length."""
+    lower = header.lower()
+    return any(mark in lower for mark in MARKS)
 
 
 class Message(NamedTuple):
@@ -140,7 +147,7 @@ class Begun:
         return Message(self.offset, digests.size, *of_mail, may_hold_mail(self.from_line), self.unquoted, self.read)
 
 
-def messages_in(path: bytes, pieces: Iterable[Marked], with_cores: bool = False) -> Iterator[Message]:
+def messages_in(path: bytes, pieces: Iterable[WithPlain], with_cores: bool = False) -> Iterator[Message]:
     """The messages that consist of these pieces of a file at a path."""
     begun = None
     for piece, plain in pieces:
@@ -159,7 +166,7 @@ def messages_in(path: bytes, pieces: Iterable[Marked], with_cores: bool = False)
 
 def messages_of(mailbox: Mailbox, start: Offset, is_bare: bool = False) -> Iterator[Message]:
     """The messages of a text that begins at an offset, or those of its bare text."""
-    pieces = pieces_of(Reader(mailbox.number, start, mailbox.size).read, start)
+    pieces = pieces_of(mailbox.again(start).read, start)
     return messages_in(mailbox.path, ((piece, None) for piece in (bare_pieces(pieces) if is_bare else pieces)))
 
 
@@ -186,7 +193,7 @@ class Inventory:
         start: Offset,
         listing: Optional[Listing],
         with_cores: bool = True,
-        pieces: Optional[Iterable[Marked]] = None,
+        pieces: Optional[Iterable[WithPlain]] = None,
     ) -> "Inventory":
         """Reads a text from an offset on, or its pieces from there on as they are given. `listing` is what
         `mbox2maildir list` says of it, for comparison. Cores and bare forms, which a ledger needs, take a second digest

@@ -71,8 +71,8 @@ class Lines:
     def __init__(self) -> None:
         self.count = 0
         self.offsets: list[int] = []
-        # its offset, the line as it is printed, and the offset of another line that it is about
-        self.begun: list[tuple[int, str, Optional[int]]] = []
+        # of each of the first ones: its offset, the line as it is printed, and the offset of a line that it is about
+        self.first: list[tuple[int, str, Optional[int]]] = []
 
     def add(self, offset: int, text: bytes = b"", other: Optional[int] = None) -> None:
         """Adds the line that has an offset, with its text, and the offset of another line that it is about."""
@@ -80,10 +80,10 @@ class Lines:
         if self.count <= self.MANY:
             self.offsets.append(offset)
         if self.count <= NAMED:
-            self.begun.append((offset, cut(text), other))
+            self.first.append((offset, cut(text), other))
 
     def take(self, others: "Lines") -> None:
         """Adds the lines of another sort."""
         self.count += others.count
         self.offsets = sorted(self.offsets + others.offsets)[: self.MANY]
-        self.begun = sorted(self.begun + others.begun)[:NAMED]
+        self.first = sorted(self.first + others.first)[:NAMED]

@@ -2,8 +2,8 @@
 from collections.abc import Sequence
 from typing import NamedTuple, Optional
 
-from ..kinds.doubts import MAY_BE_MAIL, WITHIN
-from ..kinds.look import Look, Read
+from ..kinds.doubts import MAY_BE_MAIL, WITHIN, Ties
+from ..kinds.look import HowFar, Look
 from ..kinds.making import Recipe
 from ..kinds.others import Holds, finding_of
 from ..kinds.starts import HEAD, text_start
@@ -44,19 +44,14 @@ class Diagnosis(NamedTuple):
     ends: str = CRLF
 
     @property
-    def mailbox(self) -> Mailbox:
-        """The file."""
-        return self.look.mailbox
-
-    @property
-    def start(self) -> Offset:
-        """Where the text begins."""
-        return self.look.start
+    def ties(self) -> Ties:
+        """The ties of what is doubtful."""
+        return self.look.doubts.ties(self.kind)
 
     def tied(self, decision: Reading) -> Reading:
         """A decision that holds only as long as the lines that are doubtful now stay so, and no other one is."""
-        ties = self.look.doubts.ties(self.kind)
-        return decision._replace(of=ties.numbers if decision.text or decision.begin else ties.messages)
+        of = self.ties.numbers if decision.text or decision.begin else self.ties.messages
+        return decision._replace(of=of)
 
     def after(self, noted: Reading) -> "Diagnosis":
         """The same once something was decided. Its word stays in answers about deleted mail alone and, if lines begin
@@ -83,7 +78,7 @@ class Diagnosis(NamedTuple):
     @property
     def is_as_it_is(self) -> bool:
         """Whether it is converted as it is."""
-        return self.reading == PLAIN and not self.start
+        return self.reading == PLAIN and not self.look.start
 
     @property
     def is_takeout(self) -> bool:
@@ -93,7 +88,7 @@ class Diagnosis(NamedTuple):
 
     def remarks_on_text(self) -> list[Remark]:
         """What is to be said of the text, however it is read."""
-        nulls = [Says.AFTER_NULLS.of(self.start + 1)] * self.look.after_nulls
+        nulls = [Says.AFTER_NULLS.of(self.look.start + 1)] * self.look.after_nulls
         return nulls + [Says.NO_LINE_END.of()] * self.look.count("no end")
 
     def remarks_on_quotes(self) -> list[Remark]:
@@ -120,7 +115,7 @@ class Diagnosis(NamedTuple):
         return says
 
 
-def look_at(mailbox: Mailbox, read: Read = Look.read) -> Diagnosis:
+def look_at(mailbox: Mailbox, read: HowFar = Look.read) -> Diagnosis:
     """What an open file is, and what is to be done with it. `read` looks at as much of its text as is wanted."""
     start = text_start(mailbox)
     look = Look(mailbox, start or Offset(0))

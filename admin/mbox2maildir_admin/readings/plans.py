@@ -4,7 +4,7 @@ from collections.abc import Callable, Sequence
 from typing import NamedTuple, Optional
 
 from ..faults import Fault, Left, Reason
-from ..kinds.look import Look, Read
+from ..kinds.look import HowFar, Look
 from ..kinds.making import Recipe, Where
 from ..kinds.others import Holds
 from ..mbox.lines import Lines, Reasons, Said, cut, lines_around
@@ -123,19 +123,18 @@ class Question(Left):
         return found if found.of and found.of in answer.of.split(",") else None
 
 
-def plan_of(mailbox: Mailbox, read: Read = Look.read, decision: Reading = UNDECIDED) -> Plan:
+def plan_of(mailbox: Mailbox, read: HowFar = Look.read, decision: Reading = UNDECIDED) -> Plan:
     """Looks at as much of a mailbox as is wanted. Raises Left if something would be a guess that was not decided."""
     diagnosis = look_at(mailbox, read)
     if diagnosis.holds == Holds.NO_MAIL:
         raise NoMail(diagnosis.kind)
     if diagnosis.recipe:
-        left, first = NotKnown if diagnosis.holds == Holds.UNKNOWN else OtherKind, next(
-            iter(diagnosis.said_lines), None
-        )
+        left = NotKnown if diagnosis.holds == Holds.UNKNOWN else OtherKind
+        first = next(iter(diagnosis.said_lines), None)
         raise left(mailbox.path, first, diagnosis.recipe, REASONS[diagnosis.holds], diagnosis.kind)
     noted, decision = decision.noted, decision._replace(noted=None)
     if noted:
-        ties = diagnosis.look.doubts.ties(diagnosis.kind)
+        ties = diagnosis.ties
         # beside a decision on several mailboxes it counts if it was about what is asked now, or about the first lines
         if decision == UNDECIDED or diagnosis.answers and noted.of in (ties.messages, *ties.first):
             diagnosis = with_noted(diagnosis, noted)
@@ -155,7 +154,7 @@ def with_noted(diagnosis: Diagnosis, noted: Reading) -> Diagnosis:
     about, and a rule decides only about others, as far as it agrees. Raises Question if lines came since that nobody
     has decided about: these are asked about alone."""
     # how many of the first lines that are doubtful have the tie of what was decided
-    count = diagnosis.look.doubts.ties(diagnosis.kind).first.get(noted.of, 0)
+    count = diagnosis.ties.first.get(noted.of, 0)
     diagnosis = diagnosis.after(noted)
     if not diagnosis.answers:
         return diagnosis
@@ -165,7 +164,7 @@ def with_noted(diagnosis: Diagnosis, noted: Reading) -> Diagnosis:
         word = noted.word if noted.word in BY_LENGTHS else diagnosis.reading.word
         return diagnosis._replace(reading=diagnosis.reading._replace(word=word))
     if count and noted.word and diagnosis.is_on_lines and 0 < len(new) <= Lines.MANY:
-        said = [Said(line, NEW_LINE, cut(diagnosis.mailbox.from_line_at(offset))) for line, offset in new[:NAMED]]
+        said = [Said(line, NEW_LINE, cut(diagnosis.look.mailbox.from_line_at(offset))) for line, offset in new[:NAMED]]
         before = renumbered(noted.decided, {Line(number): line for number, line in enumerate(diagnosis.doubtful(), 1)})
         lines = frozenset(line for line, _ in new)
         answers = before._replace(text=before.text | lines), before._replace(begin=before.begin | lines)
@@ -180,7 +179,7 @@ def want_tied(diagnosis: Diagnosis, decision: Reading) -> None:
     if lines <= doubtful and decision == diagnosis.tied(decision):
         return
     if diagnosis.answers:
-        messages, numbers, _ = diagnosis.look.doubts.ties(diagnosis.kind)
+        messages, numbers, _ = diagnosis.ties
         # whoever adds lines to a printed command gets it with the tie that numbers of lines need
         own = [decision] if lines and lines <= doubtful and decision.of == messages else []
         has_changed = decision.of not in (messages, numbers)
@@ -208,7 +207,7 @@ def planned(diagnosis: Diagnosis, decision: Reading) -> Plan:
         kind += ", quoted"
     elif kind == MBOXCL2:
         reading = Reading(MBOXCL2)
-    return Plan(kind, diagnosis.messages or 0, diagnosis.start, reading, is_copied, remarks)
+    return Plan(kind, diagnosis.messages or 0, diagnosis.look.start, reading, is_copied, remarks)
 
 
 def decided(diagnosis: Diagnosis, decision: Reading) -> Optional[Reading]:
@@ -236,7 +235,7 @@ def decided(diagnosis: Diagnosis, decision: Reading) -> Optional[Reading]:
 
 def plan_by(diagnosis: Diagnosis, reading: Reading, decision: Reading, kind: str) -> Plan:
     """The plan of a mailbox that is read in this way. All of it is read for that; a copy is made if it would differ."""
-    counts = Quoter(reading, diagnosis.mailbox, diagnosis.start)
+    counts = Quoter(reading, diagnosis.look.mailbox, diagnosis.look.start)
     for _ in counts.run():
         pass
     counts.check(counts.given, counts.messages)
@@ -257,7 +256,7 @@ def plan_by(diagnosis: Diagnosis, reading: Reading, decision: Reading, kind: str
     # where no message has a mark, nothing is said of deleted mail
     is_said = decision.word or counts.marked
     answer = Reading(decision.word, drop=decision.drop, alone=decision.alone) if is_said else None
-    return Plan(kind, messages, diagnosis.start, reading, is_copied, tuple(says), answer)
+    return Plan(kind, messages, diagnosis.look.start, reading, is_copied, tuple(says), answer)
 
 
 def wants_copy(reading: Reading, counts: Quoter) -> bool:
@@ -284,7 +283,7 @@ def question(diagnosis: Diagnosis, reasons: Reasons, decisions: Sequence[Reading
         except Fault:
             # no message begins with the first line
             continue
-    quotes = lines_around(diagnosis.mailbox, reasons)
+    quotes = lines_around(diagnosis.look.mailbox, reasons)
     says = ": ".join(filter(None, [before, reasons.sentence()]))
     found = Question(says, diagnosis, quotes, [one.meant(answers) for one in answers])
     found.tied = diagnosis.tied

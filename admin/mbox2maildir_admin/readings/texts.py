@@ -11,7 +11,7 @@ from typing import NamedTuple, Optional
 
 from ..faults import Fault, Left, Reason
 from ..flags.dovecot_headers import internal_head
-from ..kinds.look import Look, Read
+from ..kinds.look import HowFar, Look
 from ..kinds.making import Makes, Recipe
 from ..kinds.others import ARCHIVE, LIKE_MAIL, NOT_KNOWN, Form, other_of
 from ..kinds.starts import text_start
@@ -215,7 +215,7 @@ def content_of(mailbox: Mailbox, folder: bytes) -> contextlib.AbstractContextMan
 
 @contextlib.contextmanager
 def choice_of(
-    mailbox: Mailbox, folder: bytes, read: Read = Look.read, decision: Reading = UNDECIDED
+    mailbox: Mailbox, folder: bytes, read: HowFar = Look.read, decision: Reading = UNDECIDED
 ) -> Iterator[Choice]:
     """Chooses the text that stands for a mailbox. Raises Left if something would be a guess that is not decided. What a
     packed mailbox holds is unpacked on the disk of a folder."""
@@ -231,14 +231,14 @@ def choice_at_once(
 ) -> Iterator[Choice]:
     """The same, with the messages if they can be read in the pass in which the text is looked at."""
     at_once = AtOnce(program)
-    read: Read = at_once.read
+    read: HowFar = at_once.read
     if is_bare or decision.word or decision.noted:
         read = Look.read
     with choice_of(mailbox, folder, read, decision) as choice:
         yield choice._replace(plan=choice.plan.bared(is_bare), known=at_once.known)
 
 
-def plan_of_packed(text: Mailbox, form: Form, read: Read, decision: Reading) -> Plan:
+def plan_of_packed(text: Mailbox, form: Form, read: HowFar, decision: Reading) -> Plan:
     """The plan of what a mailbox holds. It is looked at like a file."""
     try:
         plan = plan_of(text, read, decision)
