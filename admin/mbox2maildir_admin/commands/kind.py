@@ -1,11 +1,9 @@
 """The command `kind`: what a file is, and what to do first."""
 import contextlib
 import functools
-import grp
 import os
 import pwd
 import stat
-from collections.abc import Sequence
 from typing import NamedTuple, Optional
 
 from ..faults import Left, Status
@@ -74,49 +72,50 @@ def kind_below(path: bytes, observer: Observer) -> bool:
 
 
 def kind_of(found: Found, observer: Observer, tree: Optional[Tree] = None) -> bool:
-    """Prints what a file is. Returns whether it can be converted as it is or, in a tree, holds no mail."""
-    path = found.path
-    with Mailbox.open(path, say_of(path)) as mailbox:
+    """Prints what a file is. Returns whether it can be converted as it is, without being unpacked first, or in a tree
+    holds no mail."""
+    with Mailbox.open(found.path, say_of(found.path)) as mailbox:
         diagnosis = look_at(mailbox)
         if tree and diagnosis.holds == Holds.NO_MAIL:
-            tree.pass_over(path, kind=diagnosis.kind.partition(": ")[2])
+            tree.pass_over(found.path, kind=diagnosis.kind.partition(": ")[2])
             return True
-        if form_of(mailbox):
-            say_kind_in(mailbox, diagnosis, observer, found)
-            # a packed file has to be unpacked first
-            return False
-        then, quotes = next_of(diagnosis, found)
-        row = row_found(path, diagnosis.kind, then)._replace(messages=diagnosis.messages, most=diagnosis.most)
-        details = tuple(Detail(one.says, line=one.line or None, text=one.text) for one in diagnosis.said_lines)
-        observer.row(row._replace(quotes=tuple(quotes), details=details))
+        observer.row(row_packed(mailbox, diagnosis, found) if form_of(mailbox) else row_plain(diagnosis, found))
         return diagnosis.is_as_it_is
 
 
-def say_kind_in(mailbox: Mailbox, diagnosis: Diagnosis, observer: Observer, found: Found) -> None:
-    """Prints what is in a packed file."""
+def row_packed(mailbox: Mailbox, diagnosis: Diagnosis, found: Found) -> Row:
+    """The row of what is in a packed file."""
     path = found.path
     try:
         with choice_of(mailbox, trial_folder()) as choice:
             plan = choice.plan
-            observer.row(row_found(path, plan.kind, as_it_is(found, plan.kind))._replace(messages=plan.messages))
+            return row_found(path, plan.kind, as_it_is(found, plan.kind))._replace(messages=plan.messages)
     except Left as left:
         if isinstance(left, Question):
-            left.put(functools.partial(migrate, found, TAKEOUT if left.is_takeout else left.kind))
+            ask(left, found)
         elif isinstance(left, OtherKind):
             left.put(where(found))
         row = row_found(path, left.kind or diagnosis.kind, left.next)._replace(messages=left.messages, most=left.most)
-        observer.row(row._replace(why=str(left), quotes=left.quotes))
+        return row._replace(why=str(left), quotes=left.quotes)
 
 
-def next_of(diagnosis: Diagnosis, found: Found) -> tuple[Next, Sequence[Quote]]:
-    """What to do next with a file, and the lines that are shown for a question about it."""
+def row_plain(diagnosis: Diagnosis, found: Found) -> Row:
+    """The row of a file that is not packed."""
+    then, quotes = as_it_is(found, diagnosis.kind), tuple[Quote, ...]()
     if diagnosis.recipe:
-        return where(found).next(diagnosis.recipe, found.path), ()
-    if diagnosis.is_as_it_is or diagnosis.reading:
-        return as_it_is(found, diagnosis.kind), ()
-    question = question_of(diagnosis)
+        then = where(found).next(diagnosis.recipe, found.path)
+    elif not diagnosis.reading:
+        question = question_of(diagnosis)
+        ask(question, found)
+        then, quotes = question.next, question.quotes
+    row = row_found(found.path, diagnosis.kind, then)._replace(messages=diagnosis.messages, most=diagnosis.most)
+    details = tuple(Detail(one.says, line=one.line or None, text=one.text) for one in diagnosis.said_lines)
+    return row._replace(quotes=quotes, details=details)
+
+
+def ask(question: Question, found: Found) -> None:
+    """Sets the commands of the answers to what a human must decide."""
     question.put(functools.partial(migrate, found, TAKEOUT if question.is_takeout else question.kind))
-    return question.next, question.quotes
 
 
 def as_it_is(found: Found, kind: str) -> Next:
@@ -134,7 +133,7 @@ def migrate(found: Found, kind: str = "", decision: Reading = UNDECIDED) -> Comm
 
 def where(found: Found) -> Where:
     """Where a file is put, by its owner, after a command has made a mailbox of it."""
-    path, owner = found.path, os.stat(found.path).st_uid
+    owner = os.stat(found.path).st_uid
     user: User = None
     if os.geteuid() != 0 or owner == 0:
         owner, home = os.geteuid(), os.path.expanduser("~")
@@ -144,25 +143,22 @@ def where(found: Found) -> Where:
             user, home = account.pw_name, account.pw_dir
         except KeyError:
             user, home = owner, "/"
-    place = Where.of(path, found.top, os.fsencode(home), lambda folder: user_may_write(folder, owner))._replace(
-        user=user
-    )
-    if user_may_write(os.path.dirname(path) or b".", owner):
+    owner_may_write = functools.partial(user_may_write, owner)
+    place = Where.of(found.path, found.top, os.fsencode(home), owner_may_write)._replace(user=user)
+    if owner_may_write(os.path.dirname(found.path) or b"."):
         return place
     return place._replace(migrate=tuple(found.words()))
 
 
-def user_may_write(folder: bytes, owner: int) -> bool:
+def user_may_write(user: int, folder: bytes) -> bool:
     """Whether a user, who may be the one who runs this, may write in a folder."""
-    if owner == os.geteuid():
+    if user == os.geteuid():
         return may_write(folder)
     state = os.stat(folder)
-    if owner == state.st_uid:
+    if user == state.st_uid:
         return bool(state.st_mode & stat.S_IWUSR)
-    members = {user.pw_uid for user in pwd.getpwall() if user.pw_gid == state.st_gid}
+    groups = list[int]()
     with contextlib.suppress(KeyError):
-        for name in grp.getgrgid(state.st_gid).gr_mem:
-            # some that its list names may have no account any more
-            with contextlib.suppress(KeyError):
-                members.add(pwd.getpwnam(name).pw_uid)
-    return bool(state.st_mode & (stat.S_IWGRP if owner in members else stat.S_IWOTH))
+        account = pwd.getpwuid(user)
+        groups = os.getgrouplist(account.pw_name, account.pw_gid)
+    return bool(state.st_mode & (stat.S_IWGRP if state.st_gid in groups else stat.S_IWOTH))
