@@ -1,11 +1,10 @@
 """What the words of rows mean for a reader, and what to do: `explain` and docs/LEFT.md have it from here, and so has
 what is printed of a remark."""
 import re
-from collections.abc import Mapping
 
 from .faults import Reason
 from .nexts import Phrase, Todo
-from .remarks import Remark, Says, Sentence
+from .remarks import Remark, Says
 
 # a link of a page, of which only the text is printed
 LINK = re.compile(r"\[([^]]*)\]\([^)]*\)")
@@ -111,115 +110,97 @@ def meaning_of(says: str) -> str:
     return sentence(says) + "."
 
 
-def by_words(meanings: Mapping[Sentence, str]) -> dict[str, str]:
-    """What remarks mean, by their words; of those with the same word, one is named."""
-    return {one.word: meaning for one, meaning in meanings.items()}
-
-
 # how remarks are printed, by their words: below the mailbox, since they ask for a look; as counts; or only by --all
-LOOK = by_words(
-    {
-        Says.ALREADY_GONE: "Messages that were to be removed were gone before.",
-        Says.BESIDE: "Mail that went back stands in a mailbox beside this one, which could not take it.",
-        Says.CAME_BACK: "Mail that people had deleted may be there again. Look at the newest files of the folder.",
-        Says.CONTRADICTED: "It was done with another reading than this option names. To read it so, undo it first.",
-        Says.DELETED_KEPT: "Not every message has Thunderbird's mark, so none was left out as deleted.",
-        Says.DELETED_LEFT_OUT: "Mail that Thunderbird had marked as deleted was left out.",
-        Says.DOUBLE: "A message of it is there more than once.",
-        Says.DOUBTFUL_LINE: "Lines in it may begin messages that were not counted.",
-        Says.ELSEWHERE: "It went into another folder before. Its command removes it there.",
-        Says.FIRST_APPEARS: "A message in which an IMAP server kept its own notes becomes mail: delete that message.",
-        Says.FLAGS_DIFFER: "Messages are marked in it, such as flagged or answered, but not in the Maildir: another "
-        "mailbox brought them first, and its marks stay. Mark them there if you want that.",
-        Says.FOLDER_GONE: "The folder was removed. If nobody meant that, migrate the mailbox with --again.",
-        Says.GONE: "Mail of its folder was deleted in the Maildir.",
-        Says.GONE_ELSEWHERE: "Mail that another mailbox brought too was deleted in the Maildir. Its command brings it "
-        "back.",
-        Says.KEPT_EDITED: "Files stay that somebody edited. One that was prepared stays beside its message: delete "
-        "one.",
-        Says.KEPT_FOREIGN: "Files stay that belong to no mailbox.",
-        Says.KEPT_FORMER: "Messages stay that another mailbox brought too.",
-        Says.KEPT_LOST: "Messages stay that are no longer in the mailbox.",
-        Says.KEPT_RENAMED: "Files stay that another program renamed.",
-        Says.KEPT_SHARED: "Messages stay that other mailboxes have too.",
-        Says.KEYWORDS_LOST: "Dovecot keeps 26 keywords of a folder. The others are gone.",
-        Says.LEDGER_GONE: "The ledger of the folder was removed. `verify` says whether all mail is there.",
-        Says.LEDGER_OLDER: "The ledger is older than the record, as after a restored backup: mail may be missing.",
-        Says.MAILBOX_GONE: "The mailbox was removed after it was prepared.",
-        Says.MOVED: "Mail that people moved to another folder stays in the mailbox that has it.",
-        Says.NO_LINE_END: meaning_of(Says.NO_LINE_END.says),
-        Says.NOWHERE: "A message of it is not there.",
-        Says.OTHER_BYTES: "A file has other bytes than its message.",
-        Says.OTHER_OWNER: "A file belongs to another user, who may be the only one who can read it.",
-        Says.POWER_CUT: "On this disk, a power cut could take mail away.",
-        Says.REMOVED: "Messages were removed.",
-        Says.UNREAD: "Messages came unread, because no known label says that they were read. --label NAME=read says "
-        "so.",
-        Says.UIDS_NOT_RAISED: "Clients could miss new mail. Run its command while Dovecot still has its old settings.",
-    }
-)
-COUNTED = by_words(
-    {
-        Says.AFTER_NULLS: "NUL bytes before its text, as after a crash, were left out.",
-        Says.BY_LENGTHS: "Lines `From ` within messages were taken for text, by their lengths. --as mboxrd begins "
-        "mail there.",
-        Says.FIELDS_LEFT_OUT: "Header fields that a mail program or Dovecot writes for itself were left out.",
-        Says.FLAGS: "Flags were taken from header fields of a mail program.",
-        Says.JOINED: "The folder has another mailbox's mail too. To part them, undo this one, and migrate it with "
-        "--folder.",
-        Says.JOINS: "INBOX has the mail of another mailbox too. Without --labels, --folder gives it a folder of its "
-        "own.",
-        Says.KEEPS_QUOTE: "A `>` before `From ` was taken for the mail's own, and stays. If Postfix, Exim or procmail "
-        "delivered mail, and a mail program copied it since, --as mboxcl removes the `>` that the delivery had added. "
-        "But a line `From ` without `>` in the same message shows that its sender wrote the `>`.",
-        Says.LABELLED: "It has Gmail's labels. With --labels, they become folders.",
-        Says.LOSES_QUOTE: "A `>` before `From ` was taken for an escape, and removed. Another reading of it may be "
-        "right: --as mboxo keeps that of `>>From `, if Postfix, Exim or procmail wrote the mailbox. --as mboxcl2 "
-        "keeps that of mail with a length, if Dovecot or procmail delivered it. --as unquoted keeps that of git's "
-        "patches.",
-        Says.LOST: "Mail that it brought is no longer in it, or was edited there. It stays in the Maildir.",
-        Says.MARKED: "Mail was placed beside a file of it that is marked as deleted.",
-        Says.NAME_BEFORE: "If Dovecot served the mailbox, its folder had another name, which a Maildir cannot have.",
-        Says.NEW_UIDS: "Some messages have new UIDs: clients fetch them again.",
-        Says.NO_UIDS: "No IMAP client has seen it so far, so there are no UIDs to keep.",
-        Says.OLD_LOCK: "A lock that nobody holds any more was passed over.",
-        Says.OTHER_FORM: "Another mailbox has some of its mail with other `>` or line ends. Both forms are there. If "
-        "you want only one, delete the other.",
-        Says.OTHER_PROGRAMS: "Other programs had put mail into the folder. It stays.",
-        Says.REGAINED: "Mail that was gone from it is in it again.",
-        Says.RENAMED: "Other programs gave files new names: `mbox2maildir convert` would deliver their messages again.",
-        Says.SHARED: "Another mailbox brought some of its mail too. It is there once.",
-        Says.THERE_ALREADY: "Some of its mail was there already, though no run had brought it. An undo keeps it.",
-        Says.UIDS_ANEW: "All messages have new UIDs: clients fetch them again.",
-        Says.UIDS_OF_NEW: "Dovecot gives UIDs to what is new.",
-        Says.UIDS_RAISED: "The next UID was raised, so that none is given twice.",
-        Says.UNLABELLED: "A label was taken from mail in Gmail since. The mail stays in the folder.",
-        Says.WITHOUT_DATE: "Some messages have no date: their files have today's.",
-        Says.WITHOUT_FIELDS: "Files differ only in header fields that mail programs or Dovecot write for themselves.",
-        Says.WITHOUT_UIDS: "Its UIDs are not kept: clients fetch its mail again.",
-    }
-)
-SILENT = by_words(
-    {
-        Says.ALSO_NAMED: "Several names lead to it. It was done once.",
-        Says.AS_ANSWERED: "It was read by the answer of an earlier run.",
-        Says.AS_BROUGHT: "It was read as when it was done before.",
-        Says.BY_NO_MAIL: "It was passed over by --no-mail.",
-        Says.CHANGED: "Messages stand in it that were changed in the Maildir. The last line counts them.",
-        Says.DATED_BY_HEADER: "Files have the dates of the header Date, since their From_ lines have none.",
-        Says.DELETED: "Messages stand in it that were deleted in the Maildir. The last line counts them.",
-        Says.GREW: "It has new mail.",
-        Says.KEYWORDS_ADDED: "Keywords were added.",
-        Says.NO_MAIL_NOTED: "An earlier run passed over it by --no-mail.",
-        Says.PLACED: "Messages that were nowhere were placed.",
-        Says.PREPARED_BEFORE: "Mail was there from an earlier pass.",
-        Says.PUT_ASIDE: "The originals of what a command made mailboxes of.",
-        Says.SAME_FILE: "It is the same file as another one.",
-        Says.SAME_FOLDER: "Labels that differ only in how they are written have one folder.",
-        Says.SUBSCRIPTIONS: "Subscriptions were carried over.",
-        Says.WITHOUT_INTERNAL: "The message in which Dovecot kept its own notes was left out.",
-    }
-)
+LOOK = {
+    "already-gone": "Messages that were to be removed were gone before.",
+    "beside": "Mail that went back stands in a mailbox beside this one, which could not take it.",
+    "came-back": "Mail that people had deleted may be there again. Look at the newest files of the folder.",
+    "contradicted": "It was done with another reading than this option names. To read it so, undo it first.",
+    "deleted-kept": "Not every message has Thunderbird's mark, so none was left out as deleted.",
+    "deleted-left-out": "Mail that Thunderbird had marked as deleted was left out.",
+    "double": "A message of it is there more than once.",
+    "doubtful-line": "Lines in it may begin messages that were not counted.",
+    "elsewhere": "It went into another folder before. Its command removes it there.",
+    "first-appears": "A message in which an IMAP server kept its own notes becomes mail: delete that message.",
+    "flags-differ": "Messages are marked in it, such as flagged or answered, but not in the Maildir: another mailbox "
+    "brought them first, and its marks stay. Mark them there if you want that.",
+    "folder-gone": "The folder was removed. If nobody meant that, migrate the mailbox with --again.",
+    "gone": "Mail of its folder was deleted in the Maildir.",
+    "gone-elsewhere": "Mail that another mailbox brought too was deleted in the Maildir. Its command brings it back.",
+    "kept-edited": "Files stay that somebody edited. One that was prepared stays beside its message: delete one.",
+    "kept-foreign": "Files stay that belong to no mailbox.",
+    "kept-former": "Messages stay that another mailbox brought too.",
+    "kept-lost": "Messages stay that are no longer in the mailbox.",
+    "kept-renamed": "Files stay that another program renamed.",
+    "kept-shared": "Messages stay that other mailboxes have too.",
+    "keywords-lost": "Dovecot keeps 26 keywords of a folder. The others are gone.",
+    "ledger-gone": "The ledger of the folder was removed. `verify` says whether all mail is there.",
+    "ledger-older": "The ledger is older than the record, as after a restored backup: mail may be missing.",
+    "mailbox-gone": "The mailbox was removed after it was prepared.",
+    "moved": "Mail that people moved to another folder stays in the mailbox that has it.",
+    "no-line-end": meaning_of(Says.NO_LINE_END.says),
+    "nowhere": "A message of it is not there.",
+    "other-bytes": "A file has other bytes than its message.",
+    "other-owner": "A file belongs to another user, who may be the only one who can read it.",
+    "power-cut": "On this disk, a power cut could take mail away.",
+    "removed": "Messages were removed.",
+    "unread": "Messages came unread, because no known label says that they were read. --label NAME=read says so.",
+    "uids-not-raised": "Clients could miss new mail. Run its command while Dovecot still has its old settings.",
+}
+COUNTED = {
+    "after-nulls": "NUL bytes before its text, as after a crash, were left out.",
+    "by-lengths": "Lines `From ` within messages were taken for text, by their lengths. --as mboxrd begins mail there.",
+    "fields-left-out": "Header fields that a mail program or Dovecot writes for itself were left out.",
+    "flags": "Flags were taken from header fields of a mail program.",
+    "joined": "The folder has another mailbox's mail too. To part them, undo this one, and migrate it with --folder.",
+    "joins": "INBOX has the mail of another mailbox too. Without --labels, --folder gives it a folder of its own.",
+    "keeps-quote": "A `>` before `From ` was taken for the mail's own, and stays. If Postfix, Exim or procmail "
+    "delivered mail, and a mail program copied it since, --as mboxcl removes the `>` that the delivery had added. But "
+    "a line `From ` without `>` in the same message shows that its sender wrote the `>`.",
+    "labelled": "It has Gmail's labels. With --labels, they become folders.",
+    "loses-quote": "A `>` before `From ` was taken for an escape, and removed. Another reading of it may be right: "
+    "--as mboxo keeps that of `>>From `, if Postfix, Exim or procmail wrote the mailbox. --as mboxcl2 keeps that of "
+    "mail with a length, if Dovecot or procmail delivered it. --as unquoted keeps that of git's patches.",
+    "lost": "Mail that it brought is no longer in it, or was edited there. It stays in the Maildir.",
+    "marked": "Mail was placed beside a file of it that is marked as deleted.",
+    "name-before": "If Dovecot served the mailbox, its folder had another name, which a Maildir cannot have.",
+    "new-uids": "Some messages have new UIDs: clients fetch them again.",
+    "no-uids": "No IMAP client has seen it so far, so there are no UIDs to keep.",
+    "old-lock": "A lock that nobody holds any more was passed over.",
+    "other-form": "Another mailbox has some of its mail with other `>` or line ends. Both forms are there. If you want "
+    "only one, delete the other.",
+    "other-programs": "Other programs had put mail into the folder. It stays.",
+    "regained": "Mail that was gone from it is in it again.",
+    "renamed": "Other programs gave files new names: `mbox2maildir convert` would deliver their messages again.",
+    "shared": "Another mailbox brought some of its mail too. It is there once.",
+    "there-already": "Some of its mail was there already, though no run had brought it. An undo keeps it.",
+    "uids-anew": "All messages have new UIDs: clients fetch them again.",
+    "uids-of-new": "Dovecot gives UIDs to what is new.",
+    "uids-raised": "The next UID was raised, so that none is given twice.",
+    "unlabelled": "A label was taken from mail in Gmail since. The mail stays in the folder.",
+    "without-date": "Some messages have no date: their files have today's.",
+    "without-fields": "Files differ only in header fields that mail programs or Dovecot write for themselves.",
+    "without-uids": "Its UIDs are not kept: clients fetch its mail again.",
+}
+SILENT = {
+    "also-named": "Several names lead to it. It was done once.",
+    "as-answered": "It was read by the answer of an earlier run.",
+    "as-brought": "It was read as when it was done before.",
+    "by-no-mail": "It was passed over by --no-mail.",
+    "changed": "Messages stand in it that were changed in the Maildir. The last line counts them.",
+    "dated-by-header": "Files have the dates of the header Date, since their From_ lines have none.",
+    "deleted": "Messages stand in it that were deleted in the Maildir. The last line counts them.",
+    "grew": "It has new mail.",
+    "keywords-added": "Keywords were added.",
+    "no-mail-noted": "An earlier run passed over it by --no-mail.",
+    "placed": "Messages that were nowhere were placed.",
+    "prepared-before": "Mail was there from an earlier pass.",
+    "put-aside": "The originals of what a command made mailboxes of.",
+    "same-file": "It is the same file as another one.",
+    "same-folder": "Labels that differ only in how they are written have one folder.",
+    "subscriptions": "Subscriptions were carried over.",
+    "without-internal": "The message in which Dovecot kept its own notes was left out.",
+}
 REMARKS = {**LOOK, **COUNTED, **SILENT}
 
 
