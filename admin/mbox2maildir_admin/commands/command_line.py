@@ -41,13 +41,16 @@ class Command:
         usage = "\n       ".join("%s %s" % (self.prog, one) for one in ways)
         text = self.words.text if "\n" in self.words.text else fill(self.words.text, WIDTH)
         layout = functools.partial(argparse.RawDescriptionHelpFormatter, width=WIDTH)
-        parser = argparse.ArgumentParser(self.prog, usage, text, self.words.examples, formatter_class=layout)
+        examples = ["  " + one.format(ADMIN) for one in self.words.examples]
+        epilog = "\n".join(["examples:", *examples, "", fill(self.words.ending, WIDTH)]) if examples else ""
+        parser = argparse.ArgumentParser(self.prog, usage, text, epilog, formatter_class=layout)
         for group, options in self.groups.items():
             # those of `migrate` are so many that a reader needs groups
             place = parser.add_argument_group(group) if group == USERS or self.words.name == "migrate" else parser
             for one in options:
-                value: dict[str, Any] = {"metavar": one.value, "nargs": "?" if one.choices else None}
-                how = value if one.value else {"action": "store_true"}
+                how: dict[str, Any] = {"action": "store_true"}
+                if one.value:
+                    how = {"metavar": one.value, "nargs": "?" if one.choices else None}
                 place.add_argument(*one.names.split(), help=one.help, **how)
         return parser.format_help()
 

@@ -4,57 +4,25 @@ from typing import NamedTuple
 
 from .. import ADMIN
 
-EXAMPLES = """\
-examples:
-  %s kind ~/mail                         # what is there
-  %s migrate --dry-run ~/Maildir ~/mail  # a rehearsal
-  %s migrate ~/Maildir ~/mail
-  %s verify ~/Maildir ~/mail
-
-`%s COMMAND --help` describes a command. Exit status: 0 if all
-is well, 1 if something was found, failed or left undone, 75 if nothing is left
-but what the same command settles when it is run again, 2 if the words are
-wrong, 130 after a signal."""
-EXAMPLES_OF_MIGRATE = """\
-examples:
-  %s migrate --dry-run ~/Maildir archive.mbox
-  %s migrate ~/Maildir ~/mail  # a folder of mailboxes
-  %s migrate --folder Archive/2019 ~/Maildir archive.mbox
-  # %s migrate --users --tree mail /var/mail.old
-
-Exit status: 0 if each mailbox is done and verified, or undone; 1 if something
-is left, for which its line says why, and what to do; 75 if nothing is left but
-what the same command settles when it is run again; 2 if the words are wrong;
-130 after a signal."""
-EXAMPLES_OF_VERIFY = """\
-examples:
-  %s verify ~/Maildir ~/mail
-  # %s verify --users --tree mail /var/mail.old
-
-Exit status: 0 only if each message is there once."""
-EXAMPLES_OF_BACK = """\
-examples:
-  %s back --dry-run ~/Maildir ~/mail /var/mail/mia
-  %s back ~/Maildir ~/mail /var/mail/mia
-  # %s back --users --tree mail /var/mail.old
-
-Exit status: 0 if all mail is in the mailboxes and verified; 1 if something is
-left, for which its line says why, and what to do; 75 if nothing is left but
-what the same command settles when it is run again; 2 if the words are wrong;
-130 after a signal."""
+# what an exit status says of a command that leaves what it cannot do
+OF_LEFT = (
+    "1 if something is left, for which its line says why, and what to do; 75 if nothing is left but what the same "
+    "command settles when it is run again; 2 if the words are wrong; 130 after a signal."
+)
 
 
 class Words(NamedTuple):
     """A command: its name, what it does in a line and in a text, its operands, of which one may stand for several as
-    FILE... does, how it is used in other ways than with these, and examples. Without operands, whatever does it looks
-    at them itself."""
+    FILE... does, how it is used in other ways than with these, examples, in which `{}` stands for the program, and what
+    stands below them. Without operands, whatever does it looks at them itself."""
 
     name: str
     short: str
     text: str
     operands: tuple[str, ...]
     usage: tuple[str, ...] = ()
-    examples: str = ""
+    examples: tuple[str, ...] = ()
+    ending: str = ""
 
 
 OF_USERS = "--users [OPTION]... OLD [NAME...]"
@@ -93,7 +61,13 @@ COMMANDS = (
         "belongs to the user whose name it has, and goes, with the rights of that user, into a Maildir in the home.",
         ("MAILDIR", "MAILBOX..."),
         ("[OPTION]... MAILDIR MAILBOX...", OF_USERS, "--undo [OPTION]... MAILDIR MAILBOX"),
-        EXAMPLES_OF_MIGRATE % ((ADMIN,) * 4),
+        (
+            "{} migrate --dry-run ~/Maildir archive.mbox",
+            "{} migrate ~/Maildir ~/mail  # a folder of mailboxes",
+            "{} migrate --folder Archive/2019 ~/Maildir archive.mbox",
+            "# {} migrate --users --tree mail /var/mail.old",
+        ),
+        "Exit status: 0 if each mailbox is done and verified, or undone; " + OF_LEFT,
     ),
     Words(
         "verify",
@@ -104,7 +78,8 @@ COMMANDS = (
         "rights of each user.",
         ("MAILDIR", "FILE..."),
         ("[OPTION]... MAILDIR FILE...", OF_USERS),
-        EXAMPLES_OF_VERIFY % ((ADMIN,) * 2),
+        ("{} verify ~/Maildir ~/mail", "# {} verify --users --tree mail /var/mail.old"),
+        "Exit status: 0 only if each message is there once.",
     ),
     Words(
         "back",
@@ -117,7 +92,12 @@ COMMANDS = (
         "in the home into the mailbox of the user in the folder OLD, and into those of the home.",
         ("MAILDIR", "OLD..."),
         ("[OPTION]... MAILDIR OLD...", OF_USERS),
-        EXAMPLES_OF_BACK % ((ADMIN,) * 3),
+        (
+            "{} back --dry-run ~/Maildir ~/mail /var/mail/mia",
+            "{} back ~/Maildir ~/mail /var/mail/mia",
+            "# {} back --users --tree mail /var/mail.old",
+        ),
+        "Exit status: 0 if all mail is in the mailboxes and verified; " + OF_LEFT,
     ),
     Words(
         "explain",
@@ -130,5 +110,18 @@ COMMANDS = (
 )
 
 PROGRAM = Words(
-    ADMIN, "", "Migrates mailboxes into a Maildir, and checks both.", (), ("COMMAND ...",), EXAMPLES % ((ADMIN,) * 5)
+    ADMIN,
+    "",
+    "Migrates mailboxes into a Maildir, and checks both.",
+    (),
+    ("COMMAND ...",),
+    (
+        "{} kind ~/mail                         # what is there",
+        "{} migrate --dry-run ~/Maildir ~/mail  # a rehearsal",
+        "{} migrate ~/Maildir ~/mail",
+        "{} verify ~/Maildir ~/mail",
+    ),
+    "`%s COMMAND --help` describes a command. Exit status: 0 if all is well, 1 if something was found, failed or left "
+    "undone, 75 if nothing is left but what the same command settles when it is run again, 2 if the words are wrong, "
+    "130 after a signal." % ADMIN,
 )
