@@ -3,7 +3,7 @@ OSError, which rises to where a mailbox or a folder is left for it, unless the o
 import errno
 import os
 import stat
-from collections.abc import Callable, Iterable
+from collections.abc import Callable, Iterable, Iterator
 from typing import Optional, Union
 
 # the errors that say that nothing is at a path
@@ -87,6 +87,15 @@ def may_write(folder: AnyPath) -> bool:
 def is_below(path: bytes, top: bytes) -> bool:
     """Whether a path is that of a folder or lies below it, if both are spelled in the same way."""
     return (path + b"/").startswith(top.rstrip(b"/") + b"/")
+
+
+def upwards(path: bytes) -> Iterator[bytes]:
+    """A path, and those of the folders above it."""
+    above = os.path.abspath(path)
+    yield above
+    while above != os.path.dirname(above):
+        above = os.path.dirname(above)
+        yield above
 
 
 def top_above(path: bytes, tops: Iterable[bytes]) -> bytes:

@@ -14,14 +14,14 @@ from typing import Generic, NamedTuple, Optional, TypeVar
 
 from .. import ADMIN
 from ..faults import Left, Reason
-from ..looks import is_folder, is_there, may_be, may_write
+from ..looks import is_folder, is_there, may_be, may_write, upwards
 from ..mbox.files import BLOCK
 from ..nexts import Phrase, Todo, task
 from ..remarks import Remark, Says
 from ..signals import INTERRUPTS
 from ..terminal import is_text, named
 from .files import changed_at, paths_of
-from .making import SUBFOLDERS, WITH_MAIL, sync_folder
+from .making import SUBFOLDERS, WITH_MAIL, open_folder, sync_folder
 
 # the beginning of the names of files that are made to see what fails, and of copies until they are complete
 PREFIX = b"." + ADMIN.encode() + b"-"
@@ -35,10 +35,7 @@ UNSYNCED = errno.EINVAL, errno.ENOSYS, errno.EROFS
 
 def folder_there(folder: bytes) -> bytes:
     """A folder or, if it does not exist, the nearest one above it that does."""
-    folder = os.path.abspath(folder)
-    while not is_folder(folder):
-        folder = os.path.dirname(folder)
-    return folder
+    return next(filter(is_folder, upwards(folder)))
 
 
 def disk_of(folder: bytes) -> os.statvfs_result:
@@ -293,11 +290,8 @@ class Syncs(Generic[One]):
 
 def sync_disk(path: bytes) -> None:
     """Syncs the disk of a folder."""
-    number = os.open(path, os.O_RDONLY | os.O_DIRECTORY | os.O_CLOEXEC)
-    try:
+    with open_folder(path) as number:
         call_of_system()(number)
-    finally:
-        os.close(number)
 
 
 @functools.lru_cache(maxsize=None)

@@ -8,7 +8,7 @@ import stat
 from collections.abc import Callable, Iterator, Sequence
 
 from ..faults import Fault, Reason
-from ..looks import is_folder, is_there, real_path, way_to
+from ..looks import is_folder, is_there, real_path, upwards, way_to
 from ..nexts import Answer, Command, Runs, Todo, run_next, task
 from ..terminal import named, operand, text_of
 
@@ -26,6 +26,8 @@ PREPARED = b"mbox2maildir-prepared"
 # and what is going to be appended to its mailbox, also before it is whole
 GOES_BACK, DRAFT = b"mbox2maildir-back", b"mbox2maildir-back.new"
 
+# how a folder is opened
+FOLDER = os.O_RDONLY | os.O_DIRECTORY | os.O_CLOEXEC
 NO_PLACE = "the folder that it is to be made in is not there"
 
 # syncs the names in a folder to the disk, or sees to it that somebody does
@@ -71,13 +73,20 @@ def want_own(folder: bytes) -> None:
             raise Fault(why, Reason.NOT_OWN, place=path)
 
 
-def sync_folder(path: bytes) -> None:
-    """Syncs the names in a folder to the disk."""
-    number = os.open(path, os.O_RDONLY | os.O_DIRECTORY | os.O_CLOEXEC)
+@contextlib.contextmanager
+def open_folder(path: bytes) -> Iterator[int]:
+    """Opens a folder, and gives its descriptor."""
+    number = os.open(path, FOLDER)
     try:
-        os.fsync(number)
+        yield number
     finally:
         os.close(number)
+
+
+def sync_folder(path: bytes) -> None:
+    """Syncs the names in a folder to the disk."""
+    with open_folder(path) as number:
+        os.fsync(number)
 
 
 @contextlib.contextmanager
@@ -122,9 +131,7 @@ def want_roots_alone(maildir: bytes) -> None:
     place = os.path.abspath(maildir)
     if real_path(place) != place:
         raise replaced(maildir, "others, who have put a link there,")
-    above = [place]
-    while above[-1] != os.path.dirname(above[-1]):
-        above.append(os.path.dirname(above[-1]))
+    above = [*upwards(place)]
     for folder in [*reversed(above), *(os.path.join(place, sub) for sub in SUBFOLDERS)]:
         try:
             state = os.lstat(folder)

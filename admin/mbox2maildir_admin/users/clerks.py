@@ -11,13 +11,13 @@ from collections.abc import Sequence
 from ..faults import Left, Reason, naming
 from ..jobs.crew import Child, Parent
 from ..maildir.disk import call_of_system
+from ..maildir.making import FOLDER, open_folder
 from ..mbox.lock_file import LOCK, Spot, drop_lock, release_lock, taken
 from ..migration.telling import number_of
 from .accounts import Account
 
 # what a child asks for: a sync of the disk of a folder, and what is done with an inbox
 SYNC, MAKE, TAKE, RELEASE = "sync", "make", "lock", "unlock"
-FOLDER = os.O_RDONLY | os.O_DIRECTORY | os.O_CLOEXEC
 # the mode of a new mailbox, and the one that it gets if all others have it, for deliveries with the rights of its group
 OWN, SHARED = 0o600, 0o660
 
@@ -167,12 +167,9 @@ class Disks:
 
 def sync_by_root(parent: Parent, path: bytes) -> None:
     """Has root sync the disk of a folder for a child. Raises OSError if that failed."""
-    number = os.open(path, FOLDER)
-    try:
+    with open_folder(path) as number:
         refusal = parent.refusal(SYNC, number)
         if refusal and refusal.reason is Reason.SYNC_FAILED:
             raise OSError(errno.EIO, str(refusal))
         if refusal:
             call_of_system()(number)
-    finally:
-        os.close(number)

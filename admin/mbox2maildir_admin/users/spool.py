@@ -1,6 +1,5 @@
 """The mailboxes of a spool, each migrated by a child that has only its user's rights: whose they are, and where the
 names of these users came from."""
-import collections
 import os
 from collections.abc import Iterable, Iterator, Mapping, Sequence
 from typing import AbstractSet, Optional, Union
@@ -8,7 +7,7 @@ from typing import AbstractSet, Optional, Union
 from ..faults import Fault, Left, Reason, naming
 from ..jobs.order import MOST, jobs_of, size_of
 from ..kinds.named import is_auxiliary, is_no_mail
-from ..looks import is_surely, is_there, may_be
+from ..looks import is_surely, is_there, may_be, upwards
 from ..maildir.folders import folder_path, on_disk
 from ..migration.outcomes import Observer, Row, Verdict, row_left
 from ..migration.servers import locations
@@ -64,7 +63,7 @@ def for_users(spool: Spool, observer: Observer) -> None:
     load_for_children()
     observer.total = len(waiting) + len(others)
     # only one process at a time can be at work for an account
-    for several, at_once in ((unpacked(waiting), min(jobs, len(waiting))), (others, min(1, len(others)))):
+    for several, at_once in ((map(Found.unpacked, waiting), min(jobs, len(waiting))), (others, min(1, len(others)))):
         with Children(at_once, observer) as children:
             for place, one in enumerate(several):
                 observer.begin()
@@ -75,15 +74,10 @@ def for_users(spool: Spool, observer: Observer) -> None:
             children.wait()
 
 
-def unpacked(waiting: collections.deque[bytes]) -> Iterator[Found]:
-    """The users who wait, each once its turn has come."""
-    while waiting:
-        yield Found.unpacked(waiting.popleft())
-
-
-def users_of(spool: Spool, observer: Observer, is_by_size: bool) -> tuple[collections.deque[bytes], list[Found]]:
-    """The users whose mailboxes are migrated: those that were asked for, otherwise those of the spool, and all users if
-    homes have a folder of mailboxes; and further mailboxes of theirs. Says which names are left."""
+def users_of(spool: Spool, observer: Observer, is_by_size: bool) -> tuple[list[bytes], list[Found]]:
+    """The users whose mailboxes are migrated, packed until it is their turn: those that were asked for, otherwise those
+    of the spool, and all users if homes have a folder of mailboxes; and further mailboxes of theirs. Says which names
+    are left."""
     listed = frozenset(os.listdir(spool.path))
     want_entered(spool.path)
     users = Users(spool, listed, observer)
@@ -108,7 +102,7 @@ def users_of(spool: Spool, observer: Observer, is_by_size: bool) -> tuple[collec
     if is_by_size:
         # the largest mailbox begins first, lest it is alone at the end; otherwise users keep the order of names
         found = sorted(found, key=lambda one: one.size or 0, reverse=True)
-    return collections.deque(map(Found.packed, found)), users.others
+    return list(map(Found.packed, found)), users.others
 
 
 def sums_of(counts: Mapping[str, int], not_asked: int) -> Iterator[str]:
@@ -148,14 +142,10 @@ def may_have_mail(account: Account, spool: Spool) -> bool:
 
 def want_entered(spool: bytes) -> None:
     """Checks that users can enter a folder. Raises Fault if not."""
-    here = spool
-    while True:
+    for here in upwards(spool):
         if not os.stat(here).st_mode & 0o001:
             then = run_next(Runs.LET_ENTER, operand(here))
             raise Fault("users may not enter %s" % named(here), Reason.NOT_OWN, then)
-        if here == b"/":
-            return
-        here = os.path.dirname(here)
 
 
 def mailboxes_among(names: Iterable[bytes], spool: Spool) -> AbstractSet[bytes]:
