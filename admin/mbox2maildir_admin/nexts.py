@@ -314,7 +314,7 @@ def user_of_runuser() -> Optional[str]:
         return None
 
 
-def together(answers: Sequence[Answer]) -> Answer:
+def summed(answers: Sequence[Answer]) -> Answer:
     """The same answer to several questions, with how many messages it gives to all of them, if that is known."""
     known = [one.messages for one in answers if one.messages is not None]
     return answers[0]._replace(messages=sum(known) if len(known) == len(answers) else None)
@@ -329,7 +329,7 @@ def lines_of(several: Sequence[Step], letter: str = "") -> Iterator[str]:
         tasks = [one._replace(user="each user") for one in tasks]
     yield from dict.fromkeys(BELOW + one.sentence() for one in tasks)
     if answers:
-        yield "%s%s%s:" % (BELOW, letter, together(answers).sentence())
+        yield "%s%s%s:" % (BELOW, letter, summed(answers).sentence())
     yield from dict.fromkeys(COMMAND + one.command.line() for one in answers)
 
 

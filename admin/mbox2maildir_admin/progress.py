@@ -14,8 +14,6 @@ from .units import WAITING, Say, counted
 PAUSE, MINUTE = 0.2, 60
 # the width of a terminal that does not tell it, and the least part of a line that a long name gets
 WIDTH, NAME = 80, 24
-# more bytes than any text has
-MOST = 1 << 63
 # what one does and, if that is known, the place in a text and the size of that text
 Doing = tuple[str, Optional[int], Optional[int]]
 UNITS = (("GB", 1e9), ("MB", 1e6), ("kB", 1e3))
@@ -26,7 +24,7 @@ def unit_of(size: int) -> tuple[str, float]:
     return next((pair for pair in UNITS if size >= pair[1]), ("bytes", 1))
 
 
-def amount(place: int, size: int) -> str:
+def how_far(place: int, size: int) -> str:
     """Returns how far a place is in a text of a size."""
     unit, long = unit_of(size)
     form = "%.1f of %.1f %s" if long > 1 else "%d of %d %s"
@@ -166,9 +164,9 @@ class Progress:
         if now < (self.next_time if self.is_terminal else self.next_minute):
             return
         figures = [actor.step] if actor.step else []
-        # a child that belongs to a user may say anything
-        if place is not None and size is not None and 0 <= place <= size < MOST:
-            doing += " " + amount(place, size)
+        # a child that belongs to a user may say any two numbers
+        if place is not None and size is not None and place <= size:
+            doing += " " + how_far(place, size)
             figures = pace.figures(place, size, now) + figures
         if self.is_terminal:
             self.next_time = now + PAUSE

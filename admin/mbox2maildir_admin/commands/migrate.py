@@ -16,7 +16,7 @@ from .options import Given, WrongOptions, decision_of, jobs_in, labels_of
 from .running import Telling, reporter_of, run_reported, spool_of
 
 # the options that answer questions about mailboxes, or can be given only once
-ANSWERS = ("--as", "--of", "--text", "--begin", "--drop-deleted", "--report")
+ONCE = ("--as", "--of", "--text", "--begin", "--drop-deleted", "--report")
 # what is said of ties that no question has
 UNMET = "--of %s: no question has this tie: it was answered before, or what is asked has changed"
 # what the last line says of what is only prepared
@@ -50,7 +50,7 @@ def task_of(given: Given) -> Telling:
     target, *names = given.operands
     # what is at a name counts only where something is said of one mailbox
     says = given.again or given.word or given.drop_deleted
-    options = options_of(given, bool(says) and is_one(given))
+    options = options_in(given, bool(says) and is_one(given))
 
     def task(reporter: Reporter) -> None:
         if given.users:
@@ -113,7 +113,7 @@ def migrate_named(maildir: bytes, names: Sequence[bytes], options: Options, repo
 def printer_of(given: Given) -> Reporter:
     """What prints the rows; on a terminal it may ask questions too."""
     # the command that was typed, without what answers questions
-    words = [words for words in given.typed if words[0].split("=")[0] not in ANSWERS]
+    words = [words for words in given.typed if words[0].split("=")[0] not in ONCE]
     takes_users = given.users and len(given.operands) == 1 and given.names is None
     typed = Typed([word for several in words for word in several], given.operands, takes_users)
     shows = Shows(Row.is_said if given.all else None, given.users, not given.dry_run, typed)
@@ -125,7 +125,7 @@ def printer_of(given: Given) -> Reporter:
     return Asker(given.operands[1:], shows)
 
 
-def options_of(given: Given, alone: bool) -> Options:
+def options_in(given: Given, alone: bool) -> Options:
     """The options for mailboxes: for one that is a file, or for several."""
     jobs, why = jobs_in(given), why_no_folder(given.folder) if given.folder is not None else ""
     if why:

@@ -27,7 +27,7 @@ Mask = set[Union[int, signal.Signals]]
 Own = TypeVar("Own", bound="Crew")
 
 
-def spelled(words: Any) -> bytes:
+def in_json(words: Any) -> bytes:
     """Words as a line has them, in JSON. A byte that is not UTF-8 is a letter that JSON escapes in the same way."""
     return json.dumps(words, ensure_ascii=False, default=plain).encode("utf-8", "backslashreplace")
 
@@ -50,7 +50,7 @@ class Parent:
         """Tells words, which would be lost if only a part of them were told."""
         try:
             with INTERRUPTS.held():
-                write_all(self.told, spelled(words) + b"\n")
+                write_all(self.told, in_json(words) + b"\n")
         except OSError:
             raise KeyboardInterrupt from None
 
@@ -79,10 +79,6 @@ class Parent:
             self.tell("at", who, doing, *(() if place is None else (place, size)))
 
 
-# what a process does
-Work = Callable[[Any], object]
-
-
 class Child:
     """A process at work, as its parent sees it."""
 
@@ -107,7 +103,7 @@ class Child:
         self.heard = time.monotonic()
         if self.life >= 0:
             try:
-                os.write(self.life, spelled(words) + b"\n")
+                os.write(self.life, in_json(words) + b"\n")
             except OSError:
                 self.stop()
 
@@ -177,7 +173,7 @@ class Crew:
             while self.children:
                 self.turn()
 
-    def start(self, child: Child, work: Work) -> None:
+    def start(self, child: Child, work: Callable[[Any], object]) -> None:
         """Starts a process. Until it has the mask of signals that its parent has, all of them are blocked. One that
         does not read answers keeps nobody."""
         child.tells, told = os.pipe()
@@ -192,7 +188,7 @@ class Crew:
             self.children[child.tells] = child
             self.poll.register(child.tells, select.POLLIN)
 
-    def run(self, child: Child, work: Work, parent: Parent, mask: Mask) -> NoReturn:
+    def run(self, child: Child, work: Callable[[Any], object], parent: Parent, mask: Mask) -> NoReturn:
         """Does the work of a process, and ends it. It sees only its own ends of its pipes."""
         status, INTERRUPTS.is_held = 1, True
         try:

@@ -19,7 +19,7 @@ from ..nexts import (
     Todo,
     lines_below,
     lines_of,
-    together,
+    summed,
 )
 from ..terminal import operand, option
 from ..units import counted
@@ -135,7 +135,7 @@ class Group:
                 word, drop, _ = decided(several[0])
                 ties = ",".join(dict.fromkeys(decided(one)[2] for one in several))
                 words = ["--as", word] * bool(word) + ["--drop-deleted"] * drop + ["--of", ties]
-                steps.append([together(several)._replace(command=typed.command(words, users))])
+                steps.append([summed(several)._replace(command=typed.command(words, users))])
         return steps
 
 

@@ -3,7 +3,7 @@ from collections.abc import Callable, Mapping, Sequence
 from typing import Any, NamedTuple, Optional
 
 from ..faults import REASONS
-from ..jobs.crew import spelled
+from ..jobs.crew import in_json
 from ..kinds.making import with_aside
 from ..nexts import DOES, TODOS, Answer, Command, Does, Next, OfFiles, Phrase, Single, Task, Template, Todo, task
 from ..remarks import SAYS, Sentence
@@ -36,7 +36,7 @@ def fields_of(row: Row) -> dict[str, Any]:
 def told(row: Row) -> dict[str, Any]:
     """The object by which a child tells a row. What is too long is left out: no command is told in part."""
     words = fields_of(row._replace(why=row.why[:LONGEST_WHY]))
-    if len(spelled(words)) <= LONGEST - len('["row", ]'):
+    if len(in_json(words)) <= LONGEST - len('["row", ]'):
         return words
     return told(row._replace(remarks=(), quotes=(), details=(), next=task(Todo.ASK_USER)))
 

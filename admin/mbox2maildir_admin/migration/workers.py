@@ -11,7 +11,7 @@ from ..jobs.order import Group
 from ..ledger.history import BY_WORD, Entry, Key
 from ..ledger.record import Record
 from ..maildir.disk import Need, want_room
-from ..progress import amount
+from ..progress import how_far
 from ..signals import INTERRUPTS
 from ..terminal import bytes_of, complain
 from .outcomes import Observer, Outcome, row_left
@@ -120,7 +120,7 @@ class Workers(Crew):
 
     def take_progress(self, child: Worker, who: str, doing: str, *numbers: int) -> None:
         """Passes on how far a mailbox is."""
-        child.who, child.at = who, " ".join([doing, *([amount(*numbers)] if len(numbers) == 2 else [])])
+        child.who, child.at = who, " ".join([doing, *([how_far(*numbers)] if len(numbers) == 2 else [])])
         self.orders.observer.progress(who, doing, *numbers)
 
     def take_row(self, child: Worker, place: int, row: Mapping[str, Any], *told: Any) -> None:

@@ -3,8 +3,8 @@ import unittest
 from collections.abc import Callable, Sequence
 from typing import Any, Optional
 
-from mbox2maildir_admin.progress import Actor, Doing, Estimate, Pace, Spent, amount, composed, cut, duration, fitted
-from mbox2maildir_admin.progress import length, together, width_of
+from mbox2maildir_admin.progress import Actor, Doing, Estimate, Pace, Spent, composed, cut, duration, fitted
+from mbox2maildir_admin.progress import how_far, length, together, width_of
 
 GB = 10**9
 MAIL = "\u90f5"
@@ -18,9 +18,9 @@ ROWS: Sequence[tuple[Callable[..., Any], tuple[Any, ...], Any]] = (
         (cut, (f"a{MAIL}b", columns), wanted)
         for columns, wanted in ((4, f"a{MAIL}b"), (3, f"a{MAIL}"), (2, "a"), (0, ""))
     ),
-    (amount, (1, 2), "1 of 2 bytes"),
-    (amount, (1500, 4000), "1.5 of 4.0 kB"),
-    (amount, (0, GB), "0.0 of 1.0 GB"),
+    (how_far, (1, 2), "1 of 2 bytes"),
+    (how_far, (1500, 4000), "1.5 of 4.0 kB"),
+    (how_far, (0, GB), "0.0 of 1.0 GB"),
     *((length, (size,), wanted) for size, wanted in ((0, "0 bytes"), (1, "1 byte"), (999, "999 bytes"))),
     *(
         (length, (size,), wanted)
