@@ -33,11 +33,12 @@ from ..readings.texts import folder_for_copies
 from ..remarks import Says
 from ..terminal import first_of, named
 from ..units import Size, counted
-from .dialect import Appended, Client, Dialect, Letter, Style, are_at, forms_of_letter, reading_now, styles_of
+from .dialect import Client, Dialect, Letter, spelled
 from .journal import Draft, Journal
-from .mails import Mail, Target
+from .mails import Mail, Target, in_order
 from .numbers import Listed, Numbering
 from .places import Keeper, Places
+from .styles import Appended, Style, are_at, reading_now, styles_of
 
 FILE_CHANGED = "%s was changed meanwhile"
 MISREAD = "what was appended is not read back as it is, so it was taken back"
@@ -138,7 +139,7 @@ class Way(NamedTuple):
                 with contextlib.suppress(Left):
                     for style in itertools.islice(styles_of(known, self.disk, self.options.dovecot), 1):
                         style.messages(mailbox, look=numbering.take)
-                numbering.end(target.returned, self.options.dry)
+                numbering.add_keywords(target.returned, self.options.dry)
         return row._replace(remarks=(*numbering.remarks, *row.remarks), next=numbering.next)
 
 
@@ -188,7 +189,7 @@ class Appending:
                 blocks = itertools.chain(self.mailbox.again().blocks(), Reader(draft.number, end=draft.size).blocks())
                 with copy_of(self.mailbox, blocks, self.way.disk) as text:
                     self.want_right(text, goes.entries, self.reads())
-        self.numbering.end(
+        self.numbering.add_keywords(
             [*self.target.returned, *(mail for mail, _ in goes.there), *(one.mail for one in goes.entries)], dry
         )
         row = self.row(goes)
@@ -220,7 +221,8 @@ class Appending:
             bad = self.unheld(draft, entries)
             if not bad:
                 return Goes(entries, draft.size if entries else 0, there, refused, any(new.values()))
-            refused += bad
+            # one may be so in two ways
+            refused += dict.fromkeys(bad)
             rest = [one.mail for one in entries if one.mail not in bad]
 
     def drafted(self, draft: Draft, mails: Sequence[Mail]) -> list[Appended]:
@@ -228,19 +230,17 @@ class Appending:
         draft.clear()
         draft.add(self.style.gap)
         entries: list[Appended] = []
-        for number, (mail, fields) in enumerate(self.numbering.fields(mails), 1):
+        mails = in_order(mails, self.numbering.uid)
+        for number, (mail, noted) in enumerate(zip(mails, self.numbering.fields(mails)), 1):
             self.mailbox.say("reading file %d of %d" % (number, len(mails)))
             letter = Letter.of(self.opened.folder, mail)
             if not letter:
                 continue
-            letter = self.client.bare(letter)
-            core, bares = forms_of_letter(letter.text)
-            if core != mail.core:
+            one = spelled(letter, self.style.dialect, self.client, number, noted)
+            if one.core != mail.core:
                 raise Left(FILE_CHANGED % named(mail.path), Reason.CHANGED)
-            notes = *fields, *self.client.fields(letter, core, number)
-            text = self.style.dialect.spelled(letter._replace(notes=notes))
-            entries.append(Appended(mail, bares, draft.size, len(text), letter.taken))
-            draft.add(text)
+            entries.append(Appended(mail, one.bares, draft.size, len(one.text), one.taken))
+            draft.add(one.text)
         return entries
 
     def unheld(self, draft: Draft, entries: Sequence[Appended]) -> list[Mail]:
@@ -249,7 +249,7 @@ class Appending:
         style."""
         style = self.style
         # in an empty mailbox, the first one of these is the first of all
-        before = style.dialect.spelled(Letter(ANOTHER)) if self.mailbox.size else b""
+        before = spelled(Letter(ANOTHER), style.dialect).text if self.mailbox.size else b""
         with Mailbox(draft.path, os.dup(draft.number)) as text:
             bad = self.others_again(text, entries)
             are_held = not entries or style.gives(text, entries)
@@ -272,7 +272,8 @@ class Appending:
         one without a length."""
         if not self.style.again:
             return []
-        others, before = list[Mail](), Dialect(MBOXRD, self.style.dialect.crlf).spelled(Letter(ANOTHER))
+        others = list[Mail]()
+        before = spelled(Letter(ANOTHER), Dialect(MBOXRD, self.style.dialect.crlf)).text
         for one in entries:
             with copy_of(text, [before, text.at(one.start, one.size)], self.style.disk) as alone:
                 others += [one.mail] * (not self.style.gives_again(alone, [one]))

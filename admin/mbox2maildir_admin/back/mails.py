@@ -47,6 +47,12 @@ class Mail(NamedTuple):
         return before_info(self.name)
 
 
+def in_order(mails: Iterable[Mail], uid: Callable[[Mail], int] = lambda mail: 0) -> list[Mail]:
+    """Mail in the order in which it is appended: by the UIDs that it keeps in its mailbox, once that is known; then by
+    time and name."""
+    return sorted(mails, key=lambda mail: (uid(mail), mail.time, mail.name, mail.folder))
+
+
 class Target(NamedTuple):
     """A mailbox, its folder by the name on the disk, the mail that goes back into it, what is said of that, and what
     went back before."""
@@ -90,9 +96,9 @@ FORMS: Sequence[Callable[[bytes, bytes, bytes], bytes]] = (
 )
 
 
-class Sorted(NamedTuple):
-    """By folders: what is new, in the order of its time; the folders of messages that were moved there; the messages
-    that were changed, and those that were deleted; and what went back before, and is in its folder."""
+class Findings(NamedTuple):
+    """By folders: what is new, in its order; the folders of messages that were moved there; the messages that were
+    changed, and those that were deleted; and what went back before, and is in its folder."""
 
     new: dict[bytes, list[Mail]]
     moved: dict[bytes, list[bytes]]
@@ -101,7 +107,7 @@ class Sorted(NamedTuple):
     returned: dict[bytes, list[Mail]]
 
     @classmethod
-    def by(cls, lines: Iterable[tuple[bytes, list[Line]]], mails: Iterable[Mail]) -> "Sorted":
+    def by(cls, lines: Iterable[tuple[bytes, list[Line]]], mails: Iterable[Mail]) -> "Findings":
         """Finds the file of each message that mailboxes brought, by the lines about each folder, and the files of all:
         by its name, or by its core, in the folder; then in other folders."""
         left = {mail.path: mail for mail in mails}
@@ -118,10 +124,9 @@ class Sorted(NamedTuple):
                 form = form_of(slot.folder, slot.file.lines[0].message.name, slot.core)
                 if slot.file.name is None and slot.file.find(free, form):
                     found.append((left.pop(slot.file.name or b""), slot))
-        new = sorted(left.values(), key=lambda mail: (mail.time, mail.name, mail.folder))
         at_home = [(mail, slot) for mail, slot in found if mail.folder == slot.folder]
         return cls(
-            by_folder((mail.folder, mail) for mail in new),
+            by_folder((mail.folder, mail) for mail in in_order(left.values())),
             by_folder((mail.folder, slot.folder) for mail, slot in found if mail.folder != slot.folder),
             by_folder((slot.folder, slot) for mail, slot in found if mail.core != slot.core),
             by_folder((slot.folder, slot) for slot in slots if slot.file.is_held and slot.file.name is None),
@@ -177,9 +182,9 @@ def mails_of(root: bytes, say: Say) -> Iterator[Mail]:
             yield Mail(folder, name, path, core, time)
 
 
-def sorted_mail(root: bytes, say: Say) -> Sorted:
+def findings_in(root: bytes, say: Say) -> Findings:
     """Which mail of a Maildir is new, and what became of the rest. Raises Fault if nothing shows that."""
     try:
-        return Sorted.by(lines_about(root), mails_of(root, say))
+        return Findings.by(lines_about(root), mails_of(root, say))
     except OSError as error:
         raise Fault(error.strerror, Reason.ERROR, place=error.filename or root) from error

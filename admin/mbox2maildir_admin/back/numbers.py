@@ -181,7 +181,7 @@ class Numbering:
         self.remarks: list[Remark] = []
         self.next: Next = NOTHING
         # the keywords that the mailbox names, in lower case, and why it names no others
-        self.known: set[bytes] = set()
+        self.named: set[bytes] = set()
         self.why = NO_ROOM
         # the field of the first message of an empty mailbox that says all this
         self.first = b""
@@ -198,15 +198,15 @@ class Numbering:
         interrupted, some UIDs are never given."""
         base, new = Base.of(mailbox) if mailbox.size else None, list[bytes]()
         if base:
-            self.known = set(map(bytes.lower, base.head.keywords))
-            new = self.raise_numbers(mailbox, base, self.unknown(target.mails), is_dry)
+            self.named = set(map(bytes.lower, base.head.keywords))
+            new = self.raise_numbers(mailbox, base, self.unnamed(target.mails), is_dry)
         elif mailbox.size:
             self.why = NO_BASE
         elif self.listed:
-            numbers, new = (self.listed.validity, self.listed.following - 1), self.unknown(target.mails)
+            numbers, new = (self.listed.validity, self.listed.following - 1), self.unnamed(target.mails)
             self.first, self.is_same = b" ".join([b"X-IMAPbase: %d %010d" % numbers, *new]), True
-        self.known.update(map(bytes.lower, new))
-        self.is_incomplete = bool(self.unknown([*target.returned, *target.mails]))
+        self.named.update(map(bytes.lower, new))
+        self.is_incomplete = bool(self.unnamed([*target.returned, *target.mails]))
 
     def raise_numbers(self, mailbox: Mailbox, base: Base, names: Sequence[bytes], is_dry: bool) -> list[bytes]:
         """Has the first message say all that it has room for; of the rest, says what has Dovecot write it. Returns the
@@ -248,9 +248,9 @@ class Numbering:
         of_letters = self.listed.keywords if self.listed else {}
         return [of_letters[letter] for letter in letters_of(mail.name) if letter in of_letters]
 
-    def unknown(self, mails: Iterable[Mail]) -> list[bytes]:
+    def unnamed(self, mails: Iterable[Mail]) -> list[bytes]:
         """The keywords of files that the mailbox does not name, in their order."""
-        return sorted({one for mail in mails for one in self.keywords(mail) if one.lower() not in self.known})
+        return sorted({one for mail in mails for one in self.keywords(mail) if one.lower() not in self.named})
 
     def take(self, mailbox: Mailbox, inventory: Inventory) -> None:
         """Takes the UIDs of the messages that are in a text."""
@@ -265,22 +265,22 @@ class Numbering:
         """The UID of a file that its message keeps; a higher number than any if it gets a new one."""
         return self.listed.uids.get(mail.before, NONE) if self.listed and self.is_same else NONE
 
-    def fields(self, mails: Sequence[Mail]) -> Iterator[tuple[Mail, list[bytes]]]:
-        """Mail in the order of its UIDs, each with its fields. What has no UID gets a higher one."""
+    def fields(self, mails: Iterable[Mail]) -> Iterator[list[bytes]]:
+        """The fields of each of these messages, which go back in this order. Dovecot gives a UID to what gets none."""
         first, last = self.first, max(self.uids, default=0)
-        for mail in sorted(mails, key=self.uid):
+        for mail in mails:
             fields, uid = [first] * bool(first), self.uid(mail)
             first = b""
             if last < uid < NONE:
                 fields.append(b"X-UID: %d" % uid)
                 last = uid
-            names = [one for one in self.keywords(mail) if one.lower() in self.known]
-            yield mail, fields + [b"X-Keywords: " + b" ".join(names)] * bool(names)
+            names = [one for one in self.keywords(mail) if one.lower() in self.named]
+            yield fields + [b"X-Keywords: " + b" ".join(names)] * bool(names)
 
-    def end(self, mails: Sequence[Mail], is_dry: bool) -> None:
+    def add_keywords(self, mails: Sequence[Mail], is_dry: bool) -> None:
         """Has Dovecot add the keywords that the mailbox does not name to the messages of files, the last of which went
         back last, in the text that was looked at last. Of equal messages, the last ones went back."""
-        wanted: dict[bytes, list[int]] = {name: [] for name in self.unknown(mails)}
+        wanted: dict[bytes, list[int]] = {name: [] for name in self.unnamed(mails)}
         if not wanted:
             return
         uids: collections.defaultdict[bytes, list[int]] = collections.defaultdict(list)
@@ -288,7 +288,7 @@ class Numbering:
             uids[self.inventory.core(place)].append(uid)
         for mail in reversed(mails):
             uid = uids[mail.core].pop() if uids[mail.core] else 0
-            for name in self.unknown([mail]) if uid else ():
+            for name in self.unnamed([mail]) if uid else ():
                 wanted[name].append(uid)
         names = [name for name, its in wanted.items() if its or is_dry]
         if names:

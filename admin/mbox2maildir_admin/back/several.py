@@ -20,7 +20,7 @@ from ..remarks import Remark, Says, Sentence
 from ..terminal import first_of, named, operand
 from .appending import Returned, TakesNothing, Way, nothing_new
 from .journal import FULL, Journal
-from .mails import Slot, Sorted, Target, sorted_mail
+from .mails import Findings, Slot, Target, findings_in
 from .places import Keeper, Names, Places
 from .subscriptions import rows_of
 
@@ -72,7 +72,7 @@ class Folders:
         """Brings back the mail of each folder, and tells its row. Returns what moves the Maildir aside, once all of its
         mail is back."""
         root, observer = self.way.record.maildir, self.way.observer
-        found = sorted_mail(root, observer.say(root))
+        found = findings_in(root, observer.say(root))
         observer.rest(named(root))
         if not self.is_dry:
             self.drop_locks()
@@ -108,7 +108,7 @@ class Folders:
         paths = noted.union(*self.places.found.values())
         self.way.keeper.drop_locks(sorted(paths), os.path.realpath(self.way.record.maildir))
 
-    def folders(self, found: Sorted) -> Iterator[bytes]:
+    def folders(self, found: Findings) -> Iterator[bytes]:
         """The folders with mail that goes back, or with a mailbox, and those about which something is to be said."""
         wanted = {*found.new, *found.moved, *found.changed, *found.deleted, *self.places.found}
         for path in folders_in(self.way.record.maildir):
@@ -116,7 +116,7 @@ class Folders:
             if folder in wanted or is_there(os.path.join(path, GOES_BACK)):
                 yield folder
 
-    def target(self, found: Sorted, folder: bytes) -> Target:
+    def target(self, found: Findings, folder: bytes) -> Target:
         """The mail of a folder that goes back, wherever it goes to, and what is said of messages that people moved
         there."""
         path = next(iter(self.places.found.get(folder, ())), folder_path(self.way.record.maildir, folder))
@@ -125,7 +125,7 @@ class Folders:
             remarks += Says.MOVED.of_any(count, folder_shown(other))
         return Target(path, folder, found.new.get(folder, ()), tuple(remarks), found.returned.get(folder, ()))
 
-    def standing(self, found: Sorted, folder: bytes) -> dict[bytes, Remarks]:
+    def standing(self, found: Findings, folder: bytes) -> dict[bytes, Remarks]:
         """What is said of the messages of a folder that were deleted or changed there, and stand in its mailboxes as
         before, by these."""
         paths = self.places.found.get(folder, [])

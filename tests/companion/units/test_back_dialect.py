@@ -2,7 +2,7 @@
 import unittest
 from typing import Optional
 
-from mbox2maildir_admin.back.dialect import LAST_TIME, Client, Dialect, Letter, date_of, parted
+from mbox2maildir_admin.back.dialect import LAST_TIME, Client, Dialect, Letter, date_of, parted, spelled
 
 MAIL, HEAD = b"Subject: one\n\nFrom me\n>From you\nend\n", b"Subject: one\n"
 # the word of a dialect, and whether its lines end in CR LF; a message, its flags, and whether a reader has met it; and
@@ -63,13 +63,13 @@ READINGS: list[tuple[str, Optional[Dialect]]] = [
 class DialectTest(unittest.TestCase):
     def test_spelled(self) -> None:
         for word, crlf, text, flags, is_old, wanted in SPELLED:
-            line, rest = Dialect(word, crlf).spelled(Letter(text, flags, is_old)).split(b"\n", 1)
+            line, rest = spelled(Letter(text, flags, is_old), Dialect(word, crlf)).text.split(b"\n", 1)
             self.assertEqual((rest, line[:19], line.endswith(b"\r")), (wanted, b"From MAILER-DAEMON ", crlf), text)
 
     def test_the_sender(self) -> None:
         for field, wanted in SENDERS:
-            text = Dialect("mboxrd", False).spelled(Letter(b"A: b\n" + field + b"\nReturn-Path: <body@x>\n"))
-            self.assertEqual(text.split(b" ")[1], wanted, field)
+            letter = Letter(b"A: b\n" + field + b"\nReturn-Path: <body@x>\n")
+            self.assertEqual(spelled(letter, Dialect("mboxrd", False)).text.split(b" ")[1], wanted, field)
 
     def test_parts_and_gaps(self) -> None:
         for text, parts in PARTS:
@@ -86,8 +86,9 @@ class DialectTest(unittest.TestCase):
         self.assertEqual((date_of(-(10**12)), date_of(10**12)), (date_of(1), date_of(LAST_TIME)))
 
     def test_what_programs_wrote_is_left_out(self) -> None:
-        text = b"Content-Length: 9999\nA: b\nSTATUS: RO\nX-UID:\n 7\nX-Keywords: k\n\nStatus: x\n"
-        wanted = Letter(b"A: b\n\nStatus: x\n", taken=(b"Content-Length", b"STATUS", b"X-UID", b"X-Keywords"))
-        self.assertEqual(Client().bare(Letter(text)), wanted)
-        for text in (b"", b"Status: x", b"Status: x\n", b"\nStatus: x\n", b" Status: x\n\n", b"X-Mozilla-Status: 1\n"):
-            self.assertEqual(Client().bare(Letter(text)).text, b"" if text.startswith(b"Status") else text)
+        header = b"Content-Length: 9999\nA: b\nSTATUS: RO\nX-UID:\n 7\nX-Keywords: k\n"
+        one = spelled(Letter(header + b"\nStatus: x\n"), Dialect("mboxrd", False))
+        self.assertEqual(one.text.split(b"\n", 1)[1], b"A: b\n\nStatus: x\n\n")
+        self.assertEqual(one.taken, [b"Content-Length", b"STATUS", b"X-UID", b"X-Keywords"])
+        for header in (b"", b"Status: x", b"Status: x\n", b" Status: x\n", b"X-Mozilla-Status: 1\n"):
+            self.assertEqual(Client().bared(header)[0], b"" if header.startswith(b"Status") else header)
