@@ -6,6 +6,7 @@ from tests.support.accounts import are_own
 from tests.support.mounts import small_disk
 from tests.support.running import NEVER, Kill
 from tests.worlds.deeds import read_some
+from tests.worlds.history import kill_at
 from tests.worlds.stage import Stage
 from tests.worlds.trees import Trees
 
@@ -47,7 +48,7 @@ class Crowded(Trees):
         draw = self.draw
         if draw.random() < 0.6:
             return Kill(seconds=draw.uniform(0.1, 3), is_alone=draw.random() < 0.6)
-        return Kill(event=draw.randint(1, 300)) if draw.random() < 0.5 else Kill(call=draw.randint(1, 300))
+        return kill_at(draw, 300, 300)
 
     def meanwhile(self) -> None:
         super().meanwhile()

@@ -6,8 +6,7 @@ from pathlib import Path
 from typing import Optional
 
 from tests.support.ledgers import LEDGER, RECORD
-from tests.support.running import Kill
-from tests.worlds.history import INBOX, Box, Deeds, History
+from tests.worlds.history import INBOX, Box, Deeds, History, kill_at
 from tests.worlds.letters import content, numbered
 from tests.worlds.rewriters import BY_HAND, BY_PROGRAM, appended_unquoted, by_procmail
 
@@ -201,9 +200,9 @@ def lost_ledger(tree: History) -> None:
 
 def killed(tree: History) -> None:
     """A run is killed at a random moment."""
-    by_event = tree.draw.random() < 0.5
-    kill = Kill(event=tree.draw.randint(1, 250)) if by_event else Kill(call=tree.draw.randint(1, 80))
-    tree.run(["migrate", "--json", "--now", *tree.words, *tree.draw.choice(tree.commands())], kill)
+    tree.run(
+        ["migrate", "--json", "--now", *tree.words, *tree.draw.choice(tree.commands())], kill_at(tree.draw, 250, 80)
+    )
 
 
 def grown(tree: History) -> None:

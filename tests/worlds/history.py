@@ -25,6 +25,11 @@ INBOX = "inbox"
 QUIET = 0.06
 
 
+def kill_at(draw: Random, events: int, calls: int) -> Kill:
+    """A kill at one of the first things that a run does."""
+    return Kill(event=draw.randint(1, events)) if draw.random() < 0.5 else Kill(call=draw.randint(1, calls))
+
+
 class Box(NamedTuple):
     """A mailbox: its number, which stays, its path below the home, and the kind of its deliveries."""
 
@@ -263,9 +268,7 @@ class History:
     def moment(self) -> Kill:
         """A moment of a run, by how much there is to do."""
         count = len(self.letters)
-        if self.draw.random() < 0.5:
-            return Kill(event=self.draw.randint(1, 50 + 10 * count))
-        return Kill(call=self.draw.randint(1, 6 + 6 * count))
+        return kill_at(self.draw, 50 + 10 * count, 6 + 6 * count)
 
     @staticmethod
     def next_of(left: dict[str, Row]) -> Iterator[tuple[str, str]]:

@@ -245,8 +245,12 @@ def with_fields(message: bytes, more: bytes) -> bytes:
 def content(message: bytes) -> bytes:
     """The part of a message that is the mail, whichever program rewrote it, and however its lines `From ` are
     quoted."""
-    mail = without(message, OF_PROGRAMS).replace(b"\r\n", b"\n")
-    return re.sub(rb"(?m)^>+From ", b"From ", mail).rstrip(b"\n")
+    return re.sub(rb"(?m)^>+From ", b"From ", form(message))
+
+
+def form(message: bytes) -> bytes:
+    """The same, with these lines as they are quoted."""
+    return without(message, OF_PROGRAMS).replace(b"\r\n", b"\n").rstrip(b"\n")
 
 
 def id_of(mail: bytes) -> bytes:

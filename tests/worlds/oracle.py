@@ -20,9 +20,11 @@ from tests.support.archives import texts_of
 from tests.support.homes import mail_below
 from tests.support.running import Row
 from tests.support.splitter import INTERNAL, WORDS, is_from, split
-from tests.worlds.letters import OF_PROGRAMS, content, id_of, without
+from tests.worlds.letters import content, form, id_of, without
 
 Counts = typing.Counter[bytes]
+# tells what a message is
+What = Callable[[bytes], bytes]
 INBOX = "INBOX"
 # the remarks on files that an undo keeps though its mailbox brought them
 KEPT = ("already-gone", "kept-renamed", "kept-edited")
@@ -44,16 +46,16 @@ class Reading(NamedTuple):
 
 
 @functools.lru_cache(maxsize=256)
-def reading(text: bytes, word: str, lines: frozenset[int] = frozenset()) -> Reading:
+def reading(text: bytes, word: str, lines: frozenset[int] = frozenset(), what: What = content) -> Reading:
     """How a text is read by a word, and with lines that are said to be mail."""
-    return reading_of(split(text, word, lines) if text and is_from(text) else ())
+    return reading_of(split(text, word, lines) if text and is_from(text) else (), what)
 
 
-def reading_of(several: Sequence[bytes]) -> Reading:
+def reading_of(several: Sequence[bytes], what: What = content) -> Reading:
     """These messages."""
     mail = [one for one in several if INTERNAL not in one]
     files = frozenset(one for whole in several for one in (whole, without(whole)))
-    return Reading(Counter(map(content, mail)), Counter(map(id_of, mail)), files)
+    return Reading(Counter(map(what, mail)), Counter(map(id_of, mail)), files)
 
 
 def readings(text: bytes) -> dict[str, Reading]:
@@ -151,9 +153,10 @@ class Shelf:
 
 
 class Oracle:
-    """The folders of a Maildir, by the names that mail programs show."""
+    """The folders of a Maildir, by the names that mail programs show. What a message is may be its form."""
 
-    def __init__(self, maildir: Path, is_one: bool = False, may_come_back: bool = True) -> None:
+    def __init__(self, maildir: Path, is_one: bool = False, may_come_back: bool = True, what: What = content) -> None:
+        self.what = what
         # whether only one mailbox goes into it, so that nothing is there too often, whatever is said; and whether
         # something may come back that people have taken away, if that is said
         self.maildir, self.is_one, self.may_come_back = maildir, is_one, may_come_back
@@ -199,7 +202,7 @@ class Oracle:
         ids: Counts = Counter()
         for name, _, mail in self.mail():
             if INTERNAL not in mail:
-                here[name][content(mail)] += 1
+                here[name][self.what(mail)] += 1
                 ids[id_of(mail)] += 1
         return here, ids
 
@@ -209,15 +212,15 @@ class Oracle:
         placed: collections.defaultdict[tuple[str, bytes], set[bytes]] = collections.defaultdict(set)
         others: list[tuple[str, bytes, bytes]] = []
         for name, path, mail in self.mail():
-            what, form = content(mail), without(mail, OF_PROGRAMS)
+            what, its = self.what(mail), form(mail)
             if CONVERTED.match(path.name):
-                placed[name, what].add(form)
+                placed[name, what].add(its)
             else:
-                others.append((name, what, form))
+                others.append((name, what, its))
         found: collections.defaultdict[str, Counts] = collections.defaultdict(Counter)
-        for name, what, form in others:
+        for name, what, its in others:
             forms = placed[name, what]
-            found[name][what] += bool(forms) and form not in forms
+            found[name][what] += bool(forms) and its not in forms
         return found
 
     def look(self) -> None:
@@ -232,7 +235,7 @@ class Oracle:
         nowhere."""
         if INTERNAL in mail:
             return
-        for shelf, what in ((self.shelves[name], content(mail)), (self.all, id_of(mail))):
+        for shelf, what in ((self.shelves[name], self.what(mail)), (self.all, id_of(mail))):
             shelf.take(what)
 
     def undone(self) -> None:
@@ -242,7 +245,7 @@ class Oracle:
         here, ids = self.counts()
         elsewhere: collections.defaultdict[str, Counts] = collections.defaultdict(Counter)
         for name, path, mail in self.mail():
-            elsewhere[name][content(mail)] += not CONVERTED.match(path.name)
+            elsewhere[name][self.what(mail)] += not CONVERTED.match(path.name)
         for name in {*here, *self.shelves}:
             self.shelves[name].undone(here.get(name, Counter()))
             self.shelves[name].foreign |= elsewhere[name]

@@ -18,9 +18,10 @@ from tests.support.splitter import is_from, pieces
 from tests.worlds.back.programs import KEEPERS, Deliveries, Keeper, with_numbers
 from tests.worlds.letters import HEADERLIKE, ODD, PLAIN, QUOTED, TALK, bare, field_of, parted, with_fields, written
 
-# how mailboxes are written; the words by which `migrate` reads some
+# how mailboxes are written; the words by which `migrate` reads some, each alone; and those that may be said of all
 DIALECTS = ("mboxrd", "mboxo", "mboxcl", "mboxcl2", "crlf")
 WORDS = {"mboxo": ["--as", "mboxo"], "mboxcl": ["--as", "mboxcl"]}
+OF_ALL = {"mboxrd": "mboxrd", "mboxo": "mboxo", "mboxcl2": "mboxcl2", "crlf": "mboxrd"}
 LINE = b"From a@b Mon Mar  3 09:12:44 2025"
 # stands for the mailbox beside that of a folder, which gets what that cannot hold
 BESIDE = "!"
@@ -87,6 +88,9 @@ class History:
     def __init__(self, home: Home, seed: int, dialect: str = "") -> None:
         self.home, self.seed, self.draw = home, seed, Random(seed)
         self.dialect = dialect or self.draw.choice(DIALECTS)
+        # the word that is said of all mailboxes at once, if one is
+        self.word = OF_ALL.get(self.dialect, "") if self.draw.random() < 0.4 else ""
+        self.is_each_alone = self.dialect in WORDS and not self.word
         self.last = 0
         # the folder from which each known message came, and the names of its mailbox's folder by now
         self.known: dict[int, str] = {}
@@ -164,10 +168,10 @@ class History:
         return several
 
     def commands(self, maildir: str) -> Iterator[list[str]]:
-        """The words that migrate each mailbox. If none needs words, all of a tree are migrated at once. The record
+        """The words that migrate each mailbox. Unless each needs its own, all of a tree are migrated at once. The record
         knows the folder of a mailbox beside another one."""
-        if self.dialect not in WORDS:
-            yield [maildir, "mail", "spool"]
+        if not self.is_each_alone:
+            yield [*(["--as", self.word] if self.word else []), maildir, "mail", "spool"]
             return
         for folder, path in self.paths().items():
             if (self.home.path / path).exists():
@@ -190,7 +194,7 @@ class History:
 
     def place_of(self, folder: str) -> str:
         """The folder of a new Maildir for the mailbox of a folder."""
-        if self.dialect in WORDS and not folder.endswith(BESIDE):
+        if self.is_each_alone and not folder.endswith(BESIDE):
             return folder
         path = self.paths()[folder]
         return "." + path.split("/", 1)[1].replace("/", ".") if "/" in path else {"spool": ""}.get(path, "." + path)

@@ -5,6 +5,7 @@ from collections.abc import Sequence
 
 from tests.support.archives import Home, want
 from tests.support.running import Run
+from tests.support.splitter import WORDS
 from tests.worlds.back.histories import (
     BESIDE,
     DIALECTS,
@@ -88,6 +89,12 @@ class Trial:
         """The dialect of the mailbox of a folder."""
         return self.history.dialect if self.before[folder] else of_new(self.texts()[folder])
 
+    def dialect_again(self, folder: str) -> str:
+        """The dialect by which it is migrated again. A new one without lengths is read by the word of all, for which
+        only those are made that Dovecot is to serve."""
+        dialect, is_free = self.dialect_of(folder), not self.before[folder] and not self.history.has_uids
+        return self.history.word or dialect if is_free and dialect == "mboxrd" else dialect
+
     def run(self) -> None:
         """Goes back, twice, and migrates again, into the same Maildir and into a new one."""
         names, words = self.names(), self.words
@@ -98,11 +105,22 @@ class Trial:
         again = self.home.place.run(words)
         want(self.texts() == texts, "a second run changes something", ran, again)
         want(again.status == ran.status, "a second run ends otherwise", ran, again)
-        several = self.history.migrate("M")
+        several = [*self.history.migrate("M"), self.migrate_otherwise()]
         want(self.names() == names, f"migrate places {set(self.names()) ^ set(names)}", ran, *several)
+        again = self.home.place.run(words)
+        want((self.texts(), again.status) == (texts, ran.status), "a further run changes something", ran, again)
         self.history.migrate("N")
         for folder, text in texts.items():
             self.check_migrated(folder, text, ran)
+
+    def migrate_otherwise(self) -> Run:
+        """Another word is said of all mailboxes than the one by which they were read. It may leave them for that alone,
+        since it would double mail, or go on as before."""
+        word = self.history.draw.choice([one for one in WORDS if one != self.history.word])
+        ran = self.home.place.run(["migrate", "--json", "--now", "--as", word, "M", "mail", "spool"])
+        reasons = {row["reason"] for row in ran.rows if row["reason"]}
+        want(reasons <= {"another-reading"}, f"left for {reasons}", ran)
+        return ran
 
     def names(self) -> list[str]:
         """The names of all mail in the Maildir."""
@@ -111,7 +129,7 @@ class Trial:
     def check_migrated(self, folder: str, text: bytes, ran: Run) -> None:
         """A new Maildir has the mail of a mailbox, with its flags. Those of a program are in each message."""
         history, place = self.history, self.history.place_of(folder)
-        messages = [message for _, message in read(text, self.dialect_of(folder))]
+        messages = [message for _, message in read(text, self.dialect_again(folder))]
         keeper = next((its for its in KEEPERS.values() if None not in map(its.flags, messages)), None)
         wanted = Counter((self.as_migrated(one), flags_of(one, keeper, history.has_uids)) for one in messages)
         files = [one for one in history.files("N") if one.folder == place]
@@ -143,6 +161,7 @@ def one_world(stage: Stage, seed: int) -> list[str]:
     """The way back after a history."""
     history = lived(Home(stage.place.home, stage.place.programs), seed, DIALECTS[seed % len(DIALECTS)])
     stage.steps += history.steps
-    stage.seen[f"ended {history.dialect}"] += 1
+    said = f" by --as {history.word} of all" if history.word else ""
+    stage.seen[f"ended {history.dialect}{said}"] += 1
     Trial(history).run()
     return []
