@@ -66,7 +66,7 @@ MAY_HAVE, HAVE = (State.HELD, State.OPEN), (State.HELD,)
 Cores = collections.Counter[bytes]
 
 
-class Why(enum.Enum):
+class Fate(enum.Enum):
     """What becomes of a message, by the remark on it: it goes, stays for a reason, or was gone before."""
 
     REMOVED = Says.REMOVED
@@ -79,8 +79,8 @@ class Why(enum.Enum):
     GONE = Says.ALREADY_GONE
 
 
-# how many messages go or stay, by why
-Counts = collections.Counter[Why]
+# how many messages have each fate
+Counts = collections.Counter[Fate]
 
 
 class Becomes(NamedTuple):
@@ -89,7 +89,7 @@ class Becomes(NamedTuple):
     gone already, edited or renamed: one listing may miss a file that is renamed meanwhile, so `remove` looks for each
     by the base of its name, and says what it met."""
 
-    why: Why
+    fate: Fate
     line: Line
     keeper: str = ""
     instead_of: Optional[File] = None
@@ -136,7 +136,8 @@ class Undo:
             raise Left(OLDER % named(unspelled(newer.path)), Reason.UNDO)
         plan = becomes_of(ledger, path, self.cores_now(opened, ledger, path))
         # without lines of its files, the ledger is older than its folder: another mailbox may have what would go
-        names = without_line(self.record.maildir, opened.folder) if any(one.why is Why.REMOVED for one in plan) else ()
+        removes = any(one.fate is Fate.REMOVED for one in plan)
+        names = without_line(self.record.maildir, opened.folder) if removes else ()
         if names:
             raise Left(WITHOUT_LINE % counted(len(names), "message"), Reason.LEDGER)
         messages = count_in(ledger, path)
@@ -218,7 +219,7 @@ def becomes_of(ledger: Ledger, path: str, has: Cores) -> list[Becomes]:
     own = sorted(((line, file) for file in files for line in [file.line_of(path)] if line), key=order)
     plan = [becomes_by(line, file, has, gone) for line, file in own]
     # of what the mailbox no longer has, or a killed run was to bring, nothing is said once it is gone
-    return [one for one in plan if one.why is not Why.GONE or one.line.state in MAY_HAVE]
+    return [one for one in plan if one.fate is not Fate.GONE or one.line.state in MAY_HAVE]
 
 
 def becomes_by(line: Line, file: File, has: Cores, gone: Mapping[bytes, list[File]]) -> Becomes:
@@ -227,26 +228,26 @@ def becomes_by(line: Line, file: File, has: Cores, gone: Mapping[bytes, list[Fil
     message, has_file = line.message, file.name is not None
     holders, theirs = others_of(file, line.path, MAY_HAVE), gone.get(message.core, [])
     if file.is_renamed:
-        return Becomes(Why.RENAMED, line)
+        return Becomes(Fate.RENAMED, line)
     if not has_file and (message.word in NOBODYS or holders or not has[message.core] or not file.is_newest):
-        return Becomes(Why.GONE, line)
+        return Becomes(Fate.GONE, line)
     if message.word in NOBODYS:
-        return Becomes(Why.FOREIGN, line)
+        return Becomes(Fate.FOREIGN, line)
     if holders:
         # one that lacks its own has this one too
         without = (one for one in reversed(theirs) if not any(one.line_of(other.path) for other in holders))
         instead_of = next(without, None)
         if instead_of:
             theirs.remove(instead_of)
-        return Becomes(Why.SHARED, line, holders[-1].path, instead_of)
+        return Becomes(Fate.SHARED, line, holders[-1].path, instead_of)
     if not has[message.core]:
-        return Becomes(Why.LOST, line)
+        return Becomes(Fate.LOST, line)
     has[message.core] -= 1
     if theirs and has_file:
-        return Becomes(Why.SHARED, line, others_of(theirs[-1], line.path, HAVE)[-1].path, theirs.pop())
+        return Becomes(Fate.SHARED, line, others_of(theirs[-1], line.path, HAVE)[-1].path, theirs.pop())
     # if it went, nothing would bring it again
     had = has_file and others_of(file, line.path, (State.FORMER,))
-    return Becomes(Why.FORMER if had else Why.REMOVED, line)
+    return Becomes(Fate.FORMER if had else Fate.REMOVED, line)
 
 
 def others_of(file: File, path: str, states: Container[State]) -> list[Line]:
@@ -288,16 +289,16 @@ def hand_over(ledger: Ledger, plan: Sequence[Becomes]) -> None:
 def remove(opened: Opened, plan: Sequence[Becomes], dry: bool = False) -> Counts:
     """Removes the files that go, whatever their flags, until a listing shows none: mail programs may rename them
     meanwhile. Returns what became of all messages of the plan."""
-    counts: Counts = collections.Counter(one.why for one in plan if one.why is not Why.REMOVED)
-    bases = {base for one in plan if one.why is Why.REMOVED for base in [base_in(one.line.message.name)] if base}
+    counts: Counts = collections.Counter(one.fate for one in plan if one.fate is not Fate.REMOVED)
+    bases = {base for one in plan if one.fate is Fate.REMOVED for base in [base_in(one.line.message.name)] if base}
     removed: set[bytes] = set()
     for _ in range(PASSES):
         before, is_stale = len(removed), False
-        stays: dict[bytes, Why] = {}
+        stays: dict[bytes, Fate] = {}
         listed = ((base_in(name), name, path) for name, path in mail_in(opened.folder))
         for base, name, path in [(base, name, path) for base, name, path in listed if base and base in bases]:
             if not is_own(before_info(name)):
-                stays.setdefault(base, Why.RENAMED)
+                stays.setdefault(base, Fate.RENAMED)
                 continue
             is_right = remove_file(opened.mailbox, path, base[:DIGEST], dry)
             if is_right is None:
@@ -306,11 +307,11 @@ def remove(opened: Opened, plan: Sequence[Becomes], dry: bool = False) -> Counts
                 removed.add(base)
                 opened.mailbox.say("removing", len(removed))
             else:
-                stays[base] = Why.EDITED
+                stays[base] = Fate.EDITED
         if len(removed) == before and not is_stale:
-            counts.update(why for base, why in stays.items() if base not in removed)
-            counts[Why.REMOVED] = len(removed)
-            counts[Why.GONE] += len(bases - removed - stays.keys())
+            counts.update(fate for base, fate in stays.items() if base not in removed)
+            counts[Fate.REMOVED] = len(removed)
+            counts[Fate.GONE] += len(bases - removed - stays.keys())
             return counts
     raise Left(NAMES_CHANGE, Reason.CHANGED, task(Todo.STOP_READERS))
 
@@ -375,9 +376,9 @@ def undo_prepared(record: Record, path: bytes, folder: Optional[bytes], dry: boo
 
 def remarks_on(counts: Counts, keepers: collections.Counter[str], dry: bool) -> Iterator[Remark]:
     """What is said of the messages that the mailbox brought, by how many of them each other mailbox keeps."""
-    yield Says.REMOVED.of(counted(counts[Why.REMOVED], "message"), dry=dry)
+    yield Says.REMOVED.of(counted(counts[Fate.REMOVED], "message"), dry=dry)
     # a run that was killed may have changed the order in which mailboxes were begun
     paths = [unspelled(path) for path in sorted(keepers, key=lambda one: (-keepers[one], one))]
     keeper = first_of(paths, most=1), "have" if len(paths) > 1 else "has"
-    for why in counts.keys() - {Why.REMOVED}:
-        yield from why.value.of_any(counts[why], *(keeper if why is Why.SHARED else ()), dry=dry)
+    for fate in counts.keys() - {Fate.REMOVED}:
+        yield from fate.value.of_any(counts[fate], *(keeper if fate is Fate.SHARED else ()), dry=dry)
