@@ -16,18 +16,18 @@ class Sentence(Phrase):
     """A remark by its word. In its sentence, `{}` stands for what differs, and `{was}` for a verb of what is counted. A
     rehearsal may say it in another one. One word may have several sentences."""
 
-    def __init__(self, word: str, says: str, would: str = "", noun: str = "message") -> None:
+    def __init__(self, word: str, says: str, would: str = "", noun: str = "message", are_there: bool = False) -> None:
         super().__init__(word, says)
-        # what a rehearsal says; and what is counted
-        self.would, self.noun = would or says, noun
+        # what a rehearsal says; what is counted; and whether that was there already
+        self.would, self.noun, self.are_there = would or says, noun, are_there
 
     def of(self, *its: object, dry: bool = False, there: int = 0, stands: int = 0, **verbs: str) -> "Remark":
         """The remark with this in its places."""
         return Remark(self, (self.would if dry else self.says).format(*its, **verbs), there, stands)
 
-    def of_any(self, count: int, *its: object, dry: bool = False, there: int = 0, stands: int = 0) -> "list[Remark]":
+    def of_any(self, count: int, *its: object, dry: bool = False, stands: int = 0) -> "list[Remark]":
         """The remark on so many of what it counts, with what else it names; nothing if there are none."""
-        verbs, whole = ONE if count == 1 else SEVERAL, counted(count, self.noun)
+        verbs, whole, there = ONE if count == 1 else SEVERAL, counted(count, self.noun), count * self.are_there
         return [self.of(whole, *its, dry=dry, there=there, stands=stands, **verbs)] if count else []
 
 
@@ -102,12 +102,12 @@ class Says:
     LOST = Sentence("lost", "{} gone from it that it had brought")
     REGAINED = Sentence("regained", "{} in it again that had been gone from it")
     JOINS = Sentence("joins", "INBOX has the mail of {} too")
-    SHARED = Sentence("shared", "{} there already, from {}")
+    SHARED = Sentence("shared", "{} there already, from {}", are_there=True)
     GONE_ELSEWHERE = Sentence("gone-elsewhere", "{} that {} brought are gone")
     OTHER_FORM = Sentence("other-form", "{} there in another form, by another mailbox")
     MARKED = Sentence("marked", "{} placed beside files that are marked as deleted")
-    THERE_ALREADY = Sentence("there-already", "{} there already, by no mailbox")
-    IN_MAILBOX = Sentence("there-already", "{} there already")
+    THERE_ALREADY = Sentence("there-already", "{} there already, by no mailbox", are_there=True)
+    IN_MAILBOX = Sentence("there-already", "{} there already", are_there=True)
     OTHER_PROGRAMS = Sentence("other-programs", "{} of other programs in the folder")
     FLAGS_DIFFER = Sentence("flags-differ", "{} of these marked in it, as read or flagged, but not in the Maildir")
     # of its folder, and of others

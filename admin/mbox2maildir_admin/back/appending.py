@@ -339,7 +339,7 @@ class Appending:
         """The row of the mailbox."""
         count, there, is_dry = len(goes.entries) + len(goes.there), len(goes.there), self.way.options.dry
         verdict = (Verdict.WOULD_BACK if is_dry else Verdict.BACK) if count else Verdict.NOTHING_NEW
-        says = Says.IN_MAILBOX.of_any(there, there=there)
+        says = Says.IN_MAILBOX.of_any(there)
         taken = [one.taken for one in goes.entries if one.taken]
         names = {name.lower(): named(name) for name in itertools.chain.from_iterable(taken)}
         says += Says.FIELDS_LEFT_OUT.of_any(len(taken), ", ".join(names.values()))

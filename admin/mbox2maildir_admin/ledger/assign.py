@@ -10,23 +10,42 @@ that have its form. Each of these is one file only.
 import bisect
 import collections
 from collections.abc import Container, Iterable, Iterator, Mapping
-from enum import IntEnum
+from enum import Enum
 from typing import NamedTuple, Optional
 
+from ..mbox.bases import is_own
+from ..remarks import Says, Sentence
 from .lines import FOREIGN, NAMELESS, NOBODYS, SHARED, Brought, Line, State
 
 
-class Why(IntEnum):
-    """Why a file may stand for a new message of a mailbox, in the order in which files are taken: a run of the mailbox
-    that was killed has placed it, or found it; another mailbox brought it, and it is there; or it is gone; the mailbox
-    brought it once, or some run that was killed; or nobody did. With --again, any file may."""
+class Means(NamedTuple):
+    """What it means that a file may stand for a new message: the step of docs/LEDGER.md in which it is taken; what a
+    row says of it, if anything; whether it stands for no more messages than another mailbox brought beyond those that
+    this one has; and whether a run has finished with the file, unless the lines about it say that."""
 
-    BEGUN = 0
-    SHARED = 1
-    GONE = 2
-    ONCE = 3
-    NOBODYS = 4
-    ANY = 5
+    step: int
+    says: Optional[Sentence] = None
+    is_limited: bool = False
+    is_finished: Optional[bool] = None
+
+
+class Why(Enum):
+    """Why a file may stand for a new message of a mailbox."""
+
+    # a run of the mailbox that was killed has placed it, or found it
+    BEGUN = Means(1, is_finished=False)
+    # another mailbox brought it, and it is there; or it is gone
+    SHARED = Means(2, Says.SHARED, is_limited=True)
+    GONE = Means(2, Says.GONE_ELSEWHERE, is_limited=True)
+    # the mailbox brought it once; or a killed run of it, or another mailbox or a killed run of that
+    REGAINED = Means(3, Says.REGAINED)
+    ONCE = Means(3)
+    ONCE_THEIRS = Means(3, Says.SHARED)
+    # nobody brought it
+    NOBODYS = Means(4, Says.THERE_ALREADY)
+    # with --again, it is there, whoever brought it; or it is nobody's, and was read just now
+    ANY = Means(5)
+    ANY_NOBODYS = Means(5, Says.THERE_ALREADY, is_finished=True)
 
 
 # the states of what a mailbox brought, whether it has it still or not
@@ -141,18 +160,42 @@ def says_whose(message: Brought, is_ended: bool) -> bool:
 
 
 class Offer(NamedTuple):
-    """A file that may stand for a new message, by a line about it, and why; and whether it may stand for one in another
-    form than that of the line, too."""
+    """A file that may stand for a new message, by a line about it, and why; the bare form of such a message; and
+    whether one in another form will do, too."""
 
     why: Why
     file: File
     line: Line
+    bare: bytes
     in_any_form: bool = False
 
     @property
-    def is_limited(self) -> bool:
-        """Whether it stands for no more messages than another mailbox brought beyond those that this one has."""
-        return self.why in (Why.SHARED, Why.GONE)
+    def is_fresh(self) -> bool:
+        """Whether this program has placed the file, and no run has finished with it, whichever mailbox that was for. It
+        is verified then, and gets dates and flags too."""
+        name, is_finished = self.line.message.name, self.why.value.is_finished
+        is_there = name == self.file.name and is_own(name)
+        return is_there and not (self.file.is_brought if is_finished is None else is_finished)
+
+    def word_for(self, path: str) -> bytes:
+        """The word of the line that the mailbox at a path gets about it."""
+        word = self.line.message.word
+        return word if self.line.path == path else FOREIGN if word in NOBODYS else SHARED
+
+
+def whys_of(file: File, line: Line, path: str) -> Iterator[Why]:
+    """Why a file may stand for new messages of the mailbox at a path, by a line about it."""
+    is_theirs = line.path != path
+    if is_theirs and line.state in BROUGHT:
+        yield Why.GONE if file.is_gone else Why.SHARED
+    if not file.name or line.state is State.HELD:
+        return
+    if is_theirs:
+        yield Why.ONCE_THEIRS if line.path else Why.NOBODYS
+    elif line.state is State.FORMER:
+        yield Why.REGAINED
+    else:
+        yield Why.BEGUN if line.state is State.OPEN and line.message.word != SHARED else Why.ONCE
 
 
 def offers_of(files: Iterable[File], path: str) -> list[Offer]:
@@ -160,18 +203,14 @@ def offers_of(files: Iterable[File], path: str) -> list[Offer]:
     offered for several reasons."""
     offers: list[Offer] = []
     for file, line in ((file, line) for file in files for line in reversed(file.lines)):
-        is_brought = line.state in BROUGHT
         # what a killed run has only shared, it shared in that form
-        in_any_form = line.path == path and (is_brought or line.message.word != SHARED)
-        if is_brought and line.path != path:
-            offers.append(Offer(Why.GONE if file.is_gone else Why.SHARED, file, line))
-        if file.name and line.state is not State.HELD:
-            why = Why.BEGUN if in_any_form and line.state is State.OPEN else Why.ONCE
-            offers.append(Offer(why if line.path else Why.NOBODYS, file, line, in_any_form))
+        in_any_form = line.path == path and (line.state in BROUGHT or line.message.word != SHARED)
+        offers += (Offer(why, file, line, line.message.bare, in_any_form) for why in whys_of(file, line, path))
     return sorted(
         offers,
         key=lambda one: (
-            one.why,
+            one.why.value.step,
+            one.file.is_gone,
             one.file.is_renamed,
             one.line.path != path,
             one.line.state is State.FORMER,
@@ -180,3 +219,10 @@ def offers_of(files: Iterable[File], path: str) -> list[Offer]:
             -one.file.takers,
         ),
     )
+
+
+def offers_again(files: Iterable[File], path: str) -> list[Offer]:
+    """The same with --again: all that is there, and first what the mailbox brought."""
+    there = sorted((one for one in files if one.name), key=lambda one: not one.line_of(path))
+    lines = ((one, one.line_of(path) or one.lines[-1]) for one in there)
+    return [Offer(Why.ANY if line.path else Why.ANY_NOBODYS, one, line, one.bare, True) for one, line in lines]

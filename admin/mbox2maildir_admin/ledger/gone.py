@@ -22,7 +22,7 @@ from ..mbox.bases import BASE, Table, base_in, before_info, is_own
 from ..mbox.core import SHORT
 from ..remarks import Remark, Says
 from .ledger import Ledger
-from .lines import LOST, digest_at, pieces_in
+from .lines import FOREIGN, LOST, digest_at, pieces_in
 from .match import Match
 
 # the most by which the times differ that the kernel gives a file and its folder in one rename, in nanoseconds
@@ -137,7 +137,8 @@ def gone_of(ledger: Ledger, number: int) -> collections.Counter[bytes]:
 def unexplained(root: bytes, match: Match) -> set[bytes]:
     """The bases of files that stand for messages of a mailbox, and that no ledger of the Maildir explains. People may
     have moved the others from the folders of mailboxes."""
-    names = {found[0] for found in map(BASE.match, match.seen.foreign) if found}
+    foreign = {one.name for one in match.found.values() if one.word == FOREIGN} - match.names_of_lines()
+    names = {found[0] for found in map(BASE.match, foreign) if found}
     for folder in folders_in(root) if names else ():
         try:
             ledger = Ledger(folder)

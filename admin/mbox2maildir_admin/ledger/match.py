@@ -19,9 +19,10 @@ from ..maildir.files import digest_of, forms_in, mail_in
 from ..mbox.bases import BASE, DIGEST, FIRST, base_in, before_info, is_own
 from ..mbox.core import SHORT
 from ..mbox.inventory import Inventory
+from ..remarks import Says, Sentence
 from ..units import Place, Say, silent
-from .assign import BROUGHT, File, Offer, Unnamed, Why, by_form, files_of, nobodys, offers_of, says_whose
-from .lines import FOREIGN, NAMELESS, NOBODYS, PLACED, SHARED, Brought, Line, State, counted_in
+from .assign import BROUGHT, File, Offer, Unnamed, by_form, files_of, nobodys, offers_again, offers_of, says_whose
+from .lines import NAMELESS, PLACED, Brought, Line, State, counted_in
 from .ledger import Ledger, Source
 
 # tells whether a file of this name, without its info, counts for nothing
@@ -118,21 +119,6 @@ class Stand(enum.IntEnum):
 NEW = tuple(one for one in Stand if one is not Stand.KNOWN)
 
 
-class Seen:
-    """What is to be said of new messages."""
-
-    def __init__(self) -> None:
-        # by the paths of other mailboxes: how many messages they brought too, or a killed run of theirs has placed, and
-        # how many of these are gone
-        self.shared: collections.Counter[str] = collections.Counter()
-        self.gone: collections.Counter[str] = collections.Counter()
-        # the files that no mailbox brought
-        self.foreign: list[bytes] = []
-        # how many stand there in another form only; how many the mailbox had before, and has again; and how many are
-        # placed though a file that is marked as deleted has them
-        self.other_form = self.regained = self.marked = 0
-
-
 class Match:
     """What a mailbox brings to a folder."""
 
@@ -153,7 +139,8 @@ class Match:
         # those of the names in these lines that are there, and files of other programs by their bare forms
         self.present: set[bytes] = set()
         self.strangers: collections.defaultdict[bytes, list[bytes]] = collections.defaultdict(list)
-        self.seen = Seen()
+        # what a row says of new messages, with the path of the mailbox whose file it says that of, and of how many
+        self.seen: collections.Counter[tuple[Sentence, str]] = collections.Counter()
 
     @classmethod
     def of(cls, ledger: Ledger, path: str, files: Files, is_deleted: IsDeleted) -> "Match":
@@ -184,10 +171,9 @@ class Match:
         for place in range(len(self.inventory)):
             groups[self.inventory.core(place)].append(place)
         for core, places in groups.items():
-            its = sorted(files_of(self.lines.get(core, ()), self.present), key=lambda one: not one.line_of(path))
+            its = files_of(self.lines.get(core, ()), self.present)
             its += [nobodys(name, core, bare) for bare, name in unnamed.get(core, ())]
-            offers = [Offer(Why.ANY, one, one.line_of(path) or one.lines[-1], True) for one in its if one.name]
-            self.give(places, offers, set(), collections.Counter())
+            self.give(places, offers_again(its, path), set(), collections.Counter())
         several = itertools.chain.from_iterable(self.lines.values())
         self.dropped = [one.message for one in several if one[:2] == (path, State.HELD)]
         return self
@@ -326,10 +312,9 @@ class Match:
         for place in places:
             waiting.setdefault(self.inventory.bare(place), []).append(place)
         for one, is_same in [*((one, True) for one in offers), *((one, False) for one in offers if one.in_any_form)]:
-            bare = one.file.bare if one.why is Why.ANY else one.line.message.bare
-            if one.file in served or one.is_limited and most[bare] <= 0:
+            if one.file in served or one.why.value.is_limited and most[one.bare] <= 0:
                 continue
-            forms = [bare] if is_same else list(waiting)
+            forms = [one.bare] if is_same else list(waiting)
             waits = (at for form in forms for at in waiting.get(form, ()))
             found = next((at for at in waits if self.may_count(one.file.name, at)), None)
             if found is not None:
@@ -346,28 +331,20 @@ class Match:
     def count_nowhere(self, rest: list[int], marked: set[File]) -> None:
         """Counts what is said of messages at these places, which have the same core, and are nowhere: for how many a
         file is there that is marked as deleted, and how many another mailbox brought in another form alone."""
-        self.seen.marked += min(len(marked), len(rest))
+        self.seen[Says.MARKED, self.path] += min(len(marked), len(rest))
         lines = self.lines.get(self.inventory.core(rest[0]), ()) if rest else ()
         theirs = (one for one in lines if one.path != self.path and one.state is State.HELD)
         there = {one.message.bare for one in theirs if one.message.name in self.present}
-        self.seen.other_form += sum(bool(there) and self.inventory.bare(place) not in there for place in rest)
+        in_other_form = sum(bool(there) and self.inventory.bare(place) not in there for place in rest)
+        self.seen[Says.OTHER_FORM, self.path] += in_other_form
 
     def note(self, offer: Offer, place: int) -> None:
-        """Notes that a file stands for a message. What this program has placed and no run has finished, whichever
-        mailbox that was for, is verified, and gets dates and flags too."""
-        why, (path, state, its, *_), seen = offer.why, offer.line, self.seen
-        word = its.word if path == self.path else FOREIGN if its.word in NOBODYS else SHARED
-        self.found[place] = Brought(word, its.name, self.inventory.core(place), self.inventory.bare(place))
-        is_there = its.name == offer.file.name and is_own(its.name)
-        # with --again, a file of nobody was read just now
-        is_finished = offer.file.is_brought if path else why is Why.ANY
-        self.states[place] = Stand.FRESH if is_there and (why is Why.BEGUN or not is_finished) else Stand.FOUND
-        if not path:
-            seen.foreign.append(its.name)
-        elif why is not Why.ANY:
-            seen.shared.update([path] if path != self.path else ())
-            seen.gone.update([path] if why is Why.GONE else ())
-            seen.regained += why is Why.ONCE and (path, state) == (self.path, State.FORMER)
+        """Notes that a file stands for a message, as what it is offered for means."""
+        word, name, says = offer.word_for(self.path), offer.line.message.name, offer.why.value.says
+        self.found[place] = Brought(word, name, self.inventory.core(place), self.inventory.bare(place))
+        self.states[place] = Stand.FRESH if offer.is_fresh else Stand.FOUND
+        if says:
+            self.seen[says, offer.line.path] += 1
 
     def find_dropped(self) -> None:
         """Finds the lines of what the mailbox no longer has: first forms that it has not, then files that are gone."""

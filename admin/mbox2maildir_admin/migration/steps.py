@@ -24,7 +24,7 @@ from ..mbox.inventory import Inventory
 from ..mbox.mailbox import Mailbox
 from ..readings.reading import Reading
 from ..readings.texts import Choice, Text
-from ..remarks import Remark, Says
+from ..remarks import Remark, Says, Sentence
 from ..terminal import first_of, named
 from ..units import Offset, Place, counted
 from .known import Known, Opened
@@ -211,27 +211,32 @@ class Extra:
 def remarks_on(one: Steps, dry: bool) -> Iterator[Remark]:
     """What is to be said of what is new, what is there, and what is gone."""
     match, ledger = one.placing.match, one.known.ledger
-    seen, foreign = match.seen, len(match.seen.foreign)
     if isinstance(one.own, OtherPass) and one.own.is_again:
         yield Says.PLACED.of(counted(match.count(Stand.NOWHERE), "message"), dry=dry)
     else:
         yield from remarks_on_lost(match)
         others = [unspelled(path) for path, source in ledger.sources.items() if source.count()]
         if match.path in ledger.sources:
-            yield from (*Says.GREW.of_any(match.count_new()), *Says.REGAINED.of_any(seen.regained))
-        elif others and one.opened.name == INBOX and not seen.shared:
+            yield from Says.GREW.of_any(match.count_new())
+        elif others and one.opened.name == INBOX and not {path for _, path in match.seen} - {match.path, ""}:
             yield Says.JOINS.of(first_of(others, most=1))
-    # what other mailboxes brought
-    shared = seen.shared - seen.gone
-    paths, there = [unspelled(path) for path, _ in shared.most_common()], sum(shared.values())
-    yield from Says.SHARED.of_any(there, first_of(paths, most=1), there=there)
-    for path, count in seen.gone.items():
-        if count:
-            yield Says.GONE_ELSEWHERE.of(count, named(unspelled(path)))
-    yield from (*Says.OTHER_FORM.of_any(seen.other_form), *Says.MARKED.of_any(seen.marked))
-    yield from Says.THERE_ALREADY.of_any(foreign, there=foreign)
+    yield from remarks_on_seen(match.seen)
     yield from Says.OTHER_PROGRAMS.of_any(match.files.others)
     yield from remarks_on_flags_that_differ(one)
+
+
+def remarks_on_seen(seen: collections.Counter[tuple[Sentence, str]]) -> Iterator[Remark]:
+    """What is to be said of messages that were seen to be there or gone, with the mailboxes that most of them are of.
+    Of those that are gone, each mailbox brings its own back."""
+    # of mailboxes with as many, the one that was met first
+    met = dict.fromkeys(path for _, path in seen)
+    for says in dict.fromkeys(says for says, _ in seen):
+        if says is Says.GONE_ELSEWHERE:
+            yield from (says.of(count, named(unspelled(path))) for (its, path), count in seen.items() if its is says)
+            continue
+        counts = collections.Counter({path: seen[says, path] for path in met if (says, path) in seen})
+        paths = [unspelled(path) for path, _ in counts.most_common()]
+        yield from says.of_any(sum(counts.values()), first_of(paths, most=1))
 
 
 def remarks_on_flags_that_differ(one: Steps) -> Iterator[Remark]:

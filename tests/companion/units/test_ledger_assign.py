@@ -75,10 +75,10 @@ class OffersTest(unittest.TestCase):
             (Why.BEGUN, 5),
             (Why.SHARED, 4),
             (Why.GONE, 3),
-            (Why.ONCE, 2),
-            (Why.ONCE, 1),
+            (Why.REGAINED, 2),
+            (Why.ONCE_THEIRS, 1),
             # what no mailbox has any more may be nobody's
-            (Why.ONCE, 4),
+            (Why.ONCE_THEIRS, 4),
             (Why.NOBODYS, 0),
         ]
         self.assertEqual([(one.why, one.line.number) for one in offers_of(files, BOX)], wanted)
