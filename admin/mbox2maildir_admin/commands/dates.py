@@ -24,20 +24,21 @@ def do_dates(given: Given) -> int:
     """Gives converted files their dates."""
     maildir, *files = given.operands
     dates, complaints = Dates(bool(given.header)), Complaints()
-    are_right = each(files, lambda path: for_mailboxes(maildir, path, dates.give, complaints), complaints)
+    each(files, lambda path: for_mailboxes(maildir, path, dates.give, complaints), complaints)
     dates.syncs.sync()
-    return Status.of(are_right and dates.are_kept)
+    return Status.of(complaints.is_well and dates.are_kept)
 
 
 class Dates:
     """Gives the files of mailboxes their dates. The line of a mailbox is printed once its dates are on the disk."""
 
     def __init__(self, headers: bool) -> None:
+        # whether each message has its date, on the disk
         self.headers, self.are_kept = headers, True
         self.syncs = Syncs(self.tell)
 
-    def give(self, maildir: bytes, file: bytes) -> bool:
-        """Gives the files of one mailbox their dates, and names those that have none. Returns whether all have one."""
+    def give(self, maildir: bytes, file: bytes) -> None:
+        """Gives the files of one mailbox their dates, and names those that have none."""
         before = os.stat(file)
         with open_text(file, maildir, say_of(file), functools.partial(reading_then, maildir)) as text:
             either = Either.of(maildir, text.messages(with_cores=False), text.mailbox, text.start)
@@ -53,7 +54,7 @@ class Dates:
         by_header = ", by header %d" % dating.by_header if dating.by_header else ""
         line = "messages %d, dated %d%s" % (dating.messages, dating.dated, by_header)
         self.syncs.add(maildir, (file, before, line))
-        return dating.dated == dating.messages
+        self.are_kept = self.are_kept and dating.dated == dating.messages
 
     def tell(self, several: Sequence[tuple[tuple[bytes, os.stat_result, str], Optional[OSError]]]) -> None:
         """Prints the lines of mailboxes, unless a sync failed or a mailbox changed meanwhile."""

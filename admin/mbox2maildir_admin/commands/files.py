@@ -34,30 +34,32 @@ from ..units import Say
 class Complaints(Observer):
     """Says on standard error which files were left out, and which failed."""
 
+    # whether none failed, and none was left out that may be mail
+    is_well = True
+
     def say(self, path: bytes) -> Say:
         """The function that takes the progress of the file at a path."""
         return say_of(path)
 
     def row(self, row: Row) -> None:
         """Takes a file that was left out."""
+        self.is_well = self.is_well and row.verdict == Verdict.NO_MAIL
         what = [row.verdict] * (row.verdict != Verdict.LEFT)
         complain("%s: left out: %s" % (named(row.path), ", ".join([*what, *filter(None, [row.says])])), row.below())
 
     def leave(self, path: bytes, fault: Union[Fault, OSError]) -> None:
         """Takes why nothing was done with a file."""
+        self.is_well = False
         complain_of(fault, path)
 
 
-def each(files: Iterable[bytes], task: Callable[[bytes], bool], observer: Observer) -> bool:
-    """Does a task for each file, and returns whether each was done and found right."""
-    right = []
+def each(files: Iterable[bytes], task: Callable[[bytes], None], observer: Observer) -> None:
+    """Does a task for each file. One that fails is left."""
     for file in files:
         try:
-            right.append(task(file))
+            task(file)
         except (Fault, OSError) as fault:
             observer.leave(file, fault)
-            right.append(False)
-    return all(right)
 
 
 def read_tree(
@@ -74,32 +76,25 @@ def read_tree(
     return tree, plan
 
 
-def say_left_out(rows: Iterable[Row], observer: Observer) -> bool:
-    """Says what was left out, and returns whether none of it may be mail."""
-    are_right = []
-    for row in rows:
-        observer.row(row)
-        are_right.append(row.verdict == Verdict.NO_MAIL)
-    return all(are_right)
-
-
-def for_mailboxes(maildir: bytes, path: bytes, task: Callable[[bytes, bytes], bool], observer: Observer) -> bool:
+def for_mailboxes(maildir: bytes, path: bytes, task: Callable[[bytes, bytes], None], observer: Observer) -> None:
     """Does a task for a mailbox and the folder that has its mail or, if the path is a folder, for each mailbox below it
     and its folder. A file without mail by the record is left out."""
     if not is_folder(path):
         record = record_of(maildir)
         left = left_out(path, maildir, record, observer) if record.noting(Note.NO_MAIL, INBOX, path) else None
         if left:
-            return say_left_out([left], observer)
+            observer.row(left)
+            return
         # what was named may be a folder of a Maildir: then that is the one that has its mail; an empty mailbox may have
         # none any more
         is_root = root_of(maildir) == maildir and not is_empty(path)
         folder = recorded(Planned(path, INBOX), record).folder_in(maildir) if is_root else maildir
         with of_folder(folder, maildir, path, record):
-            return task(folder, path)
+            task(folder, path)
+        return
     with Record.open(maildir, False) as record:
         tree, plan = read_tree(path, maildir, record)
-    return for_planned(maildir, path, (plan, tree.rows), record, task, observer)
+    for_planned(maildir, path, (plan, tree.rows), record, task, observer)
 
 
 def for_planned(
@@ -107,23 +102,27 @@ def for_planned(
     path: bytes,
     found: tuple[Iterable[Planned], Iterable[Row]],
     record: History,
-    task: Callable[[bytes, bytes], bool],
+    task: Callable[[bytes, bytes], None],
     observer: Observer,
-) -> bool:
+) -> None:
     """Does a task for each mailbox at a path or below it, and for its folder. Says what else was found there, and
     leaves files without mail out."""
     plan, rows = list(found[0]), [without_mail(row, maildir, record) for row in found[1]]
     observer.total += len(plan) - 1
 
-    def do_task(planned: Planned, file: bytes) -> bool:
+    def do_task(planned: Planned, file: bytes) -> None:
         left = left_out(file, maildir, record, observer)
-        rows.extend([left] if left else [])
+        if left:
+            rows.append(left)
+            return
         folder = planned.folder_in(maildir)
         with of_folder(folder, maildir, path, record):
-            return bool(left) or task(folder, file)
+            task(folder, file)
 
-    right = [each([one.target or one.path], functools.partial(do_task, one), observer) for one in plan]
-    return say_left_out(rows, observer) and all(right)
+    for one in plan:
+        each([one.target or one.path], functools.partial(do_task, one), observer)
+    for row in rows:
+        observer.row(row)
 
 
 @contextlib.contextmanager

@@ -25,7 +25,7 @@ from ..readings.reading import UNDECIDED, Reading
 from ..readings.texts import choice_of, form_of
 from ..readings.diagnosis import TAKEOUT, Diagnosis, look_at
 from ..terminal import operand
-from .files import each, read_tree, say_left_out, without_mail
+from .files import each, read_tree, without_mail
 from .options import Given
 from .running import reporter_of
 
@@ -46,7 +46,9 @@ class Found(NamedTuple):
 def do_kind(given: Given) -> int:
     """Says what files are."""
     reporter = reporter_of(given, Shows(lambda row: True), {})
-    return Status.of(each(given.operands, lambda path: kind_below(path, reporter), reporter))
+    kinds = Kinds(reporter)
+    each(given.operands, kinds.say_below, reporter)
+    return Status.of(kinds.are_as_they_are and not reporter.counts[Verdict.LEFT])
 
 
 def row_found(path: bytes, kind: str, then: Next) -> Row:
@@ -54,33 +56,41 @@ def row_found(path: bytes, kind: str, then: Next) -> Row:
     return Row(path, b"", kind, None, Verdict.FOUND, next=then)
 
 
-def kind_below(path: bytes, observer: Observer) -> bool:
-    """Prints what a file is or, for a folder, what each file in it is. Returns whether all can be converted as they
-    are."""
-    if not is_folder(path):
-        return kind_of(Found(path), observer)
-    if is_maildir(path):
-        observer.row(row_found(path, "a Maildir", task(Todo.LEAVE)))
-        return False
-    tree, plan = read_tree(path)
-    found = {one.path: Found(one.path, tree.old, one.folder) for one in plan}
-    right = each(found, lambda file: kind_of(found[file], observer, tree), observer)
-    right = say_left_out((without_mail(row, trial_folder(), History()) for row in tree.rows), observer) and right
-    if plan:
-        observer.row(row_found(path, "a folder of mailboxes", (Answer(migrate(Found(path))),)))
-    return right
+class Kinds:
+    """Prints what files are."""
 
+    def __init__(self, observer: Observer) -> None:
+        # and whether all can be converted as they are
+        self.observer, self.are_as_they_are = observer, True
 
-def kind_of(found: Found, observer: Observer, tree: Optional[Tree] = None) -> bool:
-    """Prints what a file is. Returns whether it can be converted as it is, without being unpacked first, or in a tree
-    holds no mail."""
-    with Mailbox.open(found.path, say_of(found.path)) as mailbox:
-        diagnosis = look_at(mailbox)
-        if tree and diagnosis.holds == Holds.NO_MAIL:
-            tree.pass_over(found.path, kind=diagnosis.kind.partition(": ")[2])
-            return True
-        observer.row(row_packed(mailbox, diagnosis, found) if form_of(mailbox) else row_plain(diagnosis, found))
-        return diagnosis.is_as_it_is
+    def say_below(self, path: bytes) -> None:
+        """Prints what a file is or, for a folder, what each file in it is."""
+        if not is_folder(path):
+            self.say(Found(path))
+        elif is_maildir(path):
+            self.observer.row(row_found(path, "a Maildir", task(Todo.LEAVE)))
+            self.are_as_they_are = False
+        else:
+            tree, plan = read_tree(path)
+            found = {one.path: Found(one.path, tree.old, one.folder) for one in plan}
+            each(found, lambda file: self.say(found[file], tree), self.observer)
+            for row in tree.rows:
+                self.observer.row(without_mail(row, trial_folder(), History()))
+            if plan:
+                self.observer.row(row_found(path, "a folder of mailboxes", (Answer(migrate(Found(path))),)))
+
+    def say(self, found: Found, tree: Optional[Tree] = None) -> None:
+        """Prints what a file is, unless it is one of a tree that holds no mail."""
+        path = found.path
+        with Mailbox.open(path, say_of(path)) as mailbox:
+            diagnosis = look_at(mailbox)
+            if tree and diagnosis.holds == Holds.NO_MAIL:
+                tree.pass_over(path, kind=diagnosis.kind.partition(": ")[2])
+                return
+            # a packed file has to be unpacked first
+            is_packed = bool(form_of(mailbox))
+            self.are_as_they_are = self.are_as_they_are and not is_packed and diagnosis.is_as_it_is
+            self.observer.row(row_packed(mailbox, diagnosis, found) if is_packed else row_plain(diagnosis, found))
 
 
 def row_packed(mailbox: Mailbox, diagnosis: Diagnosis, found: Found) -> Row:

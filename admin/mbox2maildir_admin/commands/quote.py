@@ -23,11 +23,12 @@ def do_quote(given: Given) -> int:
     if not given.output:
         raise WrongOptions("-o COPY is missing: the name of the copy, or - for standard output")
     decision, output = decision_of(given, True), os.fsencode(given.output)
-    is_bare = bool(given.dovecot)
-    return Status.of(each(given.operands, lambda file: quote_file(decision, file, output, is_bare), Complaints()))
+    is_bare, complaints = bool(given.dovecot), Complaints()
+    each(given.operands, lambda file: quote_file(decision, file, output, is_bare), complaints)
+    return Status.of(complaints.is_well)
 
 
-def quote_file(decision: Reading, file: bytes, output: bytes, is_bare: bool) -> bool:
+def quote_file(decision: Reading, file: bytes, output: bytes, is_bare: bool) -> None:
     """Writes a copy of a file, and says what it has."""
     say: Say = say_of(file)
     if output == STANDARD_OUTPUT:
@@ -43,11 +44,10 @@ def quote_file(decision: Reading, file: bytes, output: bytes, is_bare: bool) -> 
             quoter = Quoter(reading, mailbox, start, keeps_lengths=False)
             give_all(quoter, write, is_bare)
             quoter.check(quoter.given, quoter.messages, messages)
-            return True
+            return
         with Copy(output) as copy:
             quoter = write_copy(reading, mailbox, start, messages, copy, is_bare)
     put("%s: messages %d, lines quoted %d" % (named(output), messages, quoter.quoted))
-    return True
 
 
 def plan_to_quote(mailbox: Mailbox, decision: Reading, output: bytes, is_bare: bool) -> Plan:

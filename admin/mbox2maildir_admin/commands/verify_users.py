@@ -1,6 +1,5 @@
 """The command `verify --users`: the mailboxes of many users, each compared with its Maildir with its user's rights."""
 import functools
-import os
 from collections.abc import Iterator
 
 from ..ledger.record import Record
@@ -35,11 +34,7 @@ class Verifier(UserWork):
 
     def run(self, names: list[bytes], relay: Relay) -> None:
         """Compares the mailboxes at these paths with the Maildir."""
-        root = self.root
-
-        def verify(folder: bytes, file: bytes) -> bool:
-            return verify_file(folder, file, self.spool.program, relay, os.path.relpath(folder, root))
-
+        root, verify = self.root, functools.partial(verify_file, self.spool.program, self.root, relay)
         with Record.open(root, False) as record:
             pairs = Pairs(record, root, own=names)
             for name in names:

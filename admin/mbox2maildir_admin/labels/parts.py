@@ -15,8 +15,8 @@ from ..units import Offset, Place, Say
 from .noted import Noted
 from .sorting import Sorting
 
-# what a look into a folder shows of the messages of a text, and how many of them are there without fields
-Looking = Callable[[bytes, Text, Say], tuple[Check, int]]
+# what a look into a folder shows of the messages of a text
+Looking = Callable[[bytes, Text, Say], Check]
 
 
 @contextlib.contextmanager
@@ -41,14 +41,14 @@ def word_of(places: Sequence[int]) -> str:
 
 def checks_of(
     maildir: bytes, file: bytes, noted: Noted, recorded: ReadingOf, look: Looking, say: Say
-) -> Iterator[tuple[bytes, Check, int]]:
+) -> Iterator[tuple[bytes, Check]]:
     """Looks into each folder of a Takeout, which is read as it was when it was recorded, and gives what was found."""
     with open_text(file, maildir, say, recorded) as text:
         inventory = text.messages(with_cores=False)
-        found = Sorting(headers_at(text.mailbox, inventory.offsets[:-1]), noted.choosing, noted.folders).sorted()
+        found = Sorting(headers_at(text.mailbox, inventory.offsets[:-1]), noted.choosing, noted.folders).folders()
         for folder, places in found.places.items():
             with part_of(text, inventory, places, folder_for_copies(maildir)) as part:
-                check, bare = look(folder_path(maildir, folder), part, say)
+                check = look(folder_path(maildir, folder), part, say)
             # it was decided then that no mail is in its From_ lines
             check.doubts = ()
-            yield folder, check, bare
+            yield folder, check

@@ -54,7 +54,7 @@ class LabelsLeft(Left):
         self.says = says
 
 
-class Sorted(NamedTuple):
+class LabelFolders(NamedTuple):
     """The places of the messages that each folder gets, by its name on the disk; the labels of different names, if they
     give one folder; and the flags of all messages."""
 
@@ -113,7 +113,7 @@ class Sorting:
             its = names % " and ".join(map(named, asked)), counts, len(self.messages)
             raise LabelsLeft(IN_QUESTION % its, *answers)
 
-    def sorted(self) -> Sorted:
+    def folders(self) -> LabelFolders:
         """The places of the messages in each folder, that of INBOX first. Raises LabelsLeft for what is not decided."""
         self.want_decided()
         places: dict[bytes, "array.array[int]"] = collections.defaultdict(lambda: array.array("Q"))
@@ -130,7 +130,7 @@ class Sorting:
         order = sorted(places, key=lambda folder: (folder != INBOX, folder))
         kept = Kept(GMAIL, *letters_by(self.messages, self.roles))
         alike = {folder: list(its) for folder, its in labels.items() if len(its) > 1}
-        return Sorted({folder: places[folder] for folder in order}, alike, kept)
+        return LabelFolders({folder: places[folder] for folder in order}, alike, kept)
 
     def folders_of(self, labels: tuple[str, ...]) -> dict[bytes, list[str]]:
         """The folders of a message with these labels, and the labels that give each. Names of one meaning, such as

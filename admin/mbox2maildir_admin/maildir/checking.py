@@ -2,7 +2,6 @@
 reads, Python lets others run.
 """
 import collections
-import enum
 import functools
 import itertools
 import os
@@ -12,6 +11,7 @@ from typing import NamedTuple, Optional, Union
 from ..looks import is_there
 from ..mbox.bases import BASE, base_in, before_info, is_own
 from ..mbox.inventory import Inventory
+from ..remarks import Says, Sentence
 from ..terminal import first_of
 from ..units import Place, Say, counted, silent
 from .either import Others
@@ -32,20 +32,41 @@ Ahead = Union[Digested, OSError, None]
 LookFirst = Callable[[Place, int, os.stat_result], Optional[bytes]]
 
 
-class State(enum.IntEnum):
-    """How a message is found in a Maildir."""
+class Sort(NamedTuple):
+    """A sort of messages, files or lines: its word, and what a row says of how many there are; whether a mailbox that
+    has some is whole; and, if they are named, what stands before each below the row of `verify`, and before all of them
+    in the line of a `migrate` that leaves the mailbox. What it means, and what to do, is in `meanings.py`."""
 
-    NOWHERE = 0
-    THERE = 1
-    RENAMED = 2
-    OTHER = 3
+    remark: Sentence
+    is_right: bool
+    each: str = ""
+    several: str = ""
 
 
-class Found(NamedTuple):
-    """A message, and the path of its file if that has another name than its own."""
+# of messages, each of which is of one of these; those that are there have no remark
+THERE = Sort(Sentence("there", "there {}"), True)
+OTHER_BYTES = Sort(Says.OTHER_BYTES, False, "other bytes in", "with other bytes")
+RENAMED = Sort(Says.RENAMED, True, "under another name,")
+NOWHERE = Sort(Says.NOWHERE, False, "nowhere")
+# of files
+DOUBLE = Sort(Says.DOUBLE, False, "a second copy of a message:", "a second copy of a message")
+OTHER_OWNER = Sort(Says.OTHER_OWNER, False, "not owned by the owner of the Maildir:", "owned by another user")
+# of lines
+DOUBTFUL_LINE = Sort(Says.DOUBTFUL_LINE, False, "this From_ line may contain mail")
+# of some of the messages that are there, which are only counted
+WITHOUT_FIELDS = Sort(Says.WITHOUT_FIELDS, True)
+# in the order in which `verify` has them
+MESSAGES, FILES = (THERE, OTHER_BYTES, RENAMED, NOWHERE), (DOUBLE, OTHER_OWNER)
+SORTS = *MESSAGES, *FILES, DOUBTFUL_LINE, WITHOUT_FIELDS
 
-    place: Place
-    path: bytes
+
+class Location(NamedTuple):
+    """Where a message is: its line, its number, and the path of its file if that has another name than its own; or only
+    the line, or the path of a file."""
+
+    line: Optional[int] = None
+    message: Optional[int] = None
+    path: bytes = b""
 
 
 class Check:
@@ -62,9 +83,11 @@ class Check:
         self.look_first: Optional[LookFirst] = None
         is_worthwhile = sum(inventory.sizes) >= WORTHWHILE * max(len(inventory), 1)
         self.threads = min(MOST_THREADS, os.cpu_count() or 1) if is_worthwhile else 1
-        # by message: how it is found, as a State, and the path of its file if that has another name
-        self.states = bytearray(len(inventory))
+        # by message: its sort, and the path of its file if that has another name
+        self.found = [NOWHERE] * len(inventory)
         self.paths: dict[Place, bytes] = {}
+        # how many messages are there without some fields
+        self.without_fields = 0
         # files that have a message's bytes and another name: by the digest, and by the name before its colon; and the
         # names of all such files that were read
         self.copies: collections.defaultdict[bytes, dict[bytes, bytes]] = collections.defaultdict(dict)
@@ -89,9 +112,9 @@ class Check:
                 except FileNotFoundError:
                     # the file was renamed meanwhile
                     continue
-            if not self.states.count(State.NOWHERE):
+            if NOWHERE not in self.found:
                 break
-        for place in range(len(self.states)) if self.copies else ():
+        for place in range(len(self.found)) if self.copies else ():
             self.take_copy(Place(place), self.inventory.table.digest(place))
         for digest, places in self.others.digests.items():
             for place in places:
@@ -135,13 +158,14 @@ class Check:
 
     def take_copy(self, place: Place, digest: bytes) -> None:
         """Takes a file of another name with this digest for a message that is nowhere, if there is such a file."""
-        if self.states[place] == State.NOWHERE and self.copies.get(digest):
-            self.paths[place], self.states[place] = self.copies[digest].popitem()[1], State.RENAMED
+        if self.found[place] is NOWHERE and self.copies.get(digest):
+            self.paths[place], self.found[place] = self.copies[digest].popitem()[1], RENAMED
             self.renamed[place] = digest
 
     def take_alike(self, place: Place, path: bytes) -> None:
         """Takes a file for a message that is nowhere, since they differ only in fields of mail programs."""
-        self.states[place] = State.THERE
+        self.found[place] = THERE
+        self.without_fields += 1
         self.note_owner(path, os.lstat(path).st_uid)
 
     def find_doubles(self, maildir: bytes) -> None:
@@ -162,7 +186,7 @@ class Check:
     def is_home(self, place: Place, again: bool) -> bool:
         """Whether a file is read as that of the message whose base it has. In a listing after the first one, this holds
         only if the message has no file so far."""
-        return not again or self.states[place] == State.NOWHERE
+        return not again or self.found[place] is NOWHERE
 
     def read(self, place: Place, path: bytes) -> Digested:
         """Reads the file of a message."""
@@ -179,12 +203,12 @@ class Check:
         if isinstance(ahead, OSError):
             raise ahead
         digest, owner = ahead or self.read(place, path)
-        if self.states[place]:
+        if self.found[place] is not NOWHERE:
             self.met_again.add(place)
         if digest == bytes.fromhex(name[:64].decode()):
-            self.states[place] = State.THERE
-        elif self.states[place] != State.THERE:
-            self.paths[place], self.states[place] = path, State.OTHER
+            self.found[place] = THERE
+        elif self.found[place] is not THERE:
+            self.paths[place], self.found[place] = path, OTHER_BYTES
         self.note_owner(path, owner)
 
     def look_at_other(self, name: bytes, path: bytes) -> None:
@@ -213,35 +237,40 @@ class Check:
 
     def digests(self) -> Iterator[Optional[bytes]]:
         """The digest of the file of each message; None for a message that is nowhere."""
-        for place in map(Place, range(len(self.states))):
-            is_nowhere = self.states[place] == State.NOWHERE
-            yield None if is_nowhere else self.renamed.get(place) or self.inventory.table.digest(place)
+        for place, found in enumerate(self.found):
+            is_nowhere = found is NOWHERE
+            yield None if is_nowhere else self.renamed.get(Place(place)) or self.inventory.table.digest(place)
 
-    def found(self, state: State) -> Iterator[Found]:
-        """The messages that are found in this state."""
-        for place in map(Place, range(len(self.states))):
-            if self.states[place] == state:
-                yield Found(place, self.paths.get(place, b""))
+    def places(self, sort: Sort) -> Iterator[Place]:
+        """The messages of a sort."""
+        return (Place(place) for place, found in enumerate(self.found) if found is sort)
+
+    def where(self, sort: Sort) -> Iterator[Location]:
+        """Where the messages, files or lines of a sort are."""
+        lines, files = self.inventory.lines, {DOUBLE: self.doubles, OTHER_OWNER: sorted(self.strangers.values())}
+        if sort is DOUBTFUL_LINE:
+            return (Location(lines[doubt]) for doubt in self.doubts)
+        if sort in files:
+            return (Location(path=path) for path in files[sort])
+        return (Location(lines[place], place + 1, self.paths.get(place, b"")) for place in self.places(sort))
+
+    def count(self, sort: Sort) -> int:
+        """How many messages, files or lines are of a sort."""
+        if sort is WITHOUT_FIELDS:
+            return self.without_fields
+        return self.found.count(sort) if sort in MESSAGES else sum(1 for _ in self.where(sort))
 
     def is_right(self) -> bool:
         """Whether each message is there exactly once, in a file of its owner."""
-        is_wrong = self.states.count(State.NOWHERE) or self.states.count(State.OTHER)
-        return not (is_wrong or self.doubles or self.strangers or self.doubts)
+        return not any(self.count(one) for one in SORTS if not one.is_right)
 
     def report(self) -> str:
         """What is said unless each message is there exactly once."""
-        counts = "there %d, under another name %d, other bytes %d, nowhere %d" % tuple(
-            self.states.count(state) for state in (State.THERE, State.RENAMED, State.OTHER, State.NOWHERE)
-        )
-        others = [found.path for found in self.found(State.OTHER)]
-        strangers = list(self.strangers.values())
-        for paths, says in (
-            (self.doubles, "a second copy of a message"),
-            (strangers, "owned by another user"),
-            (others, "with other bytes"),
-        ):
-            if paths:
-                counts += "; %s: %s" % (says, first_of(paths))
-        if self.doubts:
-            counts += "; %s may contain mail" % counted(len(self.doubts), "From_ line")
-        return counts
+        # what is right comes first
+        counts = sorted(MESSAGES, key=lambda one: not one.is_right)
+        says = [", ".join(one.remark.says.format(self.count(one)) for one in counts)]
+        for one in (*FILES, *MESSAGES):
+            paths = [where.path for where in self.where(one)] if one.several else []
+            says += ["%s: %s" % (one.several, first_of(paths))] if paths else []
+        says += ["%s may contain mail" % counted(len(self.doubts), "From_ line")] if self.doubts else []
+        return "; ".join(says)

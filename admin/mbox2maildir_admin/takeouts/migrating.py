@@ -12,7 +12,7 @@ from ..faults import Fault, Left, Reason
 from ..labels.choosing import ONE, Choosing
 from ..labels.noted import Noted, line_of, note
 from ..labels.parts import part_of, want_same, word_of
-from ..labels.sorting import LabelsLeft, Sorted, Sorting
+from ..labels.sorting import LabelFolders, LabelsLeft, Sorting
 from ..ledger.ledger import Ledger
 from ..ledger.match import cores_of
 from ..ledger.prepared import has_list
@@ -69,7 +69,7 @@ class Takeout:
     choice: Choice
     text: Text
     inventory: Inventory
-    sorted: Sorted
+    folders: LabelFolders
 
     @functools.cached_property
     def cores(self) -> collections.Counter[bytes]:
@@ -78,7 +78,7 @@ class Takeout:
 
     def size(self, folder: bytes) -> int:
         """How many bytes the messages of a folder have."""
-        return sum(self.inventory.sizes[place] for place in self.sorted.places[folder])
+        return sum(self.inventory.sizes[place] for place in self.folders.places[folder])
 
 
 class Takeouts(Migration):
@@ -135,7 +135,7 @@ class Takeouts(Migration):
         noted = noted._replace(choosing=self.chosen(opened, noted))
         try:
             with self.chosen_text(opened, noted) as choice, self.read(choice, noted) as takeout:
-                folders = tuple(takeout.sorted.places)
+                folders = tuple(takeout.folders.places)
                 # each folder wants room for its text again, and for its messages
                 self.want_room(Need.of(self.disk, [], max(map(takeout.size, folders))))
                 self.record.make()
@@ -214,7 +214,7 @@ class Takeouts(Migration):
             headers = headers_at(text.mailbox, inventory.offsets[:-1])
             sorting = Sorting(headers, noted.choosing, noted.folders)
             self.labels.update(sorting.counts)
-            yield Takeout(choice, text, inventory, sorting.sorted())
+            yield Takeout(choice, text, inventory, sorting.folders())
 
     def bring_into(self, folder: bytes, takeout: Takeout, opened: Opened) -> Outcome:
         """Brings the messages of one folder."""
@@ -225,9 +225,9 @@ class Takeouts(Migration):
 
     def part(self, folder: bytes, takeout: Takeout) -> Part:
         """The messages of one folder."""
-        plan, places, labels = takeout.choice.plan, takeout.sorted.places[folder], takeout.sorted.labels.get(folder)
+        plan, places, labels = takeout.choice.plan, takeout.folders.places[folder], takeout.folders.labels.get(folder)
         plan = plan._replace(messages=len(places), reading=plan.reading._replace(part=word_of(places)))
-        choice, kept = takeout.choice._replace(plan=plan, known=None), takeout.sorted.kept.at(places)
+        choice, kept = takeout.choice._replace(plan=plan, known=None), takeout.folders.kept.at(places)
         says = [Says.SAME_FOLDER.of(" and ".join(map(named, labels)))] if labels else []
         read = functools.partial(self.read_part, folder, takeout, choice)
         return Part(choice, read, takeout.size(folder), False, kept, takeout.cores, tuple(says))
@@ -236,7 +236,7 @@ class Takeouts(Migration):
     def read_part(self, folder: bytes, takeout: Takeout, choice: Choice) -> Iterator[Contents]:
         """Reads the text of the messages of one folder. The program must list them."""
         self.want_room(Need.of(self.disk, [], takeout.size(folder)))
-        places = takeout.sorted.places[folder]
+        places = takeout.folders.places[folder]
         with part_of(takeout.text, takeout.inventory, places, self.disk) as text:
             inventory = read_messages(self.program, text, choice)
             want_same(inventory, takeout.inventory, places)
