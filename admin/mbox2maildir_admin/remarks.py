@@ -23,7 +23,7 @@ class Sentence(Phrase):
 
     def of(self, *its: object, dry: bool = False, there: int = 0, stands: int = 0, **verbs: str) -> "Remark":
         """The remark with this in its places."""
-        return Remark(self, (self.would if dry else self.says).format(*its, **verbs), there, stands)
+        return Remark(self.word, (self.would if dry else self.says).format(*its, **verbs), there, stands)
 
     def of_any(self, count: int, *its: object, dry: bool = False, stands: int = 0) -> "list[Remark]":
         """The remark on so many of what it counts, with what else it names; nothing if there are none."""
@@ -32,18 +32,13 @@ class Sentence(Phrase):
 
 
 class Remark(NamedTuple):
-    """What is to be said of a mailbox, how many of its messages were there already by it, and how many stand in it
-    although they were deleted or changed in the Maildir."""
+    """What is to be said of a mailbox, with its word for programs; how many of its messages were there already by it,
+    and how many stand in it although they were deleted or changed in the Maildir."""
 
-    what: Sentence
+    word: str
     says: str
     there: int = 0
     stands: int = 0
-
-    @property
-    def word(self) -> str:
-        """Its word for programs."""
-        return self.what.word
 
 
 def kept(word: str, which: str, noun: str = "message") -> Sentence:
@@ -168,6 +163,6 @@ class Says:
     WITHOUT_FIELDS = Sentence("without-fields", "without fields {}")
 
 
-SAYS = {one.word: one for one in vars(Says).values() if isinstance(one, Sentence)}
-# where each stands in a row
-PLACES = {word: place for place, word in enumerate(SAYS)}
+WORDS = (one.word for one in vars(Says).values() if isinstance(one, Sentence))
+# where each stands in a row, which is where its first sentence stands
+PLACES = {word: place for place, word in enumerate(dict.fromkeys(WORDS))}

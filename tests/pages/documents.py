@@ -218,7 +218,7 @@ def wrong_reasons() -> Iterator[str]:
 def wrong_remarks() -> Iterator[str]:
     """The schema has the words of remarks that `explain` has, and each of these has its sentence in the table."""
     words = list(importlib.import_module("mbox2maildir_admin.meanings").REMARKS)
-    table = importlib.import_module("mbox2maildir_admin.remarks").SAYS
+    table = importlib.import_module("mbox2maildir_admin.remarks").PLACES
     schema = json.loads(text_of(SCHEMA))["$defs"]["remark"]["enum"]
     if schema != words:
         yield f"docs/rows.schema.json has the remarks {schema}, and the companion has {words}"

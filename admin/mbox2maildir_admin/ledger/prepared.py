@@ -21,7 +21,7 @@ from ..maildir.making import PREPARED, WITH_MAIL, sync_folder
 from ..mbox.bases import FIRST, Table, base_in, before_info
 from ..mbox.core import SHORT
 from ..mbox.inventory import NO_DATE, Inventory
-from ..remarks import SAYS, Remark
+from ..remarks import PLACES, Remark
 from ..patterns import pattern
 from ..units import Say
 from .lines import CUT, FIRST_LINE, append, lines_in
@@ -163,7 +163,7 @@ class AsRead(NamedTuple):
         start, messages, kind, rest = (one.decode("utf-8", "surrogateescape") for one in found.groups())
         words = rest.split("\t")[1:]
         its = ((words[at], words[at + 2], int(words[at + 1])) for at in range(0, len(words), 3))
-        remarks = (Remark(SAYS[word], says, there) for word, says, there in its if word in SAYS)
+        remarks = (Remark(word, says, there) for word, says, there in its if word in PLACES)
         return cls(int(start), int(messages), kind, tuple(remarks))
 
     def line(self) -> bytes:

@@ -347,6 +347,7 @@ class Transfer:
         """What a first pass does by what it finds of the messages, and the row that says so."""
         assert self.prepared, "a first pass keeps a list"
         match = self.matched(part, contents, again)
+        self.note_answer(part)
         said = [*said, *remarks_on_prepared(self.prepared, self.options, self.opened.mailbox.say)]
         origin, text = origin_now(self.known, contents, self.options.names), text_to_list(part.choice, contents)
         took = in_milliseconds(self.opened.mailbox.took) if text else self.passed()
@@ -365,6 +366,7 @@ class Transfer:
         if not again:
             known.take_place_by_cores(contents.inventory)
         match, prepared = self.matched(part, contents, again), None if again else self.prepared
+        self.note_answer(part)
         ends_list = again or prepared is not None
         if known.path in known.ledger.sources and not match.count_new():
             steps = Steps.of(known, contents, match, options.extra, OtherPass(again, ends_list, has_nothing_new=True))
@@ -408,8 +410,7 @@ class Transfer:
 
     def matched(self, part: Part, contents: Contents, again: bool) -> Match:
         """The messages of the text, with what is there of them; what was prepared counts for those that nothing else
-        stands for. Notes the answer by which it was read. Raises Left if nobody knows what the files of the folder are,
-        or whether it is the same mailbox."""
+        stands for. Raises Left if nobody knows what the files of the folder are, or whether it is the same mailbox."""
         prepared, say = self.prepared, self.opened.mailbox.say
         if again:
             match = self.matched_again(self.ledger, contents)
@@ -427,9 +428,12 @@ class Transfer:
                 prepared.give_to(match)
         if part.is_as_prepared and match.count(Stand.NOWHERE):
             raise Left(CHANGED_MEANWHILE, Reason.CHANGED)
+        return match
+
+    def note_answer(self, part: Part) -> None:
+        """Notes the answer by which the mailbox was read, unless what it has brought gave that."""
         if Says.AS_BROUGHT.of() not in self.remarks:
             note_answer(self.record, self.opened, part.choice.plan)
-        return match
 
     def matched_again(self, ledger: Ledger, contents: Contents) -> Match:
         """The same if all that is nowhere is placed."""

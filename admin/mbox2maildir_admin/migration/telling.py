@@ -6,7 +6,7 @@ from ..faults import REASONS
 from ..jobs.crew import in_json
 from ..kinds.making import with_aside
 from ..nexts import DOES, TODOS, Answer, Command, Does, Next, OfFiles, Phrase, Single, Task, Template, Todo, task
-from ..remarks import SAYS, Sentence
+from ..remarks import PLACES
 from ..terminal import bytes_of, shown
 from .outcomes import VERDICTS, Row
 
@@ -45,7 +45,8 @@ def row_of(words: Mapping[str, Any], whose: Optional[Whose] = None) -> Row:
     """Reads a row that a process told, which may be that of a user. Root itself knows which way mail goes then, and
     whose it is. Raises an error of Python's if it is no row."""
     row = Row(**{name: list(one) if name == "next" else value_of(KINDS[name], one) for name, one in words.items()})
-    if not {one.word for one in row.details if one.word} <= SAYS.keys() or row.verdict not in VERDICTS:
+    its = {one.word for one in row.details if one.word} | {one.word for one in row.remarks}
+    if not its <= PLACES.keys() or row.verdict not in VERDICTS:
         raise ValueError("no word")
     row = row._replace(next=next_of(row.next, row.path, whose))
     return row._replace(is_back=whose.is_back, user=whose.name) if whose else row
@@ -122,5 +123,5 @@ def number_of(value: object) -> int:
 KINDS = Row.__annotations__
 READS: Mapping[Any, Callable[[Any], Any]] = {
     **{str: shown, bytes: bytes_of, int: number_of, bool: lambda value: value is True},
-    **{Phrase: REASONS.__getitem__, Sentence: SAYS.__getitem__},
+    **{Phrase: REASONS.__getitem__},
 }

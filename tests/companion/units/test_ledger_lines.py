@@ -9,7 +9,7 @@ from mbox2maildir_admin.ledger.lines import ALL_PLACED, BATCH, CUT, END, FAILED,
 from mbox2maildir_admin.ledger.lines import PLACED, SHARED, UNDOING, UNDONE, Brought, Head, Messages, pieces_of
 from mbox2maildir_admin.ledger.prepared import AS_READ, BEGUN, AsRead, Origin, Prepared
 from mbox2maildir_admin.ledger.record import unspelled
-from mbox2maildir_admin.remarks import SAYS, Remark
+from mbox2maildir_admin.remarks import Remark
 from mbox2maildir_admin.terminal import spelled
 from mbox2maildir_admin.units import Size
 
@@ -25,8 +25,7 @@ DONE = b"done\t" + NOTED + b"\tmboxo text=7,9\t" + b"0" * 32 + b"-1234-5"
 PLAIN = STEP._replace(ledger="", size=0, number=0)
 ORIGIN = Origin((7, SHA), (1, 7, 2), 2, "mboxrd", "/home/mail", "/home/mail/box")
 BEGAN = b"@\t7-" + b"c" * 64 + b"\t1,7,2\t2\tmboxrd\t/home/mail\t/home/mail/box"
-LOSES, NO_END = SAYS["loses-quote"], SAYS["no-line-end"]
-REMARKS = Remark(LOSES, "`>>From ` loses a `>` in 2 lines"), Remark(NO_END, "\u00e9", 3)
+REMARKS = Remark("loses-quote", "`>>From ` loses a `>` in 2 lines"), Remark("no-line-end", "\u00e9", 3)
 FILE = b"p\t" + NAME + b"\t18446744073709551615\t9\t1\tcur:2,S\t=\t" + HEXB + b"\t0\t1\t0"
 
 
