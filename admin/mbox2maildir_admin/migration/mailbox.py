@@ -390,7 +390,7 @@ class Transfer:
         # a message of a Takeout may be in many folders
         elsewhere = [] if self.part else self.known.elsewhere(steps.contents.inventory)
         said = [*said, *remarks_on(steps, self.options.dry), *back_in(self.ledger)]
-        is_gone = any(one.what is Says.GONE_ELSEWHERE for one in said)
+        is_gone = any(one.word == Says.GONE_ELSEWHERE.word for one in said)
         then = self.command(Does.BRINGS_BACK, again=True) if is_gone else NOTHING
         for line, is_moved in elsewhere:
             its = counted(line.messages, "message"), folder_shown(line.key.folder)
