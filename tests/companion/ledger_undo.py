@@ -2,6 +2,7 @@
 message is there as often as the mailbox has it that has it most often, and no undo takes what another mailbox brought.
 """
 import os
+import re
 from collections.abc import Callable, Sequence
 from pathlib import Path
 
@@ -310,6 +311,37 @@ def rule_6_a_file_in_another_form(home: Home) -> None:
     home.has(50)
     home.undo("OTHER")
     home.has()
+
+
+def rule_6_the_form_that_stays(home: Home) -> None:
+    """A reader deletes the file that two mailboxes share. The second one has the message twice more: in the form of
+    that file, and in another one. Its undo leaves the first mailbox the file in its own form."""
+    form, other = (b"hello\n%sFrom the shed.\n" % quoted for quoted in (b">", b">>"))
+    home.bring(OLD=letter(50, RO, form))
+    (first,) = home.those(50)
+    texts = letter(50, RO, form), letter(50, b"X-Evolution: 00000001-0010\n", other), letter(50, b"X-UID: 3\n", form)
+    home.bring(OTHER=b"".join(texts))
+    first.unlink()
+    home.undo("OTHER")
+    there = [path.read_bytes().count(b">From") for path in home.files()]
+    if there != [0]:
+        raise Failed(f"{there} are in the folder: {home.printed}")
+
+
+def rule_6_new_mail_beside_a_form_that_stays(home: Home) -> None:
+    """A reader deletes a message, in place of which an undo leaves another form. A new message in a third form comes
+    before it or behind it: it is placed, and what was deleted is not."""
+    new, old, other = (letter(50, body=b"hello\n%sFrom the shed.\n" % (b">" * count)) for count in (1, 2, 3))
+    for text in home.each((old + new, new + old)):
+        home.bring(OLD=old)
+        (first,) = home.those(50)
+        home.bring(OTHER=other)
+        first.unlink()
+        home.undo("OTHER")
+        home.bring(OLD=text)
+        there = sorted(re.findall(rb"(>*)From the", path.read_bytes())[0].decode() for path in home.files())
+        if there != ["", ">>"]:
+            raise Failed(f"{there} are in the folder: {home.printed}")
 
 
 def rule_6_the_file_that_stays_anyhow(home: Home) -> None:

@@ -91,6 +91,8 @@ class Source:
         self.lost: collections.Counter[bytes] = collections.Counter()
         self.forms: collections.defaultdict[bytes, list[bytes]] = collections.defaultdict(list)
         self.back = 0
+        # how often it had a bare form of which a file in another form took the place
+        self.earlier: collections.Counter[bytes] = collections.Counter()
 
     def take(self, batch: Batch) -> None:
         """Takes a batch that has ended."""
@@ -127,6 +129,7 @@ class Source:
             at = self.cores.find(core, at + 1)
         if at >= 0:
             self.bares[at : at + SHORT] = bare
+            self.earlier[was] += 1
 
     def has(self, first: int = 0) -> collections.Counter[bytes]:
         """How often it had each core when it was read last, from a message on."""

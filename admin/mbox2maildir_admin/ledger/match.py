@@ -393,7 +393,7 @@ def stands_by(source: Optional[Source], inventory: Inventory) -> tuple[bytearray
     if not source:
         return states, collections.Counter()
     first = source.same_start(inventory.cores, inventory.bares)
-    cores, bares = source.has(first), counted_in(source.bares[first * SHORT :])
+    cores, bares = source.has(first), counted_in(source.bares[first * SHORT :]) + source.earlier
     states[:first] = bytes([Stand.KNOWN]) * first
     rest = array.array("Q")
     for place in range(first, len(inventory)):

@@ -211,10 +211,12 @@ def becomes_of(ledger: Ledger, path: str, has: Cores) -> list[Becomes]:
     files = files_of((line for line in ledger.entries(None) if line.state is not State.UNDONE), there)
     gone = gone_of_others(ledger.folder, files, path, has)
 
-    def order(one: tuple[Line, File]) -> tuple[bool, bool, bool]:
-        """What stays for others comes first; and what the mailbox had once may have other bytes than what it has."""
+    def order(one: tuple[Line, File]) -> tuple[bool, ...]:
+        """What stays for others comes first, and then what is in the form of what they lack; what the mailbox had once
+        may have other bytes than what it has."""
         line, file = one
-        return not others_of(file, path, MAY_HAVE), line.state not in MAY_HAVE, (file.name is None) != is_resumed
+        is_kept, lacked = bool(others_of(file, path, MAY_HAVE)), {other.bare for other in gone.get(line.message.core, ())}
+        return not is_kept, line.state not in MAY_HAVE, (file.name is None) != is_resumed, file.bare not in lacked
 
     own = sorted(((line, file) for file in files for line in [file.line_of(path)] if line), key=order)
     plan = [becomes_by(line, file, has, gone) for line, file in own]
@@ -227,6 +229,8 @@ def becomes_by(line: Line, file: File, has: Cores, gone: Mapping[bytes, list[Fil
     lack, is taken from what the mailbox has, and from what others lack."""
     message, has_file = line.message, file.name is not None
     holders, theirs = others_of(file, line.path, MAY_HAVE), gone.get(message.core, [])
+    # the last one gets it: one in its form
+    theirs.sort(key=lambda one: one.bare == file.bare)
     if file.is_renamed:
         return Becomes(Fate.RENAMED, line)
     if not has_file and (message.word in NOBODYS or holders or not has[message.core] or not file.is_newest):
