@@ -17,8 +17,12 @@ LISTS, WRITES = FAILS % "lists new", FAILS % "removes a leftover, or writes or p
 SYNC_FAILED = "left (sync-failed): its sync failed: read the system's log and mount the disk again ..."
 
 
+# what is said of both mailboxes
+EACH = "".join(f"{name} -> INBOX: mboxrd or mboxo, messages 1: {{0}}\n" for name in ("box", "two")) + "...\n"
+
+
 class Failing(NamedTuple):
-    """A call that fails, and with what path; what is said then, and by the next run."""
+    """A call that fails, and with what path; what is said of both mailboxes then, or at once, and by the next run."""
 
     call: str
     path: str
@@ -36,7 +40,7 @@ CALLS = {
         f"left (convert-failed): {LISTS}its disk cannot sync folders: Invalid argument; ...",
     ),
     "no_locks": Failing(
-        "flock:error=ENOLCK", "", f"left (record): M/{RECORD}: it cannot be locked: No locks available"
+        "flock:error=ENOLCK", "", f"mbox2maildir-admin: M/{RECORD}: it cannot be locked: No locks available\n"
     ),
     "a_rename": Failing(
         "rename:error=EIO",
@@ -56,9 +60,8 @@ def attempt(home: Path, one: Failing) -> None:
     strace = ["/usr/bin/env", "strace", "-f", "-qq", "-o", "/dev/null", *place, "-e", f"inject={one.call}"]
     words = ["migrate", "--all", "--now", "M", "box", "two"]
     ran = Desk(home).run([*strace, home / "bin/mbox2maildir-admin", *words])
-    for ran, says in ((ran, one.says), (Desk(home).run(words), one.then)):
-        for line in ran.out.splitlines()[:-1]:
-            matches(f"{one.call}: {ran.output}", line, f"... -> INBOX: mboxrd or mboxo, messages 1: {says}")
+    matches(one.call, ran.output, one.says if one.says.endswith("\n") else EACH.format(one.says))
+    matches(f"after {one.call}", Desk(home).run(words).output, EACH.format(one.then))
     expect([*words, "--again"], home, 0, None)
     equal("what is there", subjects(home / "M"), ["one", "two"])
     equal("what is left in tmp", list((home / "M/tmp").iterdir()), [])

@@ -82,6 +82,10 @@ STORIES: dict[str, list[Step]] = {
         (">", "a: left (another-reading): it was read as mboxrd when it was migrated, and 1 message of that ..."),
         *((">", "a: done: it grew by 2 messages"), "= one one two two"),
     ],
+    "a_human_names_a_line_and_then_another_comes": [
+        *(("a", QUOTED), "migrate --as mboxrd M a", ("a", QUOTED + LINES), "migrate M a", ">"),
+        *(("a", QUOTED + LINES + NOTED), (">", "a: left (unclear): what is asked about it has changed since ...")),
+    ],
     "it_was_begun_by_another_word": [
         *(("a", NOTED), *killed("migrate --as unquoted M a")),
         (

@@ -232,12 +232,29 @@ STORIES: dict[str, list[Step]] = {
             ("a", ONE + TWO),
             FIRST,
             "!rm a; echo edited >>$(grep -l one M/new/*); printf 'Subject: new\\n\\n' >M/new/17.host",
+            # a second copy
+            "!for a in $(grep -l two M/new/*); do cp $a M/cur/${a##*/}:2,S; done",
         ),
         (
             "migrate --dry-run --undo M a",
-            "a: would be undone: would remove 1 message; would keep 1 file that somebody ...",
+            "a: would be undone: would remove 1 message; would keep 2 files that somebody ...",
         ),
-        *(("migrate --undo M a", "a: undone: removed 1 message; kept 1 file that somebody edited"), "= new one"),
+        *(("migrate --undo M a", "a: undone: removed 1 message; kept 2 files that somebody edited"), "= new one two:S"),
+    ],
+    # each name of a folder that a killed undo may have removed
+    "undone_by_an_undo_that_was_killed": [
+        *(
+            step
+            for names in ("tmp", "tmp new", "tmp new cur", "tmp new cur maildirfolder")
+            for step in (
+                ("old/a", ONE),
+                FIRST_OF_TREE,
+                f"!cd M/.a; rm -r {names.replace('tmp', 'new/* tmp')}",
+                ("migrate --undo M old/a", "old/a: undone: removed 0 messages"),
+                "!! ls -A M | grep 'a$'",
+            )
+        ),
+        "=",
     ],
     # the ledger has what is done, so the list says nothing, and stays
     "undone_by_a_list_from_a_backup": [

@@ -35,8 +35,10 @@ ROWS: Sequence[tuple[Callable[..., Any], tuple[Any, ...], Any]] = (
 )
 # what is at work, and the line of a terminal with so many columns
 LINES = (
-    ("box", 40, "1/1 box: reading, 50 %, 9 s left"),
-    ("box", 25, "1/1 box: reading, 50 %"),
+    ("box", 32, "1/1 box: reading, 50 %, 9 s left"),
+    ("box", 31, "1/1 box: reading, 50 %"),
+    ("box", 22, "1/1 box: reading, 50 %"),
+    ("box", 21, "1/1 box: reading"),
     ("mail/lists/box", 25, "1/1 ...lists/box: reading"),
 )
 # what a first pass spent on mailboxes, how long it took and how many were at work at once, and the estimate: they share
