@@ -22,7 +22,7 @@ EACH = "".join(f"{name} -> INBOX: mboxrd or mboxo, messages 1: {{0}}\n" for name
 
 
 class Failing(NamedTuple):
-    """A call that fails, and with what path; what is said of both mailboxes then, or at once, and by the next run."""
+    """A call that fails, and with what path; what is said of each mailbox then, and by the next run, or what is all."""
 
     call: str
     path: str
@@ -33,7 +33,7 @@ class Failing(NamedTuple):
 CALLS = {
     "a_sync": Failing("syncfs:error=EIO", "", SYNC_FAILED, SYNC_FAILED),
     "a_sync_of_new": Failing("fsync:error=EIO", "M/new", SYNC_FAILED, SYNC_FAILED),
-    "no_such_sync": Failing("syncfs:error=ENOSYS", "", "done...", "done before"),
+    "no_such_sync": Failing("syncfs:error=ENOSYS", "", "done...", "2 mailboxes: 2 done before\n"),
     "no_sync_of_folders": Failing(
         "fsync:error=EINVAL",
         "M/new",
@@ -60,8 +60,8 @@ def attempt(home: Path, one: Failing) -> None:
     strace = ["/usr/bin/env", "strace", "-f", "-qq", "-o", "/dev/null", *place, "-e", f"inject={one.call}"]
     words = ["migrate", "--all", "--now", "M", "box", "two"]
     ran = Desk(home).run([*strace, home / "bin/mbox2maildir-admin", *words])
-    matches(one.call, ran.output, one.says if one.says.endswith("\n") else EACH.format(one.says))
-    matches(f"after {one.call}", Desk(home).run(words).output, EACH.format(one.then))
+    for ran, says in ((ran, one.says), (Desk(home).run(words), one.then)):
+        matches(one.call, ran.output, says if says.endswith("\n") else EACH.format(says))
     expect([*words, "--again"], home, 0, None)
     equal("what is there", subjects(home / "M"), ["one", "two"])
     equal("what is left in tmp", list((home / "M/tmp").iterdir()), [])

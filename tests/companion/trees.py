@@ -70,6 +70,27 @@ def trees(home: Path) -> None:
     expect("migrate --all --folder Second M tree/twice", home, 0, says)
 
 
+def few_open_files(home: Path) -> None:
+    """What is done with a mailbox leaves no file open, so there may be more mailboxes than files that may be open."""
+    head = "From a@b Mon Mar  3 09:12:44 2025\n{}X-UID: {}\nX-Keywords: Foo\nSubject: {}\n\nhello\n\n".format
+
+    def want_each(words: str, verdict: str, count: int = 0) -> None:
+        for name in map(str, range(20 * bool(count))):
+            base = f"X-IMAPbase: 222 {4 + count} Foo\n"
+            text = "".join(head(base * (uid == 5), uid, f"{name}-{uid}") for uid in range(5, 5 + count))
+            mailbox(home / "old" / name, text.encode())
+        ran = run_printed(f"ulimit -n 20 && mbox2maildir-admin {words} old", home)
+        equal(f"{words}: {ran.output}", (ran.status, f"20 mailboxes: 20 {verdict}" in ran.out), (0, True))
+
+    want_each("migrate --jobs 1 --now --prepare --unread --dovecot M", "prepared", 1)
+    for count in (2, 3):
+        want_each("migrate --jobs 1 --now --dovecot M", "done", count)
+    want_each("verify M", "whole")
+    for place in (home / "M").glob(".*/new"):
+        (place / "17000.M1.host").write_text("Subject: new\n\nhello\n")
+    want_each("back --now --dovecot M", "back")
+
+
 def folders_of_messages(home: Path) -> None:
     """A Maildir or a folder of MH among mailboxes has one line, whose next command brings its mail over."""
     for name in ("cur/1:2,S", "new/2", "tmp/3", "maildirfolder", "dovecot-uidlist"):

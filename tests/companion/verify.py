@@ -7,7 +7,7 @@ from functools import partial
 from pathlib import Path
 
 from tests.support.checks import equal, matches
-from tests.support.homes import check_all, checks_in, expect, hand_over, mailbox, run, want_root
+from tests.support.homes import check_all, checks_in, expect, hand_over, mail_in, mailbox, run, want_root
 from tests.support.mail import A, ONE
 from tests.support.running import OWNER, Desk
 
@@ -95,11 +95,19 @@ def verified(home: Path) -> None:
 
 
 def by_a_decision(home: Path) -> None:
-    """A mailbox is read as it was migrated, whether its folder or the Maildir is named."""
-    mailbox(home / "box", A + b"\n>>From x\n\n")
+    """A mailbox is read as it was migrated, whether its folder or the Maildir is named. Lines are those of the mailbox,
+    and not of the copy that is converted."""
+    first = A + b"\n>>From x\n\n"
+    mailbox(home / "box", first + ONE)
     equal("migrate", run("migrate --now --as mboxo --folder Sent M box", home)[0], 0)
     for folder in ("M", "M/.Sent", "M/.Sent/"):
         expect(["verify", folder, "box"], home, 0, "1 mailbox: 1 whole\n")
+    for path in mail_in(home / "M/.Sent"):
+        path.unlink()
+    lines = "".join(
+        f"    message {number} (line {line}): nowhere\n" for number, line in ((1, 1), (2, len(first.split(b"\n"))))
+    )
+    expect("verify --all M box", home, 1, f"...: not whole, nowhere 2\n{lines}1 mailbox: 1 not whole (1 nowhere)\n")
 
 
 def there_twice(home: Path) -> None:
@@ -142,7 +150,11 @@ def large_files(home: Path) -> None:
     hand_over(home)
     verify = partial(Desk(home, user=OWNER).run, "verify --all M box".split())
     equal("a conversion", Desk(home, user=OWNER).run("mbox2maildir convert M box".split()).status, 0)
+    # another one, which is not read, since it has the size of no message
+    other = mailbox(home / "M/cur/17000.M1.host:2,S", b"")
+    os.truncate(other, 1 << 40)
     matches("the last line", verify().out.splitlines()[-1], "1 mailbox: 1 whole; ...")
+    other.unlink()
     paths = sorted((home / "M/new").iterdir(), key=lambda path: path.read_text())
     for path in paths[3], paths[70]:
         path.write_text(path.read_text().upper())

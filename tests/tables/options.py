@@ -3,10 +3,35 @@ import re
 from pathlib import Path
 
 from tests.support.checks import TOP, equal, text_of
-from tests.support.homes import check_all, expect, mailbox, run
+from tests.support.homes import ADMIN, check_all, expect, mailbox, run
 from tests.support.mail import ONE
 
-COMMANDS = "kind", "quote", "dates", "migrate", "verify"
+# how each command is used, which groups its help has, and which options take a value, by the manual
+OF_USERS, NO_GROUPS = "--users [OPTION]... OLD [NAME...]", "options"
+ANSWERS, REPORT = "--as WORD --text LINE,.. --begin LINE,.. --of TIE", "--report FILE"
+HOMES = "--maildir NAME --tree NAME --names FILE"
+HELPS = {
+    "": (["COMMAND ..."], "commands, options, examples", ""),
+    "kind": (["[OPTION]... FILE..."], NO_GROUPS, ""),
+    "quote": (["[OPTION]... -o COPY FILE"], NO_GROUPS, f"{ANSWERS} --output COPY"),
+    "dates": (["[OPTION]... MAILDIR FILE..."], NO_GROUPS, ""),
+    "migrate": (
+        ["[OPTION]... MAILDIR MAILBOX...", OF_USERS, "--undo [OPTION]... MAILDIR MAILBOX"],
+        "options, how, a Takeout of Gmail, answers for what was left, for many users, as root, examples",
+        f"--folder NAME --jobs N {REPORT} --labels [one|all] --label NAME=WHAT {ANSWERS} --no-mail PATTERN {HOMES}",
+    ),
+    "verify": (
+        ["[OPTION]... MAILDIR FILE...", OF_USERS],
+        "options, for many users, as root, examples",
+        f"{HOMES} --jobs N {REPORT}",
+    ),
+    "back": (
+        ["[OPTION]... MAILDIR OLD...", OF_USERS],
+        "options, for many users, as root, examples",
+        f"{REPORT} {HOMES} --jobs N",
+    ),
+    "explain": (["[WORD]..."], NO_GROUPS, ""),
+}
 
 
 def options_anywhere(home: Path) -> None:
@@ -23,26 +48,24 @@ def options_anywhere(home: Path) -> None:
 
 def helps(home: Path) -> None:
     """Each help has at most 80 columns, however wide the terminal is, and a name for each group of options. The help of
-    the program and that of `migrate` have four examples, that of `verify` two."""
-    wanted_of = {"migrate": 4, "verify": 2}
-    for words, examples in ((["--help"], 4), *(([word, "--help"], wanted_of.get(word, 0)) for word in COMMANDS)):
-        status, out, err = run(words, home, COLUMNS="200")
-        equal(f"{words}: status, errors, and lines that are too long", (status, err), (0, ""))
-        equal(f"{words}: lines that are too long", [line for line in out.splitlines() if len(line) > 80], [])
-        equal(f"{words}: what it does", bool(re.search(r"\n\n[A-Z][a-z]", out)), True)
+    the program and that of `migrate` have four examples, those of `back` and `verify` fewer."""
+    wanted_of = {"": 4, "migrate": 4, "verify": 2, "back": 3}
+    for word, (usage, groups, values) in HELPS.items():
+        status, out, err = run([ADMIN.name, "--help"] if not word else [word, "--help"], home, COLUMNS="200")
+        equal(f"{word}: status, errors, and lines that are too long", (status, err), (0, ""))
+        equal(f"{word}: lines that are too long", [line for line in out.splitlines() if len(line) > 80], [])
+        says = out.partition("\n\n")[0].replace("usage: ", " " * 7)
+        equal(f"{word}: its use", says, "\n".join(f"       {f'{ADMIN.name} {word}'.strip()} {one}" for one in usage))
+        equal(f"{word}: what it does", bool(re.search(r"\n\n[A-Z][a-z]", out)), True)
         bare = re.findall(r"(?m)^  -(?:(?!   ?\S).)*\n(?! {8})", out)
-        equal(f"{words}: options of which nothing is said", bare, [])
-        equal(f"{words}: examples", len(re.findall(r"(?m)^  (?:# )?mbox2maildir-admin ", out)), examples)
-    groups = re.findall(r"(?m)^(\w.*):$", run("migrate --help", home)[1])
-    wanted = [
-        "options",
-        "how",
-        "a Takeout of Gmail",
-        "answers for what was left",
-        "for many users, as root",
-        "examples",
-    ]
-    equal("groups of `migrate`", groups, wanted)
+        equal(f"{word}: options of which nothing is said", bare, [])
+        found = " ".join(
+            f"{name} {value}" for name, value in re.findall(r"(?m)^  (?:-\w\b[^-]*)?(--[a-z-]+) (\S+)", out)
+        )
+        equal(f"{word}: options with values", found, values)
+        equal(f"{word}: groups", ", ".join(re.findall(r"(?m)^(\w.*):$", out)), groups)
+        examples = len(re.findall(r"(?m)^  (?:# )?mbox2maildir-admin ", out))
+        equal(f"{word}: examples", examples, wanted_of.get(word, 0))
 
 
 def version(home: Path) -> None:

@@ -1,10 +1,15 @@
 """How progress is spelled: sizes, times, and the line of a terminal of any width."""
+import fcntl
+import os
+import struct
+import termios
 import unittest
 from collections.abc import Callable, Sequence
 from typing import Any, Optional
+from unittest import mock
 
 from mbox2maildir_admin.progress import Actor, Doing, Estimate, Pace, Spent, composed, cut, duration, fitted
-from mbox2maildir_admin.progress import how_far, length, together, width_of
+from mbox2maildir_admin.progress import how_far, length, together, width_of, width_of_terminal
 
 GB = 10**9
 MAIL = "\u90f5"
@@ -64,6 +69,16 @@ class ProgressTest(unittest.TestCase):
             for who in ("mia/lists/sheds", MAIL * 100, "/home/" + "x" * 300):
                 line = composed(Actor(who, "12/41 "), "verifying file 7", ["50 %", "9 s left"], columns)
                 self.assertLessEqual(width_of(line), columns)
+
+    def test_width(self) -> None:
+        """A terminal that has no size, or is gone while a run goes on, counts as one of 80 columns."""
+        main, terminal = os.openpty()
+        with open(main, "rb"), open(terminal, "w", encoding="utf-8") as output, mock.patch("sys.stderr", output):
+            for size, wanted in ((0, 80), (40, 40)):
+                fcntl.ioctl(main, termios.TIOCSWINSZ, struct.pack("4H", 24, size, 0, 0))
+                self.assertEqual(width_of_terminal(), wanted)
+        with open(os.devnull, "w", encoding="utf-8") as output, mock.patch("sys.stderr", output):
+            self.assertEqual(width_of_terminal(), 80)
 
     def test_estimates(self) -> None:
         for several, passed, at_once, wanted in ESTIMATES:
