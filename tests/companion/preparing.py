@@ -248,8 +248,7 @@ OPEN = "it does not belong to you, or others may write to it: look at it, and mo
 
 
 def spoilt(home: Path) -> None:
-    """A list that others may have written shows nothing: each pass says so, and changes no mail. An undo keeps what
-    somebody has edited, and a second copy."""
+    """A list that others may have written shows nothing: each pass says so, and changes no mail."""
     doveconf(home, MBOX)
     mailbox(home / "box", ONE)
     for mode in (0o620, 0o602):
@@ -261,14 +260,6 @@ def spoilt(home: Path) -> None:
             got = status, OPEN in out + err, sorted(mail_in(home / "M"))
             equal(f"{option}: its status, what is said, and the mail: {out}{err}", got, (1, True, before))
         shutil.rmtree(home / "M")
-    mailbox(home / "box", ONE + TWO)
-    expect("migrate --prepare M box", home, 0, None)
-    one, two = mail_in(home / "M")
-    one.write_bytes(one.read_bytes().upper())
-    shutil.copy(two, home / "M/cur" / f"{two.name}:2,S")
-    says = "box -> INBOX: messages 2: undone, removed 1 message; kept 2 files that somebody edited\n...\n"
-    expect("migrate --all --undo M box", home, 0, says)
-    equal("what is there", len([*mail_in(home / "M")]), 2)
 
 
 # a mailbox that words read differently, and new mail of that kind

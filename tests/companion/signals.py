@@ -143,19 +143,17 @@ def broken_off(home: Path) -> None:
             (130, "1 mailbox: 1 done" + " before" * (number != 15) + "; interrupted: run the same command again", ""),
         )
         (home / "at-work").unlink()
-    says = (
-        "mbox2maildir-admin: the output could not be written: No space left on device; what was done is in the record: "
-        "run the same command again\n"
+    fake(home, f"exec '{home}/real' \"$@\"")
+    ran = run_printed("mbox2maildir-admin migrate M two >/dev/full", home)
+    equal(
+        "an output that is full",
+        (ran.status, ran.err),
+        (
+            1,
+            "mbox2maildir-admin: the output could not be written: No space "
+            "left on device; what was done is in the record: run the same command again\n",
+        ),
     )
-    for name in ("one", "two"):
-        mailbox(home / "old" / name, ONE)
-    # another one is at work then, of which nothing is said
-    waits = f"convert*.one) until test -e '{home}/at-work'; do sleep 0.1; done"
-    sleeps = f"convert*.two) : >'{home}/at-work'; exec sleep 600"
-    fake(home, f"case $1$PWD in {waits};; {sleeps};; esac; exec '{home}/real' \"$@\"")
-    for words in ("M two", "--jobs 2 M old"):
-        ran = run_printed(f"mbox2maildir-admin migrate {words} >/dev/full", home)
-        equal(f"an output that is full: {words}", (ran.status, ran.err), (1, says))
     expect("migrate --all M box two", home, 0, "2 mailboxes: 2 done before\n")
     equal("what is there", subjects(home / "M"), ["one", "two"])
 

@@ -132,7 +132,8 @@ STORIES: dict[str, list[Step]] = {
         *(("a", ONE), "migrate M a", f"!echo hello >>{LEDGER}; cp {LEDGER} kept", ("a", ONE + TWO)),
         ("migrate M a", "a: left (ledger): the ledger of its folder is damaged in line 6, so nothing shows which ..."),
         *(("migrate --dry-run --again M a", "a: would be done: would place 1 message..."), f"!cmp {LEDGER} kept"),
-        *(("migrate --again M a", "a: done: placed 1 message..."), "= one two", ("migrate M a", "a: done before")),
+        *(("migrate --again M a", "a: done: placed 1 message..."), f"= one two {LEDGER[2:]}.damaged?"),
+        ("migrate M a", "a: done before"),
     ],
     # the folder has another name by now, and only its ledger could say so
     "the_record_is_lost_and_a_ledger_cannot_be_read": [
