@@ -17,11 +17,10 @@ from tests.support.cases import run_cases
 from tests.support.checks import TOP, equal, match_in, text_of
 from tests.support.homes import by_json, fake, fresh_folder, install, mail_below, mail_in, mailbox, make_maildir
 from tests.support.homes import restore, run
-from tests.support.ledgers import LEDGER, RECORD
+from tests.support.ledgers import LEDGER, PREPARED, RECORD
 from tests.support.mail import A, ONE, THREE, TWO
 from tests.support.running import Desk, Row, Run
 from tests.support.schema import SCHEMA
-from tests.support.stories import LIST
 
 KEPT = TOP / "tests/companion/kept"
 PLACE, SAID, WORDS = KEPT / "home", KEPT / "said.json", KEPT / "words.txt"
@@ -265,13 +264,13 @@ def last_pass(home: Path) -> None:
         box.write(SIX)
     row = by_json("migrate --now P used", home).row
     equal("the mailbox", (row["verdict"], row.remarks), ("done", ["prepared-before"]))
-    equal("what is there", (subjects_in(home, "P"), (home / "P" / LIST).exists()), ("one six two", False))
+    equal("what is there", (subjects_in(home, "P"), (home / "P" / PREPARED).exists()), ("one six two", False))
 
 
 def of_a_higher_number(home: Path) -> None:
     """A book of a later version, whose lines have another form, is refused with one sentence. Nothing is written."""
     options = "", "--again", "--dry-run", "--undo", "--prepare --unread"
-    for name, operands in ((f"M/{RECORD}", "M box"), (f"M/{LEDGER}", "M box"), (f"P/{LIST}", "P used")):
+    for name, operands in ((f"M/{RECORD}", "M box"), (f"M/{LEDGER}", "M box"), (f"P/{PREPARED}", "P used")):
         book, text = home / name, (home / name).read_bytes()
         first, number, rest = match_in(rb"(?s)\A([^\t]+\t)(\d+)(.*)", text).groups()
         book.write_bytes(first + b"%d" % (int(number) + 1) + rest.replace(b"\n", b"\nx"))

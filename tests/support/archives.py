@@ -16,7 +16,7 @@ from typing import Any, NamedTuple, Optional
 
 from tests.support.cases import Failed, run_cases
 from tests.support.homes import fresh_folder, in_memory, install, mail_below
-from tests.support.ledgers import LEDGER, RECORD, wait_for_lock
+from tests.support.ledgers import LEDGER, RECORD, besides, wait_for_lock
 from tests.support.place import ENDED, Place
 from tests.support.running import NEVER, Kill, Row, Run
 
@@ -204,11 +204,13 @@ class Home:
         return Counter(number_of(path.read_bytes()) for path in self.files(name))
 
     def has(self, *wanted: int, name: str = "*", why: object = "") -> None:
-        """A folder, or all, must have these messages, each as often as it is named."""
+        """A folder, or all, must have these messages, each as often as it is named, and nothing that a run left."""
         there, wants = self.numbers(name), Counter(wanted)
         if there != wants:
             wrong = f"{name}: too many {dict(there - wants)}, missing {dict(wants - there)}"
             raise Failed(f"{wrong}: {self.values} {why}: {self.printed}")
+        if besides(self.maildir):
+            raise Failed(f"what else is there: {besides(self.maildir)}: {self.values} {why}: {self.printed}")
 
     def those(self, number: int, name: str = "*") -> list[Path]:
         """The files of a message."""

@@ -1,10 +1,13 @@
 """The ledgers of a Maildir, as tests see and change them."""
 import fcntl
+import os
 import re
 from contextlib import suppress
 from pathlib import Path
 
-RECORD, LEDGER = "mbox2maildir-record", "mbox2maildir-messages"
+RECORD, LEDGER, PREPARED = "mbox2maildir-record", "mbox2maildir-messages", "mbox2maildir-prepared"
+# what may be in the folders of a Maildir, besides mail
+FILES = re.compile(rf"{RECORD}|{LEDGER}|{PREPARED}|maildirfolder|subscriptions|dovecot[-.].*")
 # a line which says that what a batch brought was verified
 END = re.compile(rb"=\t\d+\n")
 # what is another one in each run: the number of a ledger, with its size, when a step was taken, when a batch was begun,
@@ -18,6 +21,16 @@ def without_chance(path: Path) -> bytes:
     """What is in a record, a ledger or another file, without what is another one in each run."""
     text = path.read_bytes()
     return CHANCE.sub(b"", text) if path.name in (RECORD, LEDGER) else text
+
+
+def besides(maildir: Path) -> list[str]:
+    """What is in a Maildir or beside it that nobody needs there: files in `tmp`, and what a run has made for itself."""
+    folders = [maildir, *(path for path in maildir.glob(".*") if (path / "cur").is_dir())]
+    several = [path for folder in folders for path in folder.glob("*") if path.name not in ("new", "cur", "tmp")]
+    several += [path for folder in folders for path in folder.glob("tmp/*")]
+    strange = [path for path in several if path not in folders and not FILES.fullmatch(path.name)]
+    strange += [path for form in ("**/*.lock", "**/.mbox2maildir-*") for path in maildir.parent.glob(form)]
+    return sorted(f"{os.path.relpath(path, maildir)}?" for path in strange)
 
 
 def ends_in(maildir: Path) -> int:

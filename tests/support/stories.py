@@ -1,5 +1,4 @@
 """Stories: what is done in a home, step by step, what each command says then, and what mail is there."""
-import os
 import re
 from collections.abc import Callable, Iterable, Mapping
 from functools import partial
@@ -9,13 +8,13 @@ from typing import Union
 from tests.support.cases import run_cases
 from tests.support.checks import equal, matches
 from tests.support.homes import at_home, by_json, fake, mail_in, mailbox, restore, run_printed
+from tests.support.ledgers import PREPARED, besides
 from tests.support.running import Row, Run
 
 # A mailbox is written; a command of the companion says this of its rows; one is run, by the companion or after `!` by a
 # shell, `>` is the first command that was printed last; after `@` stands what converts in place of the program, which
 # is `"$real"` there; after `=` stands the mail that is there then.
 Step = Union[tuple[str, bytes], tuple[str, str], str]
-LIST = "mbox2maildir-prepared"
 # the program is in its place again
 RESTORED = "@"
 
@@ -41,20 +40,6 @@ def said_of(row: Row) -> str:
     return ": ".join(filter(None, [f"{row['path']}: {row['verdict']}{reason}", row["says"]]))
 
 
-# what may be in the folders of a Maildir, besides mail and the list of what is prepared
-FILES = re.compile(r"mbox2maildir-(messages|record)|maildirfolder|subscriptions|dovecot[-.].*")
-
-
-def besides(maildir: Path) -> list[str]:
-    """What is in a Maildir or beside it that nobody needs there: files in `tmp`, and what a run has made for itself."""
-    folders = [maildir, *(path for path in maildir.glob(".*") if (path / "cur").is_dir())]
-    several = [path for folder in folders for path in folder.glob("*") if path.name not in (LIST, "new", "cur", "tmp")]
-    several += [path for folder in folders for path in folder.glob("tmp/*")]
-    strange = [path for path in several if path not in folders and not FILES.fullmatch(path.name)]
-    strange += [path for form in ("**/*.lock", "**/.mbox2maildir-*") for path in maildir.parent.glob(form)]
-    return sorted(f"{os.path.relpath(path, maildir)}?" for path in strange)
-
-
 def there_in(maildir: Path) -> str:
     """The mail of a Maildir: its subjects, each with its flags and behind its folder; where lists are of what is
     prepared; and what else is there that should not be."""
@@ -65,7 +50,7 @@ def there_in(maildir: Path) -> str:
             subject = re.search(rb"(?m)^Subject: (.*)", path.read_bytes())
             flags = path.name.partition(":2,")[2]
             found.append(name + (subject[1].decode() if subject else "-") + (f":{flags}" if flags else ""))
-    lists = sorted(f"{path.parent.name}+" for path in maildir.rglob(LIST))
+    lists = sorted(f"{path.parent.name}+" for path in maildir.rglob(PREPARED))
     return " ".join([*sorted(found), *lists, *besides(maildir)])
 
 
