@@ -577,8 +577,10 @@ def rule_9_other_damage(home: Home) -> None:
         want_said(row, place + 1)
         damaged = home.ledger().read_bytes()
         home.done("OLD", words=["--again"])
+        kept = Path(f"{home.ledger()}.damaged")
+        equal("what is kept of it", kept.read_bytes(), damaged)
+        kept.unlink()
         home.has(*FIVE, 6)
-        equal("what is kept of it", Path(f"{home.ledger()}.damaged").read_bytes(), damaged)
 
 
 def rule_9_a_line_too_many(home: Home) -> None:
@@ -763,7 +765,7 @@ def rule_12_a_record_of_an_earlier_version(home: Home) -> None:
         home.has(0, 1, 2, 4)
         if ran.status != 1:
             raise Failed(ran.text)
-        record.rename(home.maildir / "old-record")
+        record.rename(home.path / "old-record")
         home.done("OLD", words=["--again"])
         home.done("NEW")
         home.has(*FIVE, 7)
