@@ -72,9 +72,9 @@ STORIES: dict[str, list[Step]] = {
     # it was begun, and is asked about
     "a_line_that_nobody_quoted": [
         *steps(("a", b"".join(SHED)), ("placed", QUOTED), FIRST_ALONE, "migrate M a", RESTORED),
-        *(("a", b"".join([*SHED, AFAR])), ("migrate M a", "a: left (unclear): ...")),
+        *(("a", b"".join([*SHED, AFAR])), ASKED := ("migrate M a", "a: left (unclear): ...")),
         ("migrate --as mboxrd M a", "a: left (another-reading): its conversion was begun with another reading: ..."),
-        *("migrate M a", (">", "a: done"), "migrate M a", "= four one three two"),
+        *(ASKED, (">", "a: done"), ("migrate M a", "a: done before"), "= four one three two"),
     ],
     # its owner deletes it, and the mailbox grows
     "the_last_message_has_no_blank_line": [

@@ -1,9 +1,7 @@
 """mbox2maildir-admin migrate --users: a spool of users, each migrated with only that user's rights. It needs root, and
 is left out without it."""
-import collections
 import contextlib
 import gzip
-import json
 import os
 import pwd
 import re
@@ -14,13 +12,12 @@ from collections.abc import Iterator
 from pathlib import Path
 
 from tests.support import accounts
-from tests.support.checks import TOP, equal, match_in, matches, text_of
-from tests.support.homes import ADMIN, check_all, doing_first, expect, mailbox, run, subjects, want_users
+from tests.support.checks import TOP, equal, match_in, matches, text_of, without_progress
+from tests.support.homes import ADMIN, by_json, check_all, doing_first, expect, mailbox, run, subjects, want_users
 from tests.support.ledgers import RECORD
 from tests.support.mail import ONE, THREE, TWO, numbered
 from tests.support.printed import Printed, row_in, rows_in
 from tests.support.running import Word
-from tests.support.schema import wrong
 
 USERS = ["m61one", "m61two", "m61three"]
 
@@ -341,32 +338,15 @@ def as_objects(home: Path) -> None:
         theirs(file, "m61three")
     os.symlink("Info", tree / "Sent")
     (home / "homes/m61one").rename(home / "homes/gone")
-    words = [
-        "migrate",
-        "--users",
-        "--json",
-        "--report",
-        "report",
-        "--tree",
-        "mail",
-        "--now",
-        "objects/spool",
-        *os.listdir(old),
-    ]
-    status, out, err = run(words, home)
+    words = ["--users", "--report", "report", "--tree", "mail", "--now", "objects/spool", *os.listdir(old)]
+    ran = by_json(["migrate", *words], home)
     (home / "homes/gone").rename(home / "homes/m61one")
-    equal("--json: status and standard error", (status, err), (1, ""))
-    *rows, sums = map(json.loads, out.splitlines())
-    equal("--report: the rows", (home / "report").read_text(encoding="utf-8").splitlines()[:-1], out.splitlines()[:-1])
-    equal("--json: what is wrong by the schema", [wrong(one) for one in [*rows, sums]], [[]] * (len(rows) + 1))
-    equal(
-        "--json: what is left, by reasons",
-        {one["reason"]: one["count"] for one in sums["left"]},
-        collections.Counter(one["reason"] for one in rows if one["verdict"] == "left"),
-    )
+    equal("--json: standard error", without_progress(ran.err), "")
+    report = (home / "report").read_text(encoding="utf-8")
+    equal("--report: the rows", report.splitlines()[:-1], ran.out.splitlines()[:-1])
     equal(
         "--json: the rows",
-        sorted((one["user"], one.get("path_hex", one["path"]), one["verdict"], one["reason"]) for one in rows),
+        sorted((one["user"], one.get("path_hex", one["path"]), one["verdict"], one["reason"]) for one in ran.rows),
         [
             ("m61one", "", "left", "home"),
             ("m61three", "", "done", None),
@@ -379,13 +359,8 @@ def as_objects(home: Path) -> None:
             ("root", "", "left", "system-account"),
         ],
     )
-    verdicts = {"done": 2, "done before": 0, "would be done": 0, "undone": 0, "would be undone": 0}
-    verdicts.update({"prepared": 0, "would be prepared": 0, "whole": 0, "not whole": 0, "no mail": 0, "left": 7})
-    verdicts.update({"back": 0, "would go back": 0, "nothing new": 0, "found": 0})
-    wanted = (verdicts, 3, len(ONE + TWO + THREE))
-    equal("--json: the sums", (sums["verdicts"], sums["messages"], sums["bytes"]), wanted)
-    says = f"9 mailboxes: 2 done, 7 left; 3 messages, {wanted[2]} bytes in ... s; 3 users: ..."
-    matches("--json: the sentence", sums["says"], says)
+    says = f"9 mailboxes: 2 done, 7 left; 3 messages, {len(ONE + TWO + THREE)} bytes in ... s; 3 users: ..."
+    matches("--json: the sentence", ran.sums["says"], says)
 
 
 def without_proc(home: Path) -> None:

@@ -131,7 +131,8 @@ def folders_of_messages(home: Path) -> None:
     expected = sorted(f"Subject: {number}\n\nFrom here on.\n".encode() for number in range(1, 13))
     equal("the mail of MH", sorted(path.read_bytes() for path in files_of(home / "M/.mh").values()), expected)
     # what is in the folder besides the Maildir, or would take the place of another one, is moved by hand
-    for name in ("lists", "more", "caf\udce9"):
+    for name in ("lists", "more", "caf\udce9", "Inbox"):
+        make_maildir(home / "tree" / name / ".Sub")
         make_maildir(home / "tree" / name)
     mailbox(home / "tree/more/notes", b"!BDN")
     # files of this program are parts of a Maildir, and what goes back from it is no mailbox
@@ -139,12 +140,17 @@ def folders_of_messages(home: Path) -> None:
         mailbox(home / "tree/caf\udce9" / name, ONE if "back" in name else b"")
     out = run("migrate --all M tree", home)[1]
     assert "mbox2maildir-" not in out.replace("mbox2maildir-admin", ""), out
-    for name, task in (
-        ("lists", "move the files in its new and cur into those of M/.lists"),
-        ("more", "move out of it what is not part of a Maildir, and run this again"),
-        ("caf\\xe9", "move it to M/.NAME"),
+    for name, then in (
+        ("Inbox", "    move the files in its new and cur into those of M"),
+        ("Inbox/.Sub", f"{RUN}mv -nT tree/Inbox/.Sub M/.Sub"),
+        ("caf\\xe9", "    move it to M/.NAME"),
+        ("caf\\xe9/.Sub", "    move it to M/.NAME"),
+        ("lists", "    move the files in its new and cur into those of M/.lists"),
+        ("lists/.Sub", f"{RUN}mv -nT tree/lists/.Sub M/.lists.Sub"),
+        ("more", "    move out of it what is not part of a Maildir, and run this again"),
+        ("more/.Sub", f"{RUN}mv -nT tree/more/.Sub M/.more.Sub"),
     ):
-        assert f"tree/{name}: left (maildir): it is a Maildir\n    {task}\n" in out, out
+        assert f"tree/{name}: left (maildir): it is a Maildir\n{then}\n" in out, f"{name}: {out}"
     # the Maildir into which everything goes is not part of the tree
     mailbox(home / "whole/box", ONE)
     expect("migrate --all whole/M whole", home, 0, "whole/box -> box: ...: done\n1 mailbox: 1 done\n")

@@ -19,6 +19,7 @@ from typing import IO, Any, NamedTuple, Optional, Union
 
 from tests.support.checks import LATER, PATIENCE, TOP
 from tests.support.kills import Killer, Moment, settings_in
+from tests.support.sound import want_sound
 
 COMPANION = "mbox2maildir-admin"
 # the owner of the mail, as whom programs run if root tests: a user that each system has
@@ -191,7 +192,7 @@ class Desk:
         self, words: Sequence[Word], kill: Kill = NEVER, meanwhile: Callable[[], object] = bool, given: bytes = b""
     ) -> Run:
         """Runs a command to its end, or until it is killed with all that is in its group. Meanwhile a function is
-        called again and again. The companion must never die of a fault of its own."""
+        called again and again. The companion must never die of a fault of its own, and what it says must be sound."""
         with ExitStack() as stack:
             out, err, source = (stack.enter_context(tempfile.TemporaryFile()) for _ in range(3))
             source.write(given)
@@ -207,6 +208,8 @@ class Desk:
         ran = Run(child.returncode, *texts)
         assert kill != NEVER or not ran.is_killed, f"{words}: died of {-ran.status}: {ran.output}"
         assert ran.is_killed or "Traceback" not in ran.err, f"{words}: status {ran.status}: {ran.err}"
+        if "--json" in words and not ran.is_killed:
+            want_sound(ran.status, ran.objects)
         return ran
 
     def run_later(self, words: Sequence[Word], kill: Kill = NEVER, meanwhile: Callable[[], object] = bool) -> Run:

@@ -84,6 +84,7 @@ def take(several: Iterable[Step], home: Path) -> Run:
             equal(f"what is there, {last.output}", there_in(home / "M"), step[1:].strip())
         else:
             last = ran(step, home, last)
+            equal(f"what {step} leaves", [said_of(row) for row in last.rows if row["verdict"] == "left"], [])
     return last
 
 

@@ -126,7 +126,8 @@ STORIES: dict[str, list[Step]] = {
     ],
     # a word for several changes no answer about one of them until a line comes, and answers no later word
     "an_answer_about_one_and_words_for_several": [
-        *(("old/a", NOTED), ("old/b", NOTED), f"{FIRST_OF} M old", (">", "old/a: prepared")),
+        *(("old/a", NOTED), ("old/b", NOTED)),
+        *((f"{FIRST_OF} M old", "old/a: left (unclear): ...\nold/b: left (unclear): ..."), (">", "old/a: prepared")),
         (f"{FIRST_OF} --as mboxo M old", f"old/a: prepared: {AGAIN}; 1 ...\nold/b: left (unclear): ..."),
         (f"{FIRST_OF} --as mboxrd --folder a M old/a", "old/a: prepared: 0 prepared before, 1 message removed..."),
         ("old/a", NOTED + ONE),

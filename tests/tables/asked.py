@@ -1,5 +1,6 @@
 """What is asked about texts, and to what the answers are tied: wherever blocks end, whatever is delivered or noted in
 headers meanwhile, and however long lines are."""
+import itertools
 import random
 import re
 from collections.abc import Sequence
@@ -7,7 +8,7 @@ from pathlib import Path
 from typing import Any
 
 from tests.support.checks import equal
-from tests.support.homes import by_json, check_all
+from tests.support.homes import by_json, check_all, mailbox
 from tests.support.mail import A, B, C, MAY, ONE, TWO, with_length
 from tests.support.running import Row
 from tests.support.tables import rows_of
@@ -124,13 +125,12 @@ def long_lines(home: Path) -> None:
 
 def many_lines(home: Path) -> None:
     """The first five are shown, with those around them, and all are counted."""
-    mores = 0, 1, 4, 299
-    texts = [A + b"\nhi\nFrom me on\n" + b"From you on\n" * more + b"\nend\n\n" for more in mores]
-    for number, text in enumerate(texts):
-        (home / f"{number}.mbox").write_bytes(text)
-    for number, more in enumerate(mores):
-        row = by_json(["migrate", "--dry-run", "--now", "M", f"{number}.mbox"], home).row
-        says = "line 6: a line `From ` without a date at its end" + (f" (and {more} more)" if more else "")
+    bare, dated = "without a date at its end", "with a date, but no header after it"
+    sorts = {b"From me on\n": bare, b"From me Mon Mar  3 09:12:44 2025\n": dated}
+    for line, more in itertools.product(sorts, (0, 1, 4, 299)):
+        mailbox(home / "box", A + b"\nhi\n" + line * (more + 1) + b"\nend\n\n")
+        row = by_json("migrate --dry-run --now M box", home).row
+        says = f"line 6: a line `From ` {sorts[line]}" + (f" (and {more} more)" if more else "")
         marked = min(more + 1, 5)
         equal("what is said", row["says"], says)
         equal("those asked about", [one["line"] for one in row["lines"] if not one["around"]], [*range(6, 6 + marked)])

@@ -1,30 +1,25 @@
 """What `kind` and `verify` print with `--json`: objects that follow the schema, in the words of `migrate --json`."""
 import gzip
-import json
 import os
 import shutil
-from collections.abc import Sequence
 from pathlib import Path
-from typing import Any, Union
+from typing import Union
 
 from tests.companion.spool import users
 from tests.support.checks import equal
-from tests.support.homes import check_all, expect, files_of, mailbox, run, want_users
+from tests.support.homes import by_json, check_all, expect, files_of, mailbox, run, want_users
 from tests.support.mail import ONE, TWO, bodies_of
 from tests.support.printed import rows_in
-from tests.support.schema import wrong
+from tests.support.running import Row
 
 DOUBTFUL = ONE + b"From Tuesday on\n\nhi\n"
 
 
-def objects(words: Sequence[str], home: Path) -> list[dict[str, Any]]:
-    """What is printed on standard output, which follows the schema. Nothing is on standard error, and the status is
-    that without --json."""
-    status, out, err = run([words[0], "--json", *words[1:]], home)
-    found = [json.loads(line) for line in out.splitlines()]
-    equal("what is wrong by the schema", [wrong(one) for one in found], [[]] * len(found))
-    equal("status and standard error", (status, err), (run(words, home)[0], ""))
-    return found
+def objects(words: str, home: Path) -> dict[str, Row]:
+    """The rows that are printed, by their paths. Nothing is on standard error, and the status is that without --json."""
+    ran = by_json(words, home)
+    equal("status and standard error", (ran.status, ran.err), (run(words, home)[0], ""))
+    return {row["path"]: row for row in ran.rows}
 
 
 def what_files_are(home: Path) -> None:
@@ -39,7 +34,7 @@ def what_files_are(home: Path) -> None:
     ):
         mailbox(home / "old" / name, text)
     (home / "old/link").symlink_to("a")
-    found = {one["path"]: one for one in objects(["kind", "old", "none"], home)}
+    found = objects("kind old none", home)
     equal(
         "what they are",
         {path: one["kind"] for path, one in found.items() if one["verdict"] == "found"},
@@ -71,9 +66,7 @@ def what_files_are(home: Path) -> None:
     answers = {one["answer"]: (one["argv"][:2], one["messages"]) for one in question["next"]}
     migrate = ["mbox2maildir-admin", "migrate"]
     equal("the answers", answers, {"belongs-above": (migrate, 1), "begins-here": (migrate, 2)})
-    migrated = {
-        one["path"]: one for one in map(json.loads, run("migrate --json --dry-run M old", home)[1].splitlines()[:-1])
-    }
+    migrated = {row["path"]: row for row in by_json("migrate --dry-run M old", home).rows}
     equal("its lines as migrate shows them", question["lines"], migrated["old/doubtful"]["lines"])
     for path in ("old/doubtful", "old/packed"):
         own, its = (
@@ -138,7 +131,7 @@ def what_is_there(home: Path) -> None:
     for name, text in (("a", ONE + TWO), ("b", TWO), ("empty", b"")):
         mailbox(home / "old" / name, text)
     expect("migrate --all --now M old", home, 0, "...\n...\n...\n3 mailboxes: 3 done\n")
-    *whole, _ = objects(["verify", "M", "old"], home)
+    whole = objects("verify M old", home).values()
     equal(
         "if all is there",
         [[one[name] for name in ("path", "folder", "directory", "verdict", "messages", "bytes")] for one in whole],
@@ -155,7 +148,7 @@ def what_is_there(home: Path) -> None:
     (only,) = files_of(home / "M/.b").values()
     (only.parent / "2.host").write_bytes(only.read_bytes())
     mailbox(home / "old/new", ONE)
-    found = {one["path"]: one for one in objects(["verify", "M", "old", "none"], home)[:-1]}
+    found = objects("verify M old none", home)
     wanted = {"old/a": ["other-bytes", "nowhere", "double"], "old/b": ["double"]}
     for path, sorts in wanted.items():
         one = found[path]

@@ -1,5 +1,7 @@
 """Mailboxes that are prepared step by step while people use them: what each pass says, where none prepares or finishes
 anything, and what mail is there then."""
+import re
+
 from tests.support.mail import A, ONE, THREE, TWO
 from tests.support.stories import RESTORED, SYNC_FAILS, Step, killed, run_stories, steps
 
@@ -17,11 +19,14 @@ DELIVERS = "!cp $(grep -l 'Subject: one' M/new/*) M/new/17000.M1.host"
 LIST, LEDGER, RECORD = (f"M/mbox2maildir-{name}" for name in ("prepared", "messages", "record"))
 READS = "a: left (prepared): somebody reads in its folder already: M/"
 OF_ANOTHER = "a: left (prepared): mail of a mailbox is in its folder already, and migrate brings the rest"
+TWO_GONE = "left (prepared): its mailbox is gone, as are 2 of the 10 of its tree that were prepared"
+NOT_MET = "left (prepared): it is only prepared, and no mailbox of this command goes there"
 SYNC_FAILED = "a: left (sync-failed): its sync failed: read the system's log and mount the disk again before you ..."
 # a last pass that is killed once all is placed
 KILLED = killed(LAST)
 TEN: list[Step] = [*((f"old/{number}", ONE) for number in range(10)), FIRST_OF_TREE]
 ALL_TEN = " ".join(f"{number}/one" for number in range(10))
+TEN_DONE = "\n".join(f"old/{number}: done: 1 prepared before" for number in range(10))
 
 STORIES: dict[str, list[Step]] = {
     "each_pass_follows_the_mailbox": [
@@ -109,7 +114,7 @@ STORIES: dict[str, list[Step]] = {
     "a_server_looks_and_nothing_changes": [("a", ONE), FIRST, LOOKS, (FIRST, f"{READS}dovecot.index.log"), "= one M+"],
     "a_server_looks_at_another_folder": [
         *(("x", ONE), "migrate --prepare --unread --folder x M x", "!mkdir -p M/new M/cur M/tmp", LOOKS, ("a", TWO)),
-        "migrate --folder INBOX M a",
+        ("migrate --folder INBOX M a", f"a: done\nx: {NOT_MET}"),
         "= two x/one .x+",
     ],
     # where other mail is
@@ -176,7 +181,7 @@ STORIES: dict[str, list[Step]] = {
     "the_list_comes_from_a_backup": [
         *(("a", ONE + TWO), FIRST, f"!cp {LIST} kept", LAST, f"!cp -p kept {LIST}"),
         *(("migrate --dry-run M a", "a: done before"), "= one two M+", (LAST, "a: done before"), "= one two"),
-        *(f"!cp -p kept {LIST}", ("a", TWO + THREE), FIRST, "= one two"),
+        *(f"!cp -p kept {LIST}", ("a", TWO + THREE), (FIRST, OF_ANOTHER), "= one two"),
         *(f"!cp -p kept {LIST}", LAST, "= one three two"),
     ],
     "the_list_comes_from_a_backup_and_the_ledger_is_lost": [
@@ -287,18 +292,26 @@ STORIES: dict[str, list[Step]] = {
     "mail_of_others_stays": [
         *(*TEN, "!echo >M/.3/new/17000.M1.host; rm old/3", TREE, f"= {ALL_TEN.replace('3/one', '3/-')}"),
     ],
-    "two_of_ten_are_gone": [*(*TEN, "!rm old/3 old/4", TREE, f"= {ALL_TEN} .3+ .4+")],
+    "two_of_ten_are_gone": [
+        *(*TEN, "!rm old/3 old/4", (TREE, re.sub("([34]): done: .*", rf"\1: {TWO_GONE}", TEN_DONE))),
+        f"= {ALL_TEN} .3+ .4+",
+    ],
     "a_renamed_mailbox": [
         *(*TEN, "!mv old/3 old/new", FIRST_OF_TREE, "!test -e M/.3", TREE, "!test ! -e M/.3"),
         f"= {ALL_TEN.replace('3/one ', '')} new/one",
     ],
     # the name of one is the beginning of the other's
     "another_tree": [
-        *(*TEN[:-1], ("older/c", TWO), f"{FIRST_OF_TREE} older", TREE, f"= {ALL_TEN} c/two .c+"),
+        *(*TEN[:-1], ("older/c", TWO), f"{FIRST_OF_TREE} older", (TREE, f"{TEN_DONE}\nolder/c: {NOT_MET}")),
+        f"= {ALL_TEN} c/two .c+",
         *(("migrate M older", "older/c: done: 1 prepared before"), f"= {ALL_TEN} c/two"),
     ],
     "a_file_that_holds_no_mail_any_more": [
-        *(("old/a", ONE), ("old/b", ONE), FIRST_OF_TREE, ("old/a", b"milk\n"), "migrate --no-mail a M old"),
+        *(("old/a", ONE), ("old/b", ONE), FIRST_OF_TREE, ("old/a", b"milk\n")),
+        (
+            "migrate --no-mail a M old",
+            f"old/a: {NOT_MET}\nold/a: no mail: by --no-mail\nold/b: done: 1 prepared before",
+        ),
         "= a/one b/one .a+",
     ],
     "a_list_of_a_mailbox_that_is_gone_is_damaged": [

@@ -1,10 +1,10 @@
-"""Each remark of a row has its word: what is done with mailboxes, and the words of the rows that come of it."""
+"""Each remark of a row: what is done with mailboxes, and the words and sentences of the rows that come of it."""
 from functools import partial
 from pathlib import Path
 
 from tests.tables.labels import message
 from tests.support.cases import run_cases
-from tests.support.checks import TOP, equal, text_of
+from tests.support.checks import TOP, equal, matches, text_of
 from tests.support.homes import at_home
 from tests.support.mail import A, C, INTERNAL, ONE, THREE, TWO, with_length
 from tests.support.schema import SCHEMA
@@ -176,6 +176,89 @@ STORIES: list[tuple[list[Step], set[str]]] = [
     ),
     ([*OF_TREE, "!printf 'a\\n' >M/subscriptions", "back --dovecot M old"], {"subscriptions"}),
 ]
+# what is said by each word
+SAID = {
+    "no-line-end": "its last line has no line end: check that the file is complete",
+    "after-nulls": "its text begins at byte 9, after NUL bytes",
+    "loses-quote": "`>>From ` loses a `>` in 1 line (--as mboxo keeps it)",
+    "keeps-quote": "`>From ` keeps its `>` in 1 line (--as mboxcl takes it away)",
+    "without-date": "1 message without a date",
+    "dated-by-header": "1 message dated by the header",
+    "unread": "... came unread, since no known label says that mail was read (with --labels, --label NAME=read ...)",
+    "name-before": "its name was a.b",
+    "no-uids": "Dovecot had given it no UIDs",
+    "first-appears": "its first message, which Dovecot hid, appears",
+    "grew": "it grew by 1 message",
+    "uids-of-new": "Dovecot gives what is new its UIDs",
+    "new-uids": "some messages get new UIDs, because a message before them has none",
+    "uids-anew": "its UIDs start anew, because too few are left above the last one",
+    "without-uids": "without its UIDs, because it was migrated without --dovecot",
+    "keywords-lost": "only 26 keywords are kept; lost: k26 k27 k28 k29",
+    "deleted-left-out": "without 1 message marked as deleted",
+    "flags": "1 message with flags of ...",
+    "deleted-kept": "no deleted mail was left out, because 1 of ... messages have no X-Mozilla-Status",
+    "without-internal": "without the message in which Dovecot kept its UIDs",
+    "also-named": "also named old/...",
+    "same-file": "the same file as old/a",
+    "by-no-mail": "by --no-mail",
+    "no-mail-noted": "by migrate --no-mail",
+    "put-aside": "originals that were put aside",
+    "shared": "1 message there already, from a",
+    "flags-differ": "1 message of these marked in it, as read or flagged, but not in the Maildir",
+    "joins": "INBOX has the mail of a too",
+    "joined": "its folder has mail of b too",
+    "elsewhere": "1 message of it went into X too",
+    "other-form": "1 message there in another form, by another mailbox",
+    "there-already": "1 message there already, by no mailbox",
+    "placed": "placed 1 message",
+    "other-programs": "1 message of other programs in the folder",
+    "marked": "1 message placed beside files that are marked as deleted",
+    "gone": "1 of the 1 messages that were placed in its folder are gone, or another program renamed them",
+    "gone-elsewhere": "1 that a brought are gone",
+    "folder-gone": "its folder is gone",
+    "ledger-gone": "the ledger of its folder is gone",
+    "ledger-older": "the ledger of its folder is older than its record, and lacks 1 message of it: mail may be ...",
+    "lost": "1 message gone from it that it had brought",
+    "regained": "1 message in it again that had been gone from it",
+    "as-answered": "as it was answered before",
+    "old-lock": "a.lock is older than 20 minutes and was ignored",
+    "contradicted": "it was read as mboxrd, and --as unquoted gives other messages",
+    "prepared-before": "1 prepared before",
+    "mailbox-gone": "its mailbox is gone",
+    "removed": "removed ... message...",
+    "labelled": "labelled Sent 1: with --labels, labels become folders",
+    "same-folder": "its labels are a.b and a-b",
+    "unlabelled": "the label was taken from 1 message; the mail stays here",
+    "already-gone": "1 message already gone",
+    "kept-renamed": "kept 1 message that another program renamed",
+    "kept-edited": "kept 1 file that somebody edited",
+    "kept-foreign": "kept 1 message that was nobody's",
+    "kept-shared": "kept 1 message that b has too",
+    "kept-lost": "kept 1 message that it no longer has",
+    "kept-former": "kept 1 message that another mailbox brought too",
+    "nowhere": "nowhere 1",
+    "double": "doubles 1",
+    "other-bytes": "other bytes 1",
+    "renamed": "under another name 1",
+    "without-fields": "without fields 1",
+    "doubtful-line": "doubtful lines 1",
+    "deleted": "1 message that was deleted in the Maildir is still there",
+    "changed": "1 message that was changed in the Maildir is there as before",
+    "beside": "old/a cannot hold M/.a/new/1.h",
+    "keywords-added": "Dovecot is to add keywords, because the first message has no room for their names: work",
+    "moved": "1 message that people moved here stays in the mailbox of a",
+    "fields-left-out": "fields left out of 1 message: X-UID",
+    "uids-raised": "its next UID is 4294967290 now",
+    "uids-not-raised": "without --dovecot, Dovecot may give a UID twice",
+    "subscriptions": "subscribed to 1 folder",
+}
+# by these words, the command that is printed below
+NEXTS = {
+    "contradicted": "migrate --undo --now M a",
+    "elsewhere": "migrate --undo --now --folder X M a",
+    "gone-elsewhere": "migrate --now --again M b",
+    "keywords-added": "doveadm flags add -u ... work mailbox a uid 10",
+}
 # words that a test has in another file, and which of its cases
 ELSEWHERE = {
     "as-brought": "companion/answers:by_what_it_brought",
@@ -186,14 +269,15 @@ ELSEWHERE = {
 }
 
 
-def words_of(story: list[Step], home: Path) -> set[str]:
-    """The words of the remarks in the rows of the last command."""
-    return {word for row in take(story, home).rows for word in row.remarks}
-
-
 def is_told(story: list[Step], wanted: set[str], home: Path) -> None:
-    """A story ends with rows that have these words."""
-    equal(f"{story}: words", words_of(story, home), wanted)
+    """A story ends with rows that have these words, each with its sentence and its command."""
+    rows = take(story, home).rows
+    equal(f"{story}: words", {word for row in rows for word in row.remarks}, wanted)
+    for row in rows:
+        for one in row["remarks"]:
+            matches(f"{story}: what is said", one["says"].replace(f"{home}/", ""), SAID[one["remark"]])
+        commands = [NEXTS[word] for word in row.remarks if word in NEXTS]
+        matches(f"{story}: next", "\n".join(row.commands).replace("mbox2maildir-admin ", ""), "\n".join(commands))
 
 
 def all_of_them(home: Path) -> None:

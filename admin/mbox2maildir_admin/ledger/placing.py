@@ -39,7 +39,8 @@ class Placing:
         """Gives messages that equal others, or files, the first names that are free. Before each, the program gets as
         many copies as there are names to pass over, so that messages are placed in their order."""
         table, files = self.inventory.table, self.match.files
-        has_files = bool(files.counts) or any(files.there)
+        # beside other counts of its digest alone, a message gets the first one, which it has in the text
+        has_files = any(files.there)
         same: collections.defaultdict[bytes, list[int]] = collections.defaultdict(list)
         for place in self.nowhere if has_files or table.repeats else ():
             digest = table.digest(place)
