@@ -300,8 +300,8 @@ def several_inboxes(home: Path) -> None:
 
 
 def what_cannot_be_read(home: Path) -> None:
-    """Beside the list of profiles a folder that cannot be looked into may be one: it is left. A file that cannot be
-    read is no message of MH, and in a Maildir it is known by its name alone."""
+    """Beside the list of profiles a folder that cannot be looked into may be one: it is left, as is what is named in
+    it. A file that cannot be read is no message of MH, and in a Maildir it is known by its name alone."""
     want_root()
     make_profile(home / "old/thunderbird/y")
     mailbox(home / "old/thunderbird/x/Mail/a/Inbox", ONE)
@@ -313,10 +313,11 @@ def what_cannot_be_read(home: Path) -> None:
     hand_over(home)
     for name in ("thunderbird/x", "mh/1", "lists/maildirsize"):
         (home / "old" / name).chmod(0)
-    ran = Copies(home, home / "bin", OWNER).run(["migrate", "--json", "--now", "M", "old"], BY_OTHERS)
+    words = ["migrate", "--json", "--now", "M", "old", "old/thunderbird/x/box"]
+    ran = Copies(home, home / "bin", OWNER).run(words, BY_OTHERS)
     left = {row["path"][4:]: row["says"] or row["messages"] for row in ran.rows if row["verdict"] == "left"}
-    wanted = {"thunderbird/x": "Permission denied", "mh/1": "Permission denied", "mh": 1, "lists": "it is a Maildir"}
-    equal(f"what is left: {ran.output}", left, wanted)
+    wanted = {path: "Permission denied" for path in ("thunderbird/x", "thunderbird/x/box", "mh/1")}
+    equal(f"what is left: {ran.output}", left, {**wanted, "mh": 1, "lists": "it is a Maildir"})
 
 
 def profile_of_one_account(home: Path) -> None:
