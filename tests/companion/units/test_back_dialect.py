@@ -1,4 +1,5 @@
 """Messages in the dialect of a mailbox: each written text was worked out by hand."""
+import hashlib
 import unittest
 from typing import Optional
 
@@ -84,6 +85,14 @@ class DialectTest(unittest.TestCase):
 
     def test_dates_that_each_program_reads(self) -> None:
         self.assertEqual((date_of(-(10**12)), date_of(10**12)), (date_of(1), date_of(LAST_TIME)))
+
+    def test_threads_of_gmail(self) -> None:
+        """Each message has its own, a positive number of 64 bits, beside its flags."""
+        cores = [hashlib.sha256(bytes(count)).digest()[:16] for count in range(100)]
+        fields = [Client("Gmail").fields(Letter(b"", "FS"), core, 1) for core in cores]
+        threads = {int(thread.split()[1]) for thread, _ in fields}
+        self.assertEqual((len(threads), max(threads) < 1 << 63), (len(cores), True))
+        self.assertEqual({labels for _, labels in fields}, {b"X-Gmail-Labels: Opened,Starred"})
 
     def test_what_programs_wrote_is_left_out(self) -> None:
         header = b"Content-Length: 9999\nA: b\nSTATUS: RO\nX-UID:\n 7\nX-Keywords: k\n"
