@@ -14,8 +14,8 @@ from pathlib import Path
 from tests.companion.spool import theirs
 from tests.support import accounts
 from tests.support.checks import LATER, equal, match_in, matches
-from tests.support.homes import ADMIN, by_json, check_all, checks_in, expect, mail_in, mailbox, run, run_printed, script
-from tests.support.homes import subjects, want_strace, want_users
+from tests.support.homes import ADMIN, by_json, check_all, checks_in, expect, fake, mail_in, mailbox, run, run_printed
+from tests.support.homes import script, subjects, want_strace, want_users
 from tests.support.mail import A, B, ONE, THREE, TWO
 from tests.support.printed import row_in, rows_in
 from tests.support.running import Desk
@@ -227,7 +227,8 @@ def started_again(home: Path) -> None:
 
 
 def read_once(home: Path) -> None:
-    """A pass verifies what it stores, and neither the next pass nor that of the day reads this again."""
+    """A pass verifies what it stores, and neither the next pass nor that of the day reads this again. On the day the
+    list stands for a mailbox that has not changed, which the program does not list again."""
     want_strace()
     doveconf(home, MBOX)
     box, calls = mailbox(home / "box", ONE + TWO), home / "calls"
@@ -240,6 +241,9 @@ def read_once(home: Path) -> None:
         equal(f"{option}: its status: {ran.output}", ran.status, 0)
         read = set(re.findall(r"read(?:64)?\(\d+<[^<>]*/M/new/([^<>]*)>", calls.read_text()))
         equal(f"{option}: how many files of mail are read", len(read), count)
+    expect("migrate --prepare N box", home, 0, None)
+    fake(home, "exit 1", "list")
+    expect("migrate --all --now N box", home, 0, "...: done, 3 prepared before\n1 mailbox: 1 done\n")
 
 
 # what a pass says of a list that is open to others
