@@ -16,7 +16,7 @@ DOUBTFUL = ONE + b"From Tuesday on\n\nhi\n"
 
 
 def objects(words: str, home: Path) -> dict[str, Row]:
-    """The rows that are printed, by their paths. Nothing is on standard error; the status is that without --json."""
+    """The rows that are printed, by their paths. Nothing is on standard error, and the status is that for people."""
     ran = by_json(words, home)
     equal("status and standard error", (ran.status, ran.err), (run(words, home)[0], ""))
     return {row["path"]: row for row in ran.rows}

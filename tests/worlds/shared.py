@@ -60,8 +60,8 @@ class Shared(History):
         self.way = WAYS[self.name]
         self.oracle = Oracle(self.maildir, is_one=True, may_come_back=self.way.killed > 0, what=form)
         self.folder, self.words = "Archive", ["--folder", "Archive"]
-        # the messages of each, by their numbers and their `>`; and those of which a killed run has begun something, or a run has
-        # brought all
+        # the messages of each, by their numbers and their `>`; and those of which a killed run has begun something, or
+        # a run has brought all
         self.holds: dict[Box, list[tuple[int, int]]] = {}
         self.begun: set[Box] = set()
         self.brought: set[Box] = set()

@@ -214,8 +214,8 @@ def becomes_of(ledger: Ledger, path: str, has: Cores) -> list[Becomes]:
         """What stays for others comes first, and then what is in the form of what they lack; what the mailbox had once
         may have other bytes than what it has."""
         line, file = one
-        is_kept, lacked = bool(others_of(file, path, MAY_HAVE)), {other.bare for other in gone.get(line.message.core, ())}
-        return not is_kept, line.state not in MAY_HAVE, (file.name is None) != is_resumed, file.bare not in lacked
+        is_late = not others_of(file, path, MAY_HAVE), line.state not in MAY_HAVE, (file.name is None) != is_resumed
+        return (*is_late, file.bare not in (other.bare for other in gone.get(line.message.core, ())))
 
     own = sorted(((line, file) for file in files for line in [file.line_of(path)] if line), key=order)
     plan = [becomes_by(line, file, has, gone) for line, file in own]

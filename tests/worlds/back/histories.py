@@ -168,8 +168,8 @@ class History:
         return several
 
     def commands(self, maildir: str) -> Iterator[list[str]]:
-        """The words that migrate each mailbox. Unless each needs its own, all of a tree are migrated at once. The record
-        knows the folder of a mailbox beside another one."""
+        """The words that migrate each mailbox. Unless each needs its own, all of a tree are migrated at once. The
+        record knows the folder of a mailbox beside another one."""
         if not self.is_each_alone:
             yield [*(["--as", self.word] if self.word else []), maildir, "mail", "spool"]
             return
