@@ -84,7 +84,8 @@ STORIES: dict[str, list[Step]] = {
     ],
     "a_human_names_a_line_and_then_another_comes": [
         *(("a", QUOTED), "migrate --as mboxrd M a", ("a", QUOTED + LINES)),
-        *(("migrate M a", "a: left (unclear): line 18: a line `From ` without a date at its end"), ">"),
+        ("migrate M a", "a: left (unclear): line 18: a line `From ` without a date at its end"),
+        (">", "a: left (another-reading): it was read as mboxrd when it was migrated, and 1 message ..."),
         *(("a", QUOTED + LINES + NOTED), (">", "a: left (unclear): what is asked about it has changed since ...")),
     ],
     "it_was_begun_by_another_word": [
