@@ -110,7 +110,7 @@ class Does:
     BRINGS_BACK = Phrase(
         "stores-rest-brings-back", "this stores the messages that are nowhere, and brings back deleted mail"
     )
-    DOUBLES = Phrase(
+    STORES_AGAIN = Phrase(
         "stores-rest-may-double",
         "this stores the messages that are nowhere: it brings back mail that was deleted, and doubles mail that was "
         "changed",

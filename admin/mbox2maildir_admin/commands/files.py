@@ -9,7 +9,7 @@ from ..faults import Fault, Reason, complain_of
 from ..kinds.folders import is_maildir
 from ..kinds.look import Look
 from ..kinds.others import Holds
-from ..ledger.history import History, Note, Step
+from ..ledger.history import Event, History, Note
 from ..ledger.record import Record
 from ..looks import is_folder, is_there, type_at
 from ..maildir.disk import trial_folder
@@ -168,7 +168,7 @@ def reading_then(folder: bytes, mailbox: Mailbox) -> Reading:
     """How a mailbox was read when it was converted into a folder of a Maildir; nothing is decided unless the record has
     the mailbox as done."""
     lines = record_of(folder).lines_of(mailbox)
-    return Reading.of_words(next((one.words for one in reversed(lines) if one.what is Step.DONE), None))
+    return Reading.of_words(next((one.words for one in reversed(lines) if one.what is Event.DONE), None))
 
 
 def record_of(folder: bytes) -> History:

@@ -7,7 +7,7 @@ from typing import TYPE_CHECKING, Optional
 
 from ..faults import Status
 from ..migration.options import Options
-from ..migration.rows import INTERRUPTED, STEPS, Reporter, Shows
+from ..migration.rows import INTERRUPTED, STAGES, Reporter, Shows
 from ..terminal import OutputFault, complain, drop
 from .options import Given
 
@@ -18,9 +18,9 @@ if TYPE_CHECKING:
 Telling = Callable[[Reporter], None]
 
 
-def reporter_of(given: Given, shows: Shows, steps: Mapping[str, int] = STEPS, task: str = "migrating") -> Reporter:
+def reporter_of(given: Given, shows: Shows, stages: Mapping[str, int] = STAGES, task: str = "migrating") -> Reporter:
     """What prints the rows of a command: lines, or objects for programs."""
-    reporter = Reporter(shows._replace(is_silent=given.json), steps, task)
+    reporter = Reporter(shows._replace(is_silent=given.json), stages, task)
     if given.json:
         from ..migration.objects import Objects
 

@@ -1,13 +1,14 @@
 """The command `verify`: whether each message is in the Maildir, or in the Maildirs of many users."""
+import array
 import collections
 import importlib
 import functools
 import os
-from itertools import islice
+from itertools import compress, islice
 
 from ..labels.noted import Noted, noted_of
 from ..labels.parts import checks_of
-from ..maildir.checking import NOWHERE, SORTS, THERE, Check
+from ..maildir.checking import DOUBTFUL_LINE, NOWHERE, SORTS, THERE, WITHOUT_FIELDS, Check
 from ..maildir.either import Either
 from ..maildir.files import forms_in, paths_of
 from ..mbox.inventory import IN_MEMORY
@@ -56,7 +57,7 @@ def verify_file(program: bytes, root: bytes, observer: Observer, folder: bytes, 
         check = check_of(program, folder, text, say)
         if text.is_recorded:
             # it was decided then that no mail is in its From_ lines
-            check.doubts = ()
+            del check.besides[DOUBTFUL_LINE]
         observer.row(row_of(file, os.path.relpath(folder, root), check))
 
 
@@ -92,7 +93,7 @@ def check_of(program: bytes, maildir: bytes, text: Text, say: Say) -> Check:
         # all files have what is in the text
         check.look_first = functools.partial(either.inventory.digest_by, text.mailbox)
     check.look(maildir)
-    check.without_fields = sum(either.are_bare(check.digests()))
+    check.besides[WITHOUT_FIELDS] = array.array("Q", compress(range(len(inventory)), either.are_bare(check.digests())))
     take_alike(maildir, text, check)
     return check
 

@@ -49,7 +49,7 @@ gmail_thread = field(b"X-GM-THRID", rb"(?P<value>\d+)")
 gmail_labels = field(b"X-Gmail-Labels")
 
 
-def is_deleted(header: bytes) -> Optional[bool]:
+def is_expunged(header: bytes) -> Optional[bool]:
     """Whether Thunderbird has marked a message as deleted, which stays in the file until the folder is compacted; None
     if its header has no mark."""
     status = mozilla_status(header) if b"x-mozilla-status" in header.lower() else None

@@ -5,7 +5,7 @@ import re
 from collections.abc import Callable, Iterator, Mapping, Sequence
 from typing import Optional
 
-from ..flags.clients import are_few, is_deleted
+from ..flags.clients import are_few, is_expunged
 from ..flags.dovecot_headers import internal_head
 from ..mbox.dates import is_dated
 from ..mbox.fields import LENGTH, Header
@@ -220,7 +220,7 @@ class Look:
 
     def has_mark(self, header: Header) -> bool:
         """Whether a header has what Thunderbird or Gmail writes into each message."""
-        is_of_gmail, deleted = bool(header[b"x-gm-thrid"]), is_deleted(header.text)
+        is_of_gmail, deleted = bool(header[b"x-gm-thrid"]), is_expunged(header.text)
         if is_of_gmail:
             self.seen["Gmail"].add(self.claimed_by)
         if deleted is not None:

@@ -5,7 +5,7 @@ import hashlib
 from collections.abc import Callable, Iterator, Sequence
 
 from ..faults import Fault, Reason
-from ..maildir.checking import Check
+from ..maildir.checking import DOUBTFUL_LINE, Check
 from ..maildir.folders import folder_path
 from ..mbox.fields import headers_at
 from ..mbox.inventory import Inventory
@@ -50,5 +50,5 @@ def checks_of(
             with part_of(text, inventory, places, folder_for_copies(maildir)) as part:
                 check = look(folder_path(maildir, folder), part, say)
             # it was decided then that no mail is in its From_ lines
-            check.doubts = ()
+            del check.besides[DOUBTFUL_LINE]
             yield folder, check

@@ -1,7 +1,7 @@
 """What the lines of a record say: what is noted of mailboxes, and the index of the ledgers that have them.
 
-A line has, between tabs: the step or what else it notes, the folder, the mailbox's size and SHA-256, how many messages
-it has, when, and from which path. The line of a step also has the words by which the mailbox is read, and the number of
+A line has, between tabs: the event or other note, the folder, the mailbox's size and SHA-256, how many messages
+it has, when, and from which path. That of an event also has the words by which the mailbox is read, and the number of
 its folder's ledger, with the ledger's size and the number of the mailbox's last batch there, or of its undo.
 """
 import collections
@@ -25,8 +25,8 @@ LINE = pattern(
 )
 
 
-class Step(enum.Enum):
-    """How far a mailbox is by the ledger of its folder, in the word of its line."""
+class Event(enum.Enum):
+    """What happened last to a mailbox by the ledger of its folder, in the word of its line."""
 
     BEGUN = "begun"
     DONE = "done"
@@ -55,8 +55,8 @@ class Note(enum.Enum):
     UNPREPARED = "unprepared"
 
 
-What = Union[Step, Note]
-BY_WORD: dict[str, What] = {**{step.value: step for step in Step}, **{note.value: note for note in Note}}
+What = Union[Event, Note]
+BY_WORD: dict[str, What] = {**{event.value: event for event in Event}, **{note.value: note for note in Note}}
 
 
 class Key(NamedTuple):
@@ -129,13 +129,13 @@ class History:
         # the folders that a path had; and the names that such folders have now, by those that they had for a path
         self._folders: collections.defaultdict[str, dict[bytes, None]] = collections.defaultdict(dict)
         self._names: dict[tuple[bytes, str], bytes] = {}
-        # the sizes of the texts that have a step: a mailbox of another size is not read to find out whether it has one
+        # the sizes of the texts that have an event: one of another size is not read to find out whether it has one
         self.sizes: set[int] = set()
         # the same of each text that a mailbox was, by its size and its SHA-256
         self._texts: collections.defaultdict[tuple[int, str], dict[tuple[bytes, str], Entry]] = collections.defaultdict(
             dict
         )
-        # the last folder that a path had with a mailbox of no byte, until that has a step
+        # the last folder that a path had with a mailbox of no byte, until that has an event
         self._empty: dict[str, bytes] = {}
         # the mailbox that a folder was prepared from last, until something of the folder is done
         self._prepared: dict[bytes, Entry] = {}
@@ -148,17 +148,17 @@ class History:
         """Takes the next line."""
         entry = self.where_it_is_now(entry)
         folder = entry.key.folder
-        if isinstance(entry.what, Step):
+        if isinstance(entry.what, Event):
             self._index[folder].pop(entry.path, None)
             self._index[folder][entry.path] = entry
             self._folders[entry.path].pop(folder, None)
             self._empty.pop(entry.path, None)
             self.forget_notes(folder, entry.path, Note.FOUND)
-        if entry.what is Step.UNDONE:
+        if entry.what is Event.UNDONE:
             self.forget_notes(folder, entry.path, Note.NUMBERED, Note.ANSWERED)
             for several in self._texts.values():
                 several.pop((folder, entry.path), None)
-        elif isinstance(entry.what, Step):
+        elif isinstance(entry.what, Event):
             self.sizes.add(entry.key.size)
             self._texts[entry.key[1:]][folder, entry.path] = entry
             self._folders[entry.path][folder] = None
@@ -168,7 +168,7 @@ class History:
             self._empty.update({entry.path: folder} if entry.what is Note.EMPTY else {})
         if entry.what is Note.PREPARED:
             self._prepared[folder], self.has_prepared = entry, True
-        elif entry.what in (Note.UNPREPARED, Step.DONE):
+        elif entry.what in (Note.UNPREPARED, Event.DONE):
             self._prepared.pop(folder, None)
         if entry.what in (Note.PREPARED, Note.UNPREPARED):
             self._notes.pop((Note.EMPTY, folder), None)
@@ -204,9 +204,9 @@ class History:
         """The lines of the index about a folder, in their order, also those of mailboxes that were undone."""
         return [*self._index.get(folder, {}).values()]
 
-    def last_steps(self, folder: bytes) -> list[Entry]:
+    def last_events(self, folder: bytes) -> list[Entry]:
         """The lines about the mailboxes that a folder has, in their order."""
-        return [one for one in self.index_of(folder) if one.what is not Step.UNDONE]
+        return [one for one in self.index_of(folder) if one.what is not Event.UNDONE]
 
     def name_now(self, folder: bytes, path: bytes) -> bytes:
         """The name that a folder has now which was named for the mailbox of a path. Raises OSError if the path can't be
@@ -224,16 +224,16 @@ class History:
         return found if len(found) == len(folders) else []
 
     def last_of(self, folder: bytes, names: Container[str]) -> Optional[Entry]:
-        """The last line with a step of one of some paths in a folder."""
-        return next((one for one in reversed(self.last_steps(folder)) if one.path in names), None)
+        """The last line with an event of one of some paths in a folder."""
+        return next((one for one in reversed(self.last_events(folder)) if one.path in names), None)
 
     def folders_of(self, path: bytes) -> list[bytes]:
-        """The folders in which a path, or the path that it leads to, has a step, the last one at the end. Raises
+        """The folders in which a path, or the path that it leads to, has an event, the last one at the end. Raises
         OSError if the path can't be looked at."""
         return self.folders_with(names_of(path))
 
     def folders_with(self, names: Iterable[str]) -> list[bytes]:
-        """The folders in which one of some paths has a step, the last one at the end."""
+        """The folders in which one of some paths has an event, the last one at the end."""
         return list(dict.fromkeys(folder for name in names for folder in self._folders.get(name, {})))
 
     def folders_given(self, path: bytes) -> list[bytes]:
@@ -245,7 +245,7 @@ class History:
 
     def lines(self) -> Iterator[Entry]:
         """The lines about the mailboxes of all folders."""
-        return (entry for folder in self._index for entry in self.last_steps(folder))
+        return (entry for folder in self._index for entry in self.last_events(folder))
 
     def lines_of(self, mailbox: Mailbox) -> list[Entry]:
         """The lines about the mailboxes that had the bytes of this one, in any folder. It is not read to find this out

@@ -21,7 +21,7 @@ from ..maildir.folders import folder_path, folders_in, name_of
 from ..maildir.making import LEDGER, RECORD, SyncNames, has_begun, make_alone, sync_folder, synced_once
 from ..terminal import named, spelled
 from ..units import Size
-from .history import TIME, Entry, History, Key, Note, Step, What
+from .history import TIME, Entry, Event, History, Key, Note, What
 from .ledger import Ledger, count_in
 from .lines import BY_ANOTHER, CUT, HEAD, lines_in, want_trusted, was_cut
 
@@ -34,7 +34,7 @@ UNREAD = (
 # the first line says which version has written it
 VERSION_LINE = b"mbox2maildir-record\t2"
 # what lines of the index say
-INDEX = (*Step, Note.FOUND)
+INDEX = (*Event, Note.FOUND)
 # a larger file is no record; this is some 50,000 lines
 MOST = 1 << 23
 # what is escaped in the path of a line of the record
@@ -239,21 +239,21 @@ class Record(History):
         for path, number in [] if ledger.damage and ledger.number in self.seen else ledger.lasts.items():
             before, now = last.get(path), self.entry_of(name, ledger, path)
             is_known = before is not None and number >= before.number and now.says() != before.says()
-            if is_known or before is None and now.what is not Step.UNDONE:
+            if is_known or before is None and now.what is not Event.UNDONE:
                 found.append(now)
         return found
 
     @staticmethod
     def entry_of(name: bytes, ledger: Ledger, path: str) -> Entry:
         """The line of the index about a mailbox, by the ledger of a folder."""
-        step, when, number = Step.UNDONE, time.strftime(TIME, time.gmtime()), ledger.lasts[path]
+        event, when, number = Event.UNDONE, time.strftime(TIME, time.gmtime()), ledger.lasts[path]
         at = ledger.number, ledger.size, number
         if path not in ledger.paths():
-            return Entry(step, Key(name, Size(0), "0" * 64), 0, when, path, "-", *at)
-        step = Step.DONE if ledger.pending(path) is None and path not in ledger.leaving else Step.BEGUN
+            return Entry(event, Key(name, Size(0), "0" * 64), 0, when, path, "-", *at)
+        event = Event.DONE if ledger.pending(path) is None and path not in ledger.leaving else Event.BEGUN
         read = ledger.last_read(path)
         key = Key(name, Size(read.key[0]), read.key[1])
-        return Entry(step, key, count_in(ledger, path), when, path, read.words, *at)
+        return Entry(event, key, count_in(ledger, path), when, path, read.words, *at)
 
     def unknown_to(self, name: bytes, ledger: Ledger) -> list[Entry]:
         """The last line about each mailbox of a folder of which the ledger there lacks something: the folder had
@@ -261,7 +261,7 @@ class Record(History):
         unknown = []
         for one in self.index_of(name):
             is_longer = ledger.lasts.get(one.path, 0) < one.number
-            if is_longer if one.ledger == ledger.number else one.what is not Step.UNDONE:
+            if is_longer if one.ledger == ledger.number else one.what is not Event.UNDONE:
                 unknown.append(one)
         return unknown
 

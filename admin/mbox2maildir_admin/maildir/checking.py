@@ -5,7 +5,7 @@ import collections
 import functools
 import itertools
 import os
-from collections.abc import Callable, Iterable, Iterator
+from collections.abc import Callable, Iterable, Iterator, MutableSequence
 from typing import NamedTuple, Optional, Union
 
 from ..looks import is_there
@@ -13,7 +13,7 @@ from ..mbox.bases import BASE, base_in, before_info, is_own
 from ..mbox.inventory import Inventory
 from ..remarks import Says, Sentence
 from ..terminal import first_of
-from ..units import Place, Say, counted, silent
+from ..units import Place, Say, silent
 from .either import Others
 from .files import digest_of, listings_of, paths_of
 
@@ -55,9 +55,17 @@ OTHER_OWNER = Sort(Says.OTHER_OWNER, False, "not owned by the owner of the Maild
 DOUBTFUL_LINE = Sort(Says.DOUBTFUL_LINE, False, "this From_ line may contain mail")
 # of some of the messages that are there, which are only counted
 WITHOUT_FIELDS = Sort(Says.WITHOUT_FIELDS, True)
-# in the order in which `verify` has them
-MESSAGES, FILES = (THERE, OTHER_BYTES, RENAMED, NOWHERE), (DOUBLE, OTHER_OWNER)
-SORTS = *MESSAGES, *FILES, DOUBTFUL_LINE, WITHOUT_FIELDS
+
+
+def last_paths(paths: Iterable[bytes]) -> list[bytes]:
+    """The paths of files in their order; of one that was renamed meanwhile the last."""
+    return sorted({before_info(os.path.basename(path)): path for path in paths}.values())
+
+
+# in the order in which `verify` has them; those of files with what is named of the paths that were noted
+MESSAGES, LINES = (THERE, OTHER_BYTES, RENAMED, NOWHERE), (DOUBTFUL_LINE,)
+FILES: dict[Sort, Callable[[Iterable[bytes]], list[bytes]]] = {DOUBLE: list, OTHER_OWNER: last_paths}
+SORTS = *MESSAGES, *FILES, *LINES, WITHOUT_FIELDS
 
 
 class Location(NamedTuple):
@@ -73,9 +81,7 @@ class Check:
     """The messages of a text, and which of them are found in a Maildir."""
 
     def __init__(self, inventory: Inventory, say: Say = silent, others: Others = Others()) -> None:
-        # the messages whose From_ lines may hold mail are in doubt
-        self.inventory, self.doubts = inventory, tuple(inventory.doubts)
-        self.others, self.say = others, say
+        self.inventory, self.others, self.say = inventory, others, say
         # the digests of the messages whose files have another name
         self.renamed: dict[Place, bytes] = {}
         self.owner: Optional[int] = None
@@ -86,17 +92,16 @@ class Check:
         # by message: its sort, and the path of its file if that has another name
         self.found = [NOWHERE] * len(inventory)
         self.paths: dict[Place, bytes] = {}
-        # how many messages are there without some fields
-        self.without_fields = 0
+        # by sort: the files that were noted, and the messages that are of it besides
+        self.files: collections.defaultdict[Sort, list[bytes]] = collections.defaultdict(list)
+        self.besides = collections.defaultdict[Sort, MutableSequence[int]](list, {DOUBTFUL_LINE: inventory.doubts})
         # files that have a message's bytes and another name: by the digest, and by the name before its colon; and the
         # names of all such files that were read
         self.copies: collections.defaultdict[bytes, dict[bytes, bytes]] = collections.defaultdict(dict)
         self.met: set[bytes] = set()
         self.sizes: Optional[set[int]] = None
-        # messages of which a second file was met, files that hold a message once more, and files of another owner
+        # messages of which a second file was met
         self.met_again: set[Place] = set()
-        self.doubles: list[bytes] = []
-        self.strangers: dict[bytes, bytes] = {}
 
     def look(self, maildir: bytes) -> None:
         """Looks for the messages in the files of a Maildir, which other programs may have renamed."""
@@ -165,15 +170,15 @@ class Check:
     def take_alike(self, place: Place, path: bytes) -> None:
         """Takes a file for a message that is nowhere, since they differ only in fields of mail programs."""
         self.found[place] = THERE
-        self.without_fields += 1
+        self.besides[WITHOUT_FIELDS].append(place)
         self.note_owner(path, os.lstat(path).st_uid)
 
     def find_doubles(self, maildir: bytes) -> None:
         """Finds the files that hold a message once more: with its bytes and another name, or with the same base."""
         for copies in self.copies.values():
             for name, path in copies.items():
-                if not is_own(name) or self.others.doubles and base_in(name) in self.others.doubles:
-                    self.doubles.append(path)
+                if not is_own(name) or self.others.unchosen and base_in(name) in self.others.unchosen:
+                    self.files[DOUBLE].append(path)
         homes: collections.defaultdict[Place, list[bytes]] = collections.defaultdict(list)
         for name, path in paths_of(maildir) if self.met_again else ():
             place = self.inventory.table.own_place(name)
@@ -181,7 +186,7 @@ class Check:
                 homes[place].append(path)
         for paths in homes.values():
             # a file that was moved is there only once
-            self.doubles += list(filter(is_there, paths))[1:]
+            self.files[DOUBLE] += list(filter(is_there, paths))[1:]
 
     def is_home(self, place: Place, again: bool) -> bool:
         """Whether a file is read as that of the message whose base it has. In a listing after the first one, this holds
@@ -233,7 +238,7 @@ class Check:
     def note_owner(self, path: bytes, owner: Optional[int]) -> None:
         """Notes a file whose owner is not the Maildir's."""
         if owner is not None and owner != self.owner:
-            self.strangers[before_info(os.path.basename(path))] = path
+            self.files[OTHER_OWNER].append(path)
 
     def digests(self) -> Iterator[Optional[bytes]]:
         """The digest of the file of each message; None for a message that is nowhere."""
@@ -243,22 +248,26 @@ class Check:
 
     def places(self, sort: Sort) -> Iterator[Place]:
         """The messages of a sort."""
-        return (Place(place) for place, found in enumerate(self.found) if found is sort)
+        if sort in MESSAGES:
+            return (Place(place) for place, found in enumerate(self.found) if found is sort)
+        return map(Place, self.besides[sort])
+
+    def paths_of(self, sort: Sort) -> list[bytes]:
+        """The files of a sort."""
+        return FILES[sort](self.files[sort])
 
     def where(self, sort: Sort) -> Iterator[Location]:
         """Where the messages, files or lines of a sort are."""
-        lines, files = self.inventory.lines, {DOUBLE: self.doubles, OTHER_OWNER: sorted(self.strangers.values())}
-        if sort is DOUBTFUL_LINE:
-            return (Location(lines[doubt]) for doubt in self.doubts)
-        if sort in files:
-            return (Location(path=path) for path in files[sort])
+        if sort in FILES:
+            return (Location(path=path) for path in self.paths_of(sort))
+        lines = self.inventory.lines
+        if sort in LINES:
+            return (Location(lines[place]) for place in self.places(sort))
         return (Location(lines[place], place + 1, self.paths.get(place, b"")) for place in self.places(sort))
 
     def count(self, sort: Sort) -> int:
         """How many messages, files or lines are of a sort."""
-        if sort is WITHOUT_FIELDS:
-            return self.without_fields
-        return self.found.count(sort) if sort in MESSAGES else sum(1 for _ in self.where(sort))
+        return len(self.paths_of(sort)) if sort in FILES else sum(1 for _ in self.places(sort))
 
     def is_right(self) -> bool:
         """Whether each message is there exactly once, in a file of its owner."""
@@ -272,5 +281,4 @@ class Check:
         for one in (*FILES, *MESSAGES):
             paths = [where.path for where in self.where(one)] if one.several else []
             says += ["%s: %s" % (one.several, first_of(paths))] if paths else []
-        says += ["%s may contain mail" % counted(len(self.doubts), "From_ line")] if self.doubts else []
         return "; ".join(says)

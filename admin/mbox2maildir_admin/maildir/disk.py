@@ -226,17 +226,17 @@ MOST_WAITED = 60
 
 One = TypeVar("One")
 # takes what has waited for a sync, each with the error of that if it failed
-Settle = Callable[[Sequence[tuple[One, Optional[OSError]]]], object]
+AfterSync = Callable[[Sequence[tuple[One, Optional[OSError]]]], object]
 # syncs the disk of a folder; raises OSError if that fails
 SyncOne = Callable[[bytes], None]
 
 
 class Syncs(Generic[One]):
-    """Syncs the disks of Maildirs once for everything that waits. What waits is then settled at once, in its order."""
+    """Syncs the disks of Maildirs once for everything that waits. `after_sync` then takes it at once, in its order."""
 
-    def __init__(self, settle: Settle[One], sync_one: Optional[SyncOne] = None) -> None:
+    def __init__(self, after_sync: AfterSync[One], sync_one: Optional[SyncOne] = None) -> None:
         """Takes what syncs the disk of a folder, if this process does not do that itself."""
-        self.settle, self.sync_one = settle, sync_one or sync_disk
+        self.after_sync, self.sync_one = after_sync, sync_one or sync_disk
         # what waits, each with its Maildir
         self.waiting: list[tuple[One, bytes]] = []
         self.latest = 0.0
@@ -244,9 +244,9 @@ class Syncs(Generic[One]):
         self.failed: dict[int, OSError] = {}
 
     def add(self, maildir: bytes, one: One) -> None:
-        """Has something settled after a sync of this Maildir or, without one, after everything that waits already."""
+        """Has something taken after a sync of this Maildir or, without one, after everything that waits already."""
         if not maildir and not self.waiting:
-            self.settle([(one, None)])
+            self.after_sync([(one, None)])
             return
         if not self.waiting:
             self.latest = time.monotonic() + MOST_WAITED
@@ -268,7 +268,7 @@ class Syncs(Generic[One]):
             except OSError as error:
                 fault = error
             waited, self.waiting = self.waiting, []
-            self.settle([(one, fault if maildir else None) for one, maildir in waited])
+            self.after_sync([(one, fault if maildir else None) for one, maildir in waited])
 
     def sync_disks(self) -> None:
         """Syncs the disks of what waits, each once. Raises OSError if a sync failed, now or before: a later one says

@@ -47,7 +47,7 @@ class Others(NamedTuple):
 
     digests: dict[bytes, list[Place]] = {}
     sizes: Sequence[int] = ()
-    doubles: Sequence[bytes] = ()
+    unchosen: Sequence[bytes] = ()
 
 
 class Either:
@@ -58,7 +58,7 @@ class Either:
         self.full, self.sizes, self.bare = inventory.table, inventory.sizes, bare
         # the bases of the messages that have others in the Maildir than in the text
         self.chosen: dict[Place, bytes] = {}
-        self.doubles: set[bytes] = set()
+        self.unchosen: set[bytes] = set()
         self.choose(full_there, bare_there)
         self.inventory = inventory
         if self.chosen:
@@ -108,7 +108,7 @@ class Either:
                 if is_other and (full_there[place] or not there):
                     continue
                 self.chosen[place] = (there or missing).pop(0)
-            self.doubles.update(there)
+            self.unchosen.update(there)
 
     def are_bare(self, digests: Iterable[Optional[bytes]]) -> Iterator[bool]:
         """Whether each of these digests, one for the file of each message that has one, is that of the bare text of a
@@ -122,4 +122,4 @@ class Either:
             for digest in (self.full.digest(place), self.bare.table.digest(place)):
                 digests[digest].append(place)
         sizes = [*self.sizes, *self.bare.sizes] if digests else []
-        return Others(digests, sizes, sorted(self.doubles))
+        return Others(digests, sizes, sorted(self.unchosen))

@@ -112,7 +112,7 @@ def as_before(options: Options, known: Known) -> Optional[tuple[str, list[Remark
             return None
         contents = Contents(then, then.messages(), reading)
         files = Files(known.ledger.folder, contents.inventory)
-        match = Match(known.ledger, known.path, files, contents.is_deleted)
+        match = Match(known.ledger, known.path, files, contents.is_trashed)
         match.find_known()
         return None if match.count_new() else (reading.words(), remarks_on_lost(match))
 
@@ -154,8 +154,8 @@ class Before(NamedTuple):
 
     @classmethod
     def of(cls, known: Known, reading: Reading) -> "Before":
-        """What the ledger knows of a mailbox; this reading if it does not know it. What that leaves out, all do: this
-        doubles no mail."""
+        """What the ledger knows of a mailbox; this reading if it does not know it. What that leaves out, all do: so
+        no mail comes twice."""
         ledger, path = known.ledger, known.path
         source, batch = ledger.sources.get(path), ledger.open.get(ledger.pending(path) or 0)
         words = batch.head.words if batch else source.words if source else None

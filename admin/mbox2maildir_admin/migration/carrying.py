@@ -21,7 +21,7 @@ from ..ledger.lines import END_LINE, FAILED_LINE, PLACED, PLACED_LINE, Head, app
 from ..ledger.match import Files, Match
 from ..ledger.prepared import FAILED, WHOLE, finish_list, remove_list
 from ..ledger.record import unspelled
-from ..maildir.checking import Check
+from ..maildir.checking import DOUBLE, DOUBTFUL_LINE, Check
 from ..maildir.dating import Dating
 from ..maildir.disk import what_fails, why_not_listed
 from ..maildir.files import mail_in
@@ -205,9 +205,9 @@ def date_and_verify(one: Steps, back: int) -> list[Remark]:
     check.threads = 1
     check.look(one.opened.folder)
     # it was decided what From_ lines hold, or they hold no mail: otherwise nothing would have been converted
-    check.doubts = ()
+    del check.besides[DOUBTFUL_LINE]
     # what other programs have there is no second copy of this one
-    check.doubles = [path for path in check.doubles if is_own(before_info(os.path.basename(path)))]
+    check.files[DOUBLE] = [path for path in check.files[DOUBLE] if is_own(before_info(os.path.basename(path)))]
     if not check.is_right():
         raise Left(check.report(), Reason.NOT_VERIFIED)
     if one.opened.has_changed(text):
@@ -215,7 +215,7 @@ def date_and_verify(one: Steps, back: int) -> list[Remark]:
     return [*dating.remarks(), *Says.CAME_BACK.of_any(min(back, len(one.contents.inventory)))]
 
 
-def settled(several: Sequence[tuple[Outcome, Optional[OSError]]]) -> list[Row]:
+def rows_once_synced(several: Sequence[tuple[Outcome, Optional[OSError]]]) -> list[Row]:
     """The rows of mailboxes, once their disks were synced, or failed, and that is noted of those that were verified: at
     once of all of a folder. What fails leaves those that it is about."""
     rows = [one.row for one, _ in several]

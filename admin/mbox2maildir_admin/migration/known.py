@@ -5,7 +5,7 @@ import os
 from collections.abc import Container
 from typing import NamedTuple, Optional
 
-from ..ledger.history import Entry, Key, Note, Step, names_of
+from ..ledger.history import Entry, Event, Key, Note, names_of
 from ..ledger.ledger import Ledger, count_in
 from ..ledger.match import cores_of
 from ..ledger.record import Record, is_gone, unspelled
@@ -91,7 +91,7 @@ class Known:
             notes = self.record.noting(Note.EMPTY, self.opened.name, mailbox.path)
             return None if source and source.count() else next((one for one in notes if one.key == self.key), None)
         if self.by_index:
-            return self.by_index if self.has_bytes_of(self.by_index) and self.by_index.what is Step.DONE else None
+            return self.by_index if self.has_bytes_of(self.by_index) and self.by_index.what is Event.DONE else None
         return self.done_at(self.path)
 
     def done_at(self, path: str) -> Optional[Entry]:
@@ -100,7 +100,7 @@ class Known:
         source, mailbox = self.ledger.sources.get(path), self.opened.mailbox
         is_same = source and source.count() and source.key[0] == mailbox.size and source.key == mailbox.key()
         entry = self.record.entry_of(self.opened.name, self.ledger, path) if is_same else None
-        return entry if entry and entry.what is Step.DONE else None
+        return entry if entry and entry.what is Event.DONE else None
 
     def elsewhere(self, inventory: Inventory) -> list[Elsewhere]:
         """Where all went, or began to go, before another folder was named for the mailbox; and that mailboxes had which

@@ -72,7 +72,7 @@ from .steps import (
     OtherPass,
     Part,
     Steps,
-    remarks_on,
+    remarks_on_match,
     remarks_on_lost,
 )
 
@@ -319,7 +319,7 @@ class Transfer:
         if self.has_failed() and not again:
             raise Left(SYNC_FAILED, Reason.SYNC_FAILED)
         with part.read() as contents:
-            steps, row = (self.first_steps if self.options.prepare else self.steps)(part, contents, again, said)
+            steps, row = (self.first_steps if self.options.prepare else self.other_steps)(part, contents, again, said)
             if self.options.dry:
                 return Outcome(row)
             ended = carry_out(steps, row, self.program)
@@ -357,7 +357,7 @@ class Transfer:
         self.want_room_for(steps)
         return steps, self.row(part, said)
 
-    def steps(self, part: Part, contents: Contents, again: bool, said: Sequence[Remark]) -> tuple[Steps, Row]:
+    def other_steps(self, part: Part, contents: Contents, again: bool, said: Sequence[Remark]) -> tuple[Steps, Row]:
         """What any other pass does, and its row. Raises Left if it cannot be done, with the command that does what
         can."""
         known, again = self.known, self.go_by_ledger(contents, again)
@@ -389,7 +389,7 @@ class Transfer:
         rehearsal."""
         # a message of a Takeout may be in many folders
         elsewhere = [] if self.part else self.known.elsewhere(steps.contents.inventory)
-        said = [*said, *remarks_on(steps, self.options.dry), *back_in(self.ledger)]
+        said = [*said, *remarks_on_match(steps, self.options.dry), *back_in(self.ledger)]
         is_gone = any(one.word == Says.GONE_ELSEWHERE.word for one in said)
         then = self.command(Does.BRINGS_BACK, again=True) if is_gone else NOTHING
         for line, is_moved in elsewhere:
@@ -418,7 +418,7 @@ class Transfer:
             if prepared and not part.is_as_prepared:
                 prepared.look(say)
             files = Files(self.ledger.folder, contents.inventory, say, prepared.hides if prepared else None)
-            match = Match.of(self.ledger, self.path, files, contents.is_deleted)
+            match = Match.of(self.ledger, self.path, files, contents.is_trashed)
         if part.cores:
             # what only left the folder of a label is not gone
             match.unlabelled = match.lost & part.cores
@@ -438,7 +438,7 @@ class Transfer:
     def matched_again(self, ledger: Ledger, contents: Contents) -> Match:
         """The same if all that is nowhere is placed."""
         files = Files(ledger.folder, contents.inventory, self.opened.mailbox.say)
-        return Match.again(ledger, self.path, files, contents.is_deleted)
+        return Match.again(ledger, self.path, files, contents.is_trashed)
 
     def want_room_for(self, steps: Steps) -> None:
         """Raises Left if the disk has no room for what is placed, and for the lines about it."""
@@ -499,7 +499,7 @@ class Transfer:
         steps = Steps.of(self.known, contents, match, self.options.extra, OtherPass(True, ends_list=True))
         hindrance = self.options.extra.hindrance(steps)
         stays = self.options.dovecot and not hindrance
-        then = self.command(Does.DOUBLES, match.count(Stand.NOWHERE), again=True, dovecot=stays)
+        then = self.command(Does.STORES_AGAIN, match.count(Stand.NOWHERE), again=True, dovecot=stays)
         return Left("%s; %s" % (left, hindrance) if hindrance else "%s" % left, left.reason, then)
 
     def command(self, does: Phrase, messages: Optional[int] = None, **changes: Any) -> Next:

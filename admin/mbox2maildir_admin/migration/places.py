@@ -9,7 +9,7 @@ from typing import NamedTuple, Optional
 from ..faults import Fault, Left, Reason, fault_of
 from ..kinds.folders import Profiles
 from ..kinds.named import is_no_mail, name_of_folder
-from ..ledger.history import History, Note, Step, names_of
+from ..ledger.history import Event, History, Note, names_of
 from ..ledger.record import Record, unspelled
 from ..looks import is_file
 from ..maildir.files import mail_in
@@ -123,7 +123,7 @@ class Pairs(NamedTuple):
     def without_folders_in_inbox(self, several: Sequence[Planned], given: Container[bytes]) -> list[Planned]:
         """Mailboxes, of which those are left that are named as a folder and would join other mail in INBOX, if these
         files were given without a folder."""
-        has_mail, line = bool(self.record.last_steps(INBOX)) or any(mail_in(self.root)), self.record.prepared(INBOX)
+        has_mail, line = bool(self.record.last_events(INBOX)) or any(mail_in(self.root)), self.record.prepared(INBOX)
         for_inbox = [os.path.basename(one.path) for one in several if one.folder == INBOX and not one.why]
         # it may stand elsewhere than when it was prepared
         is_its_own = line and for_inbox == [os.path.basename(unspelled(line.path))]
@@ -148,7 +148,7 @@ class Pairs(NamedTuple):
         names = names_of(path)
         for name in dict.fromkeys([folder, *self.record.folders_with(names)]):
             last = self.record.last_of(name, names)
-            if last and last.what is Step.DONE:
+            if last and last.what is Event.DONE:
                 return name
         return None
 

@@ -37,7 +37,7 @@ from typing import NamedTuple, Optional
 
 from ..faults import Fault, Left, Reason
 from ..flags.renaming import sync_names
-from ..ledger.history import Note, Step, names_of
+from ..ledger.history import Event, Note, names_of
 from ..ledger.ledger import Ledger, has_failed
 from ..ledger.lines import PLACED
 from ..ledger.prepared import (
@@ -122,7 +122,7 @@ class Preparation:
         """What is known of the folder."""
         ledger, prepared, unknown = self.ledger, self.prepared, self.record.unknown_to(self.name, self.ledger)
         if prepared.is_there:
-            is_over = ledger.sources or any(one.what is Step.DONE for one in unknown)
+            is_over = ledger.sources or any(one.what is Event.DONE for one in unknown)
             return Stage.OVER if is_over else Stage.BEGUN if prepared.batch else Stage.PREPARED
         if self.record.prepared(self.name) and not ledger.sources:
             return Stage.LIST_GONE

@@ -32,8 +32,8 @@ UNDONE = Verdict.UNDONE, Verdict.WOULD_UNDO
 # what the last line says if not all mailboxes were looked at
 INTERRUPTED = "interrupted: run the same command again"
 REHEARSAL = "a rehearsal: nothing was written; the commands above write once --dry-run is left out"
-# the steps of a mailbox, by the first word of what is said of its progress
-STEPS = MappingProxyType({"reading": 1, "copying": 1, "looking": 2, "converting": 3, "dating": 4, "verifying": 5})
+# the stages of a mailbox, by the first word of what is said of its progress
+STAGES = MappingProxyType({"reading": 1, "copying": 1, "looking": 2, "converting": 3, "dating": 4, "verifying": 5})
 
 # does what the words of a command say, which follow its name
 Run = Callable[[Sequence[str]], None]
@@ -64,9 +64,9 @@ class Kept:
 
 
 class Reporter(Observer):
-    """Prints rows, how far the mailboxes are, and last what is left. A migration has steps."""
+    """Prints rows, how far the mailboxes are, and last what is left. A migration has stages."""
 
-    def __init__(self, shows: Shows, steps: Mapping[str, int] = STEPS, task: str = "migrating") -> None:
+    def __init__(self, shows: Shows, stages: Mapping[str, int] = STAGES, task: str = "migrating") -> None:
         self.shows = shows
         self.kept = Kept()
         self.start = time.monotonic()
@@ -84,7 +84,7 @@ class Reporter(Observer):
         self.stand: collections.Counter[str] = collections.Counter()
         # how long a last pass would take, if this is a first one
         self.estimate = Estimate()
-        self.steps, self.line = steps, Progress()
+        self.stages, self.line = stages, Progress()
         # what all do together, and what each one does that is at work
         self.task, self.at_work = task, dict[str, Doing]()
         # how many mailboxes or users there are, and how many have begun; and which are at work
@@ -104,8 +104,8 @@ class Reporter(Observer):
             # without a terminal it is said once that one waits, and for how long
             self.waiting.add(who)
             complain("%s: %s" % (who, doing))
-        number = self.steps.get(doing.split(" ", 1)[0])
-        step = "step %d of %d" % (number, max(self.steps.values())) if number else ""
+        number = self.stages.get(doing.split(" ", 1)[0])
+        step = "step %d of %d" % (number, max(self.stages.values())) if number else ""
         self.at_work[who] = doing, place, size
         if len(self.at_work) > 1:
             who, doing, place, size, step = *together(self.at_work, self.task), ""

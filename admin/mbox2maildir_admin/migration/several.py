@@ -21,7 +21,7 @@ from ..readings.texts import is_mbox
 from ..remarks import Says
 from ..terminal import named, operand, text_of
 from .dovecot import OLD_SUBSCRIPTIONS, SUBSCRIPTIONS, Dovecot, subscribe
-from .carrying import settled
+from .carrying import rows_once_synced
 from .mailbox import Migration
 from .outcomes import Observer, Outcome, Row, Verdict, row_left, seen
 from .places import Pairs, Planned, UserHome, as_inbox, as_named, into_inbox, recorded
@@ -111,9 +111,9 @@ class Several:
     def __init__(self, migration: Migration, observer: Observer, home: Optional[UserHome]) -> None:
         options, names = migration.options, migration.options.names
         self.migration, self.names, self.observer, self.own = migration, names, observer, home is not None
-        self.say, self.syncs = observer.progress, Syncs(self.settle, home.sync_one if home else None)
+        self.say, self.syncs = observer.progress, Syncs(self.tell_synced, home.sync_one if home else None)
         # an Inbox of a user's tree is not the user's inbox, if that is or was another mailbox
-        is_taken = home and (home.has_inbox or migration.record.last_steps(INBOX))
+        is_taken = home and (home.has_inbox or migration.record.last_events(INBOX))
         self.taken: set[bytes] = {INBOX} if is_taken else set()
         # the symbolic links that are followed: those that were named
         self.links = {one for one in names if not self.own and is_link(one)}
@@ -155,7 +155,7 @@ class Several:
                     self.observer.begin()
                     ended = self.run_named(one)
                     self.observer.rest(named(one.path))
-                    self.report(ended)
+                    self.tell_once_synced(ended)
         finally:
             # what was verified is done, even if a signal ends this
             self.syncs.sync()
@@ -171,7 +171,7 @@ class Several:
 
         def report() -> None:
             for place in sorted(workers.ended):
-                self.report(workers.ended.pop(place), functools.partial(rows.take, place))
+                self.tell_once_synced(workers.ended.pop(place), functools.partial(rows.take, place))
 
         try:
             with workers:
@@ -184,7 +184,7 @@ class Several:
     def work(self, plan: Sequence[Planned], work: "Work") -> None:
         """Does the work of a worker. Its parent syncs, writes the record and reports, and knows the room that all
         workers need."""
-        migration, self.syncs, self.say = self.migration, Syncs(self.settle), work.progress
+        migration, self.syncs, self.say = self.migration, Syncs(self.tell_synced), work.progress
         migration.want_room, migration.program.alive = work.want_room, work.alive
         if not migration.options.dry:
             migration.record.write = work.write
@@ -193,20 +193,20 @@ class Several:
                 work.begin()
                 work.end(place, self.run_named(plan[place]))
 
-    def report(self, one: Outcome, take: Optional[Callable[[Optional[Row]], object]] = None) -> None:
-        """Reports what became of a name: of subscriptions once they are written, and of a mailbox that was verified,
-        and all after it, once that is on the disk. `take` takes the row, and none of subscriptions."""
+    def tell_once_synced(self, one: Outcome, tell: Optional[Callable[[Optional[Row]], object]] = None) -> None:
+        """Tells what became of a name: of subscriptions once they are written, and of a mailbox that was verified,
+        and all after it, once that is on the disk. `tell` takes the row, and none of subscriptions."""
         if one.row.verdict == Verdict.NO_MAIL:
             self.found[one.row.path] = one.row
         if one.row.path not in self.subscriptions or one.row.verdict != Verdict.NO_MAIL:
-            self.syncs.add(one.folder, (one, take or self.observer.row))
-        elif take:
-            take(None)
+            self.syncs.add(one.folder, (one, tell or self.observer.row))
+        elif tell:
+            tell(None)
 
     @staticmethod
-    def settle(several: Sequence[tuple[tuple[Outcome, Tell], Optional[OSError]]]) -> None:
+    def tell_synced(several: Sequence[tuple[tuple[Outcome, Tell], Optional[OSError]]]) -> None:
         """Notes what became of mailboxes whose disks were synced, and tells their rows."""
-        for row, ((_, tell), _) in zip(settled([(one, fault) for (one, _), fault in several]), several):
+        for row, ((_, tell), _) in zip(rows_once_synced([(one, fault) for (one, _), fault in several]), several):
             tell(row)
 
     def progress(self, who: str, doing: str, place: Optional[int] = None, size: Optional[int] = None) -> None:
@@ -240,7 +240,7 @@ class Several:
                 placed = tree.placed(record, root, self.taken, self.is_no_mail)
                 maildirs = [maildir.row(root, self.taken) for maildir in tree.maildirs]
                 for row in [*tree.rows, *maildirs]:
-                    self.report(Outcome(row))
+                    self.tell_once_synced(Outcome(row))
                 yield from placed
             elif self.own and is_link(name):
                 self.observer.row(row_left(name, b"", link_left(name)))
@@ -271,7 +271,7 @@ class Several:
         if others and row.is_said():
             row = row._replace(remarks=(*row.remarks, Says.ALSO_NAMED.of(" and ".join(map(named, others)))))
         is_done = row.verdict in (Verdict.DONE, Verdict.BEFORE, Verdict.WOULD)
-        if one.is_inbox and is_done and INBOX not in self.taken and not self.migration.record.last_steps(INBOX):
+        if one.is_inbox and is_done and INBOX not in self.taken and not self.migration.record.last_events(INBOX):
             then = into_inbox(one, row.folder, self.migration.options, self.migration.record)
             row = row._replace(next=(*row.next, *then))
         return ended._replace(row=row)

@@ -52,7 +52,7 @@ class Contents(NamedTuple):
         full = self.full
         return Header.at(full.mailbox, Offset(full.offsets[place])).text
 
-    def is_deleted(self, place: Place) -> bool:
+    def is_trashed(self, place: Place) -> bool:
         """Whether a message is marked as deleted."""
         header = self.header(place)
         return "T" in flags_in(header, self.is_bare) + (letters_of_evolution(header) or "")
@@ -208,7 +208,7 @@ class Extra:
         return remarks
 
 
-def remarks_on(one: Steps, dry: bool) -> Iterator[Remark]:
+def remarks_on_match(one: Steps, dry: bool) -> Iterator[Remark]:
     """What is to be said of what is new, what is there, and what is gone."""
     match, ledger = one.placing.match, one.known.ledger
     if isinstance(one.own, OtherPass) and one.own.is_again:

@@ -11,7 +11,7 @@ from collections.abc import Callable, Iterator
 from typing import NamedTuple
 
 from ..faults import Fault, Reason
-from ..flags.clients import is_deleted
+from ..flags.clients import is_expunged
 from ..kinds.starts import end_of_row
 from ..mbox.dates import is_dated
 from ..mbox.fields import Header, bare_pieces
@@ -146,7 +146,7 @@ class Quoter:
         self.crlf += self.is_crlf
         end = header.message_end(self.mailbox) if header else None
         self.end = end or Offset(0)
-        deleted = is_deleted(data[piece.body : header_of(data, piece.body)[0]]) if self.reading.ends != CR else None
+        deleted = is_expunged(data[piece.body : header_of(data, piece.body)[0]]) if self.reading.ends != CR else None
         self.marked, self.deleted = self.marked + (deleted is not None), self.deleted + bool(deleted)
         self.is_dropped = self.reading.drop and bool(deleted)
         if not self.is_dropped:

@@ -86,7 +86,7 @@ class Takeouts(Migration):
 
     def __init__(self, record: Record, options: Options, observer: Observer) -> None:
         super().__init__(Program(find_program()), record, options)
-        self.observer, self.syncs = observer, Syncs(Several.settle)
+        self.observer, self.syncs = observer, Syncs(Several.tell_synced)
         # the labels of the messages that were read
         self.labels: set[str] = set()
 
@@ -101,7 +101,7 @@ class Takeouts(Migration):
             say(*words)
 
         try:
-            self.add(self.migrate_path(path, b"", sync_and_say, follow=True))
+            self.tell_once_synced(self.migrate_path(path, b"", sync_and_say, follow=True))
         finally:
             # what was verified is done, even if a signal ends this
             self.syncs.sync()
@@ -119,8 +119,8 @@ class Takeouts(Migration):
                 near = [named(plain[one]) for one in get_close_matches(label.casefold(), plain)]
                 complain(NOT_THERE % (named(label), gives) + (ALIKE % ", ".join(near) if near else ""))
 
-    def add(self, ended: Outcome) -> None:
-        """Reports what became of a folder, once its disk is synced."""
+    def tell_once_synced(self, ended: Outcome) -> None:
+        """Tells what became of a folder, once its disk is synced."""
         ended = ended._replace(row=ended.row._replace(is_part=bool(ended.row.folder)))
         self.syncs.add(ended.folder, (ended, self.observer.row))
 
@@ -142,7 +142,7 @@ class Takeouts(Migration):
                 note(self.record, opened.mailbox, noted._replace(folders=folders), len(takeout.inventory))
                 self.observer.total += len(folders) - 1
                 for folder in folders[:-1]:
-                    self.add(self.bring_into(folder, takeout, opened))
+                    self.tell_once_synced(self.bring_into(folder, takeout, opened))
                     self.observer.begin()
                 return self.bring_into(folders[-1], takeout, opened)
         except LabelsLeft as left:

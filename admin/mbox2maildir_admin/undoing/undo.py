@@ -20,7 +20,7 @@ from ..ledger.assign import File, by_form, files_of
 from ..ledger.lines import END_LINE, LOST, NOBODYS, Brought, Head, Line, State
 from ..ledger.match import cores_of
 from ..ledger.gone import without_line
-from ..ledger.history import Step, names_of
+from ..ledger.history import Event, names_of
 from ..ledger.ledger import Ledger, count_in
 from ..ledger.prepared import Prepared, has_list
 from ..ledger.record import Record, unspelled
@@ -130,7 +130,7 @@ class Undo:
         if not path:
             raise Left(NOT_RECORDED, Reason.UNDO)
         known = Known(self.record, ledger, opened)
-        newer = known.by_index or next((one for one in known.unknown if one.what is not Step.UNDONE), None)
+        newer = known.by_index or next((one for one in known.unknown if one.what is not Event.UNDONE), None)
         if newer:
             # the ledger lacks what the index has of the mailbox, or of another one of its folder
             raise Left(OLDER % named(unspelled(newer.path)), Reason.UNDO)
@@ -143,7 +143,7 @@ class Undo:
         counts = remove(opened, plan, dry) if dry else self.carry_out(opened, ledger, path, plan)
         keepers = collections.Counter(one.keeper for one in plan if one.keeper)
         verdict = Verdict.WOULD_UNDO if dry else Verdict.UNDONE
-        remarks = tuple(remarks_on(counts, keepers, dry))
+        remarks = tuple(remarks_on_undone(counts, keepers, dry))
         return Row(mailbox.path, opened.name, "", messages, verdict, size=mailbox.size, remarks=remarks)
 
     def path_in(self, ledger: Ledger, opened: Opened) -> str:
@@ -377,7 +377,7 @@ def undo_prepared(record: Record, path: bytes, folder: Optional[bytes], dry: boo
         return row_left(path, folder or b"", fault)
 
 
-def remarks_on(counts: Counts, keepers: collections.Counter[str], dry: bool) -> Iterator[Remark]:
+def remarks_on_undone(counts: Counts, keepers: collections.Counter[str], dry: bool) -> Iterator[Remark]:
     """What is said of the messages that the mailbox brought, by how many of them each other mailbox keeps."""
     yield Says.REMOVED.of(counted(counts[Fate.REMOVED], "message"), dry=dry)
     # a run that was killed may have changed the order in which mailboxes were begun

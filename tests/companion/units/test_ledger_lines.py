@@ -4,7 +4,7 @@ import unittest
 from collections.abc import Callable
 from typing import Any, Optional
 
-from mbox2maildir_admin.ledger.history import Entry, Key, Note, Step
+from mbox2maildir_admin.ledger.history import Entry, Event, Key, Note
 from mbox2maildir_admin.ledger.lines import ALL_PLACED, BATCH, CUT, END, FAILED, FOREIGN, HEAD, LOST, MOVED, NAMELESS
 from mbox2maildir_admin.ledger.lines import PLACED, SHARED, UNDOING, UNDONE, Brought, Head, Messages, pieces_of
 from mbox2maildir_admin.ledger.prepared import AS_READ, BEGUN, AsRead, Origin, Prepared
@@ -19,10 +19,10 @@ NAME = b"aa" * 32 + b".1"
 TEXT = Head(3, 2, 1, (7, 8, -9), (10, SHA), "mboxo text=7,9 crlf", "/a b/\u00e4\\x0a", 5, 70)
 BEGINS = b"@\t12\t3\t2\t1\t70\t7,8,-9\t10-" + b"c" * 64 + b"-5\tmboxo text=7,9 crlf\t" + "/a b/\u00e4\\x0a".encode()
 WHEN = "2025-03-03T10:00:00Z"
-STEP = Entry(Step.DONE, Key(b".a\\b", Size(10), SHA), 3, WHEN, "/b\\x0a", "mboxo text=7,9", "0" * 32, 1234, 5)
+EVENT = Entry(Event.DONE, Key(b".a\\b", Size(10), SHA), 3, WHEN, "/b\\x0a", "mboxo text=7,9", "0" * 32, 1234, 5)
 NOTED = b".a\\b\t10\t" + b"c" * 64 + b"\t3\t2025-03-03T10:00:00Z\t/b\\x0a"
 DONE = b"done\t" + NOTED + b"\tmboxo text=7,9\t" + b"0" * 32 + b"-1234-5"
-PLAIN = STEP._replace(ledger="", size=0, number=0)
+PLAIN = EVENT._replace(ledger="", size=0, number=0)
 ORIGIN = Origin((7, SHA), (1, 7, 2), 2, "mboxrd", "/home/mail", "/home/mail/box")
 BEGAN = b"@\t7-" + b"c" * 64 + b"\t1,7,2\t2\tmboxrd\t/home/mail\t/home/mail/box"
 REMARKS = Remark("loses-quote", "`>>From ` loses a `>` in 2 lines"), Remark("no-line-end", "\u00e9", 3)
@@ -55,7 +55,7 @@ ROWS: tuple[tuple[Callable[[bytes], object], Any, bytes], ...] = (
     (message_of, Brought(LOST, NAMELESS, A, A), b"l\t-\t" + HEXA),
     (head_of, TEXT, BEGINS),
     (head_of, TEXT._replace(times=(), inode=0), BEGINS.replace(b"7,8,-9", b"").replace(b"c-5", b"c")),
-    (Entry.parse, STEP, DONE),
+    (Entry.parse, EVENT, DONE),
     (Entry.parse, PLAIN._replace(what=Note.ANSWERED), b"answered\t" + NOTED + b"\tmboxo text=7,9"),
     (Entry.parse, PLAIN._replace(what=Note.NO_MAIL, words=None), b"no-mail\t" + NOTED),
     (origin_of, ORIGIN, BEGAN),
