@@ -231,7 +231,7 @@ class Appending:
         draft.add(self.style.gap)
         entries: list[Appended] = []
         mails = in_order(mails, self.numbering.uid)
-        for number, (mail, noted) in enumerate(zip(mails, self.numbering.fields(mails)), 1):
+        for number, (mail, noted) in enumerate(zip(mails, self.numbering.fields_to_write(mails)), 1):
             self.mailbox.say("reading file %d of %d" % (number, len(mails)))
             letter = Letter.of(self.opened.folder, mail)
             if not letter:

@@ -18,7 +18,7 @@ from ..maildir.files import letters_of, mail_in
 from ..mbox.bases import before_info
 from ..mbox.core import forms_of
 from ..mbox.dates import TOO_LATE
-from ..mbox.fields import HIDDEN, OF_EVOLUTION, OF_GMAIL, OF_THUNDERBIRD, headers_at, pattern_of
+from ..mbox.fields import OF_EVOLUTION, OF_GMAIL, OF_THUNDERBIRD, OUT_OF_APPENDED, WRITTEN, headers_at, pattern_of
 from ..mbox.files import open_file
 from ..mbox.inventory import Inventory
 from ..mbox.mailbox import Mailbox
@@ -31,8 +31,6 @@ RETURN_PATH = re.compile(rb"^Return-Path:[ \t]*<?([!-;=?-~]{1,256})>?[ \t]*\r?$"
 NOBODY = b"MAILER-DAEMON"
 # the first day and the last one of which each program knows what a date means; midnight of January 1, 1970 means none
 FIRST_TIME, LAST_TIME = 1, TOO_LATE - 86400
-# the flags of a Maildir, and their letters in a field of an mbox
-X_STATUS = {"R": b"A", "F": b"F", "D": b"T", "T": b"D"}
 # the names of the fields of mail programs, in lower case
 BY_THUNDERBIRD, BY_EVOLUTION, BY_GMAIL = CLIENTS
 KEPT: dict[str, tuple[bytes, ...]] = {BY_THUNDERBIRD: OF_THUNDERBIRD, BY_EVOLUTION: OF_EVOLUTION, BY_GMAIL: OF_GMAIL}
@@ -43,7 +41,8 @@ THREAD_BITS = 63
 
 
 class Letter(NamedTuple):
-    """A message for a mailbox: its bytes, its flags, whether a reader has met it, and its time in seconds."""
+    """A message for a mailbox: its bytes, its flags, whether a reader has met it, and the time of its file, which
+    its From_ line has, in seconds since 1970."""
 
     text: bytes
     flags: str = ""
@@ -62,11 +61,10 @@ class Letter(NamedTuple):
                 return cls(file.readall(), letters_of(name), is_old, mail.time)
         return None
 
-    def fields(self) -> list[bytes]:
-        """The fields for its flags in any mailbox."""
-        status = b"R" * ("S" in self.flags) + b"O" * self.is_old
-        others = b"".join(value for flag, value in X_STATUS.items() if flag in self.flags)
-        return [b"Status: " + status] * bool(status) + [b"X-Status: " + others] * bool(others)
+    def fields_to_write(self, length: Optional[int]) -> list[bytes]:
+        """Its fields in any mailbox, also that of the length of its body, if it has one there."""
+        said = {name: says(self.flags, self.is_old, length) for name, says in WRITTEN.items()}
+        return [b"%s: %s" % (name, value) for name, value in said.items() if value]
 
 
 class Dialect(NamedTuple):
@@ -90,6 +88,10 @@ class Dialect(NamedTuple):
         if self.word == MBOXCL2:
             return text
         return (FROM if self.word == MBOXO else FROM_OR_QUOTED).sub(b">", text)
+
+    def length_of(self, body: bytes) -> Optional[int]:
+        """The length of a body that is quoted; None if lengths do not count."""
+        return len(body) + body.count(b"\n") * self.crlf if self.word in BY_LENGTHS else None
 
     def gaps_after(self, end: bytes) -> tuple[bytes, ...]:
         """What may be missing before a From_ line after a text that ends so. By its length, the last message may lack
@@ -129,13 +131,13 @@ class Client(NamedTuple):
         return cls(kept.program, max((int(one[1], 16) for one in found), default=0))
 
     def bared(self, header: bytes) -> tuple[bytes, Sequence[bytes]]:
-        """A header without the fields of this program, and without those by which mailboxes are read everywhere; and
-        the names of these."""
-        fields = pattern_of((*HIDDEN, *KEPT.get(self.program, ())))
+        """A header without the fields of this program, and without those that no message brings into any mailbox;
+        and the names of these."""
+        fields = pattern_of((*OUT_OF_APPENDED, *KEPT.get(self.program, ())))
         taken = [found[0].split(b":")[0].strip() for found in fields.finditer(b"\n" + header)]
         return fields.sub(b"", b"\n" + header)[1:], taken
 
-    def fields(self, flags: str, core: bytes, number: int) -> list[bytes]:
+    def fields_to_write(self, flags: str, core: bytes, number: int) -> list[bytes]:
         """The fields for a message with these flags and this core, which is the one of this number that goes back."""
         if self.program == BY_THUNDERBIRD:
             return [b"X-Mozilla-Status: %04x" % bits_of(flags, THUNDERBIRD), b"X-Mozilla-Status2: 00000000"]
@@ -184,9 +186,8 @@ def spelled(
     from_line = b"From %s %s\n" % (sender[1] if sender else NOBODY, date_of(letter.time))
     header, body = dialect.quoted(header), dialect.quoted(body)
     # a Takeout's messages begin with Gmail's. Each of these fields is one that no core has (`mbox/fields.py`)
-    fields = [*noted, *client.fields(letter.flags, core, number), *letter.fields()]
-    if dialect.word in BY_LENGTHS:
-        fields.append(b"Content-Length: %d" % (len(body) + body.count(b"\n") * dialect.crlf))
+    fields = [*noted, *client.fields_to_write(letter.flags, core, number)]
+    fields += letter.fields_to_write(dialect.length_of(body))
     text = b"".join([from_line, with_fields(header, fields), gap, body, b"\n"])
     return Spelled(text.replace(b"\n", b"\r\n") if dialect.crlf else text, core, bares, taken)
 

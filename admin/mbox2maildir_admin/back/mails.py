@@ -33,7 +33,8 @@ One = TypeVar("One")
 
 
 class Mail(NamedTuple):
-    """A file of mail: its folder, its name and its path, the core of what it holds, and its time in seconds."""
+    """A file of mail: its folder, its name and its path, the core of what it holds, and when that was changed last
+    (its mtime), in seconds since 1970: `migrate` dates a file by its message, and others leave the time of delivery."""
 
     folder: bytes
     name: bytes

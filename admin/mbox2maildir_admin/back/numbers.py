@@ -265,7 +265,7 @@ class Numbering:
         """The UID of a file that its message keeps; a higher number than any if it gets a new one."""
         return self.listed.uids.get(mail.before, NONE) if self.listed and self.is_same else NONE
 
-    def fields(self, mails: Iterable[Mail]) -> Iterator[list[bytes]]:
+    def fields_to_write(self, mails: Iterable[Mail]) -> Iterator[list[bytes]]:
         """The fields of each of these messages, which go back in this order. Dovecot gives a UID to what gets none."""
         first, last = self.first, max(self.uids, default=0)
         for mail in mails:

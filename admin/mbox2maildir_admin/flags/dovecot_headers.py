@@ -9,7 +9,7 @@ import re
 from collections.abc import Iterable, Iterator
 from typing import NamedTuple, Optional
 
-from ..mbox.fields import VALUE, Header
+from ..mbox.fields import VALUE, X_STATUS, Header
 from ..mbox.inventory import NOTE
 from ..mbox.mailbox import Mailbox
 from ..mbox.pieces import LONGEST_NAME
@@ -35,7 +35,7 @@ INTERNAL_BODY = pattern(
 )
 SUBJECT = pattern(rb"^subject:([^\n]*)", re.I | re.M)
 # the flags of Dovecot by their letters in Status and X-Status, and the letters of a Maildir
-STATUS, X_STATUS = {b"R": "S"}, {b"A": "R", b"D": "T", b"F": "F", b"T": "D"}
+BY_STATUS, BY_X_STATUS = {b"R": "S"}, {letter: flag for flag, letter in X_STATUS.items()}
 FLAGS = "DFRST"
 # the bit that says that a mail program has listed a message
 LISTED = 45
@@ -203,7 +203,7 @@ def marks_of(fields: Iterable[Field], names: dict[bytes, int]) -> int:
     first: dict[bytes, bytes] = {}
     for field in fields:
         if field.name in (b"status", b"x-status"):
-            marks |= bits_of(field.value, STATUS if field.name == b"status" else X_STATUS, 32)
+            marks |= bits_of(field.value, BY_STATUS if field.name == b"status" else BY_X_STATUS, 32)
             marks |= (field.name == b"status" and b"O" in field.value) << LISTED
             if not field.is_spaced:
                 first.setdefault(field.name, field.value.split(b"\n")[0])

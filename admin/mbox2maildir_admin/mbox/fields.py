@@ -8,7 +8,7 @@ Dovecot writes without its CR, or at the next line `From `.
 """
 import functools
 import re
-from collections.abc import Iterable, Iterator
+from collections.abc import Callable, Iterable, Iterator
 from typing import Optional
 
 from ..patterns import pattern
@@ -16,13 +16,26 @@ from ..units import Offset
 from .mailbox import Mailbox
 from .pieces import FROM, LONGEST_HEADER, LONGEST_NAME, Piece, header_of
 
-# in lower case; letters may have either case
+# the letters of the flags of a Maildir in X-Status
+X_STATUS = {"R": b"A", "F": b"F", "D": b"T", "T": b"D"}
+# what `back` writes in any mailbox, in this order: by the name of a field, what it says by the flags of a message, by
+# whether a reader has met it, and by the length of its body where lengths count. One that says nothing is not written
+WRITTEN: dict[bytes, Callable[[str, bool, Optional[int]], bytes]] = {
+    b"Status": lambda flags, is_old, length: b"R" * ("S" in flags) + b"O" * is_old,
+    b"X-Status": lambda flags, is_old, length: b"".join(letter for flag, letter in X_STATUS.items() if flag in flags),
+    b"Content-Length": lambda flags, is_old, length: b"" if length is None else b"%d" % length,
+}
+# names in lower case; letters may have either case. What Dovecot hides in a mailbox a Maildir would show, so --dovecot
+# takes it out of files. In a mailbox it would count again, so `back` takes it out of what it appends, with all that it
+# writes itself
 HIDDEN = (b"content-length", b"status", b"x-imap", b"x-imapbase", b"x-keywords", b"x-status", b"x-uid")
+OUT_OF_FILES = HIDDEN
+OUT_OF_APPENDED = tuple(sorted({*HIDDEN, *map(bytes.lower, WRITTEN)}))
 # what else mail programs note of a message: flags, tags and labels, and mutt the number of its lines
 OF_THUNDERBIRD = b"x-mozilla-keys", b"x-mozilla-status", b"x-mozilla-status2"
 OF_EVOLUTION = (b"x-evolution",)
 OF_GMAIL = b"x-gm-thrid", b"x-gmail-labels"
-NOTED = (*HIDDEN, b"lines", *OF_EVOLUTION, *OF_GMAIL, *OF_THUNDERBIRD)
+NOTED = (*OUT_OF_APPENDED, b"lines", *OF_EVOLUTION, *OF_GMAIL, *OF_THUNDERBIRD)
 # the name of a field in any text, with its colon
 NAME = rb"[!-9;-~]+[ \t]*:"
 # the value of a field after its colon, with the lines that continue it: a repeated group would keep a mark for each
@@ -41,7 +54,7 @@ def pattern_of(names: tuple[bytes, ...]) -> re.Pattern[bytes]:
     return pattern(b"\n(?=[%s])(?:%s)%s" % (firsts, begun, VALUE))
 
 
-HIDDEN_FIELD, NOTED_FIELD = pattern_of(HIDDEN), pattern_of(NOTED)
+FIELD_OUT_OF_FILES, NOTED_FIELD = pattern_of(OUT_OF_FILES), pattern_of(NOTED)
 
 
 def without(fields: re.Pattern[bytes], data: bytes, begin: int, end: int, begun: bytes = b"") -> bytes:
@@ -63,7 +76,7 @@ def bared(piece: Piece) -> bytes:
     if piece.field is None:
         return piece.data
     end, body = header_of(piece.data, piece.body)
-    text = without(HIDDEN_FIELD, piece.data, piece.body, end, piece.field)
+    text = without(FIELD_OUT_OF_FILES, piece.data, piece.body, end, piece.field)
     if body - end < 2:
         return text
     # the empty line loses its CR

@@ -89,7 +89,7 @@ class DialectTest(unittest.TestCase):
     def test_threads_of_gmail(self) -> None:
         """Each message has its own, a positive number of 64 bits, beside its flags."""
         cores = [hashlib.sha256(bytes(count)).digest()[:16] for count in range(100)]
-        fields = [Client("Gmail").fields("FS", core, 1) for core in cores]
+        fields = [Client("Gmail").fields_to_write("FS", core, 1) for core in cores]
         threads = {int(thread.split()[1]) for thread, _ in fields}
         self.assertEqual((len(threads), max(threads) < 1 << 63), (len(cores), True))
         self.assertEqual({labels for _, labels in fields}, {b"X-Gmail-Labels: Opened,Starred"})
