@@ -45,7 +45,7 @@ def opens(path, *words, **named):
     if path == BOX.encode() and is_first('opened'):
         %(opened)s
     if os.fsencode(path).endswith(b'mbox2maildir-back.new'):
-        %(drafted)s
+        %(begun)s
     return number
 link = os.link
 def links(name, other, **where):
@@ -53,7 +53,7 @@ def links(name, other, **where):
     link(name, other, **where)
 os.fsync, os.write, os.ftruncate, os.open, os.link = fsync, write, ftruncate, opens, links
 """
-NOTHING = {"fsync": "pass", "write": "pass", "keeps": "False", "opened": "pass", "drafted": "pass", "locked": "pass"}
+NOTHING = {"fsync": "pass", "write": "pass", "keeps": "False", "opened": "pass", "begun": "pass", "locked": "pass"}
 PART = "calls['write'](number, piece[:20])"
 
 
@@ -81,9 +81,9 @@ MEANWHILE = {
     "another file in its place": Case(
         {"opened": "os.rename(BOX, BOX + '.old'); open(BOX, 'wb').write(%r)" % OLD}, LATER, "changed"
     ),
-    "a file that is edited": Case({"drafted": "open(NEW, 'ab').write(b'edited')"}, LATER, "changed"),
-    "a file that gets a flag": Case({"drafted": "os.rename(NEW, NEW.replace('/new/', '/cur/') + ':2,S')"}, 0, None),
-    "a file that is deleted": Case({"drafted": "os.unlink(NEW)"}, 0, None, is_back=False),
+    "a file that is edited": Case({"begun": "open(NEW, 'ab').write(b'edited')"}, LATER, "changed"),
+    "a file that gets a flag": Case({"begun": "os.rename(NEW, NEW.replace('/new/', '/cur/') + ':2,S')"}, 0, None),
+    "a file that is deleted": Case({"begun": "os.unlink(NEW)"}, 0, None, is_back=False),
 }  # fmt: skip
 
 

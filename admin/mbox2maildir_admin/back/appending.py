@@ -15,7 +15,7 @@ from ..ledger.lines import END_LINE, RETURNED, Brought, Head
 from ..ledger.match import Stand, stands_by
 from ..ledger.record import Record, is_gone
 from ..looks import is_file, is_there
-from ..maildir.making import DRAFT
+from ..maildir.making import GOES_BACK_NEW
 from ..maildir.disk import Need, want_room
 from ..mbox.dates import is_dated
 from ..mbox.files import Reader
@@ -34,7 +34,7 @@ from ..remarks import Says
 from ..terminal import first_of, named
 from ..units import Size, counted
 from .dialect import Client, Dialect, Letter, spelled
-from .journal import Draft, Journal
+from .journal import Journal, NewFile
 from .mails import Mail, Target, in_order
 from .numbers import Listed, Numbering
 from .places import Keeper, Places
@@ -144,7 +144,7 @@ class Way(NamedTuple):
 
 
 class Goes(NamedTuple):
-    """What goes back into a mailbox: the messages that are appended, which are in a draft of this size; those that it
+    """What goes back into a mailbox: the messages that are appended, which are an addition of this size; those that it
     has already, with their places; those that it cannot hold; and whether it has more than the Maildir."""
 
     entries: Sequence[Appended]
@@ -178,16 +178,16 @@ class Appending:
         dry, was_empty = self.way.options.dry, not self.mailbox.size
         with contextlib.ExitStack() as stack:
             if dry:
-                draft = Draft(stack.enter_context(unnamed(self.way.disk)).fileno())
+                addition = NewFile(stack.enter_context(unnamed(self.way.disk)).fileno())
             else:
-                draft = stack.enter_context(Draft.at(os.path.join(self.opened.folder, DRAFT)))
-            goes = self.what_goes(draft)
+                addition = stack.enter_context(NewFile.at(os.path.join(self.opened.folder, GOES_BACK_NEW)))
+            goes = self.what_goes(addition)
             if not dry:
-                self.carry_out(goes, draft)
+                self.carry_out(goes, addition)
             elif goes.entries:
                 # a copy of the mailbox with it shows how that would be read
-                blocks = itertools.chain(self.mailbox.again().blocks(), Reader(draft.number, end=draft.size).blocks())
-                with copy_of(self.mailbox, blocks, self.way.disk) as text:
+                its = Reader(addition.number, end=addition.size).blocks()
+                with copy_of(self.mailbox, itertools.chain(self.mailbox.again().blocks(), its), self.way.disk) as text:
                     self.want_right(text, goes.entries, self.reads())
         self.numbering.add_keywords(
             [*self.target.returned, *(mail for mail, _ in goes.there), *(one.mail for one in goes.entries)], dry
@@ -200,8 +200,8 @@ class Appending:
             return row._replace(verdict=Verdict.LEFT, reason=Reason.NOT_HELD, why=why), ()
         return row, goes.refused
 
-    def what_goes(self, draft: Draft) -> Goes:
-        """What becomes of the mail. What is appended is in the draft then."""
+    def what_goes(self, addition: NewFile) -> Goes:
+        """What becomes of the mail. What is appended is in the addition then."""
         # what the mailbox did not bring is there already, wherever it comes from
         states, _ = stands_by(self.known.ledger.sources.get(self.known.path), self.inventory)
         new: collections.defaultdict[bytes, list[int]] = collections.defaultdict(list)
@@ -217,18 +217,18 @@ class Appending:
                 rest.append(mail)
         refused: list[Mail] = []
         while True:
-            entries = self.drafted(draft, rest)
-            bad = self.unheld(draft, entries)
+            entries = self.write_to(addition, rest)
+            bad = self.unheld(addition, entries)
             if not bad:
-                return Goes(entries, draft.size if entries else 0, there, refused, any(new.values()))
+                return Goes(entries, addition.size if entries else 0, there, refused, any(new.values()))
             # one may be so in two ways
             refused += dict.fromkeys(bad)
             rest = [one.mail for one in entries if one.mail not in bad]
 
-    def drafted(self, draft: Draft, mails: Sequence[Mail]) -> list[Appended]:
+    def write_to(self, addition: NewFile, mails: Sequence[Mail]) -> list[Appended]:
         """Writes messages as the mailbox is to have them. What was removed meanwhile is left out."""
-        draft.clear()
-        draft.add(self.style.gap)
+        addition.clear()
+        addition.add(self.style.gap)
         entries: list[Appended] = []
         mails = in_order(mails, self.numbering.uid)
         for number, (mail, noted) in enumerate(zip(mails, self.numbering.fields_to_write(mails)), 1):
@@ -239,18 +239,18 @@ class Appending:
             one = spelled(letter, self.style.dialect, self.client, number, noted)
             if one.core != mail.core:
                 raise Left(FILE_CHANGED % named(mail.path), Reason.CHANGED)
-            entries.append(Appended(mail, one.bares, draft.size, len(one.text), one.taken))
-            draft.add(one.text)
+            entries.append(Appended(mail, one.bares, addition.size, len(one.text), one.taken))
+            addition.add(one.text)
         return entries
 
-    def unheld(self, draft: Draft, entries: Sequence[Appended]) -> list[Mail]:
-        """The messages of a draft that the mailbox does not give back, each behind another one, as it is going to
+    def unheld(self, addition: NewFile, entries: Sequence[Appended]) -> list[Mail]:
+        """The messages of an addition that the mailbox does not give back, each behind another one, as it is going to
         stand. Raises NotAsItIs if it gives each of them back, but not all, or if a new mailbox may hold them in another
         style."""
         style = self.style
         # in an empty mailbox, the first one of these is the first of all
         before = spelled(Letter(ANOTHER), style.dialect).text if self.mailbox.size else b""
-        with Mailbox(draft.path, os.dup(draft.number)) as text:
+        with Mailbox(addition.path, os.dup(addition.number)) as text:
             bad = self.others_again(text, entries)
             are_held = not entries or style.gives(text, entries)
             if are_held:
@@ -268,8 +268,8 @@ class Appending:
         return bad
 
     def others_again(self, text: Mailbox, entries: Sequence[Appended]) -> list[Mail]:
-        """The messages of a draft that would be other ones if the same was decided about the mailbox again, each behind
-        one without a length."""
+        """The messages of an addition that would be other ones if the same was decided about the mailbox again, each
+        behind one without a length."""
         if not self.style.again:
             return []
         others = list[Mail]()
@@ -279,18 +279,18 @@ class Appending:
                 others += [one.mail] * (not self.style.gives_again(alone, [one]))
         return others
 
-    def carry_out(self, goes: Goes, draft: Draft) -> None:
-        """Appends what was drafted, and has the ledger say so."""
+    def carry_out(self, goes: Goes, addition: NewFile) -> None:
+        """Appends the addition, and has the ledger say so."""
         mailbox, ledger = self.mailbox, self.known.ledger
         if not goes.entries:
             if goes.there:
                 os.fsync(mailbox.number)
-                ledger.note(END_LINE % self.begin(goes, draft))
+                ledger.note(END_LINE % self.begin(goes, addition))
             return
         want_room(Need.of(os.path.dirname(mailbox.path), [], goes.size))
         reads = self.reads()
-        journal = Journal.made(draft, self.opened.folder, mailbox, [one.start for one in goes.entries])
-        number = self.begin(goes, draft)
+        journal = Journal.made(addition, self.opened.folder, mailbox, [one.start for one in goes.entries])
+        number = self.begin(goes, addition)
         journal.append_to(mailbox)
         try:
             self.want_right(mailbox, goes.entries, reads)
@@ -301,14 +301,14 @@ class Appending:
         journal.remove()
         ledger.note(END_LINE % number)
 
-    def begin(self, goes: Goes, draft: Draft) -> int:
+    def begin(self, goes: Goes, addition: NewFile) -> int:
         """Notes in the ledger what goes back, and what is there already, by the size and the SHA-256 that the mailbox
         has then. Returns the number of the batch."""
         mailbox, inventory = self.mailbox, self.inventory
         size, _ = mailbox.key()
         assert mailbox.digest, "its SHA-256 is that of a digest"
         hashed = mailbox.digest.hash.copy()
-        for block in Reader(draft.number, end=goes.size).blocks():
+        for block in Reader(addition.number, end=goes.size).blocks():
             hashed.update(block)
         # a mailbox that has more than the Maildir is not done, whatever its bytes are
         key = NO_KEY if goes.has_more else (Size(size + goes.size), hashed.hexdigest())

@@ -57,15 +57,15 @@ class Journal(NamedTuple):
     starts: Sequence[int]
 
     @classmethod
-    def made(cls, draft: "Draft", folder: bytes, mailbox: Mailbox, starts: Sequence[int]) -> "Journal":
-        """Makes that of a folder of what was drafted for a mailbox, whose messages begin at these places."""
-        path, size, digest = os.path.join(folder, GOES_BACK), draft.size, digest_of(draft.number, draft.size)
+    def made(cls, addition: "NewFile", folder: bytes, mailbox: Mailbox, starts: Sequence[int]) -> "Journal":
+        """Makes that of a folder of the addition to a mailbox, whose messages begin at these places."""
+        path, size, digest = os.path.join(folder, GOES_BACK), addition.size, digest_of(addition.number, addition.size)
         of_mailbox = mailbox.state.st_ino, *mailbox.key(), spelled(mailbox.path)
-        self = cls(path, draft.number, *of_mailbox, size, digest, starts)
+        self = cls(path, addition.number, *of_mailbox, size, digest, starts)
         listed = b",".join(b"%d" % start for start in starts)
         words = (one.encode() if isinstance(one, str) else one for one in self[2:-1])
-        draft.add(listed + FOOT % (*words, len(listed)))
-        draft.put(path)
+        addition.add(listed + FOOT % (*words, len(listed)))
+        addition.put(path)
         return self
 
     @classmethod
@@ -199,7 +199,7 @@ def filled(text: bytes, other: bytes) -> bytes:
     return HOLE.sub(lambda hole: other[hole.start() : hole.end()], text)
 
 
-class Draft:
+class NewFile:
     """A file while it is written, which then gets the name of another one, or of none. It is gone in the end, unless it
     got its name."""
 
@@ -208,7 +208,7 @@ class Draft:
 
     @classmethod
     @contextlib.contextmanager
-    def at(cls, path: bytes) -> Iterator["Draft"]:
+    def at(cls, path: bytes) -> Iterator["NewFile"]:
         """The one at a path. What is there is worth nothing."""
         with contextlib.suppress(FileNotFoundError):
             os.unlink(path)

@@ -25,7 +25,7 @@ ENDS = 3
 
 class Appended(NamedTuple):
     """A message that is going to be appended: its file, the bare forms in which a mailbox may give it back, where its
-    text is in the draft, and the names of the fields that were taken out of it."""
+    text is in the addition, and the names of the fields that were taken out of it."""
 
     mail: Mail
     bares: Sequence[bytes]

@@ -15,7 +15,7 @@ from ..migration.outcomes import Row, Verdict, row_left
 from ..remarks import Says
 from ..terminal import is_text
 from ..units import counted
-from .journal import Draft
+from .journal import NewFile
 from .places import Places
 
 # the ending of its name while it is written
@@ -81,10 +81,10 @@ class Lists:
             raise Left("it is no plain file", Reason.SUBSCRIPTIONS)
         has_tabs = self.has_tabs or not self.old
         lines = [(b"\t" if has_tabs else b"/").join(name) + b"\n" for name in names]
-        with Draft.at(path + PART) as draft:
-            draft.add(FORM * has_tabs + b"".join(lines))
-            os.fchmod(draft.number, stat.S_IMODE(state.st_mode) if state else 0o600)
-            draft.put(path)
+        with NewFile.at(path + PART) as new:
+            new.add(FORM * has_tabs + b"".join(lines))
+            os.fchmod(new.number, stat.S_IMODE(state.st_mode) if state else 0o600)
+            new.put(path)
 
 
 def names_in(path: bytes, between: bytes) -> tuple[list[Name], bool]:

@@ -9,7 +9,7 @@ from typing import NamedTuple, Optional
 from ..faults import Fault
 from ..looks import is_below, is_file, is_folder, may_be, type_at
 from ..maildir.folders import INBOX, folder_on_disk
-from ..maildir.making import DRAFT, GOES_BACK, SUBFOLDERS
+from ..maildir.making import GOES_BACK, GOES_BACK_NEW, SUBFOLDERS
 from ..mbox.files import is_empty, open_file
 from ..mbox.pieces import FROM
 from ..nexts import Next, Template, Todo, run_next, task
@@ -64,7 +64,7 @@ def is_of_maildir(entry: Entry) -> bool:
     if not entry.is_file(follow_symlinks=False) or not OF_MAILDIR.fullmatch(entry.name):
         return False
     # what goes back is mbox text, which the files of the Maildir have too
-    return entry.name in (GOES_BACK, DRAFT) or not head_of(entry.path).startswith(FROM)
+    return entry.name in (GOES_BACK, GOES_BACK_NEW) or not head_of(entry.path).startswith(FROM)
 
 
 def is_export(path: bytes, entries: list[Entry]) -> bool:

@@ -24,7 +24,7 @@ LEDGER = b"mbox2maildir-messages"
 # and a list of what is prepared there
 PREPARED = b"mbox2maildir-prepared"
 # and what is going to be appended to its mailbox, also before it is whole
-GOES_BACK, DRAFT = b"mbox2maildir-back", b"mbox2maildir-back.new"
+GOES_BACK, GOES_BACK_NEW = b"mbox2maildir-back", b"mbox2maildir-back.new"
 
 # how a folder is opened
 FOLDER = os.O_RDONLY | os.O_DIRECTORY | os.O_CLOEXEC
