@@ -10,9 +10,8 @@ from ..faults import Left, Reason
 from ..kinds.starts import text_start
 from ..labels.noted import line_of
 from ..ledger.history import Key, Note, names_of
-from ..ledger.ledger import Ledger
+from ..ledger.ledger import Ledger, Source
 from ..ledger.lines import END_LINE, RETURNED, Brought, Head
-from ..ledger.match import Stand, stands_by
 from ..ledger.record import Record, is_gone
 from ..looks import is_file, is_there
 from ..maildir.making import GOES_BACK_NEW
@@ -203,10 +202,10 @@ class Appending:
     def what_goes(self, addition: NewFile) -> Goes:
         """What becomes of the mail. What is appended is in the addition then."""
         # what the mailbox did not bring is there already, wherever it comes from
-        states, _ = stands_by(self.known.ledger.sources.get(self.known.path), self.inventory)
+        known, _ = self.known.ledger.sources.get(self.known.path, Source()).known(self.inventory)
         new: collections.defaultdict[bytes, list[int]] = collections.defaultdict(list)
-        for place, stand in enumerate(states):
-            if stand == Stand.NOWHERE:
+        for place, is_known in enumerate(known):
+            if not is_known:
                 new[self.inventory.core(place)].append(place)
         there: list[tuple[Mail, int]] = []
         rest: list[Mail] = []

@@ -100,7 +100,8 @@ def check_of(program: bytes, maildir: bytes, text: Text, say: Say) -> Check:
 
 def take_alike(maildir: bytes, text: Text, check: Check) -> None:
     """Takes a file for each message that is nowhere if they differ only in header fields that mail programs write for
-    themselves: another mailbox has brought it."""
+    themselves: another mailbox has brought it. `offers_of` in `ledger/assign.py` has the same rule, by lines of a
+    ledger."""
     if not check.count(NOWHERE):
         return
     inventory, taken = text.messages(), {*check.paths.values()}

@@ -9,7 +9,7 @@ that have its form. Each of these is one file only.
 """
 import bisect
 import collections
-from collections.abc import Container, Iterable, Iterator, Mapping
+from collections.abc import Container, Iterable, Iterator, Mapping, Sequence
 from enum import Enum
 from typing import NamedTuple, Optional
 
@@ -161,7 +161,7 @@ def says_whose(message: Brought, is_ended: bool) -> bool:
 
 class Offer(NamedTuple):
     """A file that may stand for a new message, by a line about it, and why; the bare form of such a message; and
-    whether one in another form will do, too."""
+    whether it stands for one with the same core in another form, too."""
 
     why: Why
     file: File
@@ -203,7 +203,8 @@ def offers_of(files: Iterable[File], path: str) -> list[Offer]:
     offered for several reasons."""
     offers: list[Offer] = []
     for file, line in ((file, line) for file in files for line in reversed(file.lines)):
-        # what a killed run has only shared, it shared in that form
+        # what another mailbox brought is the same message in the same form only, as for `verify`; and what a killed run
+        # has only shared, it shared in that form
         in_any_form = line.path == path and (line.state in BROUGHT or line.message.word != SHARED)
         offers += (Offer(why, file, line, line.message.bare, in_any_form) for why in whys_of(file, line, path))
     return sorted(
@@ -226,3 +227,29 @@ def offers_again(files: Iterable[File], path: str) -> list[Offer]:
     there = sorted((one for one in files if one.name), key=lambda one: not one.line_of(path))
     lines = ((one, one.line_of(path) or one.lines[-1]) for one in there)
     return [Offer(Why.ANY if line.path else Why.ANY_NOBODYS, one, line, one.bare, True) for one, line in lines]
+
+
+class Offers:
+    """What is offered for new messages with the same core, in its order; which files stand for a message already; and
+    in each bare form, how many more messages another mailbox brought than this one has."""
+
+    def __init__(self, several: Sequence[Offer], served: Iterable[File], more: collections.Counter[bytes]) -> None:
+        """`more` may count the forms of other cores, too. It is counted down."""
+        self.several, self.served, self.more = several, {*served}, more
+
+    def in_turn(self) -> Iterator[tuple[Offer, bool]]:
+        """The offers that may be taken when it is their turn, and whether for a message in their own form only: first
+        all of them for these, then some for any."""
+        for is_same in (True, False):
+            for one in self.several:
+                if (is_same or one.in_any_form) and self.may_stand(one):
+                    yield one, is_same
+
+    def may_stand(self, one: Offer) -> bool:
+        """Whether the file of an offer may stand for one more message."""
+        return one.file not in self.served and (not one.why.value.is_limited or self.more[one.bare] > 0)
+
+    def take(self, one: Offer) -> None:
+        """Takes it that the file of an offer stands for a message."""
+        self.served.add(one.file)
+        self.more[one.bare] -= 1

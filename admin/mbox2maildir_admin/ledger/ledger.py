@@ -9,6 +9,7 @@ name of that, the digest of its core and, if that is another one, of its bare fo
 everything of the batch was verified, and is on the disk. A line `>` says that a mailbox was moved, a line `<` that its
 files are being removed, and a line `-` that all of it was undone.
 """
+import array
 import collections
 import copy
 import itertools
@@ -18,6 +19,7 @@ from typing import Optional, Union
 
 from ..maildir.making import LEDGER, SyncNames, sync_folder
 from ..mbox.core import SHORT
+from ..mbox.inventory import Inventory
 from ..terminal import is_text
 from .lines import (
     ALL_PLACED,
@@ -134,6 +136,28 @@ class Source:
     def has(self, first: int = 0) -> collections.Counter[bytes]:
         """How often it had each core when it was read last, from a message on."""
         return counted_in(self.cores[first * SHORT :]) - self.lost
+
+    def known(self, inventory: Inventory) -> tuple[bytearray, collections.Counter[bytes]]:
+        """Which messages of the mailbox it has brought before, for `migrate` and `back`: 1 at their places. And how
+        often it no longer has a core. Messages in their old form come first."""
+        known, first = bytearray(len(inventory)), self.same_start(inventory.cores, inventory.bares)
+        cores, bares = self.has(first), counted_in(self.bares[first * SHORT :]) + self.earlier
+        known[:first] = b"\1" * first
+        rest = array.array("Q")
+        for place in range(first, len(inventory)):
+            core, bare = inventory.core(place), inventory.bare(place)
+            if cores[core] > 0 and bares[bare] > 0:
+                cores[core] -= 1
+                bares[bare] -= 1
+                known[place] = 1
+            else:
+                rest.append(place)
+        for place in rest:
+            core = inventory.core(place)
+            if cores[core] > 0:
+                cores[core] -= 1
+                known[place] = 1
+        return known, +cores
 
     def same_start(self, cores: bytearray, bares: bytearray) -> int:
         """How many of its first messages are those of a text with these digests, in large steps. Most mailboxes only

@@ -17,13 +17,13 @@ from typing import Optional
 from ..looks import is_link
 from ..maildir.files import digest_of, forms_in, mail_in
 from ..mbox.bases import BASE, DIGEST, FIRST, base_in, before_info, is_own
-from ..mbox.core import SHORT
 from ..mbox.inventory import Inventory
 from ..remarks import Says, Sentence
 from ..units import Place, Say, silent
-from .assign import BROUGHT, File, Offer, Unnamed, by_form, files_of, nobodys, offers_again, offers_of, says_whose
-from .lines import NAMELESS, PLACED, Brought, Line, State, counted_in
-from .ledger import Ledger, Source
+from .assign import BROUGHT, File, Offer, Offers, Unnamed
+from .assign import by_form, files_of, nobodys, offers_again, offers_of, says_whose
+from .lines import NAMELESS, PLACED, Brought, Line, State
+from .ledger import Ledger
 
 # tells whether a file of this name, without its info, counts for nothing
 Hides = Callable[[bytes], bool]
@@ -173,14 +173,17 @@ class Match:
         for core, places in groups.items():
             its = files_of(self.lines.get(core, ()), self.present)
             its += [nobodys(name, core, bare) for bare, name in unnamed.get(core, ())]
-            self.give(places, offers_again(its, path), set(), collections.Counter())
+            self.give(places, Offers(offers_again(its, path), (), collections.Counter()))
         several = itertools.chain.from_iterable(self.lines.values())
         self.dropped = [one.message for one in several if one[:2] == (path, State.HELD)]
         return self
 
     def find_known(self) -> None:
         """Finds what the mailbox did not have before, and what it no longer has."""
-        self.states, self.lost = stands_by(self.ledger.sources.get(self.path), self.inventory)
+        source = self.ledger.sources.get(self.path)
+        if source:
+            # 1 and 0 are KNOWN and NOWHERE
+            self.states, self.lost = source.known(self.inventory)
 
     def find_mine(self) -> None:
         """Finds what a run that was killed has placed under the bases of this text. Most of it needs no more
@@ -276,9 +279,7 @@ class Match:
                 groups[core].append(place)
         if not groups:
             return
-        bares = set(map(self.inventory.bare, itertools.chain.from_iterable(groups.values())))
-        most, had = self.ledger.most(self.path, bares), self.places(Stand.KNOWN, Stand.MINE)
-        most.subtract(bare for bare in map(self.inventory.bare, had) if bare in bares)
+        more = self.more_of_others(groups)
         for core, places in groups.items():
             files = files_of(self.lines.get(core, ()), self.present)
             unnamed = self.unnamed(files, places)
@@ -287,8 +288,16 @@ class Match:
                 if file.is_brought:
                     file.find(unnamed, file.bare)
             files += [nobodys(name, core, bare) for bare, names in unnamed.items() for name in names]
-            served = {one for one in files if self.is_mine(one.name or b"") or one.is_held_by(self.path)}
-            self.give(places, offers_of(files, self.path), served, most)
+            served = (one for one in files if self.is_mine(one.name or b"") or one.is_held_by(self.path))
+            self.give(places, Offers(offers_of(files, self.path), served, more))
+
+    def more_of_others(self, cores: Iterable[bytes]) -> collections.Counter[bytes]:
+        """How many more messages than this one has so far another mailbox brought, at most, in each bare form that
+        lines with these cores have."""
+        bares = {line.message.bare for core in cores for line in self.lines.get(core, ())}
+        more, had = self.ledger.most(self.path, bares), self.places(Stand.KNOWN, Stand.MINE)
+        more.subtract(bare for bare in map(self.inventory.bare, had) if bare in bares)
+        return more
 
     def unnamed(self, files: Iterable[File], places: Iterable[int]) -> Unnamed:
         """The files that may hold messages at these places, and that no line about some files names."""
@@ -301,32 +310,24 @@ class Match:
             found.update(((bare, name), None) for name in several if name not in names and not self.is_mine(name))
         return by_form(found)
 
-    def give(
-        self, places: Iterable[int], offers: Sequence[Offer], served: set[File], most: collections.Counter[bytes]
-    ) -> None:
-        """Gives new messages at these places, which have the same core, what is offered: first those in its form. Some
-        files stand for messages already, and other mailboxes brought at most so many more in each form, which are
-        counted down."""
+    def give(self, places: Iterable[int], offers: Offers) -> None:
+        """Gives new messages at these places, which have the same core, what is offered."""
         waiting: dict[bytes, list[int]] = {}
         refused: list[tuple[bytes, File]] = []
         for place in places:
             waiting.setdefault(self.inventory.bare(place), []).append(place)
-        for one, is_same in [*((one, True) for one in offers), *((one, False) for one in offers if one.in_any_form)]:
-            if one.file in served or one.why.value.is_limited and most[one.bare] <= 0:
-                continue
+        for one, is_same in offers.in_turn():
             forms = [one.bare] if is_same else list(waiting)
             waits = (at for form in forms for at in waiting.get(form, ()))
             found = next((at for at in waits if self.may_count(one.file.name, at)), None)
             if found is not None:
-                served.add(one.file)
+                offers.take(one)
                 waiting[self.inventory.bare(found)].remove(found)
-                most[self.inventory.bare(found)] -= 1
                 self.note(one, found)
             elif one.file.name in self.files.trashed:
                 refused += [(form, one.file) for form in forms]
-        self.count_nowhere(
-            [*itertools.chain(*waiting.values())], {file for form, file in refused if waiting.get(form)} - served
-        )
+        marked = {file for form, file in refused if waiting.get(form)} - offers.served
+        self.count_nowhere([*itertools.chain(*waiting.values())], marked)
 
     def count_nowhere(self, rest: list[int], marked: set[File]) -> None:
         """Counts what is said of messages at these places, which have the same core, and are nowhere: for how many a
@@ -384,32 +385,6 @@ class Match:
     def count_lost(self) -> int:
         """How many messages the mailbox no longer has that it brought."""
         return sum(self.lost.values()) - sum(self.unlabelled.values())
-
-
-def stands_by(source: Optional[Source], inventory: Inventory) -> tuple[bytearray, collections.Counter[bytes]]:
-    """How each message of a mailbox stands by what it has brought: KNOWN or, if it is new, NOWHERE. And how often it no
-    longer has a core. Messages in their old form come first."""
-    states = bytearray(len(inventory))
-    if not source:
-        return states, collections.Counter()
-    first = source.same_start(inventory.cores, inventory.bares)
-    cores, bares = source.has(first), counted_in(source.bares[first * SHORT :]) + source.earlier
-    states[:first] = bytes([Stand.KNOWN]) * first
-    rest = array.array("Q")
-    for place in range(first, len(inventory)):
-        core, bare = inventory.core(place), inventory.bare(place)
-        if cores[core] > 0 and bares[bare] > 0:
-            cores[core] -= 1
-            bares[bare] -= 1
-            states[place] = Stand.KNOWN
-        else:
-            rest.append(place)
-    for place in rest:
-        core = inventory.core(place)
-        if cores[core] > 0:
-            cores[core] -= 1
-            states[place] = Stand.KNOWN
-    return states, +cores
 
 
 def cores_of(inventory: Inventory) -> collections.Counter[bytes]:
