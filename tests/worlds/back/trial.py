@@ -1,11 +1,12 @@
 """The way back from a Maildir into mailboxes, after a random history: what is in the mailboxes then, and what a further
 run and a further migration do."""
+import re
 from collections import Counter
 from collections.abc import Sequence
 
 from tests.support.archives import Home, want
 from tests.support.running import Run
-from tests.support.splitter import WORDS
+from tests.support.splitter import WORDS, is_dated
 from tests.worlds.back.histories import (
     BESIDE,
     DIALECTS,
@@ -91,8 +92,10 @@ class Trial:
 
     def dialect_again(self, folder: str) -> str:
         """The dialect by which it is migrated again. A new one without lengths is read by the word of all, for which
-        only those are made that Dovecot is to serve."""
-        dialect, is_free = self.dialect_of(folder), not self.before[folder] and not self.history.has_uids
+        only those are made that Dovecot is to serve. No length may lead over a dated From_ line in a message."""
+        dialect, text = self.dialect_of(folder), self.texts()[folder]
+        is_certain = self.history.has_uids and not any(map(is_dated, re.findall(rb"(?m)^>(From .*)$", text)))
+        is_free = not self.before[folder] and not is_certain
         return self.history.word or dialect if is_free and dialect == "mboxrd" else dialect
 
     def run(self) -> None:
