@@ -299,6 +299,10 @@ def nothing_shows_what_is_new(home: Home) -> None:
     home.place.run(["migrate", "--json", "--now", "--prepare", "--unread", "M", "mail"])
     want_left(home, "what is only prepared", "was interrupted: run it again first")
     box = begun(home, NEW)
+    with open(home.ledger("a"), "ab") as file:
+        file.write(b"<\t%s\n" % bytes(box))
+    want_left(home, "an undo that was interrupted", f"the undo of {box} was interrupted: run it again first")
+    box = begun(home, NEW)
     box.write_bytes(OLD + letters(2))
     fake(home.path.parent, "exit 1")
     home.place.run(["migrate", "--json", "--now", "--jobs", "1", "M", "mail"])
@@ -350,9 +354,15 @@ os.fsync = syncs
 """
 
 
+def synced_in(home: Home) -> list[str]:
+    """What was synced, in this order."""
+    return (home.path / "synced").read_text(encoding="utf-8").splitlines()
+
+
 def a_power_cut(home: Home) -> None:
     """The name of a new mailbox is on the disk before its mail, also if a run that was killed has made it; and mail
-    that is there already, before the ledger says that it is back."""
+    that is there already, before the ledger says that it is back. All that a killed run has appended is on the disk
+    before what that run has noted beside it goes."""
     begun(home)
     make_maildir(home.folder("b"))
     (home.folder("b") / "new/1.M1.host").write_bytes(NEW)
@@ -361,18 +371,23 @@ def a_power_cut(home: Home) -> None:
     equal("it is killed", (killed.status, (home.path / "mail/b").read_bytes()), (-signal.SIGKILL, b""))
     (home.path / "synced").unlink()
     equal("the next run", ran_first(home, f"IS_KILLED = False{SYNCED}").status, 0)
-    synced = (home.path / "synced").read_text(encoding="utf-8").splitlines()
+    synced = synced_in(home)
     equal(f"the order of syncs: {synced}", synced.index("mail") < synced.index("mail/b"), True)
     box = begun(home, NEW)
     box.write_bytes(OLD + b"From a@b Mon Mar  3 09:12:44 2025\nSubject: new\nStatus: O\n\nnew\n\n")
     ran = ran_first(home, f"IS_KILLED = False{SYNCED}")
-    synced = (home.path / "synced").read_text(encoding="utf-8").splitlines()
+    synced = synced_in(home)
     equal(f"the order of syncs: {synced}", synced.index("mail/a") < synced.index("M/.a/mbox2maildir-messages"), True)
     equal("what is there already", [one["remark"] for one in ran.rows[0]["remarks"]], ["there-already"])
     equal("a message of it", box.read_bytes().count(b"\nSubject: new\n"), 1)
     next(path for path in home.files("a") if b"\nhello 1\n" in path.read_bytes()).unlink()
     (remark,) = home.place.run([*BACK, "mail"]).rows[0]["remarks"]
     equal("it is known what the mailbox has", remark["says"].endswith("is still there"), True)
+    begun(home, NEW)
+    equal("it is killed with all of it there", ran_first(home, KILLED).status, -signal.SIGKILL)
+    equal("the run after that", ran_first(home, f"IS_KILLED = False{SYNCED}").status, 0)
+    synced = synced_in(home)
+    equal(f"the order of syncs: {synced}", synced.index("mail/a") < synced.index("M/.a"), True)
 
 
 def standing(home: Home) -> None:
