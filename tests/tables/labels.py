@@ -256,7 +256,8 @@ def one_folder_for_each(home: Path) -> None:
 
 
 def what_was_said_is_printed_as_it_is_typed(home: Path) -> None:
-    """The words of the earlier run stand as a shell reads them, and the command below them undoes that."""
+    """The words of the earlier run stand as a shell reads them, and the command below them undoes that. They hold in a
+    later pass that does not say them."""
     takeout(home, [("one", "Inbox,Kategorie: Werbung")])
     said = ["--labels", "one", "--label", "Kategorie: Werbung=none"]
     expect(["migrate", *said, "M", "t.mbox"], home, 0, None)
@@ -264,6 +265,11 @@ def what_was_said_is_printed_as_it_is_typed(home: Path) -> None:
     equal("the words", shlex.split(row["says"].partition("labels: ")[2]), said)
     equal("its undo", run_printed(row.command, home).status, 0)
     expect(["migrate", *said, "M", "t.mbox"], home, 0, None)
+    for count, word in (2, "all "), (3, ""):
+        takeout(home, RESERVED[:count])
+        expect(f"migrate --labels {word}N t.mbox", home, 0, None)
+    says = by_json("migrate --labels one N t.mbox", home).row["says"]
+    equal("the words after a pass without them", says.partition("labels: ")[2], "--labels all")
 
 
 def folders_are_named_where_a_path_has_several(home: Path) -> None:
