@@ -141,6 +141,11 @@ STORIES: dict[str, list[Step]] = {
         ("migrate --as unquoted M old", f"old/a: done: {AGAIN}; it grew by 1 ...\nold/b: done before"),
         "= a/- a/one a/one a/two b/one",
     ],
+    # they say the same, so the words count for the lines that came since
+    "an_answer_about_one_and_the_same_word_for_several": [
+        *(("old/a", NOTED), f"{FIRST_OF} --as unquoted --folder a M old/a", ("old/a", MORE)),
+        (f"{FIRST_OF} --as unquoted M old", "old/a: prepared: 1 prepared before"),
+    ],
     "an_answer_and_another_line": [*(("a", NOTED), "migrate --as unquoted M a", ("a", MORE)), ("migrate M a", ASKED)],
 }
 
