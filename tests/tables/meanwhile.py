@@ -76,6 +76,10 @@ STORIES: dict[str, list[Step]] = {
         *((">", "a: undone: removed 0 messages; kept 2 messages that b has too"), ("migrate M b", "b: done before")),
         "= one two",
     ],
+    "its_folder_was_removed": [
+        *(("a", ONE), "migrate --folder x M a", "!rm -r M/.x"),
+        ("verify M a", "a: left (no-maildir): it was not migrated: M/.x is no Maildir"),
+    ],
     # of a tree, --again converts those mailboxes that were edited as a whole, and no others
     "another_mailbox_was_edited_as_a_whole": [
         *(
