@@ -1,6 +1,7 @@
 """Outputs that fail, and which modules a run loads."""
 import os
 import re
+import shutil
 import time
 from collections.abc import Sequence
 from pathlib import Path
@@ -45,7 +46,7 @@ class Hasty(Copies):
 
 
 def each_minute(home: Path) -> None:
-    """Without a terminal a line each minute says how far a run is."""
+    """Without a terminal a line each minute says how far a run is, and with which mailbox."""
     mailbox(home / "box", numbered("message", 20).replace(b"hello\n", b"hello " * 40_000 + b"\n"))
     ran = Hasty(home).run(["migrate", "--now", "M", "box"])
     equal("its status", ran.status, 0)
@@ -53,6 +54,10 @@ def each_minute(home: Path) -> None:
     for pattern in r"\d+ %, step 1 of 5", rf"\d+ %, {left}step 1 of 5":
         match_in(rf"(?m)^mbox2maildir-admin: 1/1 box: reading \d\.\d of 4\.8 MB, {pattern}$", ran.err)
     equal("all that is said", re.findall("(?m)^(?!mbox2maildir-admin: 1/1 box: )(.+)$", ran.err), [])
+    shutil.copy2(home / "box", home / "copy")
+    ran = Hasty(home).run(["verify", "M", "box", "copy"])
+    whom = re.findall("(?m)^mbox2maildir-admin: (.+?): ", ran.err)
+    equal("who is at work, one after the other", list(dict.fromkeys(whom)), ["1/2 box", "2/2 copy"])
 
 
 def on_a_terminal(home: Path) -> None:

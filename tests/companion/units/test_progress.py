@@ -8,10 +8,10 @@ from collections.abc import Callable, Sequence
 from typing import Any, Optional
 from unittest import mock
 
-from mbox2maildir_admin.progress import Actor, Doing, Estimate, Pace, Spent, composed, cut, duration, fitted
-from mbox2maildir_admin.progress import how_far, length, together, width_of, width_of_terminal
+from mbox2maildir_admin.progress import Actor, Doing, Estimate, Pace, Progress, Spent, composed, cut, duration
+from mbox2maildir_admin.progress import fitted, how_far, length, together, width_of, width_of_terminal
 
-GB = 10**9
+COMPLAIN, GB = "mbox2maildir_admin.progress.complain", 10**9
 MAIL = "\u90f5"
 # what is called with which values, and what it answers
 ROWS: Sequence[tuple[Callable[..., Any], tuple[Any, ...], Any]] = (
@@ -69,6 +69,17 @@ class ProgressTest(unittest.TestCase):
             for who in ("mia/lists/sheds", MAIL * 100, "/home/" + "x" * 300):
                 line = composed(Actor(who, "12/41 "), "verifying file 7", ["50 %", "9 s left"], columns)
                 self.assertLessEqual(width_of(line), columns)
+
+    def test_minutes(self) -> None:
+        """Without a terminal a line is said each minute."""
+        said = []
+        with mock.patch("time.monotonic", return_value=0.0) as clock, mock.patch(COMPLAIN) as complain:
+            progress = Progress()
+            progress.is_terminal = False
+            for clock.return_value in (59.0, 60.0, 61.0, 119.0, 120.0):
+                progress.say(Actor("box", "1/1 "), "reading")
+                said.append(complain.call_count)
+        self.assertEqual(said, [0, 1, 1, 1, 2])
 
     def test_width(self) -> None:
         """A terminal that has no size, or is gone while a run goes on, counts as one of 80 columns."""
