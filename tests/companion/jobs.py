@@ -189,7 +189,7 @@ def ended_out_of_turn(home: Path) -> None:
     wanted = [f"old/f1 -> f1: {says}", f"old/f2 -> f2: {says}", "old/f3 -> f3: mboxrd or mboxo, messages 99: done"]
     equal("what is told", out.decode().splitlines()[:-1], wanted)
     equal("whether it is noted", (home / "M/.f3" / LEDGER).read_text().splitlines()[-1], "=\t1")
-    waits = r"mbox2maildir-admin: old/f2: interrupted: waiting \d+ seconds, because it changed a moment ago"
+    waits = r"mbox2maildir-admin: old/f2: interrupted: waiting (60|[1-5]?\d) seconds, because it changed a moment ago"
     assert any(re.fullmatch(waits, line) for line in err.decode().splitlines()), err
 
 
