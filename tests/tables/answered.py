@@ -146,6 +146,11 @@ STORIES: dict[str, list[Step]] = {
         *(("old/a", NOTED), f"{FIRST_OF} --as unquoted --folder a M old/a", ("old/a", MORE)),
         (f"{FIRST_OF} --as unquoted M old", "old/a: prepared: 1 prepared before"),
     ],
+    # nobody knows what its messages are
+    "a_line_that_an_answer_named_is_gone": [
+        *(("a", LINES), ("migrate M a", ASKED), (">", "a: done..."), ("a", LINES.replace(b"From the", b"of the"))),
+        ("migrate --undo M a", "a: left (undo): it can no longer be read as ..."),
+    ],
     "an_answer_and_another_line": [*(("a", NOTED), "migrate --as unquoted M a", ("a", MORE)), ("migrate M a", ASKED)],
 }
 
