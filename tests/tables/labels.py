@@ -545,6 +545,18 @@ def the_record_knows_the_folders(home: Path) -> None:
     equal("without labels", len(folders_in(home / "M")[""]), 9)
 
 
+def a_line_of_the_record_is_gone(home: Path) -> None:
+    """An undo takes what went into a folder of which only its ledger says so."""
+    takeout(home, RESERVED[:2])
+    takeout(home, [("ten", "Sent"), ("eleven", "Inbox")], "u.mbox")
+    expect([*LABELS, "u.mbox"], home, 0, None)
+    record = home / "M" / RECORD
+    lines = record.read_text().splitlines(True)
+    record.write_text("".join(one for one in lines if not re.match(r"done\t\.Sent\t.*/t\.mbox\t", one)))
+    expect("migrate --undo M t.mbox", home, 0, None)
+    equal("what is there", folders_in(home / "M"), {"": ["eleven"], ".Sent": ["ten"]})
+
+
 def some_folders_alone(home: Path) -> None:
     """A folder that cannot be is left, and the others are done. A run that was killed before it placed anything has
     noted the folders: there is nothing to undo. A Takeout that is locked is left as a whole."""
