@@ -107,6 +107,12 @@ def flag(path: Path) -> None:
     path.rename(path.parents[1] / "cur" / f"{base}:2,{'F' if flags == 'S' else 'S'}")
 
 
+def rewrite(path: Path) -> None:
+    """A mail program writes a file anew, which has other bytes until the next time."""
+    text = path.read_bytes()
+    path.write_bytes(text[:-1] if text.endswith(b"+") else text + b"+")
+
+
 def put_away(box: Path) -> None:
     """The mailbox gets another name."""
     box.rename(box.with_name("away"))
@@ -119,6 +125,7 @@ FILE = "/(new|cur)/[0-9a-f]{64}"
 MEANWHILE: Sequence[tuple[str, Callable[[Path], object], int, str, int]] = (
     ("open", flag, 2, "", 0),
     ("open", flag, 1000, NAMES, 3),
+    ("open", rewrite, 6, "", 0),
     ("os.remove", flag, 1, "", 0),
     ("os.remove", Path.unlink, 1, "", 0),
     ("os.remove", lambda path: mailbox(path.parents[2] / "box", ONE), 1, CHANGED, 2),
