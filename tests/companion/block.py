@@ -152,6 +152,16 @@ def one_answer_for_many(home: Path) -> None:
     expect("migrate --as mboxo --of 1,2 --text 3 M old", home, 2, "", None)
 
 
+def answers_with_lines(home: Path) -> None:
+    """An answer that names lines serves one mailbox: each has its own commands."""
+    for number in range(2):
+        mailbox(home / f"old/{number}", A + b"\nhello, %d" % number + B + b"\nyes\n\n")
+    (group,) = groups_in(run("migrate --now M old", home).out)
+    equal("whose", [command.split()[-1] for command in group.commands], ["old/0", "old/1"] * 2)
+    for number, command in enumerate(group.commands[2:]):
+        equal(command, (run_printed(command, home).status, len(list(mail_in(home / f"M/.{number}")))), (0, 2))
+
+
 def many_of_one_kind(home: Path) -> None:
     """A question is asked about at most twenty mailboxes at once, and all of these are named; of what is left for
     another reason twenty are named, and the others counted."""
