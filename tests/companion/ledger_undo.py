@@ -10,7 +10,7 @@ from tests.support.archives import PROGRAMS, RO, TEN, Home, letter, letters, mai
 from tests.support.archives import want_unsaid
 from tests.support.cases import Failed
 from tests.support.checks import equal
-from tests.support.mail import digest_of
+from tests.support.mail import INTERNAL, digest_of
 from tests.support.running import Kill
 
 
@@ -201,6 +201,14 @@ def rule_6_what_is_kept(home: Home) -> None:
     for one, keeps in (rehearsed, "would keep"), (row, "kept"):
         for text in others, "3 messages that it no longer has", "1 message that another mailbox brought too":
             want_said(one, f"{keeps} {text}", "1 message already gone")
+
+
+def rule_6_dovecots_own_message(home: Home) -> None:
+    """A mailbox begins with Dovecot's own message, which is one of its own without --dovecot: it goes too."""
+    for words, says in home.each([([], "removed 2 messages"), (["--dovecot"], "removed 1 message")]):
+        home.bring(words, OLD=INTERNAL + letter(0))
+        equal(f"{words}: what is said", home.undo("OLD")["OLD"]["says"], says)
+        home.has()
 
 
 def rule_6_by_the_ledger_alone(home: Home) -> None:
