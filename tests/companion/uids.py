@@ -85,11 +85,12 @@ def who_changes_the_list(home: Path) -> None:
     ran = migrated(home, text_of(*FIELDS, FOURTH, base="222 12"))
     equal("locked", (ran.status, ran.row["reason"], ran.row["says"]), (LATER, "locked", says))
     equal("what is next", ran.row["next"], [{"task": "stop Dovecot, and run the same command again"}])
-    lock.unlink()
+    mailbox(lock, b"")
     changes = Meanwhile(home, "open", "uidlist.lock$", lambda _: None if path.write_text(f"{before}12 :a\n") else None)
     row = changes.run([*MIGRATE[:1], "--json", *MIGRATE[1:], "box"]).row
     equal("changed", (row["reason"], row["says"], lock.exists()), ("changed", says, False))
-    mailbox(lock, b"")
+    lock.symlink_to("nothing")
+    os.utime(lock, (0, 0), follow_symlinks=False)
     equal("an old lock", migrated(home, text_of(*FIELDS, FOURTH, base="222 12")).status, 0)
     equal("the list", (path.read_text(), lock.exists()), (f"{before}12 :a\n".replace("N10", "N13"), False))
 
