@@ -476,6 +476,19 @@ def rule_5_two_mailboxes_have_one_each(home: Home) -> None:
     home.has(5, 5, 5)
 
 
+def rule_5_two_again(home: Home) -> None:
+    """Readers have deleted all of a message that a mailbox had twice, and another one has once. The first lost one, and
+    has one more later than either: that is placed, whatever it had before."""
+    home.bring(OLD=letters(5, 5))
+    home.take(5, 5)
+    home.bring(["--again"], OTHER=letters(5))
+    home.take(5)
+    home.bring(OLD=letters(5))
+    home.has()
+    home.bring(OLD=letters(5, 5))
+    home.has(5)
+
+
 def rule_5_renamed(home: Home) -> None:
     """Another program gave files of equal messages names of its own. They are still those that the mailbox brought, and
     none came back."""
