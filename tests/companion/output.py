@@ -10,6 +10,7 @@ from tests.support.checks import PATIENCE, equal, match_in
 from tests.support.copies import Copies
 from tests.support.homes import ADMIN, check_all, mailbox, run, run_printed
 from tests.support.mail import A, ONE, numbered
+from tests.support.running import Run
 from tests.support.terminals import REWRITTEN, Terminal
 
 COMMANDS = "kind", "quote", "dates", "migrate", "verify", "back"
@@ -34,6 +35,10 @@ def output_fails(home: Path) -> None:
                 equal(f"{words[:20]} {to}", (ran.status, ran.err), (1, says))
     for to, status in (("2>&-", 1), ("2>/dev/full", 1), (">&- 2>&-", 1), (">/dev/full 2>/dev/full", 1), ("<&-", 1)):
         equal(f"kind {to}: status", run_printed(f"mbox2maildir-admin kind box none {to}", home).status, status)
+    # a report that takes more is whole
+    equal("migrate", run_printed("mbox2maildir-admin migrate --now --report R M old >/dev/full", home).status, 1)
+    sums = Run(0, (home / "R").read_text()).objects[-1]
+    match_in("^1 mailbox: 1 done; .*; interrupted: run the same command again$", str(sums["says"]))
 
 
 class Hasty(Copies):
