@@ -1,6 +1,7 @@
 """mbox2maildir-admin migrate --labels: the folders of a Takeout's labels, what a human is asked, what comes of a later
 Takeout, and verify, --again and --undo, which know the folders from the record. The Takeouts are written by the form
 that Google gives its own."""
+import contextlib
 import fcntl
 import os
 import re
@@ -559,7 +560,8 @@ def a_line_of_the_record_is_gone(home: Path) -> None:
 
 def some_folders_alone(home: Path) -> None:
     """A folder that cannot be is left, and the others are done. A run that was killed before it placed anything has
-    noted the folders: there is nothing to undo. A Takeout that is locked is left as a whole."""
+    noted the folders: there is nothing to undo. A Takeout that is locked is left as a whole, and is undone once each
+    folder is."""
     takeout(home)
     make_maildir(home / "M")
     (home / "M/.Junk").write_text("no folder\n")
@@ -572,6 +574,15 @@ def some_folders_alone(home: Path) -> None:
     with open(home / "t.mbox", "rb+") as box:
         fcntl.lockf(box, fcntl.LOCK_EX)
         equal("locked", [row["reason"] for row in by_json(undo, home).rows], ["locked"])
+    with contextlib.ExitStack() as locked:
+        for name in (".Junk", ".Sent"):
+            folder = os.open(home / "M" / name, os.O_RDONLY)
+            locked.callback(os.close, folder)
+            fcntl.flock(folder, fcntl.LOCK_SH)
+        folders = {row["folder"] for row in by_json(undo, home).rows if row["reason"] == "locked"}
+        equal("what is locked", folders, {"Junk", "Sent"})
+    folders = {row["folder"] for row in by_json(undo, home).rows if row["verdict"] == "undone"}
+    equal("what is undone then", folders, {"Junk", "Sent"})
     record = home / "M" / RECORD
     first, noted, *_ = record.read_bytes().splitlines(True)
     shutil.rmtree(home / "M")
