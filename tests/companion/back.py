@@ -47,6 +47,20 @@ def names_that_no_line_can_have(home: Home) -> None:
     goes_back(home, "one more", 0, 1)
 
 
+def one_that_went_back_before(home: Home) -> None:
+    """A message went back, and was deleted everywhere since. Another mailbox brings it, and another program renames its
+    file: it is there, and was not deleted."""
+    home.bring(OLD=letters(0))
+    home.place_file("17000.1.host:2,S", mail_of(letters(1))[0])
+    goes_back(home, "it is new", 0, 1)
+    home.bring(OLD=letters(0))
+    home.take(1)
+    home.bring(["--again"], OTHER=letters(1))
+    home.rename(1, name="17000.2.host")
+    ran = home.place.run(["back", "--json", "--now", "M", "OLD", "OTHER"])
+    equal("what is said", {(row["verdict"], row["says"]) for row in ran.rows}, {("nothing new", "")})
+
+
 def a_mailbox_that_has_more(home: Home) -> None:
     """A mailbox grew, and no run saw that before mail went back into it. By the bytes that it has then it is not done:
     its new message comes, also if the record is lost, or the mailbox or its folder has another name meanwhile."""
@@ -98,7 +112,10 @@ def a_profile_of_thunderbird(home: Home) -> None:
     home.has(1, name="New")
 
 
-RULES = (a_name_that_was_placed_again, names_that_no_line_can_have, a_mailbox_that_has_more, a_profile_of_thunderbird)
+RULES = (
+    *(a_name_that_was_placed_again, names_that_no_line_can_have, one_that_went_back_before),
+    *(a_mailbox_that_has_more, a_profile_of_thunderbird),
+)
 
 if __name__ == "__main__":
     run_rules({rule.__name__: rule for rule in RULES})
