@@ -378,6 +378,16 @@ def rule_3_one_more_of_the_core(home: Home) -> None:
     home.has(50, 50)
 
 
+def rule_3_back_in_another_form(home: Home) -> None:
+    """The second of two equal messages in two forms went, and stands in the mailbox again in a third form. One more is
+    placed then, in its own form, wherever it stands."""
+    forms = [letter(50, body=b"hello\n%sFrom the shed.\n" % (b">" * count)) for count in range(1, 5)]
+    for those in ([0, 1], [0], [0, 2], [3, 0, 2]):
+        home.bring(OLD=b"".join(forms[one] for one in those))
+    bodies = sorted(path.read_bytes().split(b"hello\n")[1] for path in home.files())
+    equal("what is there", bodies, [b">>>From the shed.\n", b">From the shed.\n", b"From the shed.\n"])
+
+
 def rule_3_edited(home: Home) -> None:
     """A message whose text was edited counts as new, and the row says so. The one of before stays."""
     for count, edited in home.each(((2, 1), (10, 3), (5, 3), (60, 6))):
