@@ -5,11 +5,24 @@ from pathlib import Path
 from typing import Any
 
 from tests.support.checks import equal
-from tests.support.homes import check_all, expect, mailbox, run, want_users
+from tests.support.homes import check_all, doing_first, expect, mailbox, run, want_users
 from tests.support.mail import ONE, TWO
 from tests.support.mounts import small_disk
 from tests.support.schema import wrong
 
+# of the process, a report takes no more, and cannot be synced either
+FAILS_TWICE = """
+import errno, os
+def fails(name, error):
+    call = getattr(os, name)
+    def fail(number, *words):
+        if os.readlink(f"/proc/self/fd/{number}").endswith("/r"):
+            raise OSError(error, os.strerror(error))
+        return call(number, *words)
+    setattr(os, name, fail)
+fails("write", errno.ENOSPC)
+fails("fsync", errno.EIO)
+"""
 SAYS = "mbox2maildir-admin: {} already exists\n    name a file that is not there\n"
 
 
@@ -81,5 +94,13 @@ def on_a_full_disk(home: Path) -> None:
             (disk / "r").unlink(missing_ok=True)
 
 
+def that_fails_twice(home: Path) -> None:
+    """It is said why its first object could not be written."""
+    mailbox(home / "box", ONE)
+    says = "mbox2maildir-admin: r: the report could not be written: No space left on device\n"
+    command = [str(doing_first(FAILS_TWICE, home / "bin")), "migrate", "--now", "--report", "r", "M", "box"]
+    expect(command, home, 1, None, says)
+
+
 if __name__ == "__main__":
-    check_all(beside_what_is_printed, of_an_undo, only_a_new_file, on_a_full_disk)
+    check_all(beside_what_is_printed, of_an_undo, only_a_new_file, on_a_full_disk, that_fails_twice)
