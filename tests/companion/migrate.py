@@ -12,8 +12,8 @@ from functools import partial
 from pathlib import Path
 
 from tests.support.checks import LATER, equal, matches
-from tests.support.homes import check_all, checks_in, expect, fake, files_of, mail_in, mailbox, make_maildir, run
-from tests.support.homes import run_whole, subjects, want_root
+from tests.support.homes import by_json, check_all, checks_in, doing_first, expect, fake, files_of, mail_in, mailbox
+from tests.support.homes import make_maildir, run, run_whole, subjects, want_root
 from tests.support.ledgers import LEDGER, RECORD
 from tests.support.mail import A, ONE, THREE, TWO, digest_of
 from tests.support.running import Desk
@@ -21,6 +21,14 @@ from tests.support.running import Desk
 AGAIN = ("--again", "M", "box")
 # the first line of a record
 VERSION_LINE = b"mbox2maildir-record\t2\n"
+# of the process, the disk has no room for an answer about this folder, and has room later
+CUTS = """
+import os
+write = os.write
+def writes(number, piece):
+    return write(number, piece[:20] if piece.startswith(b"answered\\t.a\\t") else piece)
+os.write = writes
+"""
 
 
 def grow(path: Path, text: bytes) -> None:
@@ -220,6 +228,19 @@ def records_of_others(home: Path) -> None:
     done(home, "messages 1: done")
     equal("the torn line is ended", record.read_text(errors="replace").split("\n")[6].split("\t")[0], "done")
     expect("migrate --all M two", home, 0, "two -> INBOX: ...messages 1: done, INBOX has the mail of ...\n...\n")
+
+
+def a_line_that_is_cut(home: Path) -> None:
+    """A full disk cuts a line of the record. The next line, of the same run, stands by itself."""
+    for name, text in (("a", TWO), ("b", THREE), ("c", ONE)):
+        mailbox(home / "old" / name, text + b"From the garden\nyes\n\n" * (name != "c"))
+    asked = (row["next"] for row in by_json("migrate --now M old", home).rows if row["reason"] == "unclear")
+    ties = ",".join(argv[argv.index("--of") + 1] for argv in (answers[0]["argv"] for answers in asked))
+    words = ["migrate", "--json", "--now", "--as", "unquoted", "--of", ties, "--jobs", "1", "M", "old"]
+    ran = run([doing_first(CUTS, home / "bin"), *words], home)
+    equal("why each is left", [row["reason"] for row in ran.rows], ["record", None, None])
+    noted = [line[:12] for line in (home / "M" / RECORD).read_bytes().splitlines() if line.startswith(b"answered")]
+    equal("what is noted", noted, [b"answered\t.a\t", b"answered\t.b\t"])
 
 
 def of_another_version(home: Path) -> None:
