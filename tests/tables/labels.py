@@ -559,9 +559,8 @@ def a_line_of_the_record_is_gone(home: Path) -> None:
 
 
 def some_folders_alone(home: Path) -> None:
-    """A folder that cannot be is left, and the others are done. A run that was killed before it placed anything has
-    noted the folders: there is nothing to undo. A Takeout that is locked is left as a whole, and is undone once each
-    folder is."""
+    """A folder that cannot be is left, and the others are done. A Takeout that is locked is left as a whole, and is
+    undone once each folder is."""
     takeout(home)
     make_maildir(home / "M")
     (home / "M/.Junk").write_text("no folder\n")
@@ -583,14 +582,20 @@ def some_folders_alone(home: Path) -> None:
         equal("what is locked", folders, {"Junk", "Sent"})
     folders = {row["folder"] for row in by_json(undo, home).rows if row["verdict"] == "undone"}
     equal("what is undone then", folders, {"Junk", "Sent"})
+
+
+def noted_by_a_killed_run(home: Path) -> None:
+    """A run that was killed before it placed anything has noted the folders: there is nothing to undo."""
+    takeout(home)
+    expect("migrate --labels --now M t.mbox", home, 0, None)
     record = home / "M" / RECORD
     first, noted, *_ = record.read_bytes().splitlines(True)
     shutil.rmtree(home / "M")
     make_maildir(home / "M")
     record.write_bytes(first + noted)
     record.chmod(0o600)
-    for words, verdict in ([*undo, "--dry-run"], "would be undone"), (undo, "undone"):
-        row = by_json(words, home).row
+    for words, verdict in ("--dry-run ", "would be undone"), ("", "undone"):
+        row = by_json(f"migrate --undo --now {words}M t.mbox", home).row
         found = row["verdict"], row["messages"], [one["says"] for one in row["remarks"]]
         equal("of nothing", found, (verdict, 0, ["nothing of it was placed"]))
 
