@@ -24,6 +24,9 @@ from tests.worlds.letters import bare, without
 from tests.worlds.stage import Stage
 
 BACK = ["back", "--json", "--now", "M", "mail", "spool"]
+# a quoted line without a date that may begin a message: a header follows, perhaps after other such lines, or it has one
+# word
+MAY_BEGIN = re.compile(rb"(?m)^>From (?:.*\n(?:>+From .*\n)*[!-9;-~]+[ \t]*:|\S+\s*$)")
 
 
 class Trial:
@@ -92,10 +95,11 @@ class Trial:
 
     def dialect_again(self, folder: str) -> str:
         """The dialect by which it is migrated again. A new one without lengths is read by the word of all, for which
-        only those are made that Dovecot is to serve. No length may lead over a dated From_ line in a message."""
+        only those are made that Dovecot is to serve. No length may lead over a line in a message that may begin another
+        one."""
         dialect, text = self.dialect_of(folder), self.texts()[folder]
-        is_certain = self.history.has_uids and not any(map(is_dated, re.findall(rb"(?m)^>(From .*)$", text)))
-        is_free = not self.before[folder] and not is_certain
+        may_begin = MAY_BEGIN.search(text) or any(map(is_dated, re.findall(rb"(?m)^>(From .*)$", text)))
+        is_free = not self.before[folder] and (may_begin or not self.history.has_uids)
         return self.history.word or dialect if is_free and dialect == "mboxrd" else dialect
 
     def run(self) -> None:

@@ -12,6 +12,7 @@ from random import Random
 from typing import NamedTuple
 
 from tests.support.checks import LATER
+from tests.support.ledgers import wait_for_lock
 from tests.support.running import COMPANION, Row, Run
 from tests.worlds.fates import texts
 from tests.worlds.fates.comparing import FIRST, Comparison, brief, files_of, folder_on_disk, migrate, path_of
@@ -217,6 +218,9 @@ class Attempt:
             self.met.update(right for several in rights for right in several)
             wrong += [f"status 0: {run.out[-300:]}"] * (not all(rights))
         if not wrong and not is_each:
+            # a program whose start failed may still be at work
+            for maildir in world.maildirs.values():
+                wait_for_lock(Path(os.fsdecode(maildir)))
             wrong = [f"the run after it: {line}" for line in wrong_after(world, migrate(world, self.place))]
         return told(fault, failed, wrong)
 
