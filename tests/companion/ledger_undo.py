@@ -262,12 +262,13 @@ def rule_6_a_foreign_file_was_deleted(home: Home) -> None:
 def rule_6_what_was_nobodys_is_shared_first(home: Home) -> None:
     """A mailbox has a message twice: in a file that was nobody's, and in one that it has placed, at once or before its
     run was killed. What another mailbox shares is nobody's, so an undo of the first leaves no second file."""
-    for was_killed in home.each((False, True)):
+    for how in home.each(("at once", "killed", "killed, and done again")):
         home.bring(FIRST=letters(20))
         home.place_file("1700.M1.host:2,S", mail_of(letter(1))[0])
         home.bring(TWICE=letters(1, 1))
-        if was_killed:
+        if how != "at once":
             home.forget_end()
+        if how == "killed, and done again":
             home.done("TWICE")
         home.bring(ONCE=letters(1))
         home.has(1, 1, 20)

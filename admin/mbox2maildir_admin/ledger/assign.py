@@ -37,15 +37,16 @@ class Why(Enum):
     # another mailbox brought it, and it is there; or it is gone
     SHARED = Means(2, Says.SHARED, is_limited=True)
     GONE = Means(2, Says.GONE_ELSEWHERE, is_limited=True)
-    # the mailbox brought it once; or a killed run of it, or another mailbox or a killed run of that
+    # the mailbox brought it once, or a killed run of it
     REGAINED = Means(3, Says.REGAINED)
     ONCE = Means(3)
-    ONCE_THEIRS = Means(3, Says.SHARED)
-    # nobody brought it
+    # nobody brought it: it stays, whatever is undone
     NOBODYS = Means(4, Says.THERE_ALREADY)
+    # another mailbox brought it once, or a killed run of that
+    ONCE_THEIRS = Means(5, Says.SHARED)
     # with --again, it is there, whoever brought it; or it is nobody's, and was read just now
-    ANY = Means(5)
-    ANY_NOBODYS = Means(5, Says.THERE_ALREADY, is_finished=True)
+    ANY = Means(6)
+    ANY_NOBODYS = Means(6, Says.THERE_ALREADY, is_finished=True)
 
 
 # the states of what a mailbox brought, whether it has it still or not

@@ -76,10 +76,10 @@ class OffersTest(unittest.TestCase):
             (Why.SHARED, 4),
             (Why.GONE, 3),
             (Why.REGAINED, 2),
+            (Why.NOBODYS, 0),
             (Why.ONCE_THEIRS, 1),
             # what no mailbox has any more may be nobody's
             (Why.ONCE_THEIRS, 4),
-            (Why.NOBODYS, 0),
         ]
         self.assertEqual([(one.why, one.line.number) for one in offers_of(files, BOX)], wanted)
         # another form of other mailboxes serves nobody
