@@ -34,6 +34,12 @@ FAULTS = {
     "os.kill(os.getpid(), 15)": "(process): its process was interrupted: run this again",
     "setattr(os, 'scandir', None)": "(defect): internal error: TypeError(",
 }
+# has each pipe take no more than 4,096 bytes at once (F_SETPIPE_SZ)
+SMALL_PIPES = """[
+    __import__("fcntl").fcntl(int(one), 1031, 4096)
+    for one in os.listdir("/proc/self/fd")
+    if "pipe:" in os.path.realpath("/proc/self/fd/" + one)
+]"""
 # the first line of a record, and how large one may be
 VERSION_LINE, MOST = b"mbox2maildir-record\t2\n", 1 << 23
 
@@ -172,6 +178,16 @@ def ended_at_once(home: Path) -> None:
     equal("the next run", run(words, home)[0], 1)
     for name, text in texts.items():
         equal(name, sorted(map(digest_of, bodies_of(text))), sorted(bases(folder_of(home / "M", name))))
+
+
+def many_in_one_folder(home: Path) -> None:
+    """One folder may have more mailboxes than a pipe can name at once."""
+    names = [f"f{number}" for number in range(1000, 1900)]
+    for name, text in [*((name, b"") for name in names), ("old/f", ONE)]:
+        mailbox(home / name, text)
+    words = ["migrate", "--jobs", "2", "M", *names, "old"]
+    _, out, _ = run([sys.executable, "-I", "-S", "-B", "-c", IN_CHILDREN.format(SMALL_PIPES), ADMIN, *words], home)
+    equal("the last line", out.splitlines()[-1], "901 mailboxes: 901 done")
 
 
 def ended_out_of_turn(home: Path) -> None:

@@ -204,7 +204,7 @@ def records_of_others(home: Path) -> None:
     makes = [
         (lambda: os.symlink(home / "box", record), "it is a symbolic link"),
         (lambda: os.mkfifo(record), "it does not belong to you, ..."),
-        (lambda: os.link(home / "box", record), "it does not belong to you, ..."),
+        (lambda: os.link(home / "box", record), "it has several names (`cp -al` ..."),
         (record.mkdir, "Is a directory"),
         *(
             (partial(open_to, mode), "it does not belong to you, or others may write to it: ...")

@@ -145,6 +145,9 @@ def found_by_settings(home: Path) -> None:
         equal(f"{general}, {others}", run(words, home, **own)[0], int(is_found))
     doveconf(home, "mail_location = ")
     expect([*words[:3], "New", "box"], home, 0, None, **own)
+    for general in ("mail_location = auto:~/New", "mail_location = ~/New", of_2_4("~/New", driver="")):
+        doveconf(home, general)
+        equal(general, run([*words[:3], "New", "box"], home, **own)[0], 1)
     doveconf(home, MBOX)
     for name, text, is_found in DELIVERIES:
         path = mailbox(home / name, text)

@@ -98,8 +98,8 @@ class Child:
         return lines
 
     def answer(self, *words: Any) -> None:
-        """Answers it, unless it is closed. It had nothing to say while it waited. One that cannot be answered is
-        stopped, since it would wait until its silence ends it."""
+        """Answers it, unless it is closed. It had nothing to say while it waited, and its pipe has room for an answer.
+        One that cannot be answered is stopped, since it would wait for ever."""
         self.heard = time.monotonic()
         if self.life >= 0:
             try:

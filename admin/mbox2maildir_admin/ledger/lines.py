@@ -62,6 +62,7 @@ CUT = b"\t"
 # how many bytes of lines are written at once, in whole lines: others append too
 PIECE = 1 << 16
 NOT_TRUSTED = "it does not belong to you, or others may write to it: look at it, and move it away"
+LINKED = "it has several names (`cp -al` gives it one more): put a copy in its place, by `cp -p` and `mv`"
 AT_WORK = "another migrate is at work in %s"
 
 
@@ -274,9 +275,11 @@ def pieces_of(text: bytes) -> Iterator[Piece]:
 
 
 def want_trusted(path: bytes, state: os.stat_result, reason: Phrase = Reason.LEDGER, is_own: bool = False) -> None:
-    """Raises Fault unless the file of a path that has this state is a regular file that others cannot write, of the
-    owner of its folder or of the user who runs this; or of that one alone."""
+    """Raises Fault unless the file of a path that has this state is a regular file without another name that others
+    cannot write, of the owner of its folder or of the user who runs this; or of that one alone."""
     owners = {os.geteuid()} if is_own else {os.geteuid(), os.stat(os.path.dirname(path)).st_uid}
-    is_ours = state.st_uid in owners and state.st_nlink == 1
+    is_ours = state.st_uid in owners and state.st_nlink > 0
     if not stat.S_ISREG(state.st_mode) or not is_ours or state.st_mode & 0o022:
         raise Fault(NOT_TRUSTED, reason, place=path)
+    if state.st_nlink > 1:
+        raise Fault(LINKED, reason, place=path)

@@ -17,6 +17,7 @@ from ..faults import Left, Reason
 from ..looks import is_folder, is_there, may_be, may_write, upwards
 from ..mbox.files import BLOCK
 from ..nexts import Phrase, Todo, task
+from ..progress import length
 from ..remarks import Remark, Says
 from ..signals import INTERRUPTS
 from ..terminal import is_text, named
@@ -77,7 +78,7 @@ class Need(NamedTuple):
         disk = disk_of(self.folder)
         free = room_on(disk)
         if self.size > free:
-            return not_enough(self.folder, "it needs %s, and %s are free" % (amount(self.size), amount(free)))
+            return not_enough(self.folder, "it needs %s, and %s are free" % (length(self.size), length(free)))
         # some disks make inodes as they are needed, and have no number of free ones
         if disk.f_files and self.inodes > disk.f_favail:
             return "not enough inodes: it needs %d, and %d are free" % (self.inodes, disk.f_favail)
@@ -94,11 +95,6 @@ def want_room(need: Need) -> None:
     shortage = need.shortage()
     if shortage:
         raise Left(shortage, Reason.NO_ROOM)
-
-
-def amount(size: int) -> str:
-    """A number of bytes as people read it."""
-    return "%.1f GB" % (size / 1e9) if size >= 1e9 else "%.1f MB" % (size / 1e6)
 
 
 def what_fails(folder: bytes, size: int) -> Optional[str]:

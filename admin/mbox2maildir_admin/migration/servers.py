@@ -86,13 +86,10 @@ def want_unread(maildir: bytes, home: bytes, several: Optional[Sequence[str]], i
     is_in_home = os.path.abspath(maildir) == os.path.abspath(os.path.join(home, FOUND_ALONE))
     for location in several or ():
         driver, sign, rest = location.partition(":")
-        is_found, why = False, LOOKS % named(maildir)
-        if not sign or driver in AUTOMATIC:
-            is_found = is_in_home or names(os.fsencode(location), maildir, home)
-        elif driver == "maildir":
-            path, why = os.fsencode(rest.split(":")[0]), READS % (named(location), named(maildir))
-            is_found = names(path, maildir, home)
-        if is_found:
+        is_named = names(os.fsencode(rest.split(":")[0] if sign else location), maildir, home)
+        is_automatic = not sign or driver in AUTOMATIC
+        if is_automatic and (is_named or is_in_home) or is_named and driver == "maildir":
+            why = LOOKS % named(maildir) if is_automatic else READS % (named(location), named(maildir))
             raise Fault(why, Reason.PREPARED, run_next(Runs.DOVECONF))
     want_not_delivered(maildir, home)
 

@@ -22,9 +22,13 @@ from .telling import fields_of, row_of, value_of
 class Work(Parent):
     """The work of a worker: it asks its parent for whatever concerns other workers too."""
 
+    # the groups of mailboxes that it may be told to do, by the places of their first ones
+    waiting: Mapping[int, Group] = {}
+
     def groups(self) -> Iterator[Group]:
-        """The next groups of mailboxes, as long as there are any."""
-        return iter(lambda: tuple(self.ask("next")), ())
+        """The next groups of mailboxes, as long as there are any. Each is told by its first one: an answer must fit
+        into a pipe, and one folder may have any number of mailboxes."""
+        return (self.waiting[first] for first, in iter(lambda: self.ask("next"), []))
 
     def begin(self) -> None:
         """Tells that work on a mailbox begins."""
@@ -96,6 +100,9 @@ class Workers(Crew):
             self.groups.clear()
             super().__exit__(kind, *rest)
 
+    def become(self, child: Worker, parent: Work) -> None:
+        parent.waiting = {group[0]: group for group in (child.places, *self.groups)}
+
     def turns(self) -> Iterator[None]:
         """Lets workers do everything. After each turn, what became of mailboxes can be taken."""
         while self.groups or self.children:
@@ -111,7 +118,7 @@ class Workers(Crew):
         if what == "next":
             if self.groups and not child.places:
                 child.places += self.groups.popleft()
-            child.answer(*child.places)
+            child.answer(*child.places[:1])
         elif what == "line":
             word, (folder, *text), *others = words
             child.serve(self.orders.record.add_entry, Entry(BY_WORD[word], Key(bytes_of(folder), *text), *others))

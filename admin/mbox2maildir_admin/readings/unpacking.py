@@ -14,10 +14,11 @@ from typing import Any, NamedTuple
 from ..faults import Left, Reason
 from ..kinds.making import Makes
 from ..kinds.others import Form
-from ..maildir.disk import amount, disk_of, not_enough, room_on
+from ..maildir.disk import disk_of, not_enough, room_on
 from ..mbox.files import BLOCK, Reader
 from ..mbox.lines import Said
 from ..mbox.mailbox import Mailbox
+from ..progress import length
 from ..signals import INTERRUPTS, running, status_of
 from ..units import Line, Offset
 from .copies import copy_of
@@ -153,10 +154,10 @@ def unpacked(mailbox: Mailbox, form: Form, folder: bytes) -> Mailbox:
     for piece in unpack(mailbox, mailbox.file, form):
         size += len(piece)
         if size > most:
-            says = "unpacked it has more than %s, and more than %d times its size" % (amount(LARGE), TIMES)
+            says = "unpacked it has more than %s, and more than %d times its size" % (length(LARGE), TIMES)
             raise OtherKind(mailbox.path, Said(Line(0), says), (Makes(form.unpacks),), Reason.PACKED, form.kind)
         if size > room:
-            says = "unpacked it has more than the %s that are free" % amount(room)
+            says = "unpacked it has more than the %s that are free" % length(room)
             raise Left(not_enough(folder, says), Reason.NO_ROOM)
     text = copy_of(mailbox, unpack(mailbox, mailbox.again(), form), folder)
     if text.size != size:
