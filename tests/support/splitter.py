@@ -5,7 +5,7 @@ It shares no code with the companion, and reads the whole text at once, line by 
     mboxrd    each line `From ` begins a message; a line of `>`, one or more, and `From ` loses one
     mboxo     each line `From ` begins a message; a line `>From ` loses its `>`
     mboxcl    as mboxcl2, and a line of `>`, one or more, and `From ` loses one
-    mboxcl2   a message with a right length ends there, others at the next line `From `; the first have nothing taken
+    mboxcl2   a message with a correct length ends there, others at the next line `From `; the first have nothing taken
               from their lines, the others are read as mboxo
     unquoted  each line `From ` that ends in a date begins a message; no line loses anything
 """
@@ -68,8 +68,8 @@ def header_of(lines: list[bytes]) -> list[bytes]:
 
 
 def right_length(lines: list[bytes]) -> Optional[int]:
-    """How many of the lines after a From_ line belong to its message by a right length: after the body that it measures
-    come at most one line end, and then a line `From ` or the end."""
+    """How many of the lines after a From_ line belong to its message by a correct length: after the body that it
+    measures come at most one line end, and then a line `From ` or the end."""
     header = header_of(lines)
     fields = LENGTH.findall(b"".join(header))
     digits = fields[-1].strip() if fields else b""
@@ -175,8 +175,8 @@ def without_deleted(messages: tuple[bytes, ...]) -> tuple[bytes, ...]:
 
 
 def has_sure_lengths(text: bytes) -> bool:
-    """Whether each message of a text has a right length, except the one by which Dovecot keeps an empty mailbox, and no
-    length leads over a From_ line that ends in a date."""
+    """Whether each message of a text has a correct length, except the one by which Dovecot keeps an empty mailbox, and
+    no length leads over a From_ line that ends in a date."""
     lines = lines_of(text.lstrip(b"\0"))
     messages = messages_in(lines, lambda at: is_from(lines[at]), True)
     mail = messages[1:] if INTERNAL in messages[0].lines else messages
@@ -186,7 +186,7 @@ def has_sure_lengths(text: bytes) -> bool:
 
 def quoted_lines(text: bytes) -> dict[str, int]:
     """How many lines of `>` and `From ` a row speaks of, by the word that reads them in another way: those with several
-    `>`; within right lengths those with a single `>`; both of these; and elsewhere those with a single one."""
+    `>`; within correct lengths those with a single `>`; both of these; and elsewhere those with a single one."""
     lines = lines_of(text.lstrip(b"\0"))
     messages = messages_in(lines, lambda at: is_from(lines[at]), True)
     within = [line for one in messages for line in one.lines[: one.by_length]]
@@ -205,9 +205,9 @@ def quoted_lines(text: bytes) -> dict[str, int]:
 
 def contradictions(text: bytes, word: str) -> list[int]:
     """The numbers of the lines `From ` that contradict a word, if it is said of several mailboxes. For mboxrd and mboxo
-    these are lines within a right length, or without both a date and a header after them; for mboxcl and mboxcl2 those
-    within a length that look like mail, and "outside" those without both, which contradict it for one mailbox too; for
-    unquoted dated ones without a header."""
+    these are lines within a correct length, or without both a date and a header after them; for mboxcl and mboxcl2
+    those within a length that look like mail, and "outside" those without both, which contradict it for one mailbox
+    too; for unquoted dated ones without a header."""
     lines, found = lines_of(text), []
     inside = set(range(1, len(lines) + 1))
     place = 1

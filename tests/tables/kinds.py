@@ -17,7 +17,7 @@ from tests.support.tables import Row, rows_of
 # a mailbox of two messages
 PLAIN = A + b"\nhello\n\n" + B + b"\nyes\n\n"
 DROP = "--drop-deleted"
-# a second message with a right length
+# a second message with a correct length
 C = with_length(B, b"yes\n") + b"\n"
 
 

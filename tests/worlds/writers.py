@@ -139,7 +139,7 @@ def procmail(draw: Random, mails: Sequence[Letter]) -> Written:
 
 def mutt(draw: Random, mails: Sequence[Letter]) -> Written:
     """mutt and neomutt, for mail of a Maildir or a server: an mboxcl2. Measured of mutt 2.2.12 and neomutt 20220429:
-    they write a right length into each message, `Lines: 0` if it is 0, and no blank line after a message whose last
+    they write a correct length into each message, `Lines: 0` if it is 0, and no blank line after a message whose last
     line has no end."""
     pieces = []
     for one in mails:

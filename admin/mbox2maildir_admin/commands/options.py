@@ -5,7 +5,7 @@ from types import SimpleNamespace
 from typing import Any, NamedTuple, Optional
 
 from .. import ADMIN
-from ..labels.choosing import GIVES, SOME, WORDS as WORDS_OF_LABELS, Choosing
+from ..labels.choosing import GIVES, EACH, WORDS as WORDS_OF_LABELS, Choosing
 from ..looks import is_folder
 from ..readings.reading import UNDECIDED, WORDS, Reading, lines_named
 from ..terminal import named, shown
@@ -106,7 +106,7 @@ OPTIONS = {
             "put each message into the folders of its labels; `one`: into one of them; `all`: even if these are more "
             "than 2000 folders",
             "one|all",
-            (SOME, *WORDS_OF_LABELS),
+            (EACH, *WORDS_OF_LABELS),
             excludes="--folder --dovecot",
             mailboxes=FILE,
         ),

@@ -49,7 +49,7 @@ gmail_thread = field(b"X-GM-THRID", rb"(?P<value>\d+)")
 gmail_labels = field(b"X-Gmail-Labels")
 
 
-def is_expunged(header: bytes) -> Optional[bool]:
+def is_deleted(header: bytes) -> Optional[bool]:
     """Whether Thunderbird has marked a message as deleted, which stays in the file until the folder is compacted; None
     if its header has no mark."""
     status = mozilla_status(header) if b"x-mozilla-status" in header.lower() else None
@@ -104,7 +104,7 @@ def are_few(unmarked: int, marked: int) -> bool:
     return 3 * unmarked <= marked
 
 
-class Kept(NamedTuple):
+class KeptFlags(NamedTuple):
     """The flags of a mailbox's messages by their places, and the program that kept them; and of each message, unless
     that is known of all, whether nothing says that it was read or not."""
 
@@ -112,11 +112,11 @@ class Kept(NamedTuple):
     letters: list[str]
     unsaid: bytes = b""
 
-    def at(self, places: Iterable[int]) -> "Kept":
+    def at(self, places: Iterable[int]) -> "KeptFlags":
         """Those of the messages at some places."""
         found = list(places)
         unsaid = bytes(self.unsaid[place] for place in found) if self.unsaid else b""
-        return Kept(self.program, [self.letters[place] for place in found], unsaid)
+        return KeptFlags(self.program, [self.letters[place] for place in found], unsaid)
 
     def remarks(self, places: Sequence[int]) -> list[Remark]:
         """What is to be said of the messages at some places."""
@@ -124,7 +124,7 @@ class Kept(NamedTuple):
         return says + Says.UNREAD.of_any(sum(self.unsaid[place] for place in places) if self.unsaid else 0)
 
 
-def kept_in(mailbox: Mailbox, inventory: Inventory) -> Optional[Kept]:
+def kept_in(mailbox: Mailbox, inventory: Inventory) -> Optional[KeptFlags]:
     """The flags that a program has kept in a mailbox, if one has them in the header of each message. A few may lack
     those of Thunderbird between others: a human has decided that they begin there."""
     for program, read in CLIENTS.items():
@@ -138,9 +138,9 @@ def kept_in(mailbox: Mailbox, inventory: Inventory) -> Optional[Kept]:
         if several and several[-1] is not None and are_few(lacking, len(several) - lacking):
             letters = [one or "" for one in several]
             if program != GMAIL:
-                return Kept(program, letters)
+                return KeptFlags(program, letters)
             from .gmail import letters_by, own_names
 
             known = {one: labels_in(one.encode("latin-1")) or () for one in set(letters)}
-            return Kept(program, *letters_by([known[one] for one in letters], own_names(known.values())))
+            return KeptFlags(program, *letters_by([known[one] for one in letters], own_names(known.values())))
     return None

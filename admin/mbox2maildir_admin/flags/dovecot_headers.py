@@ -94,8 +94,8 @@ def internal_head(mailbox: Mailbox, start: Offset) -> tuple[Optional[Head], Offs
     """The head of the message by which Dovecot and UW-IMAP keep an empty mailbox, and the offset at which that message
     ends. There is no head unless the text that begins at `start` begins with exactly this message."""
     text = mailbox.at(start, LONGEST_INTERNAL)
-    message, next_mark, _ = text.partition(b"\nFrom ")
-    message += b"\n" * bool(next_mark)
+    message, follows, _ = text.partition(b"\nFrom ")
+    message += b"\n" * bool(follows)
     if len(message) == LONGEST_INTERNAL:
         return None, start
     header = Header.at(mailbox, start).text

@@ -24,7 +24,7 @@ class Own(enum.Enum):
     READ = "read"
     UNREAD = "unread"
     STARRED = "starred"
-    MARK = "none"
+    NONE = "none"
 
 
 Roles = Mapping[str, Own]
@@ -36,7 +36,7 @@ CATEGORIES = "Personal", "Social", "Promotions", "Updates", "Forums", "Purchases
 MARKS = "Snoozed", "Muted", "Scheduled", *("Category %s" % name for name in CATEGORIES)
 
 # what the names of a language stand for, in their order, as many as are known
-NAMED = *ORDER, Own.STARRED, Own.MARK, Own.MARK, Own.UNREAD, Own.READ
+NAMED = *ORDER, Own.STARRED, Own.NONE, Own.NONE, Own.UNREAD, Own.READ
 ENGLISH, *OTHERS = (
     dict(zip(names.split(", "), NAMED))
     for names in (
@@ -62,7 +62,7 @@ ENGLISH, *OTHERS = (
         "\u5df2\u5220\u9664\u90ae\u4ef6, \u5df2\u52a0\u661f\u6807",
     )
 )
-ENGLISH.update({"Draft": Own.DRAFTS, **{name: Own.MARK for name in MARKS}})
+ENGLISH.update({"Draft": Own.DRAFTS, **{name: Own.NONE for name in MARKS}})
 # a name that several of them have stands for the same in each
 LANGUAGES: Sequence[Roles] = (ENGLISH, *OTHERS)
 KNOWN = frozenset[str]().union(*LANGUAGES)

@@ -39,6 +39,12 @@ class Flagged(NamedTuple):
         return new
 
 
+def info_in(name: bytes) -> Optional[bytes]:
+    """What follows the base in the name of a file, if that is nothing or has the letters of flags; otherwise None."""
+    info = name[len(before_info(name)) :]
+    return info if not info or info.startswith(INFO) else None
+
+
 def flagged_in(folder: bytes, inventory: Inventory) -> Iterator[Flagged]:
     """The files of a Maildir that belong to messages. A file that gets flags meanwhile comes twice."""
     for sub in WITH_MAIL:
@@ -46,8 +52,8 @@ def flagged_in(folder: bytes, inventory: Inventory) -> Iterator[Flagged]:
         places, infos, known = array.array("Q"), list[bytes](), {b"": b""}
         with os.scandir(os.path.join(folder, sub)) as entries:
             for name in (entry.name for entry in entries):
-                place, info = inventory.table.own_place(name), name[len(before_info(name)) :]
-                if place is not None and (not info or info.startswith(INFO)):
+                place, info = inventory.table.own_place(name), info_in(name)
+                if place is not None and info is not None:
                     places.append(place)
                     infos.append(known.setdefault(info, info))
         for place, info in zip(map(Place, places), infos):
@@ -89,8 +95,8 @@ def lacking_flags(folder: bytes, flags_of: Callable[[bytes], str]) -> int:
     """How many files of messages lack a flag that these have in a mailbox, by the bases of their names."""
     count = 0
     for name, _ in mail_in(folder):
-        base, info = OWN.match(name), name[len(before_info(name)) :]
-        if base and (not info or info.startswith(INFO)):
+        base, info = OWN.match(name), info_in(name)
+        if base and info is not None:
             count += bool({*flags_of(base[0])} - {*letters_of(info)})
     return count
 

@@ -19,11 +19,13 @@ from ..mbox.mailbox import Mailbox
 from ..mbox.pieces import FROM, Piece
 from ..units import Line, Offset
 
-# the lines within messages with right lengths that look like From_ lines, by a date or by what follows; all lines
-# `From ` within such messages; and those that may be text or may begin messages
+# the lines within messages with correct lengths that look like From_ lines, by a date or by what follows; all lines
+# `From ` within such messages; those that count as the beginnings of messages, but may be text; and all about which it
+# is doubtful what they are
 MAY_BE_MAIL = ("inside, dated", "inside, like mail")
-WITHIN = ("inside", *MAY_BE_MAIL)
-DOUBTFUL = (*MAY_BE_MAIL, "text", "odd", "doubtful", "unmarked")
+INSIDE = ("inside", *MAY_BE_MAIL)
+MAY_BE_TEXT = ("odd", "doubtful", "unmarked")
+DOUBTFUL = (*MAY_BE_MAIL, "text", *MAY_BE_TEXT)
 # what is said of the lines of a sort, in this order; {} stands for the number of another line
 SAID = {
     "holds mail": "a From_ line with a CR, a NUL byte or more than %d bytes may contain mail" % LONG,

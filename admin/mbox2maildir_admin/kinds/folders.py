@@ -7,7 +7,7 @@ import stat
 from typing import NamedTuple, Optional
 
 from ..faults import Fault
-from ..looks import is_below, is_file, is_folder, may_be, type_at
+from ..looks import is_below, is_file, is_folder, may_be, type_at, upwards
 from ..maildir.folders import INBOX, folder_on_disk
 from ..maildir.making import GOES_BACK, GOES_BACK_NEW, SUBFOLDERS
 from ..mbox.files import is_empty, open_file
@@ -16,7 +16,7 @@ from ..nexts import Next, Template, Todo, run_next, task
 from ..patterns import pattern
 from ..terminal import is_text, operand, text_of
 from .named import BESIDE
-from .others import FROM_LINE, QUOTED
+from .others import FROM_LINE, QUOTE_ALL
 from .starts import OPENING
 
 Entry = os.DirEntry[bytes]
@@ -38,7 +38,7 @@ BEGINNING = 1 << 9
 FROM_MH = Template(
     "from-mh",
     "(cd {} && for n in $(ls | grep -xE '[0-9]+' | sort -n); do "
-    "head -c 5 $n | grep -q '^From ' || { %s; %s $n; echo; }; done) >{rest}" % (FROM_LINE, QUOTED),
+    "head -c 5 $n | grep -q '^From ' || { %s; %s $n; echo; }; done) >{rest}" % (FROM_LINE, QUOTE_ALL),
 )
 # the folders of a profile that have a folder for each account, what else each profile has, and what stands beside all
 OF_ACCOUNTS = (b"Mail", b"ImapMail")
@@ -144,10 +144,8 @@ class Profiles:
     def __init__(self, old: bytes) -> None:
         self.old = old
         self.found: list[Profile] = []
-        above = os.path.abspath(old)
-        while above != os.path.dirname(above) and not is_profile(above):
-            above = os.path.dirname(above)
-        if is_profile(above):
+        above = next(filter(is_profile, upwards(old)), None)
+        if above is not None:
             self.found.append(Profile(above))
 
     def parted(self, folder: bytes, entries: list[Entry]) -> tuple[list[Entry], list[Entry]]:

@@ -5,13 +5,13 @@ import re
 from collections.abc import Callable, Iterator, Mapping, Sequence
 from typing import Optional
 
-from ..flags.clients import are_few, is_expunged
+from ..flags.clients import are_few, is_deleted
 from ..flags.dovecot_headers import internal_head
 from ..mbox.dates import is_dated
 from ..mbox.fields import LENGTH, Header
 from ..mbox.files import LONG
 from ..mbox.inventory import NOTE, WithPlain, has_marks, may_hold_mail, plain_of
-from ..mbox.lines import Lines, Reasons, Said
+from ..mbox.lines import Lines, AskedAbout, Said
 from ..mbox.mailbox import Mailbox
 from ..mbox.pieces import FROM, Piece, header_of
 from ..terminal import NAMED
@@ -21,7 +21,7 @@ from .starts import ADDRESS, OPENING, Ending, end_of_row, ending_of, is_after_bl
 
 GIT = re.compile(rb"From [0-9a-f]{40,64} Mon Sep 17 00:00:00 2001\r?\Z")
 # the words by which a line `From ` is quoted
-QUOTES = re.compile(rb"\n(>+)From [^\n]*")
+QUOTED_LINE = re.compile(rb"\n(>+)From [^\n]*")
 # what a line has before its end
 IN_LINE = bytes(byte for byte in range(256) if byte != ord("\n"))
 
@@ -37,7 +37,7 @@ def signs_of(mailbox: Mailbox, piece: Piece) -> tuple[bool, bool]:
 class Look:
     """What a look at an mbox text shows: how many messages it has, and its lines by what is odd about them."""
 
-    def __init__(self, mailbox: Mailbox, start: Offset = Offset(0)) -> None:
+    def __init__(self, mailbox: Mailbox, start: Offset) -> None:
         self.mailbox, self.start, self.messages = mailbox, start, 0
         # whether NUL bytes come before the text
         self.after_nulls = start > 0 and mailbox.at(0, 1) == b"\0"
@@ -49,7 +49,7 @@ class Look:
         # whether the first message is the one by which Dovecot keeps an empty mailbox
         self.internal = bool(internal_head(mailbox, start)[0])
         self.doubts = Doubts(mailbox)
-        # the messages with right lengths, by their offsets, that have a line `>From `, and those that have a line
+        # the messages with correct lengths, by their offsets, that have a line `>From `, and those that have a line
         # `From ` after a blank one, so that no program has escaped it
         self.with_quotes, self.unescaped = set[int](), set[int]()
         self.first_line = mailbox.from_line_at(start)
@@ -89,7 +89,7 @@ class Look:
                 self.header(piece, plain.end + 1, plain.is_marked)
             elif piece.begins:
                 self.begin(piece)
-            if piece.has_word or not plain:
+            if piece.has_from or not plain:
                 self.text(piece)
             yield piece, plain
         # a message that ends there by its length is complete
@@ -114,9 +114,9 @@ class Look:
             place = data.find(b"\r\n", piece.body)
             if place >= 0:
                 self.seen["CR in text"].add(piece.offset + place)
-        if not piece.has_word:
+        if not piece.has_from:
             return
-        for quote in QUOTES.finditer(b"\n" + data) if piece.has_quote else ():
+        for quote in QUOTED_LINE.finditer(b"\n" + data) if piece.has_quote else ():
             inside = piece.offset + quote.start() < self.claimed
             sort = "quoted twice" if len(quote[1]) > 1 else "quoted, by length" if inside else "quoted"
             self.seen[sort].add(piece.offset + quote.start(), quote[0][1:])
@@ -153,9 +153,9 @@ class Look:
             self.message(piece, from_line)
 
     def sort_of(self, piece: Piece, dated: bool, has_header: bool) -> str:
-        """What a line `From ` outside of right lengths looks like: a From_ line that is "dated" or "undated"; an "odd"
-        one without a header; a "doubtful" one without a date; one "like the first" that has no date either, which is
-        "doubtful" if others have dates, or "undated"; or "text"."""
+        """What a line `From ` outside of correct lengths looks like: a From_ line that is "dated" or "undated"; an
+        "odd" one without a header; a "doubtful" one without a date; one "like the first" that has no date either, which
+        is "doubtful" if others have dates, or "undated"; or "text"."""
         is_first = piece.offset == self.start
         if dated:
             return "dated" if is_first or has_header or self.is_alone(piece) else "odd"
@@ -192,7 +192,7 @@ class Look:
     def header(self, piece: Piece, body: int, is_marked: bool) -> None:
         """Begins a message, whose body begins at a place of its piece. Looks at what programs wrote into its header, if
         that has anything of it, and at its length."""
-        # what a right length has ended is whole
+        # what a correct length has ended is whole
         header, is_after_whole = Header.of(piece) if is_marked else None, self.claimed > 0
         self.messages += 1
         self.claimed, self.claimed_by, self.body = 0, piece.offset, piece.offset + body
@@ -220,7 +220,7 @@ class Look:
 
     def has_mark(self, header: Header) -> bool:
         """Whether a header has what Thunderbird or Gmail writes into each message."""
-        is_of_gmail, deleted = bool(header[b"x-gm-thrid"]), is_expunged(header.text)
+        is_of_gmail, deleted = bool(header[b"x-gm-thrid"]), is_deleted(header.text)
         if is_of_gmail:
             self.seen["Gmail"].add(self.claimed_by)
         if deleted is not None:
@@ -247,12 +247,12 @@ class Look:
         return None if self.count("dated") else ending_of(self.first_line)
 
     def have_lengths(self) -> bool:
-        """Whether each message has a right length, except the one by which Dovecot keeps an empty mailbox."""
+        """Whether each message has a correct length, except the one by which Dovecot keeps an empty mailbox."""
         return not self.without and not self.count("wrong") and self.count("lengths") > 0
 
     def shows_lengths(self) -> bool:
-        """Whether lines `From ` within right lengths are text although other messages have no length: neither they nor
-        other lines may begin messages, all From_ lines have dates, and no `>` in a message with a length may be one
+        """Whether lines `From ` within correct lengths are text although other messages have no length: neither they
+        nor other lines may begin messages, all From_ lines have dates, and no `>` in a message with a length may be one
         that its delivery added."""
         is_plain = self.is_whole and not self.count(*DOUBTFUL, "wrong", "undated", "joined", "holds mail", "cut")
         return is_plain and self.count("inside") > 0 and self.with_quotes <= self.unescaped and not self.are_deleted()
@@ -306,21 +306,21 @@ class Look:
         that are doubtful since they have none."""
         return self.count("deleted") > 0 and self.count("Thunderbird", "unmarked") == self.messages
 
-    def keeping(self) -> Reasons:
+    def keeping(self) -> AskedAbout:
         """The lines because of which the text cannot be read without a decision, and what is said of the first ones."""
         for sorts in KEEPING:
             found = [one for sort in sorts for one in self.said(sort)]
             if found and (sorts != ("deleted",) or self.are_deleted()):
-                return Reasons(sorted(found), self.count(*sorts))
-        return Reasons()
+                return AskedAbout(sorted(found), self.count(*sorts))
+        return AskedAbout()
 
-    def against(self, word: str) -> Reasons:
+    def against(self, word: str) -> AskedAbout:
         """The lines that contradict a word that says how a text was written, and what is said of the first ones."""
         sort, found = AGAINST[word], []
         outside = ("a date at its end, but" if word == "unquoted" else "no date at its end and") + " no header after it"
         for line, text, by in self.first(sort):
             found.append(Said(line, SAID["inside"].format(by) if by else outside, text))
-        return Reasons(found, self.count(sort))
+        return AskedAbout(found, self.count(sort))
 
 
 # looks at as much of a text as is wanted

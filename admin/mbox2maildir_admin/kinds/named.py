@@ -59,9 +59,9 @@ def name_of_folder(path: bytes) -> str:
     return name if name.lower() in NAMES else ""
 
 
-def is_spared(words: Sequence[bytes], tops: Sequence[bytes], path: bytes, is_known: bool) -> bool:
-    """Whether a file that is not mbox text is to be passed over: one of the words is its whole path or, if its kind is
-    not known, a pattern for its path below one of these folders, or for its name."""
+def passes_over(words: Sequence[bytes], tops: Sequence[bytes], path: bytes, is_known: bool) -> bool:
+    """Whether words pass over a file that is not mbox text: one of them is its whole path or, if its kind is not known,
+    a pattern for its path below one of these folders, or for its name."""
     whole = os.path.abspath(path)
     if any(os.path.abspath(word) == whole for word in words):
         return True

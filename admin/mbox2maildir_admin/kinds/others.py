@@ -27,7 +27,7 @@ UNDATED = "From MAILER-DAEMON " + NO_DATE
 # writes that line before the text
 FROM_LINE = "echo '%s'" % UNDATED
 # quotes the lines of one message, exactly
-QUOTED = "sed 's/^>*From />&/'"
+QUOTE_ALL = "sed 's/^>*From />&/'"
 TAR = "mkdir {copy} && tar %s-xC {copy} <{}"
 FIRST_FIELD = pattern(NAME)
 PROPERTY_LIST = pattern(rb"\s*<(?:\?xml|!DOCTYPE plist|plist)")
@@ -147,14 +147,14 @@ def no_mail(start: bytes, kind: str, check: Optional[Callable[[Mailbox], bool]] 
     return Other(pattern(start, re.DOTALL), NO_MAIL + kind, LEAVE, Holds.NO_MAIL, check)
 
 
-ONE_MAIL = "(%s && %s {} && echo) >{copy}" % (FROM_LINE, QUOTED)
+ONE_MAIL = "(%s && %s {} && echo) >{copy}" % (FROM_LINE, QUOTE_ALL)
 # MMDF quotes nothing, and its messages need no From_ line
 MMDF = (
     'LC_ALL=C awk \'/^\\001\\001\\001\\001$/ {i = !i; if (!i) print ""; n = i; next} '
     'n {n = 0; if (/^From /) {print; next}; print "' + UNDATED + '"} '
     '{sub(/^>*From /, ">&"); print}\' {} >{copy}'
 )
-EMLX = "(%s && tail -n +2 {} | head -c $(head -n 1 {}) | %s && echo) >{copy}" % (FROM_LINE, QUOTED)
+EMLX = "(%s && tail -n +2 {} | head -c $(head -n 1 {}) | %s && echo) >{copy}" % (FROM_LINE, QUOTE_ALL)
 # Debian's mailutil takes only names below HOME
 MAILUTIL = 'HOME=/ mailutil copy "$(realpath --relative-to=/ {})" "#driver.unix/$(realpath --relative-to=/ {copy})"'
 BABYL = "cp {} {copy}.old && emacs --batch -l unrmail -f batch-unrmail {copy}.old && mv {copy}.old.mail {copy}"
@@ -265,7 +265,7 @@ QUOTE_LINE = Makes(Template("quote-line-1", WITH_FROM_LINE % "sed '1s/^/>/' {}")
 ASK_LINE: Recipe = (WITH_DATE, QUOTE_LINE)
 BEGIN_ALL = Template("begin-all", WITH_FROM_LINE % "cat {}")
 BEGIN_AT = Template("begin-at", WITH_FROM_LINE % "tail -c +{rest} {}")
-CUT = Template("cut", "tail -c +{rest} {} >{copy}")
+WITHOUT_START = Template("cut", "tail -c +{rest} {} >{copy}")
 AS_ONE_MAIL = Template("whole", ONE_MAIL)
 FILE = Template("file", "file {}")
 NOT_KNOWN: Recipe = (FILE, Task(Todo.PASS_OVER))
@@ -298,8 +298,8 @@ def finding_of(look: Look) -> Finding:
     known = other_of(mailbox)
     if known:
         return Finding(known.kind, known.recipe, known.holds)
-    marks = (piece for piece in pieces_of(mailbox.again().read) if piece.begins)
-    begins = next((piece for piece in marks if look.sort_of(piece, *signs_of(mailbox, piece)) != "text"), None)
+    from_lines = (piece for piece in pieces_of(mailbox.again().read) if piece.begins)
+    begins = next((piece for piece in from_lines if look.sort_of(piece, *signs_of(mailbox, piece)) != "text"), None)
     found = [Said(line_of(begins.offset), BEGINS % (begins.offset + 1), shown(begins.from_line[:72]))] if begins else []
     head = mailbox.at(0, HEAD)
     if head.startswith(b"From "):
@@ -314,7 +314,7 @@ def finding_of(look: Look) -> Finding:
         # only blank bytes come before it
         first = Said(line_of(blanks), BEGINS % (blanks + 1), line)
         found = [first, *(found if begins and begins.offset != blanks else [])]
-        return Finding("damaged", (Makes(CUT, more=(str(blanks + 1),)),), Holds.MAIL, found)
+        return Finding("damaged", (Makes(WITHOUT_START, more=(str(blanks + 1),)),), Holds.MAIL, found)
     if not begins and begins_with_mail(head):
         return Finding("one mail without a From_ line", (Makes(AS_ONE_MAIL),), Holds.MAIL)
     if is_rest_of_from_line(text):

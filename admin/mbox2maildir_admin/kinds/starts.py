@@ -1,5 +1,5 @@
 """Where mbox text and messages begin: the From_ line of a text; lines `From ` that may begin messages although
-something speaks against it, within messages with right lengths or within lines; and the shapes of From_ lines
+something speaks against it, within messages with correct lengths or within lines; and the shapes of From_ lines
 without a date."""
 import enum
 import re
@@ -27,7 +27,7 @@ BY_RMAIL = re.compile(rb"(?:>+From [^\n]*\n)*")
 ADDRESS = re.compile(rb"From \S+@\S+\s*\Z")
 ONE_WORD = re.compile(rb"From \S+\s*\Z")
 # the end of a line that has a word `From `, which a piece may have without its end
-WORD_IN_LINE = pattern(rb"From [^\n]*\n?")
+FROM_IN_LINE = pattern(rb"From [^\n]*\n?")
 # the beginning of a line that is quoted or escaped, by replies, by format=flowed or by OpenPGP
 REPLY = pattern(rb"(?:- )?[> \t]*\Z")
 # what the header has that follows what may be the end of a sentence, wherever
@@ -133,7 +133,7 @@ def joins_in(mailbox: Mailbox, piece: Piece, body: int) -> Iterator[tuple[Offset
     a From_ line, or after a text whose last line has no end, as `cat a b` joins it with the next text. `body` is the
     offset at which the body of the message begins."""
     data = piece.data
-    for found in WORD_IN_LINE.finditer(data, piece.body):
+    for found in FROM_IN_LINE.finditer(data, piece.body):
         if not found[0].endswith(b"\n"):
             return
         end = found.end() - 1

@@ -5,7 +5,7 @@ from typing import NamedTuple
 from ..terminal import bytes_of, option
 
 # a message goes into the folder of each of its labels; the same, however many folders that makes; into one of them
-SOME, ALL, ONE = "", "all", "one"
+EACH, ALL, ONE = "", "all", "one"
 WORDS = ALL, ONE
 # what a label may be said to give: no folder, one of its own, or a flag alone
 NONE, FOLDER, READ, UNREAD, STARRED = GIVES = "none", "folder", "read", "unread", "starred"
@@ -14,7 +14,7 @@ NONE, FOLDER, READ, UNREAD, STARRED = GIVES = "none", "folder", "read", "unread"
 class Choosing(NamedTuple):
     """In how many of its folders a message goes, and what labels give of which that was said."""
 
-    word: str = SOME
+    word: str = EACH
     given: tuple[tuple[str, str], ...] = ()
 
     def gives(self, label: str) -> str:

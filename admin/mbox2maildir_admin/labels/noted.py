@@ -23,8 +23,8 @@ class Noted(NamedTuple):
 
     def words(self) -> str:
         """The words by which the record has it."""
-        labels = ["%s=%s" % (gives, quoted(os.fsencode(label))) for label, gives in self.choosing.given]
-        return " ".join(["word=%s" % self.choosing.word, *labels, *("in=%s" % quoted(one) for one in self.folders)])
+        labels = ["%s=%s" % (gives, encoded(os.fsencode(label))) for label, gives in self.choosing.given]
+        return " ".join(["word=%s" % self.choosing.word, *labels, *("in=%s" % encoded(one) for one in self.folders)])
 
     @classmethod
     def of(cls, line: Optional[Entry]) -> "Noted":
@@ -37,7 +37,7 @@ class Noted(NamedTuple):
         return cls(Choosing(dict(pairs).get("word", ""), given), folders)
 
 
-def quoted(name: bytes) -> str:
+def encoded(name: bytes) -> str:
     """A name as a word without blanks."""
     from urllib.parse import quote
 

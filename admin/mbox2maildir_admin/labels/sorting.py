@@ -7,14 +7,14 @@ from collections.abc import Container, Iterable, Mapping, Sequence
 from typing import NamedTuple, Optional
 
 from ..faults import Left, Reason
-from ..flags.clients import GMAIL, Kept, labels_in
+from ..flags.clients import GMAIL, KeptFlags, labels_in
 from ..flags.gmail import ARCHIVE, ENGLISH, ORDER, Own, letters_by, own_names
 from ..maildir.folders import INBOX, folder_of, on_disk, why_no_folder
 from ..mbox.fields import VALUE
 from ..nexts import Does, Phrase
 from ..remarks import Remark, Says
 from ..terminal import named
-from .choosing import FOLDER, NONE, ONE, READ, SOME, Choosing
+from .choosing import FOLDER, NONE, ONE, READ, EACH, Choosing
 
 # Google writes both fields before those that were sent; what a sender writes comes after them
 FIELD = re.compile(rb"(X-GM-THRID|X-Gmail-Labels)" + VALUE + rb"(?:\n|\Z)", re.I)
@@ -60,7 +60,7 @@ class LabelFolders(NamedTuple):
 
     places: Mapping[bytes, Sequence[int]]
     labels: Mapping[bytes, Sequence[str]]
-    kept: Kept
+    kept: KeptFlags
 
 
 class Sorting:
@@ -124,11 +124,11 @@ class Sorting:
             for folder, names in folders_of(its).items():
                 places[folder].append(place)
                 labels[folder].update(dict.fromkeys(names))
-        if len(places) > MOST and self.choosing.word == SOME:
+        if len(places) > MOST and self.choosing.word == EACH:
             says = ((self.choosing._replace(word=word), does) for word, does in (("all", Does.ALL), ("one", Does.ONE)))
             raise LabelsLeft(TOO_MANY % len(places), *says)
         order = sorted(places, key=lambda folder: (folder != INBOX, folder))
-        kept = Kept(GMAIL, *letters_by(self.messages, self.roles))
+        kept = KeptFlags(GMAIL, *letters_by(self.messages, self.roles))
         alike = {folder: list(its) for folder, its in labels.items() if len(its) > 1}
         return LabelFolders({folder: places[folder] for folder in order}, alike, kept)
 

@@ -94,7 +94,8 @@ class Check:
         self.paths: dict[Place, bytes] = {}
         # by sort: the files that were noted, and the messages that are of it besides
         self.files: collections.defaultdict[Sort, list[bytes]] = collections.defaultdict(list)
-        self.besides = collections.defaultdict[Sort, MutableSequence[int]](list, {DOUBTFUL_LINE: inventory.doubts})
+        doubtful = {DOUBTFUL_LINE: inventory.may_hold_mail}
+        self.besides = collections.defaultdict[Sort, MutableSequence[int]](list, doubtful)
         # files that have a message's bytes and another name: by the digest, and by the name before its colon; and the
         # names of all such files that were read
         self.copies: collections.defaultdict[bytes, dict[bytes, bytes]] = collections.defaultdict(dict)

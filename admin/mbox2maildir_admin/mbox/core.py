@@ -18,7 +18,7 @@ from .pieces import NEVER, Read, header_of, pieces_of
 # how many bytes of a digest are kept
 SHORT = 16
 # rows of `>` before `From `, what each of them has, and the end of a text that may begin one, or is a CR
-QUOTES, QUOTED = re.compile(rb"\n>+(?=From )"), b">From "
+ROWS, IN_ROW = re.compile(rb"\n>+(?=From )"), b">From "
 BEGUN = re.compile(rb"(?:(?:^|\n)>+(?:F(?:r(?:om?)?)?)?|\r)\Z")
 
 
@@ -31,7 +31,7 @@ def core_of(text: bytes) -> bytes:
     """The core of lines of the bare form."""
     if b"\r" in text:
         text = text.replace(b"\r\n", b"\n")
-    return QUOTES.sub(b"\n", b"\n" + text)[1:] if QUOTED in text else text
+    return ROWS.sub(b"\n", b"\n" + text)[1:] if IN_ROW in text else text
 
 
 class Digests:
@@ -81,7 +81,7 @@ def forms_of(read: Read, is_ended: bool = False) -> tuple[bytes, bytes]:
     """The first bytes of the digests of the core and of the bare form of a message that is read. Its last line may
     count as ended, as a mailbox would have it."""
     digests = Digests()
-    for piece in pieces_of(read, word=NEVER):
+    for piece in pieces_of(read, parted_at=NEVER):
         digests.take(piece.data + b"\n" * (is_ended and piece.ends and not piece.data.endswith(b"\n")), piece.begun)
     return digests.end()
 
@@ -89,7 +89,7 @@ def forms_of(read: Read, is_ended: bool = False) -> tuple[bytes, bytes]:
 def beginning_of(read: Read) -> Iterator[bytes]:
     """The core of a message that is read, or of the beginning of one, as far as what follows could not change it. The
     line ends at its end stay as they are."""
-    for piece in pieces_of(read, word=NEVER):
+    for piece in pieces_of(read, parted_at=NEVER):
         text = piece.data
         if piece.begun is not None:
             end, body = header_of(text, 0)

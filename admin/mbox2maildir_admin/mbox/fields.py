@@ -29,7 +29,6 @@ WRITTEN: dict[bytes, Callable[[str, bool, Optional[int]], bytes]] = {
 # takes it out of files. In a mailbox it would count again, so `back` takes it out of what it appends, with all that it
 # writes itself
 HIDDEN = (b"content-length", b"status", b"x-imap", b"x-imapbase", b"x-keywords", b"x-status", b"x-uid")
-OUT_OF_FILES = HIDDEN
 OUT_OF_APPENDED = tuple(sorted({*HIDDEN, *map(bytes.lower, WRITTEN)}))
 # what else mail programs note of a message: flags, tags and labels, and mutt the number of its lines
 OF_THUNDERBIRD = b"x-mozilla-keys", b"x-mozilla-status", b"x-mozilla-status2"
@@ -41,7 +40,7 @@ NAME = rb"[!-9;-~]+[ \t]*:"
 # the value of a field after its colon, with the lines that continue it: a repeated group would keep a mark for each
 VALUE = rb":([^\n]*(?:(?=\n[ \t])(?s:.*?)(?=\n(?![ \t])|\Z))?)"
 ITS_VALUE = pattern(VALUE)
-AFTER_MESSAGE = pattern(rb"(?:\r?\n)?(?P<mark>From )?")
+AFTER_MESSAGE = pattern(rb"(?:\r?\n)?(?P<begins>From )?")
 LENGTH = pattern(rb"\d{1,18}\Z")
 
 
@@ -54,10 +53,10 @@ def pattern_of(names: tuple[bytes, ...]) -> re.Pattern[bytes]:
     return pattern(b"\n(?=[%s])(?:%s)%s" % (firsts, begun, VALUE))
 
 
-FIELD_OUT_OF_FILES, NOTED_FIELD = pattern_of(OUT_OF_FILES), pattern_of(NOTED)
+HIDDEN_FIELD, NOTED_FIELD = pattern_of(HIDDEN), pattern_of(NOTED)
 
 
-def without(fields: re.Pattern[bytes], data: bytes, begin: int, end: int, begun: bytes = b"") -> bytes:
+def without(fields: re.Pattern[bytes], data: bytes, begin: int, end: int, begun: bytes) -> bytes:
     """A text without the fields of a header, which is between two places in it. It may go on with what has begun."""
     header, place = b"\n" + begun + data[begin:end], 0
     kept: list[bytes] = []
@@ -76,7 +75,7 @@ def bared(piece: Piece) -> bytes:
     if piece.field is None:
         return piece.data
     end, body = header_of(piece.data, piece.body)
-    text = without(FIELD_OUT_OF_FILES, piece.data, piece.body, end, piece.field)
+    text = without(HIDDEN_FIELD, piece.data, piece.body, end, piece.field)
     if body - end < 2:
         return text
     # the empty line loses its CR
@@ -106,9 +105,9 @@ class Header:
         """The header of the message whose From_ line is at an offset."""
         for count in (1 << 13, 1 << 16, LONGEST_HEADER):
             data = mailbox.at(offset, count)
-            mark = data.find(b"\n" + FROM) + 1
-            header = cls.of(Piece(offset, data[: mark or count], True, True))
-            if mark or len(data) < count or header.end < offset + count:
+            following = data.find(b"\n" + FROM) + 1
+            header = cls.of(Piece(offset, data[: following or count], True, True))
+            if following or len(data) < count or header.end < offset + count:
                 break
         return header
 
@@ -148,8 +147,8 @@ class Header:
         after = AFTER_MESSAGE.match(mailbox.at(end, 1 << 12))
         assert after is not None, "it matches nothing too"
         at_end = end + after.end() == mailbox.size
-        ended = mailbox.at(end - 1, 1) == b"\n" or after.end() > len(after["mark"] or b"")
-        return Offset(end if at_end or after["mark"] and ended else 0)
+        ended = mailbox.at(end - 1, 1) == b"\n" or after.end() > len(after["begins"] or b"")
+        return Offset(end if at_end or after["begins"] and ended else 0)
 
 
 def headers_at(mailbox: Mailbox, offsets: Iterable[int]) -> Iterator[bytes]:

@@ -65,7 +65,7 @@ def plain_of(piece: Piece) -> Optional[Plain]:
     parts, body = found.groups(), found.end()
     end = data.find(b"\n\n", body) + 1
     date, header = seconds_of_plain(*parts), data[body - 1 : end]
-    is_odd = parts == GIT or NOTE in header or piece.has_word and FROM in header
+    is_odd = parts == GIT or NOTE in header or piece.has_from and FROM in header
     if date is None or not end or is_odd:
         return None
     bare, count = NOTED_FIELD.subn(b"", header)
@@ -178,7 +178,7 @@ class Inventory:
         self.table = Table()
         self.sizes, self.offsets, self.unquoted = array.array("Q"), array.array("Q"), array.array("Q")
         # the places of the messages whose From_ lines may hold mail
-        self.doubts = array.array("Q")
+        self.may_hold_mail = array.array("Q")
         # the first bytes of the digests of their cores, and of their bare forms
         self.cores, self.bares = bytearray(), bytearray()
         # in seconds since 1970
@@ -213,8 +213,8 @@ class Inventory:
             # a difference may come from a change of the text
             mailbox.check()
         # what the mailbox has read last is not kept for that
-        offsets, number, size = self.offsets, mailbox.number, mailbox.size
-        self.count_lines = lambda: lines_at(Reader(number, end=size), offsets[:-1])
+        offsets, descriptor, size = self.offsets, mailbox.number, mailbox.size
+        self.count_lines = lambda: lines_at(Reader(descriptor, end=size), offsets[:-1])
         offsets.append(mailbox.size)
         if held != mailbox.size:
             raise Fault("%d of its %d bytes belong to messages" % (held, mailbox.size), Reason.MISREAD)
@@ -230,7 +230,7 @@ class Inventory:
             self.bares += message.bare
         self.dates.append(message.date)
         if message.holds_mail:
-            self.doubts.append(len(self.sizes) - 1)
+            self.may_hold_mail.append(len(self.sizes) - 1)
 
     def __len__(self) -> int:
         return len(self.sizes)

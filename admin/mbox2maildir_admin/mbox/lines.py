@@ -37,7 +37,7 @@ class Said(NamedTuple):
         return "line %d: %s" % (self.line, self.says) if self.line and self.says else self.says
 
 
-class Reasons(NamedTuple):
+class AskedAbout(NamedTuple):
     """What is said of the first lines because of which something is asked, and how many of them there are."""
 
     said: Sequence[Said] = ()
@@ -50,11 +50,11 @@ class Reasons(NamedTuple):
         return self.said[0].sentence() + (" (and %d more)" % (self.total - 1) if self.total > 1 else "")
 
 
-def lines_around(mailbox: Mailbox, reasons: Reasons) -> list[Quote]:
+def lines_around(mailbox: Mailbox, asked_about: AskedAbout) -> list[Quote]:
     """The first lines because of which something is asked, and the lines around them. If what one is about stands
     behind its beginning, that is shown."""
-    first = sorted({one.line for one in reasons.said if one.line})[:MOST_ASKED]
-    asked = {one.line: one.text for one in reasons.said if one.line in first}
+    first = sorted({one.line for one in asked_about.said if one.line})[:MOST_ASKED]
+    asked = {one.line: one.text for one in asked_about.said if one.line in first}
     wanted = sorted({line for one in asked for line in range(one - AROUND, one + AROUND + 1)})
     shown_by = {line: cut(text) for line, text in texts_of(mailbox, wanted).items()}
     for line, text in asked.items():

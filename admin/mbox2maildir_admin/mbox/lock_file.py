@@ -77,7 +77,7 @@ def stands_for(owner: bytes) -> bytes:
 
 
 @contextlib.contextmanager
-def left_alone(spot: Spot, owner: Optional[bytes] = None, content: re.Pattern[bytes] = CONTENT) -> Iterator[bool]:
+def left_behind(spot: Spot, owner: Optional[bytes] = None, content: re.Pattern[bytes] = CONTENT) -> Iterator[bool]:
     """Whether a run of the companion made a lock that is no longer at work, by its content. Then it is held meanwhile.
     On a disk without `flock` only one of this owner is known: only one run at a time is at work for it."""
     try:
@@ -116,7 +116,7 @@ def hold(spot: Spot) -> Optional[int]:
 
 def drop_lock(spot: Spot, owner: Optional[bytes] = None, content: re.Pattern[bytes] = CONTENT) -> None:
     """Removes a lock that a killed run left, if this user may."""
-    with left_alone(spot, owner, content) as is_left:
+    with left_behind(spot, owner, content) as is_left:
         if is_left:
             # whoever looks at it meanwhile finds it held, and does not remove the next one
             with contextlib.suppress(OSError):
@@ -157,17 +157,18 @@ def release_lock(spot: Spot, number: int) -> None:
         os.close(number)
 
 
-def look_for_lock_file(mailbox: Mailbox) -> None:
-    """Looks for the lock file of another program. Raises Left if there is one; an old one, and one that a killed run
-    left, is only mentioned."""
+def look_for_lock_file(mailbox: Mailbox) -> bool:
+    """Whether a lock file is there that counts for nothing: an old one, or one that a killed run left. It stays, and is
+    only mentioned. Raises Left if another program has one."""
     path = mailbox.path + LOCK
     state = state_at(path, False)
     if not state:
-        return
-    with left_alone(Spot(path)) as is_left:
+        return False
+    with left_behind(Spot(path)) as is_left:
         if not is_left and time.time() - state.st_mtime < STALE:
             raise Left(LOCKED_WITH % named(path), Reason.LOCKED)
     mailbox.remarks.append(Says.OLD_LOCK.of(named(path), LEFT_BEHIND if is_left else OLD))
+    return True
 
 
 @contextlib.contextmanager
@@ -176,10 +177,7 @@ def lock_file_of(mailbox: Mailbox, owner: bytes) -> Iterator[None]:
     no file the other locks must do. Raises Left if another program has it."""
     spot = spot_of(mailbox.path)
     drop_lock(spot, owner)
-    said = len(mailbox.remarks)
-    look_for_lock_file(mailbox)
-    # an old one stays, and counts for nothing
-    number = taken(spot, owner) if len(mailbox.remarks) == said else None
+    number = None if look_for_lock_file(mailbox) else taken(spot, owner)
     try:
         yield
     finally:

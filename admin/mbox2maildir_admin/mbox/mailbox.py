@@ -76,7 +76,7 @@ class Watched(Reader):
     """Reads a text up to its end. A digest takes each block that is the next one for it. It also says how far the
     reading is."""
 
-    def __init__(self, number: int, end: Size, digest: Optional[Digest] = None, say: Say = silent) -> None:
+    def __init__(self, number: int, end: Size, digest: Optional[Digest], say: Say) -> None:
         super().__init__(number, end=end)
         self.digest, self.say = digest, say
         # the last bytes that were read, and where they begin

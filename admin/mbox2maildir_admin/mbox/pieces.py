@@ -9,7 +9,7 @@ from .files import BLOCK, LONG
 
 FROM = b"From "
 # each From_ line has the word, and no search is faster; what follows it in its line is passed over
-WORD, NEVER, LINE_END, QUOTE = re.compile(rb"From [^\n]*"), re.compile(rb"(?!)"), ord(b"\n"), ord(b">")
+ANY_FROM, NEVER, LINE_END, QUOTE = re.compile(rb"From [^\n]*"), re.compile(rb"(?!)"), ord(b"\n"), ord(b">")
 # how many bytes are read at a time, and up to how many a line `From ` with its header is kept in one piece, and a line
 AT_ONCE, LONGEST_HEADER, LONGEST_LINE = BLOCK >> 3, 3 << 19, 1 << 18
 # the end of a part of a longer line, before bytes that begin nothing, and not within a quoted word `From `
@@ -33,7 +33,7 @@ class Piece(NamedTuple):
     begins: bool
     ends: bool
     # whether `From ` is in it elsewhere, and whether that is so after a `>`
-    has_word: bool = False
+    has_from: bool = False
     has_quote: bool = False
     # of a piece that begins in a header or before one, what begins the last line `From ` or field before it
     begun: Optional[bytes] = None
@@ -56,35 +56,35 @@ class Piece(NamedTuple):
         return self.data[: min(self.body, LONG + 2)].split(b"\n")[0][: LONG + 1]
 
 
-def pieces_of(read: Read, offset: int = 0, word: re.Pattern[bytes] = WORD) -> Iterator[Piece]:
+def pieces_of(read: Read, offset: int = 0, parted_at: re.Pattern[bytes] = ANY_FROM) -> Iterator[Piece]:
     """The pieces of a text, whose first byte has this offset. Most pieces are whole messages; a message of more than a
     block has several, the first with all of its header."""
     begun: Optional[bytes] = b""
-    data, begins, has_word, has_quote, searched = b"", False, False, False, 0
+    data, begins, has_from, has_quote, searched = b"", False, False, False, 0
     while True:
         block = read(max(AT_ONCE, len(data)))
         data, at = data + block if data else block, 0
         begins = begins or begun is not None and data.startswith(FROM)
-        for found in word.finditer(data, searched):
+        for found in parted_at.finditer(data, searched):
             place = found.start()
             if place and data[place - 1] != LINE_END:
-                has_word, has_quote = True, has_quote or data[place - 1] == QUOTE
+                has_from, has_quote = True, has_quote or data[place - 1] == QUOTE
             elif place:
-                yield Piece(Offset(offset + at), data[at:place], begins, True, has_word, has_quote, begun)
-                at, begun, begins, has_word, has_quote = place, b"", True, False, False
+                yield Piece(Offset(offset + at), data[at:place], begins, True, has_from, has_quote, begun)
+                at, begun, begins, has_from, has_quote = place, b"", True, False, False
         offset, data = offset + at, data[at:] if at else data
         if not block:
             if data:
-                yield Piece(Offset(offset), data, begins, True, has_word, has_quote, begun)
+                yield Piece(Offset(offset), data, begins, True, has_from, has_quote, begun)
             return
         cut = place_to_cut(data, begun is not None) if len(data) >= AT_ONCE else 0
         if cut:
-            piece = Piece(Offset(offset), data[:cut], begins, False, has_word, has_quote, begun)
+            piece = Piece(Offset(offset), data[:cut], begins, False, has_from, has_quote, begun)
             yield piece
             if begun is not None:
                 begun = None if header_of(data, piece.body)[1] <= cut else last_begun(b"\n" + begun + piece.data)
             offset, data, begins = offset + cut, data[cut:], False
-            has_word, has_quote = has_word and FROM in data, has_quote and FROM in data
+            has_from, has_quote = has_from and FROM in data, has_quote and FROM in data
         # a word that has begun at the end
         searched = max(0, len(data) - len(FROM) + 1)
 

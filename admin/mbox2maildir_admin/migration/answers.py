@@ -244,7 +244,7 @@ def is_enough(text: Mailbox, decision: Reading, disk: bytes) -> bool:
 Had = collections.Counter[bytes]
 
 
-class Given(NamedTuple):
+class Effect(NamedTuple):
     """What an answer gives: how many of the messages that were brought, and whether all lines in question are in
     these."""
 
@@ -267,7 +267,7 @@ def answer_shown(options: Options, known: Known, question: Question) -> Optional
     return best[0].decision if len(best) == 1 and best[0].is_shown else None
 
 
-def given_by(options: Options, known: Known, text: Mailbox, had: Had, lines: Iterable[Line]) -> Given:
+def given_by(options: Options, known: Known, text: Mailbox, had: Had, lines: Iterable[Line]) -> Effect:
     """What the answer gives by which this mailbox would be migrated, of what it has brought."""
     choice = Choice(text, plan_of(text, decision=options.decision))
     with choice.text(folder_for_copies(known.opened.root, options.dry)) as whole:
@@ -280,7 +280,7 @@ def given_by(options: Options, known: Known, text: Mailbox, had: Had, lines: Ite
                 want_same_reading(options, known, choice, contents)
             except Left:
                 is_shown = False
-    return Given(options.decision, sum((had & cores_of(contents.inventory)).values()), is_shown)
+    return Effect(options.decision, sum((had & cores_of(contents.inventory)).values()), is_shown)
 
 
 def are_brought(had: Had, inventory: Inventory, lines: Iterable[Line]) -> bool:

@@ -121,14 +121,14 @@ class Migration:
                 try:
                     return Outcome(self.judge(opened, why)) if why else self.migrate_opened(opened)
                 except OtherKind as left:
-                    is_spared = self.options.is_spared(path, not isinstance(left, NotKnown))
+                    by_words = self.options.passes_over(path, not isinstance(left, NotKnown))
                     is_noted = is_passed_over(self.record, mailbox)
-                    if not (is_spared or is_noted):
+                    if not (by_words or is_noted):
                         left.put(self.options.where(opened))
                         raise
                     if not is_noted:
                         self.record.add(Note.NO_MAIL, Key(INBOX, *mailbox.key()), 0, mailbox.path)
-                    said = Says.BY_NO_MAIL if is_spared else Says.NO_MAIL_NOTED
+                    said = Says.BY_NO_MAIL if by_words else Says.NO_MAIL_NOTED
                     return Outcome(Row(path, b"", left.kind, None, Verdict.NO_MAIL, remarks=(said.of(),)))
         except NoMail as found:
             return Outcome(Row(path, b"", found.kind, None, Verdict.NO_MAIL))

@@ -45,7 +45,7 @@ class Options(NamedTuple):
     # what is done besides mail and dates; and whether a file that is not mbox text is passed over, by its path and
     # whether its kind is known
     extra: Extra = Extra()
-    is_spared: Callable[[bytes, bool], bool] = lambda path, is_known: False
+    passes_over: Callable[[bytes, bool], bool] = lambda path, is_known: False
     # the names that are migrated, the home of the user whose mail it is, if it is not the one who runs this, and
     # whether a mailbox goes into the folders of its labels
     names: Sequence[bytes] = ()

@@ -8,7 +8,7 @@ from collections.abc import Callable, Container, Iterator, Sequence
 from typing import NamedTuple, Optional, Union
 
 from ..faults import Left
-from ..flags.clients import GMAIL, Kept, kept_in, letters_of_evolution
+from ..flags.clients import GMAIL, KeptFlags, kept_in, letters_of_evolution
 from ..flags.dovecot_headers import flags_in
 from ..flags.renaming import add_flags, lacking_flags
 from ..ledger.gone import left_by_killed
@@ -75,7 +75,7 @@ class Part(NamedTuple):
     size: int
     # whether the mailbox is as it was prepared, so that all of it is known and nothing is read
     is_as_prepared: bool = False
-    kept: Optional[Kept] = None
+    kept: Optional[KeptFlags] = None
     cores: Optional[collections.Counter[bytes]] = None
     remarks: tuple[Remark, ...] = ()
 
@@ -177,7 +177,7 @@ class Extra:
     # whether bare text goes into the files
     IS_BARE = False
 
-    def __init__(self, by_labels: Optional[Kept] = None) -> None:
+    def __init__(self, by_labels: Optional[KeptFlags] = None) -> None:
         """Takes the flags if they are known by the labels of a Takeout, whose folders were asked for."""
         self.by_labels = by_labels
 

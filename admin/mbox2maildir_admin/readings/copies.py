@@ -3,13 +3,12 @@ disk and are gone once they are closed."""
 import contextlib
 import os
 import stat
-from collections.abc import Container, Iterable, Iterator, Sequence
+from collections.abc import Iterable, Iterator, Sequence
 from typing import IO, Optional
 
 from ..faults import Fault, Left, Reason, naming
 from ..looks import is_there
 from ..maildir.disk import PREFIX
-from ..maildir.folders import COPIES
 from ..mbox.files import BLOCK, Reader
 from ..mbox.inventory import Inventory
 from ..mbox.mailbox import Mailbox
@@ -19,19 +18,6 @@ from ..terminal import named
 from ..units import Place
 
 CUT = "it was cut while it was read"
-
-
-def stem_of(name: bytes, names: Container[bytes]) -> bytes:
-    """The name of the mailbox, among these names, that a file may be a copy of; otherwise the name of the file
-    itself."""
-    # a spool may have many names, of which most have no such ending
-    if not name.endswith(COPIES):
-        return name
-    for ending in COPIES:
-        stem = name[: -len(ending)]
-        if name.endswith(ending) and stem in names:
-            return stem_of(stem, names)
-    return name
 
 
 class Copy:

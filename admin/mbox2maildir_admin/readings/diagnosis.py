@@ -2,22 +2,20 @@
 from collections.abc import Sequence
 from typing import NamedTuple, Optional
 
-from ..kinds.doubts import MAY_BE_MAIL, WITHIN, Ties
+from ..kinds.doubts import INSIDE, MAY_BE_MAIL, MAY_BE_TEXT, Ties
 from ..kinds.look import HowFar, Look
 from ..kinds.making import Recipe
 from ..kinds.others import Holds, finding_of
 from ..kinds.starts import HEAD, text_start
 from ..mbox.dates import is_dated
 from ..mbox.files import LineEnds
-from ..mbox.lines import Reasons, Said
+from ..mbox.lines import AskedAbout, Said
 from ..mbox.mailbox import Mailbox
 from ..mbox.pieces import from_lines_of
 from ..remarks import Remark, Says
 from ..units import Line, Offset
 from .reading import BY_LENGTHS, CR, CRLF, MBOXCL2, MBOXO, MBOXRD, PLAIN, UNQUOTED, Reading
 
-# lines of these sorts may be text, or may begin messages; the lines around the first ones show which
-DOUBTS = ("odd", "doubtful", "unmarked")
 NOT_QUOTED, TAKEOUT = "not quoted", "Gmail's Takeout"
 DROP_DELETED = Reading(drop=True)
 
@@ -33,14 +31,15 @@ class Diagnosis(NamedTuple):
     most: Optional[int] = None
     # what is said of lines
     said_lines: Sequence[Said] = ()
-    # how the text is read, and which line ends besides LF it may have
+    # how the text is read if that needs no decision
     reading: Optional[Reading] = None
     # what is said of the lines because of which it is not read without a decision; and what a human may decide
-    reasons: Reasons = Reasons()
+    asked_about: AskedAbout = AskedAbout()
     answers: tuple[Reading, ...] = ()
     holds: Holds = Holds.MAIL
     # what is to be done with a file that is not mbox text
     recipe: Recipe = ()
+    # which line ends besides LF it may have
     ends: str = CRLF
 
     @property
@@ -84,7 +83,7 @@ class Diagnosis(NamedTuple):
     def is_takeout(self) -> bool:
         """Whether each message is from Gmail, apart from those that may be text of others."""
         gmail = self.look.count("Gmail")
-        return gmail > 0 and gmail + self.look.count(*DOUBTS) == self.look.messages
+        return gmail > 0 and gmail + self.look.count(*MAY_BE_TEXT) == self.look.messages
 
     def remarks_on_text(self) -> list[Remark]:
         """What is to be said of the text, however it is read."""
@@ -127,12 +126,12 @@ def look_at(mailbox: Mailbox, read: HowFar = Look.read) -> Diagnosis:
         mailbox.file.offset = start
         count = from_lines_of(LineEnds(mailbox.file).read)
         mailbox.check()
-        why = Reasons([Said(Line(0), "its lines end in CR alone")], 1)
-        return Diagnosis(look, "line ends of CR alone", count, count, reasons=why, answers=(PLAIN,), ends=CR)
+        why = AskedAbout([Said(Line(0), "its lines end in CR alone")], 1)
+        return Diagnosis(look, "line ends of CR alone", count, count, asked_about=why, answers=(PLAIN,), ends=CR)
     look = read(look)
     answers = answers_of(look)
     # without the lines `From ` that may be text, and with those that may be mail within messages, and within lines
-    fewest, most = look.messages - look.count(*DOUBTS), look.messages + look.count(*MAY_BE_MAIL, "joined")
+    fewest, most = look.messages - look.count(*MAY_BE_TEXT), look.messages + look.count(*MAY_BE_MAIL, "joined")
     reading = None if answers and not look.shows_lengths() else reading_of(look)
     return Diagnosis(look, kind_of(look), fewest, most, list(look.said_lines()), reading, look.keeping(), answers)
 
@@ -151,9 +150,9 @@ def kind_of(look: Look) -> str:
         return "lengths that lead over dated From_ lines"
     if look.have_lengths():
         return MBOXCL2
-    if count(*WITHIN) and not count("wrong", "text"):
+    if count(*INSIDE) and not count("wrong", "text"):
         return "mboxcl2 in part"
-    if count(*WITHIN, "text") and not (count("git") and not count("wrong")):
+    if count(*INSIDE, "text") and not (count("git") and not count("wrong")):
         return "mboxcl2, with wrong lengths" if count("wrong") else NOT_QUOTED
     if not look.messages:
         return "empty"
@@ -170,15 +169,15 @@ def kind_of(look: Look) -> str:
 def answers_of(look: Look) -> tuple[Reading, ...]:
     """What may be decided about a text; if it has deleted mail, also whether that is left out, beside what is
     doubtful."""
-    doubts = doubts_of(look)
+    on_lines = line_answers(look)
     if not look.are_deleted():
-        return doubts
-    if not doubts:
+        return on_lines
+    if not on_lines:
         return DROP_DELETED, PLAIN
-    return (*(one._replace(drop=True) for one in doubts), *doubts)
+    return (*(one._replace(drop=True) for one in on_lines), *on_lines)
 
 
-def doubts_of(look: Look) -> tuple[Reading, ...]:
+def line_answers(look: Look) -> tuple[Reading, ...]:
     """What may be decided about lines: nothing if nothing is doubtful, as when all lengths are right."""
     count, mail = look.count, as_mail(look)
     messages = by_lines(look, "inside", "text")
@@ -186,7 +185,7 @@ def doubts_of(look: Look) -> tuple[Reading, ...]:
         # all lines that may begin messages do so by dates
         messages = Reading(UNQUOTED)
     messages = messages._replace(begin=frozenset(look.numbers("joined") or ()))
-    if count(*DOUBTS, "joined"):
+    if count(*MAY_BE_TEXT, "joined"):
         return (mail, messages) if mail != messages else (mail,)
     if count(*MAY_BE_MAIL):
         return Reading(MBOXCL2, frozenset(look.numbers("text") or ())), messages
@@ -212,30 +211,30 @@ def counted_by(look: Look, decision: Reading) -> Optional[int]:
         named = look.numbers("odd", "unmarked", "inside, dated") or set()
         is_known = decision.text <= named and is_dated(look.mailbox.from_line_at(look.start))
         return look.count("dated", "odd", "inside, dated") - len(decision.text) if is_known else None
-    is_known = decision.text <= (look.numbers(*WITHIN, "text", *DOUBTS) or set())
-    return look.messages + look.count(*WITHIN, "text") - len(decision.text) if is_known else None
+    is_known = decision.text <= (look.numbers(*INSIDE, "text", *MAY_BE_TEXT) or set())
+    return look.messages + look.count(*INSIDE, "text") - len(decision.text) if is_known else None
 
 
 def is_answer(look: Look, word: str) -> bool:
     """Whether a word that is given for several mailboxes answers what is doubtful about the lines of one: as one of the
     answers that are printed for it, or since some of its lines were written in this way."""
-    doubts = doubts_of(look)
-    if not doubts:
+    answers = line_answers(look)
+    if not answers:
         return True
     if word in BY_LENGTHS:
-        return look.count(*WITHIN) > 0 and not look.count("text", *DOUBTS)
+        return look.count(*INSIDE) > 0 and not look.count("text", *MAY_BE_TEXT)
     if word == UNQUOTED:
         # a line with a date that may be text is asked about
-        return not look.count("odd", "unmarked") and (kind_of(look) == NOT_QUOTED or Reading(UNQUOTED) in doubts)
-    return PLAIN in doubts
+        return not look.count("odd", "unmarked") and (kind_of(look) == NOT_QUOTED or Reading(UNQUOTED) in answers)
+    return PLAIN in answers
 
 
 def is_against_lengths(look: Look, decision: Reading) -> bool:
     """Whether a decision for one mailbox reads it by its lengths, and lines outside of these look like mail, about
     which neither the decision nor a printed answer says anything."""
-    is_said = bool(decision.text or decision.begin) or Reading(MBOXCL2) in doubts_of(look)
-    # lines outside of right lengths that have neither a date nor a header after them
-    has_bare_lines = look.count("against each line") > look.count(*WITHIN)
+    is_said = bool(decision.text or decision.begin) or Reading(MBOXCL2) in line_answers(look)
+    # lines outside of correct lengths that have neither a date nor a header after them
+    has_bare_lines = look.count("against each line") > look.count(*INSIDE)
     return decision.word in BY_LENGTHS and has_bare_lines and not is_said
 
 
@@ -243,7 +242,7 @@ def as_mail(look: Look) -> Reading:
     """The decision that all lines which may be mail are mail: by dates, but for lines with a date that have no header
     after them, or all by their numbers."""
     count, dated = look.count, look.numbers("odd", "unmarked")
-    if not count(*WITHIN, "text", *DOUBTS):
+    if not count(*INSIDE, "text", *MAY_BE_TEXT):
         return PLAIN
     everything = count("inside", "inside, like mail", "wrong", "git", "text after a blank line")
     is_unescaped = everything or not count("quoted", "quoted twice")
@@ -251,7 +250,7 @@ def as_mail(look: Look) -> Reading:
         # lines with dates alone do not show that others are not escaped
         if dated is not None and (count("text") or not dated):
             return Reading(UNQUOTED, frozenset(dated))
-    return by_lines(look, *WITHIN, "text", *DOUBTS)
+    return by_lines(look, *INSIDE, "text", *MAY_BE_TEXT)
 
 
 def by_lines(look: Look, *sorts: str) -> Reading:

@@ -7,7 +7,7 @@ from ..faults import Fault, Left, Reason
 from ..kinds.look import HowFar, Look
 from ..kinds.making import Recipe, Where
 from ..kinds.others import Holds
-from ..mbox.lines import Lines, Reasons, Said, cut, lines_around
+from ..mbox.lines import Lines, AskedAbout, Said, cut, lines_around
 from ..mbox.mailbox import Mailbox
 from ..nexts import Answer, Command, Does, Phrase, Quote
 from ..remarks import Remark, Says
@@ -18,14 +18,14 @@ from .reading import BY_LENGTHS, CR, CRLF, MBOXCL2, MBOXO, MBOXRD, PLAIN, UNDECI
 from .diagnosis import DROP_DELETED, Diagnosis, counted_by, is_against_lengths, is_answer, look_at, reading_of
 
 # why a file is left that holds this
-REASONS = {Holds.MAIL: Reason.UNCLEAR, Holds.OTHER: Reason.OTHER_KIND, Holds.UNKNOWN: Reason.NOT_KNOWN}
+LEFT_FOR = {Holds.MAIL: Reason.UNCLEAR, Holds.OTHER: Reason.OTHER_KIND, Holds.UNKNOWN: Reason.NOT_KNOWN}
 ANOTHER_QUESTION = "what is asked about it has changed since this was answered"
 LACKS_LINES = "the answer with this --of also names lines, by --text or --begin"
 OTHER_LINES = "the answer with this --of names other lines, or none"
 NEW_LINE = "it came since the others were decided, and may begin a message"
 # the words by which lines begin messages in different ways, each with those that do it alike
 WAYS = (MBOXRD, (MBOXRD, MBOXO)), (MBOXCL2, BY_LENGTHS), (UNQUOTED, (UNQUOTED,))
-NO_LENGTHS = Reasons([Said(Line(0), "its lines end in CR alone, so that no length in it is right")], 1)
+NO_LENGTHS = AskedAbout([Said(Line(0), "its lines end in CR alone, so that no length in it is right")], 1)
 
 
 class Plan(NamedTuple):
@@ -131,7 +131,7 @@ def plan_of(mailbox: Mailbox, read: HowFar = Look.read, decision: Reading = UNDE
     if diagnosis.recipe:
         left = NotKnown if diagnosis.holds == Holds.UNKNOWN else OtherKind
         first = next(iter(diagnosis.said_lines), None)
-        raise left(mailbox.path, first, diagnosis.recipe, REASONS[diagnosis.holds], diagnosis.kind)
+        raise left(mailbox.path, first, diagnosis.recipe, LEFT_FOR[diagnosis.holds], diagnosis.kind)
     noted, decision = decision.noted, decision._replace(noted=None)
     if noted:
         ties = diagnosis.ties
@@ -168,7 +168,7 @@ def with_noted(diagnosis: Diagnosis, noted: Reading) -> Diagnosis:
         before = renumbered(noted.decided, {Line(number): line for number, line in enumerate(diagnosis.doubtful(), 1)})
         lines = frozenset(line for line, _ in new)
         answers = before._replace(text=before.text | lines), before._replace(begin=before.begin | lines)
-        raise question(diagnosis, Reasons(said, len(new)), answers)
+        raise question(diagnosis, AskedAbout(said, len(new)), answers)
     return diagnosis._replace(reading=None)
 
 
@@ -266,11 +266,13 @@ def wants_copy(reading: Reading, counts: Quoter) -> bool:
 
 def question_of(diagnosis: Diagnosis, before: str = "") -> Question:
     """What is asked about a mailbox of which something would be a guess, and what is said before that."""
-    reasons = diagnosis.reasons if diagnosis.reasons.total else Reasons(diagnosis.said_lines, len(diagnosis.said_lines))
-    return question(diagnosis, reasons, diagnosis.answers, before)
+    asked_about, said = diagnosis.asked_about, diagnosis.said_lines
+    if not asked_about.total:
+        asked_about = AskedAbout(said, len(said))
+    return question(diagnosis, asked_about, diagnosis.answers, before)
 
 
-def question(diagnosis: Diagnosis, reasons: Reasons, decisions: Sequence[Reading], before: str = "") -> Question:
+def question(diagnosis: Diagnosis, asked_about: AskedAbout, decisions: Sequence[Reading], before: str = "") -> Question:
     """What is asked about a mailbox: the lines that are the reason, with the answers that its text allows, each tied to
     it."""
     answers: list[Choosable] = []
@@ -283,8 +285,8 @@ def question(diagnosis: Diagnosis, reasons: Reasons, decisions: Sequence[Reading
         except Fault:
             # no message begins with the first line
             continue
-    quotes = lines_around(diagnosis.look.mailbox, reasons)
-    says = ": ".join(filter(None, [before, reasons.sentence()]))
+    quotes = lines_around(diagnosis.look.mailbox, asked_about)
+    says = ": ".join(filter(None, [before, asked_about.sentence()]))
     found = Question(says, diagnosis, quotes, [one.meant(answers) for one in answers])
     found.tied = diagnosis.tied
     return found

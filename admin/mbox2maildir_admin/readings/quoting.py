@@ -11,7 +11,7 @@ from collections.abc import Callable, Iterator
 from typing import NamedTuple
 
 from ..faults import Fault, Reason
-from ..flags.clients import is_expunged
+from ..flags.clients import is_deleted
 from ..kinds.starts import end_of_row
 from ..mbox.dates import is_dated
 from ..mbox.fields import Header, bare_pieces
@@ -25,7 +25,7 @@ from .reading import BY_LENGTHS, CR, CRLF, MBOXCL2, MBOXO, UNQUOTED, Reading
 NOT_FIRST = "line %d: the text begins here, but no message begins with this line"
 NO_FROM_LINE = "line %d: it neither begins with `From ` nor contains a From_ line"
 # the lines of `>` and `From `, and those that mboxo does not write; what a line begins with that is in its place
-QUOTES, ABOVE_MBOXO, IS_MARK = re.compile(rb"\n(?=>+From )"), re.compile(rb"\n(?=>>+From )"), re.compile(rb">*From ")
+ANY_QUOTE, ABOVE_MBOXO, IS_FROM = re.compile(rb"\n(?=>+From )"), re.compile(rb"\n(?=>>+From )"), re.compile(rb">*From ")
 # how many bytes at the beginning and at the end of a line are looked at
 MOST = 1 << 16
 
@@ -47,12 +47,12 @@ def breaks_of(mailbox: Mailbox, lines: frozenset[Line]) -> Iterator[Break]:
     for line in sorted(lines & offsets.keys()):
         offset, end = offsets[line], offsets.get(Line(line + 1), mailbox.size + 1) - 1
         nulls = end_of_row(mailbox, offset, b"\0")
-        if nulls == offset and IS_MARK.match(mailbox.at(nulls, MOST)):
+        if nulls == offset and IS_FROM.match(mailbox.at(nulls, MOST)):
             continue
         begin = max(nulls, end - MOST)
-        before, mark, date = mailbox.at(begin, end - begin).rpartition(FROM)
+        before, word, date = mailbox.at(begin, end - begin).rpartition(FROM)
         is_after_nulls = before.endswith(b"\0") or not before and nulls > offset
-        if not mark or not (is_after_nulls or is_dated(mark + date)):
+        if not word or not (is_after_nulls or is_dated(word + date)):
             raise Fault(NO_FROM_LINE % line, Reason.WRONG_LINES)
         rest = before.rstrip(b"\0")
         is_after_text = begin > nulls or bool(rest)
@@ -73,8 +73,8 @@ class Quoter:
         # bytes
         self.read = self.given = self.left_out = self.added = 0
         self.unmet = set(reading.text | reading.begin)
-        # the offset up to which nothing begins a message, by the length of the last one
-        self.end = Offset(0)
+        # the offset at which the last message ends by its length, so that nothing before it begins one
+        self.claimed = Offset(0)
         # whether the message is left out, whether a program has added a CR to each of its lines, and to how many
         self.is_dropped, self.is_crlf, self.crlf = False, False, 0
 
@@ -124,8 +124,8 @@ class Quoter:
         word = self.reading.word
         if piece.has_quote and word in (MBOXO, MBOXCL2, UNQUOTED):
             # each line of `>` and `From ` that keeps all of its `>` gets one more
-            every = word == UNQUOTED or word == MBOXCL2 and piece.offset < self.end
-            data, count = (QUOTES if every else ABOVE_MBOXO).subn(b"\n>", b"\n" + data)
+            every = word == UNQUOTED or word == MBOXCL2 and piece.offset < self.claimed
+            data, count = (ANY_QUOTE if every else ABOVE_MBOXO).subn(b"\n>", b"\n" + data)
             data = data[1:]
             self.quoted += count
         self.quoted += is_quoted
@@ -137,7 +137,7 @@ class Quoter:
             return line in self.reading.begin
         if self.reading.word == UNQUOTED:
             return is_dated(piece.from_line)
-        return piece.offset >= self.end
+        return piece.offset >= self.claimed
 
     def begin(self, line: Line, piece: Piece) -> bytes:
         """Begins a message, and returns what is given of its piece."""
@@ -145,8 +145,8 @@ class Quoter:
         self.is_crlf = self.reading.ends == CRLF and piece.from_line.endswith(b"\r")
         self.crlf += self.is_crlf
         end = header.message_end(self.mailbox) if header else None
-        self.end = end or Offset(0)
-        deleted = is_expunged(data[piece.body : header_of(data, piece.body)[0]]) if self.reading.ends != CR else None
+        self.claimed = end or Offset(0)
+        deleted = is_deleted(data[piece.body : header_of(data, piece.body)[0]]) if self.reading.ends != CR else None
         self.marked, self.deleted = self.marked + (deleted is not None), self.deleted + bool(deleted)
         self.is_dropped = self.reading.drop and bool(deleted)
         if not self.is_dropped:
@@ -190,7 +190,7 @@ def give_all(quoter: Quoter, take: Callable[[bytes], object], is_bare: bool) -> 
 
 
 def write_copy(reading: Reading, mailbox: Mailbox, start: Offset, wanted: int, copy: Copy, is_bare: bool) -> Quoter:
-    """Writes a copy without right lengths that has as many messages as wanted, bare or not, and gives it its name.
+    """Writes a copy without correct lengths that has as many messages as wanted, bare or not, and gives it its name.
     Returns its Quoter."""
     quoter = Quoter(reading, mailbox, start, keeps_lengths=False)
     given = give_all(quoter, copy.write, is_bare)

@@ -7,8 +7,8 @@ A line `From ` has no `>` before it. A length is right if it leads to such a lin
 |---|---|---|
 | mboxrd | each line `From ` | loses a `>` |
 | mboxo | each line `From ` | loses its `>` if it has one; else it stays |
-| mboxcl | after a message with a right length the next, else each line `From ` | loses a `>` |
-| mboxcl2 | the same | stays in a message with a right length, also in its header; else as mboxo |
+| mboxcl | after a message with a correct length the next, else each line `From ` | loses a `>` |
+| mboxcl2 | the same | stays in a message with a correct length, also in its header; else as mboxo |
 | unquoted | each line `From ` that ends in a date | stays |
 
 Lines that are named as text begin no message, and lines that are named as beginnings do, whatever the word says.
@@ -19,7 +19,7 @@ from typing import NamedTuple, Optional
 from ..units import Line
 
 MBOXRD, MBOXO, MBOXCL, MBOXCL2, UNQUOTED = WORDS = ("mboxrd", "mboxo", "mboxcl", "mboxcl2", "unquoted")
-# the words by which a message with a right length ends where that says
+# the words by which a message with a correct length ends where that says
 BY_LENGTHS = MBOXCL, MBOXCL2
 # line ends of CR LF, in the messages whose From_ line has them, and of CR alone in all of the text
 CRLF, CR = "crlf", "cr"

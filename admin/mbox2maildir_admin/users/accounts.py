@@ -16,6 +16,9 @@ LONGEST_SETTINGS = 1 << 20
 # of so many accounts, each is no longer asked for by itself: to answer, a system goes through half of its list
 MANY = 1000
 
+# an account, however many names it has: its number and its home
+AccountKey = tuple[int, bytes]
+
 
 class Account(NamedTuple):
     """What is asked of an account: its name, its number and that of its group, and its home."""
@@ -30,6 +33,11 @@ class Account(NamedTuple):
         """The account that the system knows so."""
         home = os.path.normpath(os.fsencode(known.pw_dir))
         return cls(os.fsencode(known.pw_name), known.pw_uid, known.pw_gid, home)
+
+    @property
+    def key(self) -> AccountKey:
+        """What all of its names have in common."""
+        return self.uid, self.home
 
 
 class Accounts:

@@ -45,11 +45,11 @@ class Inboxes:
     def mode(self) -> int:
         """The mode of a new inbox: its user's alone, unless all inboxes belong to the group of the folder, which may
         write to each."""
-        group, boxes = os.fstat(self.number).st_gid, self.boxes()
-        are_shared = all(stat.S_IMODE(one.st_mode) == SHARED and one.st_gid == group for one in boxes)
-        return SHARED if boxes and are_shared else OWN
+        group, states = os.fstat(self.number).st_gid, self.states()
+        are_shared = all(stat.S_IMODE(one.st_mode) == SHARED and one.st_gid == group for one in states)
+        return SHARED if states and are_shared else OWN
 
-    def boxes(self) -> list[os.stat_result]:
+    def states(self) -> list[os.stat_result]:
         """The states of the inboxes of users."""
         states = [spot.state() for spot in self.spots() if not spot.name.endswith(LOCK)]
         return [one for one in states if one and stat.S_ISREG(one.st_mode) and one.st_uid != 0]
@@ -57,8 +57,8 @@ class Inboxes:
     def group_for(self, account: Account) -> int:
         """The group of a new inbox: that of the folder or, if it is root's, the one of all inboxes of several users,
         and otherwise its user's own."""
-        group, boxes = os.fstat(self.number).st_gid, self.boxes()
-        groups = {one.st_gid for one in boxes} if len({one.st_uid for one in boxes}) > 1 else set[int]()
+        group, states = os.fstat(self.number).st_gid, self.states()
+        groups = {one.st_gid for one in states} if len({one.st_uid for one in states}) > 1 else set[int]()
         return group or (groups.pop() if len(groups) == 1 else 0) or account.gid
 
     def make(self, spot: Spot, account: Account) -> None:

@@ -33,7 +33,7 @@ class Returner(UserWork):
     command, is_back = Runs.BACK, True
 
     @property
-    def boxes(self) -> tuple[bytes, ...]:
+    def mailboxes(self) -> tuple[bytes, ...]:
         """The mailboxes that the spool has of the user, or would have."""
         return (*([] if self.user.is_left else [self.user.place]), *self.user.others)
 
@@ -42,7 +42,7 @@ class Returner(UserWork):
         if not self.spool.inboxes:
             return None
         owner = b"%d %s" % (self.account.uid, self.spool.maildir)
-        return InboxClerk(self.spool.inboxes, self.account, tuple(map(os.path.basename, self.boxes)), owner)
+        return InboxClerk(self.spool.inboxes, self.account, tuple(map(os.path.basename, self.mailboxes)), owner)
 
     def has_more(self) -> bool:
         """Whether there is a Maildir, even if no mailbox is there: its mail is left then."""
@@ -50,13 +50,13 @@ class Returner(UserWork):
 
     def names(self, relay: Relay) -> Iterator[bytes]:
         """The paths that mail may go back to."""
-        yield from self.boxes
+        yield from self.mailboxes
         yield from self.names_of_home(relay)
 
     def run(self, names: list[bytes], relay: Relay) -> None:
         """Brings the mail of the Maildir back into the mailboxes at these paths."""
         root = self.root
-        if not is_there(root) and all(map(is_bare, names)):
+        if not is_there(root) and all(map(has_no_mailbox, names)):
             return
         has_none = not self.mailbox and names == [self.user.place]
         # what is there came from no old mailbox if its user has none, unless a file has a name that only this program
@@ -64,11 +64,11 @@ class Returner(UserWork):
         if not has_none or any(BASE.match(name) for folder in folders_in(root) for name, _ in mail_in(folder)):
             want_migrated(root)
         paths = [one for one in names if one not in self.user.others or is_recorded(root, one)]
-        names_back, keeper = Names(paths, self.tree, NO_INBOX), Asking(relay, self.boxes)
+        names_back, keeper = Names(paths, self.tree, NO_INBOX), Asking(relay, self.mailboxes)
         relay.tell("then", bring_all(self.program(relay), root, names_back, self.options, keeper, relay))
 
 
-def is_bare(path: bytes) -> bool:
+def has_no_mailbox(path: bytes) -> bool:
     """Whether nothing that may be a mailbox is at a path or below it."""
     if not is_there(path):
         return True
@@ -82,9 +82,9 @@ def is_bare(path: bytes) -> bool:
 class Asking(Keeper):
     """Has root make the inbox of the spool, and FILE.lock beside it. What is in the home is the user's own."""
 
-    def __init__(self, parent: Parent, boxes: Sequence[bytes]) -> None:
+    def __init__(self, parent: Parent, mailboxes: Sequence[bytes]) -> None:
         self.parent = parent
-        self.places = {os.path.realpath(path): place for place, path in enumerate(boxes)}
+        self.places = {os.path.realpath(path): place for place, path in enumerate(mailboxes)}
 
     def refusal(self, what: str, path: bytes) -> Optional[Left]:
         """Has root do something beside an inbox. Returns why it did not."""
@@ -97,11 +97,9 @@ class Asking(Keeper):
             with super().locked(mailbox, owner):
                 yield
             return
-        said, refusal = len(mailbox.remarks), self.refusal(TAKE, mailbox.path)
-        if refusal and refusal.reason is Reason.LOCKED:
-            look_for_lock_file(mailbox)
+        refusal = self.refusal(TAKE, mailbox.path)
         # an old one counts for nothing
-        if refusal and len(mailbox.remarks) == said:
+        if refusal and not (refusal.reason is Reason.LOCKED and look_for_lock_file(mailbox)):
             raise refusal
         number = None if refusal else hold(spot_of(mailbox.path))
         try:

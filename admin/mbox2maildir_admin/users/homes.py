@@ -26,7 +26,7 @@ from .accounts import Account, why_no_home
 from .clerks import InboxClerk, Inboxes, sync_by_root
 
 
-class Found(NamedTuple):
+class SpoolUser(NamedTuple):
     """An account under one of its names, and the place of that name in the spool, with how many bytes the mailbox there
     has: None if there is none, or if it is left."""
 
@@ -48,7 +48,7 @@ class Found(NamedTuple):
         return marshal.dumps(words)
 
     @classmethod
-    def unpacked(cls, user: bytes) -> "Found":
+    def unpacked(cls, user: bytes) -> "SpoolUser":
         """The user that these bytes are."""
         name, account, *rest = marshal.loads(user)
         return cls(name, Account(*account), *rest)
@@ -63,7 +63,7 @@ class UserWork:
     # has nothing of its user
     command, is_back = Runs.MIGRATE, False
 
-    def __init__(self, user: Found, spool: "Spool") -> None:
+    def __init__(self, user: SpoolUser, spool: "Spool") -> None:
         self.user, self.spool, self.options = user, spool, spool.options
         self.account, self.mailbox = user.account, None if user.size is None else user.place
         # the Maildir, and the folder of mailboxes, if one is asked for
@@ -193,7 +193,7 @@ class Relay(Parent, Observer):
     """Tells root rows by the names that root prints after the user's name: none for the mailbox of the spool and for
     the home, otherwise a name below the home."""
 
-    user: Found
+    user: SpoolUser
 
     def __init__(self, pipe: int, alive: int) -> None:
         super().__init__(pipe, alive)

@@ -1,24 +1,23 @@
 """The mailboxes of a spool, each migrated by a child that has only its user's rights: whose they are, and where the
 names of these users came from."""
 import os
-from collections.abc import Iterable, Iterator, Mapping, Sequence
+from collections.abc import Container, Iterable, Iterator, Mapping, Sequence
 from typing import AbstractSet, Optional, Union
 
 from ..faults import Fault, Left, Reason, naming
 from ..jobs.order import MOST, jobs_of, size_of
 from ..kinds.named import is_auxiliary, is_no_mail
 from ..looks import is_surely, is_there, may_be, upwards
-from ..maildir.folders import folder_path, on_disk
+from ..maildir.folders import COPIES, folder_path, on_disk
 from ..migration.outcomes import Observer, Row, Verdict, row_left
 from ..migration.servers import locations
 from ..nexts import Answer, Command, Runs, run_next
 from ..program import find_program
-from ..readings.copies import stem_of
 from ..terminal import INPUT, complain, named, operand, put, shown, text_of
 from ..units import counted
-from .accounts import MANY, NOBODY, Account, Accounts, size_of_mailbox, why_no_home
+from .accounts import MANY, NOBODY, Account, AccountKey, Accounts, size_of_mailbox, why_no_home
 from .children import Children, load_for_children
-from .homes import Found, Spool
+from .homes import SpoolUser, Spool
 
 COMMAND_LINE, SPOOL, ACCOUNTS = "from the command line", "from the spool", "from the accounts"
 # as the name of a list of users: standard input
@@ -26,8 +25,6 @@ DASH = b"-"
 # how long such a list may be, in bytes, and what ends a name in it
 LONGEST_LIST, ENDS = 1 << 24, frozenset(b"\t\n")
 
-# an account, however many names it has: its number and its home
-Key = tuple[int, bytes]
 # where each name came from, by the name
 Sources = Mapping[bytes, str]
 
@@ -63,7 +60,8 @@ def for_users(spool: Spool, observer: Observer) -> None:
     load_for_children()
     observer.total = len(waiting) + len(others)
     # only one process at a time can be at work for an account
-    for several, at_once in ((map(Found.unpacked, waiting), min(jobs, len(waiting))), (others, min(1, len(others)))):
+    first = map(SpoolUser.unpacked, waiting), min(jobs, len(waiting))
+    for several, at_once in (first, (others, min(1, len(others)))):
         with Children(at_once, observer) as children:
             for place, one in enumerate(several):
                 observer.begin()
@@ -74,7 +72,7 @@ def for_users(spool: Spool, observer: Observer) -> None:
             children.wait()
 
 
-def users_of(spool: Spool, observer: Observer, is_by_size: bool) -> tuple[list[bytes], list[Found]]:
+def users_of(spool: Spool, observer: Observer, is_by_size: bool) -> tuple[list[bytes], list[SpoolUser]]:
     """The users whose mailboxes are migrated, packed until it is their turn: those that were asked for, otherwise those
     of the spool, and all users if homes have a folder of mailboxes; and further mailboxes of theirs. Says which names
     are left."""
@@ -98,11 +96,11 @@ def users_of(spool: Spool, observer: Observer, is_by_size: bool) -> tuple[list[b
     observer.notes += tuple(sums_of(counts, not_asked))
     if spool.work.is_back:
         users.join()
-    found: Iterable[Found] = users.found.values()
+    found: Iterable[SpoolUser] = users.found.values()
     if is_by_size:
         # the largest mailbox begins first, lest it is alone at the end; otherwise users keep the order of names
         found = sorted(found, key=lambda one: one.size or 0, reverse=True)
-    return list(map(Found.packed, found)), users.others
+    return list(map(SpoolUser.packed, found)), users.others
 
 
 def sums_of(counts: Mapping[str, int], not_asked: int) -> Iterator[str]:
@@ -148,6 +146,19 @@ def want_entered(spool: bytes) -> None:
             raise Fault("users may not enter %s" % named(here), Reason.NOT_OWN, then)
 
 
+def stem_of(name: bytes, names: Container[bytes]) -> bytes:
+    """The name of the mailbox, among these names, that a file may be a copy of; otherwise the name of the file
+    itself."""
+    # a spool may have many names, of which most have no such ending
+    if not name.endswith(COPIES):
+        return name
+    for ending in COPIES:
+        stem = name[: -len(ending)]
+        if name.endswith(ending) and stem in names:
+            return stem_of(stem, names)
+    return name
+
+
 def mailboxes_among(names: Iterable[bytes], spool: Spool) -> AbstractSet[bytes]:
     """The names of a spool that may be mailboxes, or copies of one, as locks and empty hidden files are not."""
     passed = set()
@@ -188,9 +199,9 @@ class Users:
             for account in filter(self.accounts.is_users, self.accounts.read()):
                 found.setdefault(account.name, ACCOUNTS)
         self.sources: Sources = {name: found[name] for name in sorted(found)} if spool.asked is None else spool.asked
-        self.found: dict[Key, Found] = {}
+        self.found: dict[AccountKey, SpoolUser] = {}
         # further mailboxes of the same accounts
-        self.others: list[Found] = []
+        self.others: list[SpoolUser] = []
 
     def looked_at(self) -> Iterator[tuple[bytes, str, Union[Account, Left]]]:
         """Each name with where it came from, and its account, or why it is left."""
@@ -228,8 +239,8 @@ class Users:
 
     def add(self, name: bytes, account: Account) -> None:
         """Adds a user. If something is wrong with the mailbox, that is said, and the home is looked at all the same."""
-        key, place = (account.uid, account.home), os.path.join(self.spool.path, name)
-        user = Found(name, account, place, None)
+        key, place = account.key, os.path.join(self.spool.path, name)
+        user = SpoolUser(name, account, place, None)
         try:
             user = user._replace(size=size_of_mailbox(place, account))
             if user.size is None and not self.spool.is_of_homes:
@@ -246,14 +257,14 @@ class Users:
                 self.others.append(user._replace(why_not=self.why_not(account, other, place)))
                 if other in self.sources:
                     return
-                user = Found(name, account, place, None, True)
+                user = SpoolUser(name, account, place, None, True)
         if user.size is not None or self.spool.is_of_homes and key not in self.found:
             self.found[key] = user
 
     def join(self) -> None:
         """Gives each account all of its mailboxes."""
         for one in self.others:
-            key = one.account.uid, one.account.home
+            key = one.account.key
             if key in self.found:
                 self.found[key] = self.found[key]._replace(others=(*self.found[key].others, one.place))
         self.others.clear()
@@ -284,7 +295,7 @@ class Users:
         says = "%s is the same user, and its mailbox goes into INBOX" % named(other)
         return Left(says, Reason.SAME_USER, run_next(command, *words, operand(mailbox)))
 
-    def other_name(self, name: bytes, key: Key) -> Optional[bytes]:
+    def other_name(self, name: bytes, key: AccountKey) -> Optional[bytes]:
         """The other name of an account whose mailbox goes into its Maildir: the one that the system gives its number,
         if the spool has that, or mail may go back there; otherwise the first one."""
         own = self.accounts.of_number(key[0])

@@ -159,7 +159,7 @@ MAIL: Makers = {
     "mboxrd": mboxrd,
     # of mail without a `>From ` of its own: it is read as it was written
     "mboxo": lambda draw: done(mailbox(letters(draw, [*PLAIN, *QUOTABLE[:1]]), "mboxo"), "mboxo"),
-    # right lengths stay in the mail
+    # correct lengths stay in the mail
     "mboxcl2": lambda draw: done(mailbox(letters(draw, first=FIRST_OF_MAY), "mboxcl2"), "mboxcl2"),
     # a program has added the CR
     "CR LF": lambda draw: done(mailbox(letters(draw, [one for one in PLAIN if b"\r" not in one] + QUOTABLE), "crlf")),
