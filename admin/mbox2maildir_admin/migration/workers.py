@@ -28,7 +28,7 @@ class Work(Parent):
     def groups(self) -> Iterator[Group]:
         """The next groups of mailboxes, as long as there are any. Each is told by its first one: an answer must fit
         into a pipe, and one folder may have any number of mailboxes."""
-        return (self.waiting[first] for first, in iter(lambda: self.ask("next"), []))
+        return (self.waiting[first] for first, in iter(lambda: tuple(self.ask("next")), ()))
 
     def begin(self) -> None:
         """Tells that work on a mailbox begins."""
@@ -100,7 +100,7 @@ class Workers(Crew):
             self.groups.clear()
             super().__exit__(kind, *rest)
 
-    def become(self, child: Worker, parent: Work) -> None:
+    def become(self, child: Worker, parent: Any) -> None:
         parent.waiting = {group[0]: group for group in (child.places, *self.groups)}
 
     def turns(self) -> Iterator[None]:
