@@ -21,6 +21,7 @@ from tests.support.ledgers import LEDGER, PREPARED, RECORD
 from tests.support.mail import A, ONE, THREE, TWO
 from tests.support.running import Desk, Row, Run
 from tests.support.schema import SCHEMA
+from tests.support.stories import SYNC_FAILS
 
 KEPT = TOP / "tests/companion/kept"
 PLACE, SAID, WORDS = KEPT / "home", KEPT / "said.json", KEPT / "words.txt"
@@ -29,6 +30,13 @@ HOME = "/home-of-the-folder" * 5
 FOUR, FIVE, SIX = (ONE.replace(b"one", word) for word in (b"four", b"five", b"six"))
 # a message in which a line looks like the start of another one
 PATCH = A + b"\nhello\nFrom the first of May we are here.\n\n"
+# messages of a Takeout
+WORK, PLANS = (
+    text.replace(b"\n", b"\nX-GM-THRID: 1\nX-Gmail-Labels: " + labels + b"\n", 1)
+    for text, labels in ((ONE, b"Inbox,Work"), (TWO, b"Sent,Plans"))
+)
+# the statuses of what was done, as the manual has them: what is left, and no mailbox, have 1
+STATUSES = [0, 0, 1, 0, 1, 0, 0, 0, 0, 0, 0, 0, 1, 0, 0, 0, 0, 0, 0]
 # what a killed `back` was going to append
 BACK = "mbox2maildir-back"
 # what is another one in each run, and what is told in sentences or is a command
@@ -76,6 +84,37 @@ def history(home: Path) -> Iterator[Run]:
     yield run_here("migrate --now --dovecot D uids")
     mailbox(home / "used", ONE + TWO)
     yield run_here("migrate --now --prepare --unread P used")
+    yield from rarer_history(home)
+
+
+def rarer_history(home: Path) -> Iterator[Run]:
+    """What else was done there, so that the records and ledgers have each line that there is."""
+    run_here = partial(by_json, home=home)
+    # one message was there before, the mailbox lost another one, and was moved; then a sync failed
+    deliver(make_maildir(home / "F"), THREE, 2)
+    former = mailbox(home / "former", ONE + TWO + THREE)
+    yield run_here("migrate --now F former")
+    mailbox(former, TWO + THREE)
+    yield run_here("migrate --now F former")
+    former.rename(home / "moved")
+    yield run_here("migrate --now F moved")
+    mailbox(home / "failed", FIVE)
+    fake(home, SYNC_FAILS[1:])
+    yield run_here("migrate --now --folder Failed F failed")
+    restore(home)
+    # folders of labels; subscriptions; a mailbox without mail; and what was prepared, and is no more
+    mailbox(home / "takeout", WORK + PLANS)
+    yield run_here("migrate --now --labels --label Work=read L takeout")
+    mailbox(home / "mail/lists", ONE)
+    mailbox(home / "mail/.subscriptions", b"lists\n")
+    yield run_here("migrate --now --dovecot S mail")
+    mailbox(home / "empty", b"")
+    yield run_here("migrate --now --folder Empty S empty")
+    mailbox(home / "dropped", THREE)
+    yield run_here("migrate --now --prepare --unread --folder Dropped P dropped")
+    yield run_here("migrate --now --undo P dropped")
+    # no line names the ledger of what was killed
+    yield run_here("migrate --now --folder Dropped K dropped")
 
 
 @contextmanager
@@ -92,7 +131,7 @@ def take_out(home: Path, path: str = "") -> None:
     """Copies the folder to a home, whose books name this path, or else that of the home. git keeps no empty folders,
     and no modes."""
     shutil.copytree(PLACE, home, dirs_exist_ok=True)
-    for kept in PLACE.rglob("mbox2maildir-*"):
+    for kept in [*PLACE.rglob("mbox2maildir-*"), *PLACE.rglob("maildirfolder")]:
         book = home / kept.relative_to(PLACE)
         book.write_bytes(kept.read_bytes().replace(HOME.encode(), (path or str(home)).encode()))
         book.chmod(0o600)
@@ -120,10 +159,12 @@ def words_kept() -> Iterator[tuple[str, str]]:
     """What scripts use, each word with its place: commands and options, statuses, the words of --as, and fields with
     their types."""
     yield from (("mbox2maildir", one) for one in re.findall(r"(?m)^\.Cm (\w+)$", section_of(MANUAL, "SYNOPSIS")))
-    for command in re.findall(r"(?m)^  (\w+) ", helped().partition("options:")[0]):
-        yield "mbox2maildir-admin", command
-        several = re.findall(r"(?m)^  (-.*?)(?:  .*)?$", helped(command))
-        yield from ((f"mbox2maildir-admin {command}", re.sub(r" (?!-)[^ ,]+", " VALUE", one)) for one in several)
+    commands = re.findall(r"(?m)^  (\w+) ", helped().partition("options:")[0])
+    yield from (("mbox2maildir-admin", command) for command in commands)
+    for words in ([], *([command] for command in commands)):
+        several = re.findall(r"(?m)^  (-.*?)(?:  .*)?$", helped(*words))
+        place = " ".join(["mbox2maildir-admin", *words])
+        yield from ((place, re.sub(r" [A-Z][^ ,]*", " VALUE", one)) for one in several)
     for page in MANUALS:
         statuses = re.findall(r"(?m)^\.It (\d+)$", section_of(page, "EXIT STATUS"))
         yield from ((f"{page.stem} status", number) for number in statuses)
@@ -198,10 +239,11 @@ def same_words() -> None:
 
 
 def same_objects() -> None:
-    """The same history prints the same objects. A later version may print more fields."""
+    """The same history has the same statuses, and prints the same objects. A later version may print more fields."""
     with home_as_long() as home:
-        now = [one for ran in history(home) for one in ran.objects]
-        kept = said(home)
+        runs, kept = [*history(home)], said(home)
+        equal("the statuses", [ran.status for ran in runs], STATUSES)
+        now = [one for ran in runs for one in ran.objects]
         equal("how many", len(now), len(kept))
         equal("what they lack", [line for pair in zip(now, kept) for line in lacking(*pair, "")], [])
 
@@ -212,6 +254,9 @@ def done_before(home: Path) -> None:
     equal("one with an answer", fates("migrate --now --folder Answered M answered", home), "done before")
     equal("one with UIDs", fates("migrate --now --dovecot D uids", home), "done before")
     equal("a file without mail", fates("migrate --now M notes", home), "no mail")
+    equal("one that was moved", fates("migrate --now F moved", home), "done before")
+    equal("a Takeout", fates("migrate --now --labels L takeout", home), "done before, done before, done before")
+    equal("an empty one has its folder", by_json("migrate --now S empty", home).row["folder"], "Empty")
     equal("what is whole", fates("verify M box", home), "whole")
     equal("what is there", subjects_in(home), f"{ANSWERED} {INBOX}")
 
@@ -229,6 +274,19 @@ def grown(home: Path) -> None:
     equal("what is there", (subjects_in(home), subjects_in(home, "D")), (wanted, "one six"))
 
 
+def grown_after_more(home: Path) -> None:
+    """The same where a mailbox was moved, or went into the folders of its labels, whose answer holds."""
+    for name, text in (("moved", SIX), ("takeout", WORK.replace(b"one", b"six"))):
+        with (home / name).open("ab") as box:
+            box.write(text)
+    next((home / "L/.Plans/new").iterdir()).unlink()
+    equal("one that was moved", fates("migrate --now F moved", home), "done")
+    equal("a Takeout", fates("migrate --now --labels L takeout", home), "done, done before, done before")
+    equal("what is there", subjects_in(home, "F"), "Failed/five one six three two")
+    equal("what the Takeout has", subjects_in(home, "L"), "Sent/two one six")
+    equal("what is read", len([*(home / "L/cur").glob("*:2,S")]), 2)
+
+
 def answered(home: Path) -> None:
     """A command that was printed as an answer is still one."""
     asked = next(row for row in said(home) if row.get("reason") == "unclear")
@@ -241,14 +299,34 @@ def begun(home: Path) -> None:
     """What a killed run began is finished."""
     for verdict in ("done", "done before"):
         equal("the mailbox", fates("migrate --now K killed", home), verdict)
-        equal("what is there", subjects_in(home, "K"), "five four")
+        equal("what is there", subjects_in(home, "K"), "Dropped/three five four")
 
 
 def undone(home: Path) -> None:
-    """An undo leaves what another mailbox brought, and what none did."""
+    """An undo leaves what another mailbox brought, what none did, and what the mailbox has lost."""
     for name, left in (("box", "four two"), ("other", "four")):
         equal(name, fates(f"migrate --now --undo M {name}", home), "undone")
         equal(f"what is there without {name}", subjects_in(home), f"{ANSWERED} {left}")
+    equal("one that was moved", fates("migrate --now --undo F moved", home), "undone")
+    equal("what is there without it", subjects_in(home, "F"), "Failed/five one three")
+    equal("a Takeout", fates("migrate --now --undo L takeout", home), "undone, undone, undone")
+    equal("what is there without it", subjects_in(home, "L"), "")
+
+
+def failed(home: Path) -> None:
+    """What was not synced counts for nothing until it is stored again."""
+    for option, fate in (("", "sync-failed"), ("--again", "done"), ("", "done before")):
+        equal(f"the mailbox, {option}", fates(f"migrate --now {option} --folder Failed F failed", home), fate)
+        equal("what is there", subjects_in(home, "F"), "Failed/five one three two")
+
+
+def subscribed(home: Path) -> None:
+    """Who has unsubscribed from a folder stays so, and is told nothing."""
+    file = home / "S/subscriptions"
+    equal("the list", file.read_bytes(), b"V\t2\n\nlists\n")
+    file.write_bytes(b"V\t2\n\n")
+    equal("the mailboxes", fates("migrate --now --dovecot S mail", home), "done before, no mail")
+    equal("the list then", file.read_bytes(), b"V\t2\n\n")
 
 
 def back(home: Path) -> None:
@@ -265,6 +343,8 @@ def last_pass(home: Path) -> None:
     row = by_json("migrate --now P used", home).row
     equal("the mailbox", (row["verdict"], row.remarks), ("done", ["prepared-before"]))
     equal("what is there", (subjects_in(home, "P"), (home / "P" / PREPARED).exists()), ("one six two", False))
+    make_maildir(home / "P/.Dropped")
+    equal("one that was given up", fates("migrate --now --folder Dropped P dropped", home), "done")
 
 
 def of_a_higher_number(home: Path) -> None:
@@ -307,7 +387,8 @@ def taken_out(check: Callable[[Path], None], path: str = "") -> None:
         check(home)
 
 
-CASES = [done_before, grown, answered, begun, undone, back, last_pass, of_a_higher_number, torn_by_a_later_version]
+CASES = [done_before, grown, grown_after_more, answered, begun, undone, failed, subscribed, back, last_pass]
+CASES += [of_a_higher_number, torn_by_a_later_version]
 
 if __name__ == "__main__":
     if sys.argv[1:] == ["--make"]:
