@@ -39,6 +39,13 @@ WORK, PLANS = (
 STATUSES = [0, 0, 1, 0, 1, 0, 0, 0, 0, 0, 0, 0, 1, 0, 0, 0, 0, 0, 0]
 # what a killed `back` was going to append
 BACK = "mbox2maildir-back"
+# each book, with a mailbox and the commands that read the book for it
+WRITERS = [f"migrate --now{option}" for option in ("", " --again", " --dry-run", " --undo", " --prepare --unread")]
+READ_BY = (
+    (f"M/{RECORD}", "M answered", [*WRITERS, "back --now", "verify", "dates"]),
+    (f"M/{LEDGER}", "M box", [*WRITERS, "back --now"]),
+    (f"P/{PREPARED}", "P used", WRITERS),
+)
 # what is another one in each run, and what is told in sentences or is a command
 FREE = {"seconds", "last_pass_seconds", "host", "version", "says", "argv"}
 
@@ -349,13 +356,12 @@ def last_pass(home: Path) -> None:
 
 def of_a_higher_number(home: Path) -> None:
     """A book of a later version, whose lines have another form, is refused with one sentence. Nothing is written."""
-    options = "", "--again", "--dry-run", "--undo", "--prepare --unread"
-    for name, operands in ((f"M/{RECORD}", "M box"), (f"M/{LEDGER}", "M box"), (f"P/{PREPARED}", "P used")):
+    for name, operands, commands in READ_BY:
         book, text = home / name, (home / name).read_bytes()
         first, number, rest = match_in(rb"(?s)\A([^\t]+\t)(\d+)(.*)", text).groups()
         book.write_bytes(first + b"%d" % (int(number) + 1) + rest.replace(b"\n", b"\nx"))
         before = {path: path.read_bytes() for path in home.glob("[MP]/**/*") if path.is_file()}
-        for words in (f"migrate --now {option} {operands}" for option in options):
+        for words in (f"{command} {operands}" for command in commands):
             ran = run(words, home)
             says = f"{name}: this version did not write it: "
             equal(f"{words}: {ran.output}", (ran.status, ran.output.count(says)), (1, 1))

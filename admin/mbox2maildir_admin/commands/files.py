@@ -10,6 +10,7 @@ from ..kinds.folders import is_maildir
 from ..kinds.look import Look
 from ..kinds.others import Holds
 from ..ledger.history import Event, History, Note
+from ..ledger.lines import AnotherVersion
 from ..ledger.record import Record
 from ..looks import is_folder, is_there, type_at
 from ..maildir.disk import trial_folder
@@ -172,10 +173,13 @@ def reading_then(folder: bytes, mailbox: Mailbox) -> Reading:
 
 
 def record_of(folder: bytes) -> History:
-    """The record of the Maildir of a folder; an empty one if it can't be trusted."""
+    """The record of the Maildir of a folder; an empty one if it can't be trusted. Raises Fault if another version wrote
+    it: without what it says, mail that is there would be missed."""
     try:
         with Record.open(root_of(folder), make=False) as record:
             return record
+    except AnotherVersion:
+        raise
     except Fault:
         return History()
 
