@@ -450,6 +450,8 @@ def only_a_takeout_has_labels(home: Path) -> None:
         (first + second.replace("X-GM-THRID", "X-Other"), "message 2 does not begin with X-GM-THRID and ..."),
         (first.replace("X-GM-THRID", "Subject: x\nX-GM-THRID"), "message 1 does not begin with X-GM-THRID and ..."),
         (first + message("two", "=?none?Q?x?="), "the labels of message 2 cannot be read"),
+        # half of a pair of UTF-16 is no letter
+        (first + message("two", "Inbox,=?utf-7?Q?a+2AA-b?="), "the labels of message 2 cannot be read"),
     ):
         mailbox(home / "t.mbox", text.encode())
         expect(LABELS, home, 1, f"t.mbox: left (labels): {says}\n1 mailbox: 1 left\n")

@@ -14,6 +14,7 @@ from ..mbox.inventory import Inventory
 from ..mbox.mailbox import Mailbox
 from ..patterns import pattern
 from ..remarks import Remark, Says
+from ..terminal import bytes_of, text_of
 
 # the letters of flags in a Maildir: draft, flagged, passed on, replied, seen, trashed.
 # Thunderbird, nsMsgMessageFlags.idl: Read, Replied, Marked, Forwarded
@@ -73,7 +74,8 @@ def labels_in(value: bytes) -> Optional[tuple[str, ...]]:
     try:
         unfolded = BETWEEN_ENCODED.sub("", FOLD.sub(" ", value.decode("utf-8", "surrogateescape")))
         decoded = ENCODED.sub(decoded_words, unfolded)
-        labels = (label.strip() for label in next(csv.reader([decoded], skipinitialspace=True), []))
+        # a letter that stands for no byte could be neither printed nor typed
+        labels = (text_of(bytes_of(label.strip())) for label in next(csv.reader([decoded], skipinitialspace=True), []))
         return tuple(dict.fromkeys(filter(None, labels)))
     except Exception:  # pylint: disable=broad-except
         # the libraries raise anything for strangers' headers
