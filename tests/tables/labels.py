@@ -682,6 +682,19 @@ def messages_in(path: Path) -> int:
     return path.read_bytes().count(b"\nSubject: ")
 
 
+def files_without_mail(home: Path) -> None:
+    """Those that are named beside a Takeout are passed over by the command that is printed."""
+    takeout(home, RESERVED[:2])
+    for name in ("notes", "to do"):
+        mailbox(home / name, b"milk\n")
+    (group,) = groups_in(run(["migrate", "--labels", "--now", "M", "notes", "to do", "t.mbox"], home).out)
+    equal("what is left", (group.word, [*group.rows]), ("not-known", ["notes", "to do"]))
+    (command,) = group.commands
+    equal("by the command", run_printed(command, home).status, 0)
+    words = ["migrate", "--labels", "--no-mail", "to*", "N", "to do", "t.mbox"]
+    equal("by a pattern", by_json(words, home).of("to do")["verdict"], "no mail")
+
+
 def a_look_has_its_folder(home: Path) -> None:
     """Of several folders of a Takeout, those that ask for a look are named, as they are in the rows."""
     takeout(home, [("one", "Inbox,x"), ("two", "Sent,y"), ("three", "Unread")])

@@ -1,9 +1,10 @@
 """How mailboxes are migrated: the words of the command, and what follows from them."""
 import os
-from collections.abc import Callable, Sequence
+from collections.abc import Sequence
 from typing import Any, NamedTuple, Optional
 
 from ..kinds.making import Where
+from ..kinds.named import passes_over
 from ..labels.choosing import Choosing
 from ..looks import may_write, top_above
 from ..maildir.folders import INBOX, words_of
@@ -42,10 +43,8 @@ class Options(NamedTuple):
     # whether mail is only prepared, and whether nobody reads it
     prepare: bool = False
     unread: bool = False
-    # what is done besides mail and dates; and whether a file that is not mbox text is passed over, by its path and
-    # whether its kind is known
+    # what is done besides mail and dates
     extra: Extra = Extra()
-    passes_over: Callable[[bytes, bool], bool] = lambda path, is_known: False
     # the names that are migrated, the home of the user whose mail it is, if it is not the one who runs this, and
     # whether a mailbox goes into the folders of its labels
     names: Sequence[bytes] = ()
@@ -68,6 +67,10 @@ class Options(NamedTuple):
             words += option("--no-mail", pattern)
         words += ["--again"] * again + self.decision.options() + (self.labels.words() if self.labels else [])
         return words + ([] if self.folder is None else option("--folder", os.fsencode(self.folder)))
+
+    def passes_over(self, path: bytes, is_known: bool) -> bool:
+        """Whether a file that is not mbox text is passed over, by its path and whether its kind is known."""
+        return passes_over(self.no_mail, [self.home] if self.home else self.names, path, is_known)
 
     def of_next(self) -> "Options":
         """Those of a command for one of the mailboxes, which decides itself, and names its folder. A rehearsal's is

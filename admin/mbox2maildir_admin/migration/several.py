@@ -7,7 +7,6 @@ from typing import TYPE_CHECKING, Optional
 from ..faults import Fault, Left, Reason
 from ..jobs.order import Group, InOrder, groups_of, jobs_of, largest_first
 from ..kinds.folders import is_maildir
-from ..kinds.named import passes_over
 from ..ledger.record import Record
 from ..looks import is_below, is_file, is_folder, is_link, is_surely, is_there, real_path, type_at
 from ..maildir.folders import INBOX, folder_of, on_disk
@@ -93,9 +92,8 @@ def run_all(
     """Migrates each mailbox into its folder. In a home only what is its user's own is touched, over no symbolic
     link."""
     with Record.to_migrate(root, options.dry) as record:
-        passes = functools.partial(passes_over, options.no_mail, [home.path] if home else names)
         extra = Dovecot(record) if options.dovecot else Extra()
-        options = options._replace(extra=extra, passes_over=passes, names=names, home=home.path if home else b"")
+        options = options._replace(extra=extra, names=names, home=home.path if home else b"")
         several = Several(Migration(program, record, options), observer, home)
         # a first pass leaves nothing over
         leftovers = None if options.prepare else Leftovers(record, names, options)
