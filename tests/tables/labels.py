@@ -548,6 +548,25 @@ def the_record_knows_the_folders(home: Path) -> None:
     equal("without labels", len(folders_in(home / "M")[""]), 9)
 
 
+def a_folder_that_people_removed(home: Path) -> None:
+    """Nothing is left in it to undo. Then the Takeout may go another way."""
+    takeout(home, RESERVED[:2])
+    expect(LABELS, home, 0, None)
+    shutil.rmtree(home / "M/.Work.A")
+    for words, verdict, removed in ("--dry-run ", "would be undone", "would remove 1 message"), (
+        "",
+        "undone",
+        "removed 1 message",
+    ):
+        rows = by_json(f"migrate --undo {words}M t.mbox", home).rows
+        said = {row["folder"]: (row["verdict"], row["remarks"][0]["says"]) for row in rows}
+        wanted = {"INBOX": (verdict, removed), "Sent": (verdict, removed), "Work/A": (verdict, "its folder is gone")}
+        equal(f"an undo {words}", said, wanted)
+    equal("what is there", folders_in(home / "M"), {})
+    expect("migrate --labels one M t.mbox", home, 0, None)
+    equal("the folders then", folders_in(home / "M"), {"": ["one"], ".Work.A": ["two"]})
+
+
 def a_line_of_the_record_is_gone(home: Path) -> None:
     """An undo takes what went into a folder of which only its ledger says so."""
     takeout(home, RESERVED[:2])

@@ -12,7 +12,7 @@ import fcntl
 import os
 import re
 import time
-from collections.abc import Callable, Iterator
+from collections.abc import Callable, Container, Iterator
 from typing import Optional, Union
 
 from ..faults import Fault, Reason, fault_of
@@ -37,6 +37,8 @@ VERSION_LINE = b"mbox2maildir-record\t2"
 INDEX = (*Event, Note.FOUND)
 # a larger file is no record; this is some 50,000 lines
 MOST = 1 << 23
+# the size and the digest in the line about a mailbox that was undone
+NO_TEXT = Size(0), "0" * 64
 # what is escaped in the path of a line of the record
 ESCAPED = re.compile(rb"\\x([0-9a-f]{2})|\\\\")
 
@@ -196,6 +198,12 @@ class Record(History):
         """Appends a line, which is on the disk when this returns."""
         self.add_entry(Entry(what, key, messages, time.strftime(TIME, time.gmtime()), spelled(path), words))
 
+    def add_gone(self, folder: bytes, paths: Container[str]) -> None:
+        """Notes of the mailboxes of some paths that a folder has nothing of them any more, since it is gone."""
+        key, when = Key(folder, *NO_TEXT), time.strftime(TIME, time.gmtime())
+        lines = [one for one in self.last_events(folder) if one.path in paths]
+        self.add_entry(*(Entry(Event.UNDONE, key, 0, when, one.path, "-", *one[6:]) for one in lines))
+
     def look(self) -> None:
         """Looks which folders have which ledgers."""
         self.numbers, self.unread = {}, {}
@@ -249,7 +257,7 @@ class Record(History):
         event, when, number = Event.UNDONE, time.strftime(TIME, time.gmtime()), ledger.lasts[path]
         at = ledger.number, ledger.size, number
         if path not in ledger.paths():
-            return Entry(event, Key(name, Size(0), "0" * 64), 0, when, path, "-", *at)
+            return Entry(event, Key(name, *NO_TEXT), 0, when, path, "-", *at)
         event = Event.DONE if ledger.pending(path) is None and path not in ledger.leaving else Event.BEGUN
         read = ledger.last_read(path)
         key = Key(name, Size(read.key[0]), read.key[1])

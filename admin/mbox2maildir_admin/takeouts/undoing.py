@@ -8,6 +8,7 @@ from ..labels.noted import Noted, line_of, note_nothing
 from ..ledger.history import Entry, names_of
 from ..ledger.ledger import Ledger
 from ..ledger.record import Record
+from ..looks import is_there
 from ..maildir.folders import folder_path
 from ..maildir.making import real_place
 from ..mbox.locks import open_mailbox
@@ -17,7 +18,7 @@ from ..migration.several import refuse
 from ..migration.known import Opened
 from ..migration.options import Options
 from ..readings.reading import Reading
-from ..remarks import Says
+from ..remarks import Remark, Says
 from ..undoing.undo import Undo
 from ..units import Say
 
@@ -40,6 +41,8 @@ class TakeoutUndo(Undo):
         super().__init__(record, options)
         # how often it has each core as it was read
         self.known: dict[Reading, collections.Counter[bytes]] = {}
+        # its paths, as lines of the record have them
+        self.paths: set[str] = set()
 
     def rows(self, path: bytes, say: Say) -> Iterator[Row]:
         """Undoes it folder by folder. What was undone by a run that was killed has no row."""
@@ -56,20 +59,32 @@ class TakeoutUndo(Undo):
                 if line and not is_left and not self.options.dry:
                     note_nothing(self.record, line)
                 if not count:
-                    verdict = Verdict.WOULD_UNDO if self.options.dry else Verdict.UNDONE
-                    yield Row(path, b"", "", 0, verdict, remarks=(Says.NOTHING_PLACED.of(),))
+                    yield self.of_nothing(path, b"", Says.NOTHING_PLACED.of())
         except (Fault, OSError) as fault:
             yield row_left(path, b"", fault)
+
+    def undo(self, opened: Opened) -> Row:
+        """Undoes an open mailbox in a folder. With one that people removed, all is gone that came into it."""
+        if is_there(opened.folder):
+            return super().undo(opened)
+        if not self.options.dry:
+            self.record.add_gone(opened.name, self.paths)
+        return self.of_nothing(opened.mailbox.path, opened.name, Says.FOLDER_GONE.of())
+
+    def of_nothing(self, path: bytes, folder: bytes, remark: Remark) -> Row:
+        """The row of a mailbox of which nothing is removed."""
+        verdict = Verdict.WOULD_UNDO if self.options.dry else Verdict.UNDONE
+        return Row(path, folder, "", 0, verdict, remarks=(remark,))
 
     def folders_of(self, mailbox: Mailbox, line: Optional[Entry]) -> Iterator[Opened]:
         """The folders that have or had something of it, wherever they are now."""
         path = mailbox.path
-        paths = {*names_of(path), *([line.path] if line else [])}
-        for name in dict.fromkeys([*Noted.of(line).folders, *self.record.folders_with(paths)]):
+        self.paths = {*names_of(path), *([line.path] if line else [])}
+        for name in dict.fromkeys([*Noted.of(line).folders, *self.record.folders_with(self.paths)]):
             folder = self.record.name_now(name, path)
-            last = self.record.last_of(folder, paths)
+            last = self.record.last_of(folder, self.paths)
             ledger = Ledger(folder_path(self.record.maildir, folder))
-            if last or ledger.damage or paths & set(ledger.paths()):
+            if last or ledger.damage or self.paths & set(ledger.paths()):
                 yield Opened.into(self.record.maildir, folder, mailbox)
 
     def cores_now(self, opened: Opened, ledger: Ledger, path: str) -> collections.Counter[bytes]:
