@@ -471,6 +471,24 @@ def a_line_is_asked_about(home: Path) -> None:
     equal("the folders then", folders_in(home / "M"), {"": ["one"], ".Sent": ["three", "two"]})
 
 
+def a_line_of_two_is_asked_about(home: Path) -> None:
+    """The command of both answers all that is asked: no tie of it is unknown, also if one of both is left then."""
+    for name in ("t.mbox", "u.mbox"):
+        text = message("one", "Inbox") + message(name, "Sent", body="hello\nFrom the shed\n")
+        mailbox(home / name, text.encode())
+    (group,) = groups_in(run("migrate --now --labels M t.mbox u.mbox", home).out)
+    command = group.answers()[0].command
+    mailbox(home / "my box", ONE)
+    equal("a path without quotes", run_printed(f"{command} my box", home).err, "")
+    equal("whether anything was made", (home / "M").exists(), False)
+    make_maildir(home / "M")
+    (home / "M/.Sent").write_text("no folder\n")
+    equal("without a folder", run_printed(command, home)[::2], (1, ""))
+    (home / "M/.Sent").unlink()
+    equal("with both", run_printed(command, home)[::2], (0, ""))
+    equal("the folders", folders_in(home / "M"), {"": ["one"], ".Sent": ["t.mbox", "u.mbox"]})
+
+
 def a_later_takeout(home: Path) -> None:
     """One in which only marks changed places nothing, whether it takes the place of the first or stands beside it, and
     then its rows count these marks. Into a folder that is new for a message that message is placed, and the row counts

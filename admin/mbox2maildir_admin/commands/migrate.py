@@ -38,9 +38,6 @@ def do_migrate(given: Given) -> int:
         task(reporter)
         reporter.notes += (ONLY_PREPARED,) * given.prepare
         reporter.ask(lambda words: task_of(given.read(words))(reporter))
-        unmet = [tie for tie in given.of.split(",") if tie not in reporter.kept.ties]
-        if given.of and unmet and not is_one(given):
-            complain(UNMET % ",".join(map(named, unmet)))
 
     return run_reported(migrate, reporter, given.report, "what was done is in the record: run the same command again")
 
@@ -61,6 +58,9 @@ def task_of(given: Given) -> Telling:
             undo(target, names[0], options, reporter)
         elif not leave_unquoted(given.operands, options, reporter):
             migrate_named(target, names, options, reporter)
+        unmet = [tie for tie in given.of.split(",") if tie not in reporter.kept.ties]
+        if given.of and unmet and not is_one(given):
+            complain(UNMET % ",".join(map(named, unmet)))
 
     return task
 

@@ -89,11 +89,13 @@ class Takeouts(Migration):
         self.observer, self.syncs = observer, Syncs(Several.tell_synced)
         # the labels of the messages that were read
         self.labels: set[str] = set()
+        # the tie of the answer for several mailboxes that decided about the Takeout at work, if one did
+        self.tie = ""
 
     def report(self, path: bytes) -> None:
         """Does what is left to do of a Takeout, and reports what became of each folder, or why it is left."""
         self.observer.begin()
-        say = self.observer.say(path)
+        self.tie, say = "", self.observer.say(path)
 
         def sync_and_say(*words: Any) -> None:
             # others may have waited for long enough meanwhile
@@ -121,7 +123,7 @@ class Takeouts(Migration):
 
     def tell_once_synced(self, ended: Outcome) -> None:
         """Tells what became of a folder, once its disk is synced."""
-        ended = ended._replace(row=ended.row._replace(is_part=bool(ended.row.folder)))
+        ended = ended._replace(row=ended.row._replace(is_part=bool(ended.row.folder), tie=self.tie))
         self.syncs.add(ended.folder, (ended, self.observer.row))
 
     def migrate_opened(self, opened: Opened) -> Outcome:
@@ -196,9 +198,11 @@ class Takeouts(Migration):
             except Question as question:
                 several = (opened._replace(name=name) for name in noted.folders)
                 answers = (answer_to(self.record, one, question) for one in several)
-                answer = question.by_tie(self.options.answer) or next(filter(None, answers), None)
+                given = question.by_tie(self.options.answer)
+                answer = given or next(filter(None, answers), None)
                 if not answer or self.options.decision != UNDECIDED:
                     raise
+                self.tie = given.of if given else ""
                 choice = stack.enter_context(choice_at_once(*its, answer))
             yield choice
 
