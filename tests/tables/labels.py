@@ -370,6 +370,27 @@ def several_labels_are_asked_about(home: Path) -> None:
     equal("of many folders", (row["says"], options), wanted)
 
 
+def other_words_later(home: Path) -> None:
+    """What is said of a label that had its folder, or Gmail's, or none, holds until an undo, also if nothing was said:
+    otherwise its mail would come a second time, even if people deleted it. Of a label that is new anything may be
+    said."""
+    first = [("one", "Inbox,Opened"), ("two", "Garden"), ("three", "Spam"), ("four", "Opened")]
+    takeout(home, first)
+    expect(LABELS, home, 0, None)
+    next((home / "M/.Garden/new").iterdir()).unlink()
+    there = folders_in(home / "M")
+    out = f"t.mbox: left (another-reading): it was migrated with other words about its labels: --labels\n{UNDO}"
+    for said in ("Garden=none", "Garden=read", "Spam=starred", "Spam=folder", "Inbox=none", "Opened=folder"):
+        expect(["migrate", "--labels", "--label", said, "M", "t.mbox"], home, 1, out)
+        equal(said, folders_in(home / "M"), there)
+    for said in ("Garden=folder", "Opened=none"):
+        expect(["migrate", "--labels", "--label", said, "M", "t.mbox"], home, 0, None)
+    takeout(home, [*first, ("five", "Garden,Shed"), ("six", "Garden"), ("seven", "Garden"), ("eight", "Garden,Tools")])
+    expect(["migrate", "--labels", "--label", "Shed=none", "M", "t.mbox"], home, 0, None)
+    wanted = {**there, ".Garden": ["eight", "five", "seven", "six"], ".Tools": ["eight"]}
+    equal("the folders then", folders_in(home / "M"), wanted)
+
+
 def mail_that_was_only_prepared(home: Path) -> None:
     """Its folder would have it beside those of the labels, so it is undone first, by the command that is printed. A
     list of nothing is in nobody's way."""

@@ -152,10 +152,11 @@ class Model:
         return {one: gives for one, gives in names.items() if one not in kept and self.said.get(one) != "folder"}
 
     def asked(self, messages: Sequence[Message], before: Container[str]) -> list[str]:
-        """The labels about which a human is asked."""
+        """The labels about which a human is asked: one that has its folder keeps it."""
         counts = Counter(label for message in messages for label in set(message.labels))
-        own = self.own(messages, before)
-        return [one for one in counts if one not in own and one not in self.said and 2 * counts[one] > len(messages)]
+        known = {*self.own(messages, before), *self.said}
+        new = [one for one in counts if one not in known and {**PEOPLE, **UNKNOWN}[one] not in before]
+        return [one for one in new if 2 * counts[one] > len(messages)]
 
     def folders(self, messages: Sequence[Message], before: Container[str]) -> dict[str, list[int]]:
         """The folders of a Takeout, each with the places of its messages."""

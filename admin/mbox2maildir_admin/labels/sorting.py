@@ -8,12 +8,12 @@ from typing import NamedTuple, Optional
 
 from ..faults import Left, Reason
 from ..flags.clients import GMAIL, KeptFlags, labels_in
-from ..flags.gmail import ARCHIVE, ENGLISH, ORDER, Own, letters_by, own_names
+from ..flags.gmail import ARCHIVE, ENGLISH, ORDER, Own, Roles, letters_by, own_names
 from ..maildir.folders import INBOX, folder_of, on_disk, why_no_folder
 from ..mbox.fields import VALUE
 from ..nexts import Does, Phrase
 from ..remarks import Remark, Says
-from ..terminal import named
+from ..terminal import is_text, named
 from .choosing import FOLDER, NONE, ONE, READ, EACH, Choosing
 
 # Google writes both fields before those that were sent; what a sender writes comes after them
@@ -46,6 +46,14 @@ def remarks_on_labels(headers: Iterable[bytes]) -> list[Remark]:
     return [Says.LABELLED.of(", ".join(counts))] if counts else []
 
 
+def folder_by(label: str, roles: Roles) -> bytes:
+    """The folder that a label gives; empty if it gives none."""
+    own = roles.get(label)
+    if own:
+        return on_disk(own.value) if own in ORDER else b""
+    return on_disk(folder_of(label)) if is_text(label) else b""
+
+
 class LabelsLeft(Left):
     """Why nobody can sort a Takeout, and what a human may say about that."""
 
@@ -69,7 +77,7 @@ class Sorting:
     def __init__(self, headers: Iterable[bytes], choosing: Choosing, before: Container[bytes]) -> None:
         """Takes the headers of the messages, and the folders that have mail of them since an earlier run. Raises
         LabelsLeft if one has no labels, or if they cannot be read."""
-        self.choosing = choosing
+        self.choosing, self.before = choosing, before
         self.messages: list[tuple[str, ...]] = []
         # how many messages have each label
         self.counts: collections.Counter[str] = collections.Counter()
@@ -85,12 +93,24 @@ class Sorting:
                 known[field] = labels
             self.messages.append(known[field])
             self.counts.update(known[field])
-        # what the labels stand for that make no folders of their names, and made none before: what was said of them
-        # comes first
-        names = own_names(known.values()).items()
-        own = {label: role for label, role in names if label in ENGLISH or on_disk(folder_of(label)) not in before}
+        self.names = own_names(known.values())
+        self.roles = self.roles_by(choosing)
+
+    def roles_by(self, choosing: Choosing) -> Roles:
+        """What the labels stand for that make no folders of their names, and made none before: what was said of them
+        comes first."""
+        names = self.names.items()
+        own = {label: role for label, role in names if label in ENGLISH or on_disk(folder_of(label)) not in self.before}
         own.update((label, Own(gives)) for label, gives in choosing.given if gives != FOLDER)
-        self.roles = {label: role for label, role in own.items() if choosing.gives(label) != FOLDER}
+        return {label: role for label, role in own.items() if choosing.gives(label) != FOLDER}
+
+    def contradicts(self, then: Choosing) -> bool:
+        """Whether a label gives another folder than it gave when this alone was said, which messages have since: the
+        same ones would come into another folder too. One that is new may give any."""
+        was = self.roles_by(then)
+        new = [label for label in dict(self.choosing.given) if label in self.counts and not then.gives(label)]
+        folders = ((folder_by(label, was), folder_by(label, self.roles)) for label in new)
+        return any(now != before and (not before or before in self.before) for before, now in folders)
 
     def want_decided(self) -> None:
         """Raises LabelsLeft if a label gives no folder, or if a human must say whether it gives one."""
@@ -103,7 +123,9 @@ class Sorting:
                 first = next(number for number, labels in enumerate(self.messages, 1) if label in labels)
                 raise LabelsLeft(NO_FOLDER % (first, named(label), why), says)
         half = len(self.messages) / 2
-        asked = [label for label in users if self.counts[label] > half and not self.choosing.gives(label)]
+        # one that has its folder keeps it
+        new = [label for label in users if on_disk(folder_of(label)) not in self.before]
+        asked = [label for label in new if self.counts[label] > half and not self.choosing.gives(label)]
         if asked:
             ways = [(dict.fromkeys(asked, NONE), Does.LABEL_NONE), (dict.fromkeys(asked, FOLDER), Does.LABEL_FOLDER)]
             ways += [({**dict.fromkeys(asked, NONE), read: READ}, Does.LABEL_READ) for read in asked]

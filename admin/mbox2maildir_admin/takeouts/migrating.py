@@ -134,14 +134,14 @@ class Takeouts(Migration):
         if not line:
             self.want_labelled(opened)
         noted = Noted.of(line)
-        noted = noted._replace(choosing=self.chosen(opened, noted))
+        choosing = self.chosen(opened, noted)
         try:
-            with self.chosen_text(opened, noted) as choice, self.read(choice, noted) as takeout:
+            with self.chosen_text(opened, noted) as choice, self.read(opened, choice, noted, choosing) as takeout:
                 folders = tuple(takeout.folders.places)
                 # each folder wants room for its text again, and for its messages
                 self.want_room(Need.of(self.disk, [], max(map(takeout.size, folders))))
                 self.record.make()
-                note(self.record, opened.mailbox, noted._replace(folders=folders), len(takeout.inventory))
+                note(self.record, opened.mailbox, Noted(choosing, folders), len(takeout.inventory))
                 self.observer.total += len(folders) - 1
                 for folder in folders[:-1]:
                     self.tell_once_synced(self.bring_into(folder, takeout, opened))
@@ -182,10 +182,13 @@ class Takeouts(Migration):
             return before
         is_other = noted.folders and (before.word == ONE) != (now.word == ONE)
         if is_other or any(before.gives(label) not in ("", gives) for label, gives in now.given):
-            undo = self.options.undo_command(opened)
-            says = OTHERWISE % " ".join(map(quoted, before.words()))
-            raise Left(says, Reason.ANOTHER_READING, (Answer(undo),))
+            raise self.said_otherwise(opened, before)
         return before.with_given(*now.given)._replace(word=now.word or before.word)
+
+    def said_otherwise(self, opened: Opened, before: Choosing) -> Left:
+        """Why a mailbox is left of whose labels this was said before, and with the command that undoes it."""
+        says = OTHERWISE % " ".join(map(quoted, before.words()))
+        return Left(says, Reason.ANOTHER_READING, (Answer(self.options.undo_command(opened)),))
 
     @contextlib.contextmanager
     def chosen_text(self, opened: Opened, noted: Noted) -> Iterator[Choice]:
@@ -207,8 +210,9 @@ class Takeouts(Migration):
             yield choice
 
     @contextlib.contextmanager
-    def read(self, choice: Choice, noted: Noted) -> Iterator[Takeout]:
-        """Reads the text, and sorts its messages by their labels, and by what is noted."""
+    def read(self, opened: Opened, choice: Choice, noted: Noted, choosing: Choosing) -> Iterator[Takeout]:
+        """Reads the text, and sorts its messages by their labels, by what is noted, and by what is said of labels.
+        Raises Left if that would place mail a second time."""
         if choice.plan.is_copied:
             self.want_room(Need.of(self.disk, [], choice.mailbox.size))
         with choice.text(self.disk) as text:
@@ -216,8 +220,10 @@ class Takeouts(Migration):
             if len(inventory) == 0:
                 raise LabelsLeft(NO_MESSAGE)
             headers = headers_at(text.mailbox, inventory.offsets[:-1])
-            sorting = Sorting(headers, noted.choosing, noted.folders)
+            sorting = Sorting(headers, choosing, noted.folders)
             self.labels.update(sorting.counts)
+            if noted.folders and sorting.contradicts(noted.choosing):
+                raise self.said_otherwise(opened, noted.choosing)
             yield Takeout(choice, text, inventory, sorting.folders())
 
     def bring_into(self, folder: bytes, takeout: Takeout, opened: Opened) -> Outcome:
