@@ -1,17 +1,19 @@
 """The command line."""
+import os
 import sys
 
 from .commands import command_line
 from .faults import Fault, Status, complain_of
 from .signals import INTERRUPTS, end_in_order
-from .terminal import LINE, OutputFault, complain, drop, flush, open_streams
+from .terminal import LINE, OutputFault, complain, drop, flush, open_streams, text_of
 
 
 def run() -> int:
     """Does what the command line says, and returns the status."""
     try:
         try:
-            return command_line.run(sys.argv[1:])
+            # whatever the locale is
+            return command_line.run([text_of(os.fsencode(word)) for word in sys.argv[1:]])
         finally:
             flush()
     except OutputFault as fault:

@@ -79,7 +79,8 @@ def quoted(name: str) -> str:
 
 def is_text(name: Union[bytes, str]) -> bool:
     """Whether a name is UTF-8, as the words of mbox2maildir must be."""
-    return os.fsencode(name).decode("utf-8", "ignore").encode() == os.fsencode(name)
+    whole = bytes_of(name) if isinstance(name, str) else name
+    return whole.decode("utf-8", "ignore").encode() == whole
 
 
 class StatusLine:

@@ -2,13 +2,13 @@
 once passed over, or left for ever, with status 0, and that the worlds of tests/companion/worlds.py do not draw. In
 `faults` each call of the system fails in a run of its own."""
 import shutil
-import subprocess
 from collections.abc import Callable, Mapping
 from functools import partial
 from random import Random
 from typing import Any
 
-from tests.support.cases import Failed, LeftOut, run_cases
+from tests.support.cases import Failed, run_cases
+from tests.support.homes import latin_locale
 from tests.support.running import OWNER, Desk
 from tests.worlds.fates import texts
 from tests.worlds.fates.comparing import Comparison, differences, migrate
@@ -125,14 +125,8 @@ def users_names_in_another_locale(scene: Scene) -> list[str]:
 
 
 def latin(scene: Scene) -> dict[str, str]:
-    """The settings of a locale in Latin-1, which is made here."""
-    place = scene.home.parent / "locales"
-    place.mkdir(exist_ok=True)
-    place.chmod(0o755)
-    words = ["localedef", "-i", "de_DE", "-f", "ISO-8859-1", str(place / "de_DE.ISO-8859-1")]
-    if not shutil.which("localedef") or subprocess.run(words, check=False, capture_output=True).returncode:
-        raise LeftOut("no locale in Latin-1 can be made")
-    return {"LOCPATH": str(place), "LC_ALL": "de_DE.ISO-8859-1", "HOME": str(scene.home)}
+    """The settings of a locale in Latin-1, and of a home."""
+    return {**latin_locale(scene.home.parent), "HOME": str(scene.home)}
 
 
 def named_and_met(scene: Scene) -> list[str]:

@@ -108,6 +108,17 @@ def expect(
     equal(f"{words}: status", got, status)
 
 
+def latin_locale(folder: Path) -> dict[str, str]:
+    """The settings of a locale in Latin-1, which is made in a folder."""
+    place = folder / "locales"
+    place.mkdir(exist_ok=True)
+    place.chmod(0o755)
+    words = ["localedef", "-i", "de_DE", "-f", "ISO-8859-1", str(place / "de_DE.ISO-8859-1")]
+    if not shutil.which("localedef") or subprocess.run(words, check=False, capture_output=True).returncode:
+        raise LeftOut("no locale in Latin-1 can be made")
+    return {"LOCPATH": str(place), "LC_ALL": "de_DE.ISO-8859-1"}
+
+
 def hand_over(*paths: Path) -> None:
     """Gives files, and what is below folders, to the owner of the mail, but not what a symbolic link leads to."""
     if is_root():

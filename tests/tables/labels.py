@@ -12,8 +12,8 @@ from pathlib import Path
 
 from tests.support.cases import LeftOut
 from tests.support.checks import equal, matches
-from tests.support.homes import by_json, check_all, checks_in, expect, mailbox, make_maildir, run, run_printed, subjects
-from tests.support.homes import want_users
+from tests.support.homes import by_json, check_all, checks_in, expect, latin_locale, mailbox, make_maildir, run
+from tests.support.homes import run_printed, subjects, want_users
 from tests.support.ledgers import RECORD
 from tests.support.mail import ONE
 from tests.support.mounts import small_disk
@@ -751,6 +751,25 @@ def files_without_mail(home: Path) -> None:
     equal("by the command", run_printed(command, home).status, 0)
     words = ["migrate", "--labels", "--no-mail", "to*", "N", "to do", "t.mbox"]
     equal("by a pattern", by_json(words, home).of("to do")["verdict"], "no mail")
+
+
+def whatever_the_locale(home: Path) -> None:
+    """Labels and the names of folders are UTF-8 in words, in headers and in the record, as they are in mail."""
+    latin = latin_locale(home)
+    garden, sheds = "\u0441\u0430\u0434", "=?UTF-8?Q?f=C3=BCr?="
+    takeout(home, [("one", garden), ("two", f"{garden},\u00e9t\u00e9"), ("three", sheds), ("four", "Inbox")])
+    words = ["migrate", "--labels", "--label", f"{garden}=none", "M", "t.mbox"]
+    expect(words, home, 0, None, **latin)
+    there = {"": ["four"], ".Archive": ["one"], ".&AOk-t&AOk-": ["two"], ".f&APw-r": ["three"]}
+    equal("the folders", folders_in(home / "M"), there)
+    takeout(home, [(name, garden) for name in ("one", "two", "three")], "u.mbox")
+    row = by_json("migrate --labels M u.mbox", home, **latin).row
+    equal("the answers", [f"{garden}={gives}" in command for gives, command in zip(GIVES, row.commands)], [True] * 3)
+    expect("migrate --labels M t.mbox", home, 0, "4 mailboxes: 4 done before\n", **latin)
+    expect("migrate --labels M t.mbox", home, 0, "4 mailboxes: 4 done before\n")
+    mailbox(home / "box", ONE)
+    expect(["migrate", "--folder", "M\u00e4rz", "N", "box"], home, 0, None, **latin)
+    equal("a name that was typed", [*folders_in(home / "N")], [".M&AOQ-rz"])
 
 
 def a_look_has_its_folder(home: Path) -> None:

@@ -3,7 +3,6 @@ import collections
 import functools
 import gc
 import importlib
-import os
 import sys
 from collections.abc import Iterable, Sequence
 from typing import Any, NoReturn
@@ -11,7 +10,7 @@ from typing import Any, NoReturn
 from .. import ADMIN
 from ..faults import Status
 from ..nexts import Does
-from ..terminal import complain, put, shown, write
+from ..terminal import bytes_of, complain, put, shown, text_of, write
 from .options import USERS, Given, Option, WrongOptions, options_of, want_homes, want_together
 from .words import COMMANDS, PROGRAM, Words
 
@@ -67,10 +66,10 @@ class Command:
         while rest:
             word = rest.popleft()
             if word == "--":
-                given.operands += map(os.fsencode, rest)
+                given.operands += map(bytes_of, rest)
                 rest.clear()
             elif word == "-" or not word.startswith("-"):
-                given.operands.append(os.fsencode(word))
+                given.operands.append(bytes_of(word))
             else:
                 given.typed.append(self.take(word, rest, given))
         if given.help:
@@ -149,7 +148,7 @@ def run(words: Sequence[str]) -> int:
         put("%s %s" % (ADMIN, version()))
         return Status.WELL
     for name in given.operands:
-        program.error("%s: no such command%s" % (shown(name), like(os.fsdecode(name), commands)))
+        program.error("%s: no such command%s" % (shown(name), like(text_of(name), commands)))
     program.error("the command is missing: %s" % ", ".join(commands))
     return Status.LEFT
 

@@ -1,5 +1,4 @@
 """The command `migrate`: the whole migration of mailboxes, and the way back."""
-import os
 from collections.abc import Iterator, Sequence
 
 from ..faults import Left, Reason, Status
@@ -11,7 +10,7 @@ from ..migration.rows import Reporter, Shows
 from ..migration.options import Options
 from ..nexts import Runs, run_next
 from ..readings.reading import UNDECIDED
-from ..terminal import complain, has_terminal, named, operand
+from ..terminal import bytes_of, complain, has_terminal, named, operand
 from .options import Given, WrongOptions, decision_of, jobs_in, labels_of
 from .running import Telling, reporter_of, run_reported, spool_of
 
@@ -56,7 +55,9 @@ def task_of(given: Given) -> Telling:
             for_users(spool_of(given, options), reporter)
         elif given.undo:
             undo(target, names[0], options, reporter)
-        elif not leave_unquoted(given.operands, options, reporter):
+        elif leave_unquoted(given.operands, options, reporter):
+            return
+        else:
             migrate_named(target, names, options, reporter)
         unmet = [tie for tie in given.of.split(",") if tie not in reporter.kept.ties]
         if given.of and unmet and not is_one(given):
@@ -132,7 +133,7 @@ def options_in(given: Given, alone: bool) -> Options:
         raise WrongOptions("--folder %s: %s" % (named(given.folder), why))
     if given.users and given.drop_deleted and not given.of:
         raise WrongOptions("--drop-deleted needs --of to go with --users")
-    spared, decision = tuple(map(os.fsencode, given.no_mail)), decision_of(given, alone)
+    spared, decision = tuple(map(bytes_of, given.no_mail)), decision_of(given, alone)
     options = Options(given.dry_run, given.again, given.dovecot, given.folder, spared, given.now, decision, jobs=jobs)
     options = options._replace(any_disk=given.any_disk, labels=labels_of(given))
     options = options._replace(prepare=given.prepare, unread=given.unread)

@@ -76,7 +76,7 @@ class Asker(Reporter):
         """Runs the command of an answer. If it can't even begin, the mailbox has the row that it had."""
         self.begun, self.total, self.answered = self.begun - 1, self.total - 1, row.path
         try:
-            run([os.fsdecode(bytes_of(word)) for word in answer.command.names_for(Runs.MIGRATE)])
+            run(answer.command.names_for(Runs.MIGRATE))
         except (Fault, OSError) as fault:
             complain_of(fault)
             super().row(row)

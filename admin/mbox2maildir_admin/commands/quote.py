@@ -1,5 +1,4 @@
 """The command `quote`: a copy of a mailbox for `mbox2maildir convert`."""
-import os
 
 from ..faults import Status
 from ..flags.dovecot_headers import internal_head
@@ -10,7 +9,7 @@ from ..readings.copies import Copy
 from ..readings.plans import Plan, Question, plan_of
 from ..readings.quoting import Quoter, give_all, write_copy
 from ..readings.reading import PLAIN, Reading
-from ..terminal import named, operand, put, write
+from ..terminal import bytes_of, named, operand, put, write
 from ..units import Say, silent
 from .files import Complaints, each
 from .options import Given, WrongOptions, decision_of
@@ -22,7 +21,7 @@ def do_quote(given: Given) -> int:
     """Writes a copy."""
     if not given.output:
         raise WrongOptions("-o COPY is missing: the name of the copy, or - for standard output")
-    decision, output = decision_of(given, True), os.fsencode(given.output)
+    decision, output = decision_of(given, True), bytes_of(given.output)
     is_bare, complaints = bool(given.dovecot), Complaints()
     each(given.operands, lambda file: quote_file(decision, file, output, is_bare), complaints)
     return Status.of(complaints.is_well)

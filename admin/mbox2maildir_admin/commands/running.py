@@ -1,6 +1,5 @@
 """How a command runs that tells what becomes of mailboxes: whose they are, its rows, its report and its last line."""
 import contextlib
-import os
 import sys
 from collections.abc import Callable, Mapping
 from typing import TYPE_CHECKING, Optional
@@ -8,7 +7,7 @@ from typing import TYPE_CHECKING, Optional
 from ..faults import Status
 from ..migration.options import Options
 from ..migration.rows import INTERRUPTED, STAGES, Reporter, Shows
-from ..terminal import OutputFault, complain, drop
+from ..terminal import OutputFault, bytes_of, complain, drop
 from .options import Given
 
 if TYPE_CHECKING:
@@ -35,8 +34,8 @@ def spool_of(given: Given, options: Options) -> "Spool":
     from ..users.spool import asked_for
 
     path, *names = given.operands
-    asked = asked_for(names, None if given.names is None else os.fsencode(given.names))
-    return Spool(path, os.fsencode(given.maildir), os.fsencode(given.tree or ""), options, asked)
+    asked = asked_for(names, None if given.names is None else bytes_of(given.names))
+    return Spool(path, bytes_of(given.maildir), bytes_of(given.tree or ""), options, asked)
 
 
 def run_reported(task: Telling, reporter: Reporter, report: Optional[str], after: str) -> int:
@@ -46,7 +45,7 @@ def run_reported(task: Telling, reporter: Reporter, report: Optional[str], after
     if report is not None:
         from ..migration.objects import Report
 
-        reporter.objects.insert(0, written.enter_context(contextlib.closing(Report(os.fsencode(report)))))
+        reporter.objects.insert(0, written.enter_context(contextlib.closing(Report(bytes_of(report)))))
     try:
         task(reporter)
         return reporter.end(*reporter.notes)

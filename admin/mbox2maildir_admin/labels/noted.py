@@ -1,7 +1,6 @@
 """What the record notes of a mailbox that goes into the folders of its labels: what was said about labels, and which
 folders these are. It is noted before the first message is placed, and that it is undone after the last one is gone."""
 import itertools
-import os
 from typing import NamedTuple, Optional
 
 from ..faults import Fault
@@ -9,6 +8,7 @@ from ..ledger.history import Entry, History, Key, Note, names_of
 from ..ledger.record import Record, is_gone, unspelled
 from ..maildir.folders import INBOX
 from ..mbox.mailbox import Mailbox
+from ..terminal import bytes_of, text_of
 from .choosing import GIVES, Choosing
 
 # the words of a mailbox without such folders
@@ -23,7 +23,7 @@ class Noted(NamedTuple):
 
     def words(self) -> str:
         """The words by which the record has it."""
-        labels = ["%s=%s" % (gives, encoded(os.fsencode(label))) for label, gives in self.choosing.given]
+        labels = ["%s=%s" % (gives, encoded(bytes_of(label))) for label, gives in self.choosing.given]
         return " ".join(["word=%s" % self.choosing.word, *labels, *("in=%s" % encoded(one) for one in self.folders)])
 
     @classmethod
@@ -32,7 +32,7 @@ class Noted(NamedTuple):
         from urllib.parse import unquote_to_bytes
 
         pairs = [word.partition("=")[::2] for word in (line.words or "" if line else "").split(" ")]
-        given = tuple((os.fsdecode(unquote_to_bytes(label)), gives) for gives, label in pairs if gives in GIVES)
+        given = tuple((text_of(unquote_to_bytes(label)), gives) for gives, label in pairs if gives in GIVES)
         folders = tuple(unquote_to_bytes(name) for what, name in pairs if what == "in")
         return cls(Choosing(dict(pairs).get("word", ""), given), folders)
 

@@ -11,7 +11,7 @@ from ..maildir.folders import INBOX, words_of
 from ..nexts import Command, Runs
 from ..readings.plans import Question
 from ..readings.reading import UNDECIDED, Reading
-from ..terminal import operand, option
+from ..terminal import bytes_of, operand, option
 from .known import Opened
 from .steps import Extra
 
@@ -66,7 +66,7 @@ class Options(NamedTuple):
         for pattern in self.no_mail:
             words += option("--no-mail", pattern)
         words += ["--again"] * again + self.decision.options() + (self.labels.words() if self.labels else [])
-        return words + ([] if self.folder is None else option("--folder", os.fsencode(self.folder)))
+        return words + ([] if self.folder is None else option("--folder", bytes_of(self.folder)))
 
     def passes_over(self, path: bytes, is_known: bool) -> bool:
         """Whether a file that is not mbox text is passed over, by its path and whether its kind is known."""
