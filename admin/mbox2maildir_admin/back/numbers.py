@@ -23,7 +23,7 @@ from ..flags.dovecot_headers import (
     MOST_VALIDITY,
     NO_KEYWORD,
     FromHeaders,
-    Head,
+    MailboxHead,
     fields_of,
     head_of,
     internal_head,
@@ -96,7 +96,7 @@ class Base(NamedTuple):
     the mailbox, and where the value of the line begins and ends in the header. In a mailbox that Dovecot keeps empty by
     a message of its own, the rest of that, which may move."""
 
-    head: Head
+    head: MailboxHead
     offset: int
     header: bytes
     begin: int
@@ -118,7 +118,7 @@ class Base(NamedTuple):
                 return cls(head, header.offset, header.text, field.begin, field.begin + len(field.value), rest)
         return None
 
-    def header_with(self, wanted: Head, keywords: Sequence[bytes]) -> Optional[bytes]:
+    def header_with(self, wanted: MailboxHead, keywords: Sequence[bytes]) -> Optional[bytes]:
         """The header with these numbers, and with these keywords after those that are named. Unless the rest may move,
         it grows into the blanks that Dovecot leaves in a header; None if there are too few, or if a power cut could
         take bytes away, since the disk does not write all that changes at once."""
@@ -232,7 +232,7 @@ class Numbering:
             base.write(mailbox, header)
         return new
 
-    def wanted(self, head: Head) -> Head:
+    def wanted(self, head: MailboxHead) -> MailboxHead:
         """What a mailbox with this head is to say."""
         is_same = self.listed is not None and self.listed.validity == head.validity
         if self.listed and is_same and self.is_numbered:

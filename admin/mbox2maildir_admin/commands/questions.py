@@ -8,7 +8,7 @@ from collections.abc import Sequence
 from typing import Optional
 
 from ..faults import Fault, complain_of
-from ..mbox.lines import AROUND, cut, texts_of
+from ..mbox.lines import AROUND, cut, texts_of, with_around
 from ..mbox.mailbox import Mailbox
 from ..migration.block import LETTERS, Group, answers_of, groups_of
 from ..migration.outcomes import Row
@@ -122,7 +122,7 @@ def lines_of(row: Row, around: int, names: Sequence[bytes]) -> tuple[Quote, ...]
     answer finds out; in a tree it may be a symbolic link, and none is followed there."""
     maildir, path = map(bytes_of, answers_of(row)[0].command.names_for(Runs.MIGRATE)[-2:])
     asked = {quote.line: quote for quote in row.quotes if not quote.is_around}
-    wanted = sorted({line for one in asked for line in range(one - around, one + around + 1)})
+    wanted = with_around(asked, around)
     try:
         with Mailbox.open(path, say_of(path), row.path in names) as mailbox:
             with content_of(mailbox, folder_for_copies(maildir)) as text:

@@ -46,7 +46,7 @@ CONVERTED = {b"A": "R", b"D": "T", b"F": "F", b"R": "S"}
 Numbers = tuple[int, int, Iterable[tuple[int, Place]]]
 
 
-class Head(NamedTuple):
+class MailboxHead(NamedTuple):
     """What an `X-IMAPbase` or `X-IMAP` of the first message says, and whether Dovecot hides that message."""
 
     validity: int
@@ -71,7 +71,7 @@ def fields_of(header: bytes) -> list[Field]:
     return [Field(field[1].lower(), field[3], bool(field[2]), field.start(3)) for field in found]
 
 
-def head_of(field: Field) -> Optional[Head]:
+def head_of(field: Field) -> Optional[MailboxHead]:
     """The head that a field holds, if it is well formed."""
     found = HEAD.match(field.value) if field.name in (b"x-imapbase", b"x-imap") else None
     if not found or not number_of(found.group(1)):
@@ -82,7 +82,7 @@ def head_of(field: Field) -> Optional[Head]:
             # each counts once, whatever its case
             names.setdefault(name.lower(), name)
     keywords, is_hidden = list(names.values()), field.name == b"x-imap"
-    return Head(number_of(found.group(1)), number_of(found.group(2)), keywords, is_hidden)
+    return MailboxHead(number_of(found.group(1)), number_of(found.group(2)), keywords, is_hidden)
 
 
 def number_of(digits: bytes) -> int:
@@ -90,7 +90,7 @@ def number_of(digits: bytes) -> int:
     return int(digits[-32:]) & MOST_VALIDITY
 
 
-def internal_head(mailbox: Mailbox, start: Offset) -> tuple[Optional[Head], Offset]:
+def internal_head(mailbox: Mailbox, start: Offset) -> tuple[Optional[MailboxHead], Offset]:
     """The head of the message by which Dovecot and UW-IMAP keep an empty mailbox, and the offset at which that message
     ends. There is no head unless the text that begins at `start` begins with exactly this message."""
     text = mailbox.at(start, LONGEST_INTERNAL)
@@ -110,7 +110,7 @@ def internal_head(mailbox: Mailbox, start: Offset) -> tuple[Optional[Head], Offs
 class FromHeaders:
     """What is read of a mailbox, message by message in their order. A message that `X-IMAP` hides comes last."""
 
-    def __init__(self, head: Optional[Head] = None) -> None:
+    def __init__(self, head: Optional[MailboxHead] = None) -> None:
         """Begins with `head`, that of a message before the first, which is left out."""
         self.head, self.hides_first = head, False
         # the places of keywords, by their names in lower case
@@ -123,7 +123,7 @@ class FromHeaders:
         if head:
             self.begin(head)
 
-    def begin(self, head: Head) -> None:
+    def begin(self, head: MailboxHead) -> None:
         """Takes the head of the mailbox."""
         self.head, self.last = head, max(self.last, head.last)
         self.names = {name.lower(): place for place, name in enumerate(head.keywords)}
@@ -187,7 +187,7 @@ class FromHeaders:
         return self.head.validity, last + 1, ((self.uids[place] or last, place) for place in order)
 
 
-def first_head(mailbox: Mailbox, start: Offset) -> Optional[Head]:
+def first_head(mailbox: Mailbox, start: Offset) -> Optional[MailboxHead]:
     """The head of a mailbox whose text begins at an offset; None if Dovecot has given it no UIDs."""
     found = FromHeaders(internal_head(mailbox, start)[0])
     found.add(Header.at(mailbox, start).text)

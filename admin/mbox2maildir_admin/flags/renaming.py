@@ -78,7 +78,7 @@ def add_flags(
     sync_names(folder)
 
 
-def rename(folder: bytes, inventory: Inventory, marks: Sequence[int]) -> Infos:
+def give_marks(folder: bytes, inventory: Inventory, marks: Sequence[int]) -> Infos:
     """Gives each message the flags and keywords of its marks, which Dovecot's mbox driver knew. Returns the infos of
     the files by their places."""
     infos: Infos = [None] * len(inventory)

@@ -2,9 +2,9 @@
 lines an answer about these is tied.
 
 A tie is a digest over what the text is and, for each doubtful line in order, its number among them, why it is doubtful,
-and the line with those around it, as they are shown. Header fields that mail programs write for themselves do not count
-among these. So a tie stays the same while nothing else is doubtful, whatever is delivered, or noted in headers. The tie
-of numbers, by which lines are named, has these too.
+and the line with a few around it, as far as the lines `From ` before and after it. Header fields that mail programs
+write for themselves do not count among these. So a tie stays the same while nothing else is doubtful, whatever is
+delivered, or noted in headers. The tie of an answer that names lines is over the numbers of all these lines too.
 """
 import array
 import functools

@@ -128,7 +128,7 @@ class Profile:
         return (b"/".join(parts[:2]), parts[2]) if len(parts) == 3 and parts[0] in OF_ACCOUNTS else (b"", b"")
 
     def place(self, path: bytes) -> MailboxPlace:
-        """The place of a mailbox."""
+        """The place of a mailbox. It has its account only if another one has mail for the same folder."""
         account, below = self.parted(path)
         if not account:
             return MailboxPlace(b"", os.path.relpath(path, self.path))
@@ -181,5 +181,5 @@ class Profiles:
 
 
 def is_profile(path: bytes) -> bool:
-    """Whether a folder is a profile."""
+    """Whether a folder has the settings of a profile, and one of its folders for accounts."""
     return is_file(os.path.join(path, PREFERENCES)) and any(is_folder(os.path.join(path, one)) for one in OF_ACCOUNTS)

@@ -11,7 +11,7 @@ from ..mbox.dates import is_dated
 from ..mbox.fields import LENGTH, Header
 from ..mbox.files import LONG
 from ..mbox.inventory import NOTE, WithPlain, has_marks, may_hold_mail, plain_of
-from ..mbox.lines import Lines, AskedAbout, Said
+from ..mbox.lines import AskedAbout, Lines, Said
 from ..mbox.mailbox import Mailbox
 from ..mbox.pieces import FROM, Piece, header_of
 from ..terminal import NAMED
@@ -28,10 +28,10 @@ IN_LINE = bytes(byte for byte in range(256) if byte != ord("\n"))
 
 def signs_of(mailbox: Mailbox, piece: Piece) -> tuple[bool, bool]:
     """Whether the line `From ` of a piece has a date, and whether a header follows it."""
-    data, body = piece.data, piece.body
-    if body == len(data) and not piece.ends:
-        data, body = mailbox.at(end_of_row(mailbox, piece.offset, IN_LINE) + 1, LONG), 0
-    return is_dated(piece.from_line), OPENING.match(data, body) is not None
+    data, begin = piece.data, piece.mail_start
+    if begin == len(data) and not piece.ends:
+        data, begin = mailbox.at(end_of_row(mailbox, piece.offset, IN_LINE) + 1, LONG), 0
+    return is_dated(piece.from_line), OPENING.match(data, begin) is not None
 
 
 class Look:
@@ -67,14 +67,15 @@ class Look:
     def read_begun(self) -> "Look":
         """Looks at as much of the text as shows its format."""
         for _ in self.passed():
-            if self.needs_no_copy:
+            if self.may_need_no_copy:
                 break
         return self
 
     @property
-    def needs_no_copy(self) -> bool:
-        """Whether no copy is made of the text unless a later From_ line ends in CR LF, since a message has no right
-        length."""
+    def may_need_no_copy(self) -> bool:
+        """Whether most likely no copy is made of the text, by what was seen of it so far: a message has no correct
+        length, and no From_ line ends in CR LF. One is made all the same if a later one does, or if lines `From ` turn
+        out to be text by the lengths of other messages."""
         lacks_length = self.without or self.count("wrong")
         return bool(not self.start and lacks_length and not self.count("CR LF"))
 
@@ -86,9 +87,9 @@ class Look:
             if plain and piece.offset >= self.claimed and piece.offset > self.start:
                 # a plain message, but the first one
                 self.seen["dated"].count += 1
-                self.header(piece, plain.end + 1, plain.is_marked)
+                self.begin_message(piece, plain.end + 1, plain.is_marked)
             elif piece.begins:
-                self.begin(piece)
+                self.take_line(piece)
             if piece.has_from or not plain:
                 self.text(piece)
             yield piece, plain
@@ -111,7 +112,7 @@ class Look:
         data = piece.data
         # the search for a single byte is the faster one by far
         if b"\r" in data and not self.is_crlf and not self.count("CR in text"):
-            place = data.find(b"\r\n", piece.body)
+            place = data.find(b"\r\n", piece.mail_start)
             if place >= 0:
                 self.seen["CR in text"].add(piece.offset + place)
         if not piece.has_from:
@@ -127,7 +128,7 @@ class Look:
                 self.seen["joined"].add(offset, from_line)
                 self.doubts.add(offset)
 
-    def begin(self, piece: Piece) -> None:
+    def take_line(self, piece: Piece) -> None:
         """Looks at a line `From `, and at the header after it."""
         from_line, inside = piece.from_line, piece.offset < self.claimed
         dated, has_header = signs_of(self.mailbox, piece)
@@ -170,9 +171,9 @@ class Look:
 
     def is_alone(self, piece: Piece) -> bool:
         """Whether neither a header nor text follows a From_ line, but an empty line or the end."""
-        end, body = header_of(piece.data, piece.body)
-        body, is_empty = piece.offset + body, not piece.data[piece.body : end].strip(b"\r\n")
-        is_there = body > piece.offset + piece.body or body == self.mailbox.size
+        end, body = header_of(piece.data, piece.mail_start)
+        body, is_empty = piece.offset + body, not piece.data[piece.mail_start : end].strip(b"\r\n")
+        is_there = body > piece.offset + piece.mail_start or body == self.mailbox.size
         rest = end_of_row(self.mailbox, Offset(body), b"\r\n")
         return is_there and is_empty and self.mailbox.at(rest, len(FROM)) in (b"", FROM)
 
@@ -184,12 +185,12 @@ class Look:
             self.seen["CR LF"].add(piece.offset, from_line[:-1])
         if GIT.match(from_line):
             self.seen["git"].add(piece.offset)
-        begin = piece.body
+        begin = piece.mail_start
         end, body = header_of(piece.data, begin)
-        self.header(piece, body, has_marks(piece.data[begin:end]))
+        self.begin_message(piece, body, has_marks(piece.data[begin:end]))
         self.is_crlf = from_line.endswith(b"\r")
 
-    def header(self, piece: Piece, body: int, is_marked: bool) -> None:
+    def begin_message(self, piece: Piece, body: int, is_marked: bool) -> None:
         """Begins a message, whose body begins at a place of its piece. Looks at what programs wrote into its header, if
         that has anything of it, and at its length."""
         # what a correct length has ended is whole

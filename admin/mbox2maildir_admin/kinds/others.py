@@ -99,7 +99,7 @@ def is_emlx(mailbox: Mailbox) -> bool:
 
 
 def is_mailbox_log(mailbox: Mailbox) -> bool:
-    """Whether it has only records of Dovecot: a byte that is one of four, 16 bytes for a mailbox, and four for a time.
+    """Whether it has only records of Dovecot: four bytes for a number up to 12, 16 for a mailbox, and four for a time.
     Of a long file only the beginning tells."""
     return mailbox.size > WHOLE or LOG.match(mailbox.at(0, WHOLE)) is not None
 

@@ -119,7 +119,7 @@ def may_be_mail(mailbox: Mailbox, piece: Piece, end: int) -> bool:
     """Whether a line `From ` without a date, in a message that ends at an offset, may begin another one: a header
     follows, perhaps after what rmail puts before that, or it has an address alone, or a word alone between blank
     lines."""
-    from_line, offset = piece.from_line, piece.offset + piece.body
+    from_line, offset = piece.from_line, piece.offset + piece.mail_start
     begins = mailbox.at(offset, LONG)
     by_rmail = BY_RMAIL.match(begins)
     if ADDRESS.match(from_line) or OPENING.match(begins, by_rmail.end() if by_rmail else 0):
@@ -133,7 +133,7 @@ def joins_in(mailbox: Mailbox, piece: Piece, body: int) -> Iterator[tuple[Offset
     a From_ line, or after a text whose last line has no end, as `cat a b` joins it with the next text. `body` is the
     offset at which the body of the message begins."""
     data = piece.data
-    for found in FROM_IN_LINE.finditer(data, piece.body):
+    for found in FROM_IN_LINE.finditer(data, piece.mail_start):
         if not found[0].endswith(b"\n"):
             return
         end = found.end() - 1

@@ -74,8 +74,8 @@ def bared(piece: Piece) -> bytes:
     """The bare text of a piece."""
     if piece.field is None:
         return piece.data
-    end, body = header_of(piece.data, piece.body)
-    text = without(HIDDEN_FIELD, piece.data, piece.body, end, piece.field)
+    end, body = header_of(piece.data, piece.mail_start)
+    text = without(HIDDEN_FIELD, piece.data, piece.mail_start, end, piece.field)
     if body - end < 2:
         return text
     # the empty line loses its CR
@@ -97,7 +97,7 @@ class Header:
     @classmethod
     def of(cls, piece: Piece) -> "Header":
         """The header of a message that a piece begins."""
-        begin, (end, body) = piece.body, header_of(piece.data, piece.body)
+        begin, (end, body) = piece.mail_start, header_of(piece.data, piece.mail_start)
         return cls(piece.data[begin:end], Offset(piece.offset + begin), Offset(piece.offset + body))
 
     @classmethod

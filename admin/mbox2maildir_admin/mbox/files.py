@@ -56,7 +56,7 @@ def has_holes(number: int, size: int) -> bool:
 
 
 def open_regular(path: bytes, flags: int) -> int:
-    """Opens a regular file for reading, and returns its descriptor. Raises Fault for anything else."""
+    """Opens a regular file, for reading unless the flags say more. Returns its descriptor. Raises Fault otherwise."""
     try:
         number = os.open(path, REGULAR | flags)
     except OSError as fault:

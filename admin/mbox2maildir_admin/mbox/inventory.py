@@ -44,7 +44,7 @@ class Plain(NamedTuple):
     begins, where that and the message end, its date, its header without what programs note, if they noted anything, and
     whether that is to be looked at."""
 
-    body: int
+    mail_start: int
     end: int
     last: int
     date: int
@@ -62,9 +62,9 @@ def plain_of(piece: Piece) -> Optional[Plain]:
     found = BEGINS.match(data) if piece.begins and piece.ends else None
     if not found or b"\r" in data or not data.endswith(b"\n"):
         return None
-    parts, body = found.groups(), found.end()
-    end = data.find(b"\n\n", body) + 1
-    date, header = seconds_of_plain(*parts), data[body - 1 : end]
+    parts, mail_start = found.groups(), found.end()
+    end = data.find(b"\n\n", mail_start) + 1
+    date, header = seconds_of_plain(*parts), data[mail_start - 1 : end]
     is_odd = parts == GIT or NOTE in header or piece.has_from and FROM in header
     if date is None or not end or is_odd:
         return None
@@ -72,7 +72,7 @@ def plain_of(piece: Piece) -> Optional[Plain]:
     if count and len(bare) < 2:
         return None
     last, is_marked = len(data) - data.endswith(b"\n\n"), count > 0 and has_marks(header)
-    return Plain(body, end, last, date, bare[1:] if count else None, is_marked)
+    return Plain(mail_start, end, last, date, bare[1:] if count else None, is_marked)
 
 
 def has_marks(header: bytes) -> bool:
@@ -100,25 +100,25 @@ class Message(NamedTuple):
 
 
 def may_hold_mail(from_line: bytes) -> bool:
-    """Whether a From_ line may hold mail, as after a CR, or after NUL bytes that a crash left."""
+    """Whether a From_ line may hold mail: after a CR, after NUL bytes that a crash left, or since it is too long."""
     return b"\r" in from_line[:-1] or b"\0" in from_line or len(from_line) > LONG
 
 
 def of_plain(piece: Piece, plain: Plain, with_cores: bool) -> Message:
     """The message that a piece is, of which this is known. What several forms of it begin with is hashed once, and
     nothing is copied."""
-    data, (body, end, last, date, bare, _) = memoryview(piece.data), plain
+    data, (begin, end, last, date, bare, _) = memoryview(piece.data), plain
     of_core = of_bare = b""
     if with_cores:
-        form = hashlib.sha256(data[body:end] if bare is None else bare)
+        form = hashlib.sha256(data[begin:end] if bare is None else bare)
         core_end = len(piece.data[:last].rstrip(b"\n")) + 1 if piece.data.endswith(b"\n\n", 0, last) else last
         form.update(data[end:core_end])
         of_core = of_bare = form.digest()
         if core_end < last:
             form.update(data[core_end:last])
             of_bare = form.digest()
-    digest = of_bare if with_cores and bare is None else hashlib.sha256(data[body:last]).digest()
-    return Message(piece.offset, last - body, digest, of_core[:SHORT], of_bare[:SHORT], date, False, 0, len(data))
+    digest = of_bare if with_cores and bare is None else hashlib.sha256(data[begin:last]).digest()
+    return Message(piece.offset, last - begin, digest, of_core[:SHORT], of_bare[:SHORT], date, False, 0, len(data))
 
 
 class Begun:
@@ -130,15 +130,15 @@ class Begun:
 
     def take(self, piece: Piece) -> None:
         """Takes a piece. Of a quoted line the first `>` is left out, and of the message the blank line at its end."""
-        body, count = piece.body, 0
-        mail = piece.data[body:]
+        begin, count = piece.mail_start, 0
+        mail = piece.data[begin:]
         is_blank = piece.ends and (mail == b"\n" or mail.endswith(b"\n\n"))
         mail = mail[:-1] if is_blank else mail
         if piece.has_quote:
             mail, count = FIRST_QUOTE.subn(b"\n", b"\n" + mail)
             mail = mail[1:]
         self.digests.take(mail, piece.field)
-        self.unquoted, self.read = self.unquoted + count, self.read + body + len(mail) + count + is_blank
+        self.unquoted, self.read = self.unquoted + count, self.read + begin + len(mail) + count + is_blank
 
     def message(self) -> Message:
         """The whole message."""

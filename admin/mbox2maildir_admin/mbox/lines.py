@@ -1,5 +1,5 @@
 """Lines of a text about which something is said, and how they are shown."""
-from collections.abc import Collection, Sequence
+from collections.abc import Collection, Iterable, Sequence
 from typing import NamedTuple, Optional
 
 from ..nexts import Quote
@@ -9,7 +9,7 @@ from .mailbox import Mailbox
 
 # how many letters of a line are shown, and the most bytes that these may have
 MOST_LETTERS, MOST_BYTES = 72, 4 * 72
-# how many lines are shown before and after one that is asked about, and the most that are asked about
+# how many lines are shown before and after one that is asked about, and how many of these are shown at most
 AROUND, MOST_ASKED = 3, 6
 
 
@@ -50,12 +50,17 @@ class AskedAbout(NamedTuple):
         return self.said[0].sentence() + (" (and %d more)" % (self.total - 1) if self.total > 1 else "")
 
 
+def with_around(lines: Iterable[int], around: int = AROUND) -> list[int]:
+    """The numbers of lines, with so many before and after each."""
+    return sorted({near for line in lines for near in range(line - around, line + around + 1)})
+
+
 def lines_around(mailbox: Mailbox, asked_about: AskedAbout) -> list[Quote]:
     """The first lines because of which something is asked, and the lines around them. If what one is about stands
     behind its beginning, that is shown."""
     first = sorted({one.line for one in asked_about.said if one.line})[:MOST_ASKED]
     asked = {one.line: one.text for one in asked_about.said if one.line in first}
-    wanted = sorted({line for one in asked for line in range(one - AROUND, one + AROUND + 1)})
+    wanted = with_around(asked)
     shown_by = {line: cut(text) for line, text in texts_of(mailbox, wanted).items()}
     for line, text in asked.items():
         if line in shown_by and text not in shown_by[line]:

@@ -1,5 +1,5 @@
-"""An open mailbox, and its digest. It is read by `pread`, since the offset of its descriptor belongs to mbox2maildir
-alone."""
+"""An open text, which is a mailbox, a copy of one, or what one holds; its digest, and whether it stays as it is. It is
+read by `pread`, since the offset of its descriptor belongs to mbox2maildir alone."""
 import hashlib
 import os
 from collections.abc import Iterable, Iterator

@@ -39,8 +39,8 @@ class Piece(NamedTuple):
     begun: Optional[bytes] = None
 
     @property
-    def body(self) -> int:
-        """Where the line `From ` ends."""
+    def mail_start(self) -> int:
+        """Where the line `From ` ends, and the mail begins."""
         begun = self.begun or b""
         is_there = self.begins or begun.startswith(FROM) and b"\n" not in begun
         return (self.data.find(b"\n") + 1 or len(self.data)) if is_there else 0
@@ -48,12 +48,12 @@ class Piece(NamedTuple):
     @property
     def field(self) -> Optional[bytes]:
         """What begins the field before the header of which it has something; None if it has nothing of one."""
-        return b"" if self.body else self.begun
+        return b"" if self.mail_start else self.begun
 
     @property
     def from_line(self) -> bytes:
         """The line `From `, as far as anything reads it, without its end."""
-        return self.data[: min(self.body, LONG + 2)].split(b"\n")[0][: LONG + 1]
+        return self.data[: min(self.mail_start, LONG + 2)].split(b"\n")[0][: LONG + 1]
 
 
 def pieces_of(read: Read, offset: int = 0, parted_at: re.Pattern[bytes] = ANY_FROM) -> Iterator[Piece]:
@@ -82,7 +82,7 @@ def pieces_of(read: Read, offset: int = 0, parted_at: re.Pattern[bytes] = ANY_FR
             piece = Piece(Offset(offset), data[:cut], begins, False, has_from, has_quote, begun)
             yield piece
             if begun is not None:
-                begun = None if header_of(data, piece.body)[1] <= cut else last_begun(b"\n" + begun + piece.data)
+                begun = None if header_of(data, piece.mail_start)[1] <= cut else last_begun(b"\n" + begun + piece.data)
             offset, data, begins = offset + cut, data[cut:], False
             has_from, has_quote = has_from and FROM in data, has_quote and FROM in data
         # a word that has begun at the end

@@ -24,7 +24,7 @@ from ..flags.dovecot_headers import (
     is_listed,
     marks_of,
 )
-from ..flags.renaming import add_flags, rename
+from ..flags.renaming import add_flags, give_marks
 from ..ledger.history import Key, Note, names_of
 from ..ledger.record import Record
 from ..looks import is_there
@@ -151,7 +151,7 @@ class Dovecot(Extra):
         if found.keywords:
             text = b"".join(b"%d %s\n" % pair for pair in enumerate(found.keywords[:LETTERS]))
             place_file(opened.folder, KEYWORDS, text, self.writer(opened.name))
-        infos = rename(opened.folder, whole, found.marks)
+        infos = give_marks(opened.folder, whole, found.marks)
         validity, following, order = found.numbers(one.begun_at)
         listed = io.BytesIO()
         listed.write(b"3 V%d N%d\n" % (validity, following))

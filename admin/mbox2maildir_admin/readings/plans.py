@@ -1,4 +1,4 @@
-"""Which part of a mailbox is converted, and how it is read: as is certain, or as a human decided."""
+"""From where on a mailbox is converted, and how it is read: as is certain, or as a human decided."""
 import os
 from collections.abc import Callable, Sequence
 from typing import NamedTuple, Optional
@@ -7,7 +7,7 @@ from ..faults import Fault, Left, Reason
 from ..kinds.look import HowFar, Look
 from ..kinds.making import Recipe, Where
 from ..kinds.others import Holds
-from ..mbox.lines import Lines, AskedAbout, Said, cut, lines_around
+from ..mbox.lines import AskedAbout, Lines, Said, cut, lines_around
 from ..mbox.mailbox import Mailbox
 from ..nexts import Answer, Command, Does, Phrase, Quote
 from ..remarks import Remark, Says

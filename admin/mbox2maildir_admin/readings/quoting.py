@@ -146,7 +146,8 @@ class Quoter:
         self.crlf += self.is_crlf
         end = header.message_end(self.mailbox) if header else None
         self.claimed = end or Offset(0)
-        deleted = is_deleted(data[piece.body : header_of(data, piece.body)[0]]) if self.reading.ends != CR else None
+        header_end, _ = header_of(data, piece.mail_start)
+        deleted = is_deleted(data[piece.mail_start : header_end]) if self.reading.ends != CR else None
         self.marked, self.deleted = self.marked + (deleted is not None), self.deleted + bool(deleted)
         self.is_dropped = self.reading.drop and bool(deleted)
         if not self.is_dropped:

@@ -6,7 +6,7 @@ A line `From ` has no `>` before it. A length is right if it leads to such a lin
 | Word | These lines begin messages | A line of `>` and `From ` |
 |---|---|---|
 | mboxrd | each line `From ` | loses a `>` |
-| mboxo | each line `From ` | loses its `>` if it has one; else it stays |
+| mboxo | each line `From ` | loses its `>` if that is the only one; else it stays |
 | mboxcl | after a message with a correct length the next, else each line `From ` | loses a `>` |
 | mboxcl2 | the same | stays in a message with a correct length, also in its header; else as mboxo |
 | unquoted | each line `From ` that ends in a date | stays |

@@ -168,9 +168,9 @@ class AtOnce:
         self.known: Optional[Inventory] = None
 
     def read(self, look: Look) -> Look:
-        """Looks at all of a text, and reads its messages if its beginning shows that no copy of it is made."""
+        """Looks at all of a text, and reads its messages if most likely no copy of it is made, by its beginning."""
         first = Look(look.mailbox, look.start).read_begun()
-        if not first.needs_no_copy:
+        if not first.may_need_no_copy:
             return first
         pieces = look.passed()
         try:

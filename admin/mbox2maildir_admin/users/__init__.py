@@ -1,1 +1,1 @@
-"""The mailboxes of many users, each migrated with its user's rights."""
+"""What a command does with the mailboxes of many users: for each of them, with only this user's rights."""

@@ -197,7 +197,7 @@ class Children(Crew):
         self.observer.row(row_left(b"", b"", why)._replace(user=child.whose.name))
 
     def take_row(self, child: UsersChild, words: Any) -> None:
-        """Takes a row."""
+        """Takes what became of something of a user. Raises ValueError if it says more than a row needs."""
         if any(isinstance(one, list) and len(one) > MOST for one in words.values()):
             raise ValueError("too many")
         self.observer.row(row_of(words, child.whose))

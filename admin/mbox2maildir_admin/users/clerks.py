@@ -1,6 +1,6 @@
-"""What root does for a child. In the folder of the inboxes, in which users may make no files, it makes an inbox that is
-not there, and FILE.lock. It syncs each disk once for all children who wait for it. A child never gets the rights for
-that, and names nothing: it says which of its own inboxes it means, or which folder that it has open."""
+"""What root does for a child. In the spool, in which users may make no files, it makes an inbox that is not there, and
+FILE.lock. It syncs each disk once for all children who wait for it. A child never gets the rights for that, and names
+nothing: it says which of its own inboxes it means, or which folder that it has open."""
 import contextlib
 import errno
 import functools
@@ -23,7 +23,7 @@ OWN, SHARED = 0o600, 0o660
 
 
 class Inboxes:
-    """A folder of inboxes, which stays open."""
+    """The spool, a folder of inboxes, which stays open."""
 
     def __init__(self, path: bytes) -> None:
         """Opens the folder, and removes the locks that a killed run left, whoever's they are."""

@@ -1,4 +1,4 @@
-"""The mailboxes of one user, migrated with that user's rights into the user's home."""
+"""What a command does for one user, with that user's rights: `migrate`, and what other commands do in its place."""
 import functools
 import marshal
 import os
@@ -35,7 +35,7 @@ class SpoolUser(NamedTuple):
     place: bytes
     size: Optional[int]
     is_left: bool = False
-    # why it is not migrated unless it was before; and the files beside it that may be copies of it
+    # why its mailbox is left unless the record has it; and the files beside it that may be copies of it
     why_not: Optional[Left] = None
     copies: tuple[bytes, ...] = ()
     # further mailboxes of the account
@@ -55,9 +55,9 @@ class SpoolUser(NamedTuple):
 
 
 class UserWork:
-    """What a command does for one user. It is to migrate mailboxes: the one in the spool, if there is one, with the
-    files beside it that may be copies of it, and those in the home. Root may have left what the spool has. If there is
-    a reason why not, the mailbox only goes on if the record has it."""
+    """What a command does for one user: `migrate`, as which other commands begin. It takes the mailbox in the spool, if
+    there is one, with the files beside it that may be copies of it, and those in the home. Root may have left what the
+    spool has. If there is a reason why not, the mailbox only goes on if the record has it."""
 
     # the command that does this, and whether mail is on the way back: then each home is looked at, even if the spool
     # has nothing of its user
@@ -81,11 +81,11 @@ class UserWork:
         return Whose(shown(self.user.name), text_of(self.account.name), mailboxes, self.is_back)
 
     def clerk(self) -> Optional[InboxClerk]:
-        """What does for the child what only root can do in the folder of the inboxes; None if nothing."""
+        """What does for the child what only root can do in the spool; None if nothing."""
         return None
 
     def work(self, relay: "Relay") -> None:
-        """Does the work of a child: the same as a `migrate` that its user runs."""
+        """Does the work of a child: the same as the command if its user runs it."""
         relay.user, left = self.user, why_no_home(self.account)
         if left:
             # the home belongs to what is left of the spool; otherwise it is the user that has one row
@@ -170,7 +170,7 @@ class Spool(NamedTuple):
     program: bytes = b""
     # where Dovecot looks for mail, if that was asked for
     locations: Optional[Sequence[str]] = None
-    # the folder of the inboxes into which mail goes back, unless nothing is written
+    # the same folder, open, if mail goes back, unless nothing is written
     inboxes: Optional[Inboxes] = None
 
     @property

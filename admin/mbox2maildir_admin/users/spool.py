@@ -1,5 +1,5 @@
-"""The mailboxes of a spool, each migrated by a child that has only its user's rights: whose they are, and where the
-names of these users came from."""
+"""The mailboxes of a spool: whose they are, and where the names of these users came from. For each user, a child with
+only this user's rights does the work of a command."""
 import os
 from collections.abc import Container, Iterable, Iterator, Mapping, Sequence
 from typing import AbstractSet, Optional, Union
@@ -73,9 +73,9 @@ def for_users(spool: Spool, observer: Observer) -> None:
 
 
 def users_of(spool: Spool, observer: Observer, is_by_size: bool) -> tuple[list[bytes], list[SpoolUser]]:
-    """The users whose mailboxes are migrated, packed until it is their turn: those that were asked for, otherwise those
-    of the spool, and all users if homes have a folder of mailboxes; and further mailboxes of theirs. Says which names
-    are left."""
+    """The users for whom a command does its work, packed until it is their turn: those that were asked for, otherwise
+    those of the spool, and all users if homes have a folder of mailboxes; and further mailboxes of theirs. Says which
+    names are left."""
     listed = frozenset(os.listdir(spool.path))
     want_entered(spool.path)
     users = Users(spool, listed, observer)
@@ -178,7 +178,7 @@ def mailboxes_among(names: Iterable[bytes], spool: Spool) -> AbstractSet[bytes]:
 
 
 class Users:
-    """The users that are migrated, and all names that are looked at for them: those that are asked for, otherwise the
+    """The users who have a turn, and all names that are looked at for them: those that are asked for, otherwise the
     mailboxes of the spool and, if homes have a folder of mailboxes, all users. Each account is there once, under the
     name of its mailbox."""
 
