@@ -5,7 +5,7 @@ from types import SimpleNamespace
 from typing import Any, NamedTuple, Optional
 
 from .. import ADMIN
-from ..labels.choosing import GIVES, EACH, WORDS as WORDS_OF_LABELS, Choosing
+from ..labels.choosing import EACH, GIVES, WORDS as WORDS_OF_LABELS, Choosing
 from ..looks import is_folder
 from ..readings.reading import UNDECIDED, WORDS, Reading, lines_named
 from ..terminal import named, shown

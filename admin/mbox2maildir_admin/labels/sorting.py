@@ -14,7 +14,7 @@ from ..mbox.fields import VALUE
 from ..nexts import Does, Phrase
 from ..remarks import Remark, Says
 from ..terminal import is_text, named
-from .choosing import FOLDER, NONE, ONE, READ, EACH, Choosing
+from .choosing import EACH, FOLDER, NONE, ONE, READ, Choosing
 
 # Google writes both fields before those that were sent; what a sender writes comes after them
 FIELD = re.compile(rb"(X-GM-THRID|X-Gmail-Labels)" + VALUE + rb"(?:\n|\Z)", re.I)
