@@ -365,5 +365,32 @@ def each_has_one_row(home: Path) -> None:
     equal("status and sums", (status, without_work(rest).split("\n")[-2]), (1, "4 mailboxes: 3 done, 1 left"))
 
 
+def an_answer_spells_the_path_otherwise(home: Path) -> None:
+    """A command names what a symbolic link of a tree leads to, and puts a folder before a dash. Its mailbox has its row
+    all the same: once it is done, or if it is left since its text has changed."""
+    (home / "old").mkdir()
+    for name, more, wanted in (("p", b"", "1 done"), ("q", MAY, "1 left")):
+        box = mailbox(home / f"real/{name}.mbox", ONE)
+        (home / "old" / name).symlink_to(f"../real/{name}.mbox")
+        expect(f"migrate --now --folder {name} M old/{name}", home, 0, None)
+        mailbox(box, ONE + WORD)
+        with terminal_of(home, "migrate", "--now", "M", "old") as terminal:
+            terminal.until(PROMPT)
+            mailbox(box, ONE + WORD + more)
+            terminal.type("a\n")
+            status, rest = terminal.end()
+        equal(f"{name}: status", status, int(bool(more)))
+        matches(f"{name}: sums", without_work(rest).split("\n")[-2].split(", ")[-1], f"...{wanted}")
+        (row,) = rows_of(rest)
+        matches(f"{name}: row", row, f"old/{name} -> {name}: ...: {wanted[2:]}")
+        (home / "old" / name).unlink()
+    mailbox(home / "-x.mbox", WORD)
+    with terminal_of(home, "migrate", "--now", "N", "--", "-x.mbox") as terminal:
+        terminal.until(PROMPT)
+        terminal.type("a\n")
+        status, rest = terminal.end()
+    matches("a dash", f"{status} {without_work(rest)}", "0 a\n-x.mbox -> INBOX: ...: done\n1 mailbox: 1 done\n")
+
+
 if __name__ == "__main__":
     check_all(*checks_in(globals()))

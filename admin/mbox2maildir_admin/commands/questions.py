@@ -36,15 +36,16 @@ class Asker(Reporter):
         self.names = names
         self.asked: list[Row] = []
         self.is_asking = False
-        # the path of the mailbox whose answer is at work
-        self.answered: Optional[bytes] = None
+        # the path of the mailbox whose answer is at work, by the path in its command
+        self.answered: dict[bytes, bytes] = {}
 
     def row(self, row: Row) -> None:
         """Takes what became of a mailbox, unless it is to be asked about. All others have rows once an answer is at
         work for one."""
         if self.is_asking:
-            if row.path == self.answered:
-                super().row(row)
+            if row.path in self.answered:
+                self.rest(row.label)
+                super().row(row._replace(path=self.answered[row.path]))
         elif not answers_of(row):
             super().row(row)
         else:
@@ -74,7 +75,7 @@ class Asker(Reporter):
 
     def run_answer(self, row: Row, answer: Answer, run: Run) -> None:
         """Runs the command of an answer. If it can't even begin, the mailbox has the row that it had."""
-        self.begun, self.total, self.answered = self.begun - 1, self.total - 1, row.path
+        self.begun, self.total, self.answered = self.begun - 1, self.total - 1, {operands_of(answer)[1]: row.path}
         try:
             run(answer.command.names_for(Runs.MIGRATE))
         except (Fault, OSError) as fault:
@@ -117,10 +118,17 @@ def letter_for(group: Group, title: str, names: Sequence[bytes]) -> str:
         rows = [one._replace(quotes=lines_of(one, around, names)) for one in group.rows]
 
 
+def operands_of(answer: Answer) -> tuple[bytes, bytes]:
+    """The Maildir and the path in the command of an answer. The path may be spelled otherwise than in the row: it names
+    what a symbolic link leads to, and begins with no dash."""
+    maildir, path = map(bytes_of, answer.command.names_for(Runs.MIGRATE)[-2:])
+    return maildir, path
+
+
 def lines_of(row: Row, around: int, names: Sequence[bytes]) -> tuple[Quote, ...]:
     """The lines that a question is about, with more lines around them. The mailbox may be another one by now, which its
     answer finds out; in a tree it may be a symbolic link, and none is followed there."""
-    maildir, path = map(bytes_of, answers_of(row)[0].command.names_for(Runs.MIGRATE)[-2:])
+    maildir, path = operands_of(answers_of(row)[0])
     asked = {quote.line: quote for quote in row.quotes if not quote.is_around}
     wanted = with_around(asked, around)
     try:
