@@ -86,8 +86,8 @@ TO_DO = {
         "the mailbox that is named"
     ),
     Reason.NO_MAILDIR: (
-        "Name another Maildir, or move away what is there. For `verify`, migrate the mailbox first. For `back "
-        "--users`, see [BACK.md](BACK.md)"
+        "Name another Maildir, or move away what is there. For `verify`, migrate the mailbox first, with `--again` if "
+        "its folder is gone. For `back --users`, see [BACK.md](BACK.md)"
     ),
     Reason.RECORD: (
         "Look at `mbox2maildir-record`. If it is not yours, move it away. If its disk has no locks, migrate [onto "

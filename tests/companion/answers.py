@@ -272,11 +272,12 @@ def after_an_undo(home: Path) -> None:
 
 
 def that_leaves_no_message(home: Path) -> None:
-    """A mailbox all of whose mail an answer leaves out is done, and is looked at as it was answered, until it grows."""
+    """A mailbox all of whose mail an answer leaves out is done, and is looked at as it was answered, even once it
+    grows."""
     box, deleted = home / "Trash", A + b"X-Mozilla-Status: 0009\n\nhello\n\n"
     mailbox(box, deleted)
     expect("migrate --drop-deleted --folder Trash M Trash", home, 0, None)
-    for text, count, status in ((deleted, 0, 0), (deleted + B + b"\n", 2, 1)):
+    for text, count, status in ((deleted, 0, 0), (deleted + B + b"\n", 1, 1)):
         mailbox(box, text)
         verdict = f"not whole, nowhere {count}" if count else "whole"
         row = f"Trash -> Trash: messages {count}: {verdict}\n"

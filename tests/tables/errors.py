@@ -8,9 +8,9 @@ import sys
 from pathlib import Path
 
 from tests.support.checks import equal, matches
-from tests.support.homes import ADMIN, check_all, checks_in, expect, is_root, mailbox, run, want_root
+from tests.support.homes import ADMIN, check_all, checks_in, expect, fake, hand_over, is_root, mailbox, run, want_root
 from tests.support.mail import ONE
-from tests.support.printed import rows_in
+from tests.support.printed import row_in, rows_in
 from tests.support.running import OWNER, Desk
 
 # a line that may begin a message, which only a human can decide
@@ -275,6 +275,7 @@ def not_in_quotes(home: Path) -> None:
         ("--now M My Old Mail a", {"My Old Mail": 3}, "--now M 'My Old Mail' a"),
         ("My Old Mail/Maildir a b", {"a b": 2}, "My Old Mail/Maildir 'a b'"),
         ("M a b My Old Mail", {"a b": 2, "My Old Mail": 3}, "M 'a b' 'My Old Mail'"),
+        ("--as unquoted --of 9-a M a b Mail/in", {"a b": 2}, "--as unquoted --of 9-a M 'a b' Mail/in"),
     ):
         out = "".join(
             f"{path}: left (words): its path was given as {count} words, so nothing was migrated\n"
@@ -287,6 +288,20 @@ def not_in_quotes(home: Path) -> None:
         equal(f"{given}: what was made", [path.name for path in home.iterdir() if path.name in ("M", "My")], [])
     both = run("migrate --all --now --folder Both M ./a ./b", home)
     equal("two files beside it", (both[0], both[1].splitlines()[-1]), (0, "2 mailboxes: 2 done"))
+
+
+def its_folder_is_closed_meanwhile(home: Path) -> None:
+    """The row and the sums are printed, though nobody can look at the path any more, which was given with a tie."""
+    want_root()
+    mailbox(home / "d/box", UNCLEAR)
+    command = row_in(run("migrate --all --now M d/box", home).out, "d/box").commands[0]
+    fake(home, '"$real" "$@"; chmod 0 ../d')
+    hand_over(home)
+    ran = Desk(home, user=OWNER).run(command.split())
+    equal("status and errors", (ran.status, ran.err), (1, ""))
+    matches(
+        "output", ran.out, "d/box -> INBOX: ...: left (error): ...: Permission denied\n...\n...\n1 mailbox: 1 left\n"
+    )
 
 
 def on_an_older_python(home: Path) -> None:

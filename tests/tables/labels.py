@@ -309,6 +309,34 @@ def what_is_gone_is_missing(home: Path) -> None:
     equal("of another one", by_json("migrate --undo M box", home).row["says"], says)
 
 
+def a_folder_of_a_label_is_gone(home: Path) -> None:
+    """`verify` and `dates` leave the folder of a label that is gone, and look into all others. Then they know all
+    folders again."""
+    takeout(home)
+    expect(LABELS, home, 0, None)
+    shutil.rmtree(home / "M/.Junk")
+    for path in home.glob("M/**/new/*"):
+        os.utime(path, (0, 0))
+    places = {name: name[1:].replace("Work.", "Work/") or "INBOX" for name in FOLDERS}
+    found = {row["folder"] or "": row["verdict"] for row in by_json("verify M t.mbox", home).rows}
+    wanted = {place: "whole" for name, place in places.items() if name != ".Junk"}
+    equal("verify", found, {**wanted, "": "left"})
+    counts = [f"messages {len(its)}, dated {len(its)}\n" for its in FOLDERS.values()]
+    shown = {**places, ".Gr&APwA3w-e": "Gr\u00fc\u00dfe", ".bills, old": "'bills, old'"}
+    dated = [f"t.mbox -> {shown[name]}: {count}" for name, count in zip(FOLDERS, counts)]
+    command = "mbox2maildir-admin migrate --again M t.mbox"
+    ran = run("dates M t.mbox", home)
+    equal("dates", ran[:2], (1, "".join(line for line in dated if not line.startswith("t.mbox -> Junk"))))
+    (gone,) = (line for line in ran[2].splitlines() if "all From_ lines" not in line and not line.startswith("    "))
+    equal("what is gone", gone, "mbox2maildir-admin: t.mbox: its folder is gone: M/.Junk is no Maildir")
+    assert f":\n        {command}\n" in ran[2], ran[2]
+    dates = {path.stat().st_mtime for path in home.glob("M/**/new/*")}
+    equal("dates", (0 in dates, len(dates)), (False, 1))
+    equal("what brings it back", run(command.split(), home)[0], 0)
+    expect("dates M t.mbox", home, 0, "".join(dated), None)
+    expect("verify M t.mbox", home, 0, f"{len(FOLDERS)} mailboxes: {len(FOLDERS)} whole\n")
+
+
 def a_label_is_asked_about(home: Path) -> None:
     """More than half of the messages have a label that nobody knows: a mark in another language, or a folder. What is
     answered holds for later Takeouts at this path, and nothing is placed before."""

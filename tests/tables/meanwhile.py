@@ -4,7 +4,7 @@ from pathlib import Path
 
 from tests.support.checks import equal
 from tests.support.homes import by_json, expect, mailbox
-from tests.support.mail import C, ONE, THREE, TWO, numbered
+from tests.support.mail import A, B, C, MAY, ONE, THREE, TWO, numbered
 from tests.support.running import Desk, Kill, Run
 from tests.support.stories import RESTORED, SYNC_FAILS, Step, killed, run_stories, steps
 
@@ -33,6 +33,12 @@ CUT = "From d Mon Mar  3 12:00:00 2025\\nSubject: four\\n\\nhe"
 OF_NOBODY, BEFORE = "a: done: 2 messages there already, by no mailbox", "a: done before"
 # what is done to a mailbox once it was converted, whose row waits for the sync of the disk
 CHANGES = {"grows": "echo more >>$a", "goes": "rm $a", "is_replaced": "cp -p $a $a.x; mv $a.x $a"}
+# mail that is another one by each way to read it, and mail that Thunderbird has marked as deleted
+QUOTED = THREE.replace(b"hello", b">>From here")
+MARKS = (A, 1), (B, 1), (C, 9)
+KEPT, KEPT_TWO, DELETED = (head + b"X-Mozilla-Status: 000%d\n\nhello\n\n" % mark for head, mark in MARKS)
+WITH_CR = ONE.replace(b"alva", b"al\rva", 1)
+NO_RECORD = f"left (record): {RECORD}: it does not belong to you, or others may write to it..."
 IN_CRLF = (ONE + TWO).replace(b"\n", b"\r\n")
 STORIES: dict[str, list[Step]] = {
     "the_sync_of_a_first_pass_fails": [
@@ -78,7 +84,44 @@ STORIES: dict[str, list[Step]] = {
     ],
     "its_folder_was_removed": [
         *(("a", ONE), "migrate --folder x M a", "!rm -r M/.x"),
+        "!mbox2maildir-admin dates M a 2>&1 | grep 'a: its folder is gone: M/.x is no Maildir$'",
+        *(("verify M a", "a: left (no-maildir): its folder is gone: M/.x is no Maildir"), (">", "a: done...")),
+        *("= x/one", ("verify M a", "a: whole")),
+    ],
+    "the_folder_of_one_of_a_tree_was_removed": [
+        *(("old/a", ONE), ("old/b", TWO), "migrate M old", "!rm -r M/.a"),
+        ("verify M old", "old/a: left (no-maildir): its folder is gone: M/.a is no Maildir\nold/b: whole"),
+        *((">", "old/a: done..."), "= a/one b/two"),
+    ],
+    # the program that was killed had begun with it, so nothing of it is known to have been done
+    "the_folder_of_what_was_begun_was_removed": [
+        *steps(("a", ONE), ("b", TWO), *killed("migrate --folder x M a"), "migrate M b", "!rm -r M/.x"),
         ("verify M a", "a: left (no-maildir): it was not migrated: M/.x is no Maildir"),
+    ],
+    "equal_mailboxes_were_read_in_two_ways": [
+        *(("a", QUOTED), "migrate --as mboxrd --folder A M a", "!cp -p a b", "migrate --as mboxo --folder B M b"),
+        *(("verify M a", "a: whole"), ("verify M b", "b: whole"), "!mbox2maildir-admin dates M a b"),
+        *(("verify M/.A b", "b: whole"), ("verify M/.B a", "a: whole"), "!mv a c", ("verify M/.A c", "c: whole")),
+    ],
+    # what it brought is read as it was; only what is new is nowhere
+    "it_grew_after_an_answer": [
+        *(("a", QUOTED + MAY), "migrate --as unquoted M a", ("a", QUOTED + MAY + b"\n" + ONE)),
+        *(("verify M a", "a: not whole: nowhere 1"), "migrate M a", ("verify M a", "a: whole")),
+    ],
+    "it_grew_after_deleted_mail_was_left_out": [
+        *(("a", KEPT + DELETED), "migrate --drop-deleted M a", ("a", KEPT + DELETED + KEPT_TWO)),
+        *(("verify M a", "a: not whole: nowhere 1"), "migrate M a", ("verify M a", "a: whole")),
+    ],
+    # nobody has decided about a line that came later
+    "it_grew_by_a_doubtful_line": [
+        *(("a", QUOTED + MAY), "migrate --as unquoted M a", ("a", QUOTED + MAY + b"\n" + WITH_CR)),
+        ("verify M a", "a: not whole: nowhere 1; doubtful lines 1"),
+    ],
+    "the_record_may_be_written_by_others": [
+        *(("a", QUOTED + MAY), ("old/b", ONE), "migrate --as unquoted M a", f"!chmod 666 {RECORD}"),
+        *(("verify M a", f"a: {NO_RECORD}"), ("verify M old", f"old: {NO_RECORD}")),
+        f"!mbox2maildir-admin dates M a 2>&1 | grep '^mbox2maildir-admin: {RECORD}: it does not belong to you, or oth'",
+        *(f"!chmod 600 {RECORD}", ("verify M a", "a: whole")),
     ],
     # of a tree, --again converts those mailboxes that were edited as a whole, and no others
     "another_mailbox_was_edited_as_a_whole": [

@@ -130,8 +130,7 @@ class Command:
             status: int = getattr(module, "do_" + self.words.name)(given)
             return status
         except WrongOptions as wrong:
-            self.error(str(wrong))
-            return Status.LEFT
+            return self.error(str(wrong))
 
 
 def run(words: Sequence[str]) -> int:
@@ -149,8 +148,7 @@ def run(words: Sequence[str]) -> int:
         return Status.WELL
     for name in given.operands:
         program.error("%s: no such command%s" % (shown(name), like(text_of(name), commands)))
-    program.error("the command is missing: %s" % ", ".join(commands))
-    return Status.LEFT
+    return program.error("the command is missing: %s" % ", ".join(commands))
 
 
 def like(name: str, known: Iterable[str]) -> str:

@@ -8,11 +8,11 @@ from ..faults import Left, Reason, Status, complain_of
 from ..maildir.dating import Dating
 from ..maildir.either import Either
 from ..maildir.disk import Syncs
+from ..maildir.folders import folder_shown
 from ..mbox.mailbox import CHANGED_MEANWHILE, is_still
-from ..progress import say_of
-from ..readings.texts import open_text
+from ..readings.texts import Text
 from ..terminal import complain, named, put
-from .files import Complaints, each, for_mailboxes, reading_then
+from .files import Complaints, Migrated, each, for_mailboxes
 from .options import Given
 
 # how many messages without a date are named
@@ -24,7 +24,11 @@ def do_dates(given: Given) -> int:
     """Gives converted files their dates."""
     maildir, *files = given.operands
     dates, complaints = Dates(bool(given.header)), Complaints()
-    each(files, lambda path: for_mailboxes(maildir, path, dates.give, complaints), complaints)
+
+    def give(one: Migrated) -> None:
+        one.for_texts(functools.partial(dates.give, os.stat(one.file)), complaints)
+
+    each(files, lambda path: for_mailboxes(maildir, path, give, complaints), complaints)
     dates.syncs.sync()
     return Status.of(complaints.is_well and dates.are_kept)
 
@@ -37,30 +41,31 @@ class Dates:
         self.headers, self.are_kept = headers, True
         self.syncs = Syncs(self.tell)
 
-    def give(self, maildir: bytes, file: bytes) -> None:
-        """Gives the files of one mailbox their dates, and names those that have none."""
-        before = os.stat(file)
-        with open_text(file, maildir, say_of(file), functools.partial(reading_then, maildir)) as text:
-            either = Either.of(maildir, text.messages(with_cores=False), text.mailbox, text.start)
-            dating = Dating(text.mailbox, either.inventory, self.headers)
-            dating.give_all(maildir)
-            if dating.one_date is not None:
-                complain("%s: all From_ lines have the same date: %s" % (named(file), named(dating.one_date.rstrip())))
-            for count, undone in enumerate(dating.undone(maildir)):
-                if count == UNDATED:
-                    complain("%s: and %d more" % (named(file), dating.messages - dating.dated - UNDATED))
-                    break
-                complain("%s: %s" % (named(file), undone))
+    def give(self, before: os.stat_result, one: Migrated, text: Text) -> None:
+        """Gives the files of one mailbox, or of a part of it, their dates, and names those that have none. The mailbox
+        had this state before it was read."""
+        file, folder = one.file, one.folder
+        either = Either.of(folder, text.messages(with_cores=False), text.mailbox, text.start)
+        dating = Dating(text.mailbox, either.inventory, self.headers)
+        dating.give_all(folder)
+        if dating.one_date is not None:
+            complain("%s: all From_ lines have the same date: %s" % (named(file), named(dating.one_date.rstrip())))
+        for count, undone in enumerate(dating.undone(folder)):
+            if count == UNDATED:
+                complain("%s: and %d more" % (named(file), dating.messages - dating.dated - UNDATED))
+                break
+            complain("%s: %s" % (named(file), undone))
+        into = " -> %s" % folder_shown(one.name) if one.is_part else ""
         by_header = ", by header %d" % dating.by_header if dating.by_header else ""
-        line = "messages %d, dated %d%s" % (dating.messages, dating.dated, by_header)
-        self.syncs.add(maildir, (file, before, line))
+        line = "%s: messages %d, dated %d%s" % (into, dating.messages, dating.dated, by_header)
+        self.syncs.add(folder, (file, before, line))
         self.are_kept = self.are_kept and dating.dated == dating.messages
 
     def tell(self, several: Sequence[tuple[tuple[bytes, os.stat_result, str], Optional[OSError]]]) -> None:
         """Prints the lines of mailboxes, unless a sync failed or a mailbox changed meanwhile."""
         for (file, before, line), fault in several:
             if not fault and is_still(file, before):
-                put("%s: %s" % (named(file), line))
+                put(named(file) + line)
             else:
                 changed = Left(CHANGED_MEANWHILE, Reason.CHANGED)
                 complain_of(Left(SYNC_FAILED, Reason.SYNC_FAILED) if fault else changed, file)

@@ -3,18 +3,17 @@ import contextlib
 import functools
 import os
 from collections.abc import Callable, Iterable, Iterator
-from typing import Optional, Union
+from typing import NamedTuple, Optional, Union
 
 from ..faults import Fault, Reason, complain_of
 from ..kinds.folders import is_maildir
 from ..kinds.look import Look
 from ..kinds.others import Holds
-from ..ledger.history import Event, History, Note
-from ..ledger.lines import AnotherVersion
+from ..ledger.history import Entry, Event, History, Note, names_of
 from ..ledger.record import Record
 from ..looks import is_folder, is_there, type_at
 from ..maildir.disk import trial_folder
-from ..maildir.folders import INBOX
+from ..maildir.folders import INBOX, folder_path
 from ..maildir.making import RECORD
 from ..mbox.files import is_empty
 from ..mbox.mailbox import Mailbox
@@ -22,10 +21,10 @@ from ..migration.answers import is_passed_over
 from ..migration.outcomes import Observer, Row, Verdict
 from ..migration.places import Planned, recorded
 from ..migration.trees import Tree
-from ..nexts import Runs, Task, Todo, run_next
+from ..nexts import Does, Runs, Task, Todo, run_next
 from ..progress import say_of
 from ..readings.reading import Reading
-from ..readings.texts import content_of, folder_for_copies
+from ..readings.texts import Text, content_of, folder_for_copies, open_text
 from ..readings.diagnosis import look_at
 from ..remarks import Says
 from ..terminal import complain, named, operand
@@ -77,25 +76,106 @@ def read_tree(
     return tree, plan
 
 
-def for_mailboxes(maildir: bytes, path: bytes, task: Callable[[bytes, bytes], None], observer: Observer) -> None:
-    """Does a task for a mailbox and the folder that has its mail or, if the path is a folder, for each mailbox below it
-    and its folder. A file without mail by the record is left out."""
-    if not is_folder(path):
-        record = record_of(maildir)
-        left = left_out(path, maildir, record, observer) if record.noting(Note.NO_MAIL, INBOX, path) else None
-        if left:
-            observer.row(left)
+class Migrated(NamedTuple):
+    """A mailbox and the folder of a Maildir that has its mail, by their paths; that Maildir, and what its record says;
+    and the Maildir and the mailbox, or the folder of mailboxes, that were named."""
+
+    file: bytes
+    folder: bytes
+    root: bytes
+    record: History
+    given: tuple[bytes, bytes]
+    # whether the folder has only those messages of the mailbox that have its label
+    is_part: bool = False
+
+    @property
+    def name(self) -> bytes:
+        """The name of its folder on the disk."""
+        return os.path.relpath(self.folder, self.root)
+
+    def reading(self, mailbox: Mailbox) -> tuple[Reading, bool]:
+        """How it was read when it was converted into its folder, and whether it had the same bytes. If the record does
+        not have it there, it was read as this text was, or else as the mailbox of this path; nothing is decided if
+        there is neither."""
+        names = names_of(mailbox.path)
+        same = [line for line in self.record.lines_of(mailbox) if line.what is Event.DONE]
+        its = [self.record.last_of(folder, names) for folder in self.record.folders_with(names)]
+
+        def nearness(line: Entry) -> tuple[bool, ...]:
+            has_folder, has_path = line.key.folder == self.name, line.path in names
+            return has_folder and has_path, line in same, has_folder, has_path
+
+        lines = sorted((line for line in (*same, *its) if line), key=nearness)
+        return Reading.of_words(lines[-1].words if lines else None), bool(lines) and lines[-1] in same
+
+    def for_texts(self, task: "Callable[[Migrated, Text], None]", observer: Observer) -> None:
+        """Does a task for its text. If it is in the folders of its labels, this is done for each of these with the text
+        that the folder has, and one that fails is left."""
+        from ..labels.noted import noted_of
+
+        observer.begin()
+        say, noted = observer.say(self.file), noted_of(self.record, self.file)
+        if not noted:
+            with self.missing(), open_text(self.file, self.folder, say, self.reading) as text:
+                task(self, text)
             return
-        # what was named may be a folder of a Maildir: then that is the one that has its mail; an empty mailbox may have
-        # none any more
-        is_root = root_of(maildir) == maildir and not is_empty(path)
-        folder = recorded(Planned(path, INBOX), record).folder_in(maildir) if is_root else maildir
-        with of_folder(folder, maildir, path, record):
-            task(folder, path)
+        from ..labels.parts import parts_of
+
+        with parts_of(self.root, self.file, noted, self.reading, say) as parts:
+            observer.total += len(parts) - 1
+            for number, (name, part) in enumerate(parts.items()):
+                if number:
+                    observer.begin()
+                one = self._replace(folder=folder_path(self.root, name), is_part=True)
+                try:
+                    with one.missing(), part as text:
+                        task(one, text)
+                except (Fault, OSError) as fault:
+                    observer.leave(self.file, fault)
+
+    @contextlib.contextmanager
+    def missing(self) -> Iterator[None]:
+        """If its folder is missed in here, raises Fault, with the command that migrates what was named as the Maildir's
+        other mailboxes were: with --dovecot if one of them was. If it was done, the command brings back its mail."""
+        try:
+            yield
+        except FileNotFoundError as fault:
+            maildir, path = self.given
+            if not type_at(path) or is_folder(os.path.join(self.folder, b"new")):
+                raise
+            last = self.record.last_of(self.name, names_of(self.file))
+            words = ["--dovecot"] * any(Reading.of_words(line.words).bare for line in self.record.lines())
+            if last and last.what is Event.DONE:
+                why, path, words, does = "its folder is gone", self.file, ["--again", *words], Does.BRINGS_BACK
+            else:
+                why, does = "it was not migrated", Does.RUN
+            then = run_next(Runs.MIGRATE, *words, operand(maildir), operand(path), does=does)
+            raise Fault("%s: %s is no Maildir" % (why, named(self.folder)), Reason.NO_MAILDIR, then) from fault
+
+
+# does something for a mailbox
+Doing = Callable[[Migrated], None]
+
+
+def for_mailboxes(maildir: bytes, path: bytes, task: Doing, observer: Observer) -> None:
+    """Does a task for a mailbox or, if the path is a folder, for each mailbox below it. A file without mail by the
+    record is left out."""
+    is_tree = is_folder(path)
+    root = maildir if is_tree else root_of(maildir)
+    with Record.open(root, make=False) as record:
+        tree, plan = read_tree(path, maildir, record) if is_tree else (None, [])
+    if tree:
+        for_planned(maildir, path, (plan, tree.rows), record, task, observer)
         return
-    with Record.open(maildir, False) as record:
-        tree, plan = read_tree(path, maildir, record)
-    for_planned(maildir, path, (plan, tree.rows), record, task, observer)
+    left = left_out(path, maildir, record, observer) if record.noting(Note.NO_MAIL, INBOX, path) else None
+    if left:
+        observer.row(left)
+        return
+    # what was named may be a folder of a Maildir: then that is the one that has its mail; an empty mailbox may have
+    # none any more
+    is_root = root == maildir and not is_empty(path)
+    folder = recorded(Planned(path, INBOX), record).folder_in(maildir) if is_root else maildir
+    task(Migrated(path, folder, root, record, (maildir, path)))
 
 
 def for_planned(
@@ -103,11 +183,11 @@ def for_planned(
     path: bytes,
     found: tuple[Iterable[Planned], Iterable[Row]],
     record: History,
-    task: Callable[[bytes, bytes], None],
+    task: Doing,
     observer: Observer,
 ) -> None:
-    """Does a task for each mailbox at a path or below it, and for its folder. Says what else was found there, and
-    leaves files without mail out."""
+    """Does a task for each mailbox at a path or below it. Says what else was found there, and leaves files without mail
+    out."""
     plan, rows = list(found[0]), [without_mail(row, maildir, record) for row in found[1]]
     observer.total += len(plan) - 1
 
@@ -116,28 +196,12 @@ def for_planned(
         if left:
             rows.append(left)
             return
-        folder = planned.folder_in(maildir)
-        with of_folder(folder, maildir, path, record):
-            task(folder, file)
+        task(Migrated(file, planned.folder_in(maildir), maildir, record, (maildir, path)))
 
     for one in plan:
         each([one.target or one.path], functools.partial(do_task, one), observer)
     for row in rows:
         observer.row(row)
-
-
-@contextlib.contextmanager
-def of_folder(folder: bytes, maildir: bytes, path: bytes, record: History) -> Iterator[None]:
-    """If a folder of a Maildir is missed in here, raises Fault, with the command that migrates a path as the Maildir's
-    other mailboxes were: with --dovecot if one of them was."""
-    try:
-        yield
-    except FileNotFoundError as fault:
-        if not type_at(path) or is_folder(os.path.join(folder, b"new")):
-            raise
-        is_bare = any(Reading.of_words(line.words).bare for line in record.lines())
-        then = run_next(Runs.MIGRATE, *["--dovecot"] * is_bare, operand(maildir), operand(path))
-        raise Fault("it was not migrated: %s is no Maildir" % named(folder), Reason.NO_MAILDIR, then) from fault
 
 
 def without_mail(row: Row, maildir: bytes, record: History) -> Row:
@@ -163,25 +227,6 @@ def left_out(path: bytes, maildir: bytes, record: History, observer: Observer) -
     if holds != Holds.NO_MAIL and not is_noted:
         return None
     return Row(path, b"", "", None, Verdict.NO_MAIL, remarks=(Says.NO_MAIL_NOTED.of(),) * is_noted)
-
-
-def reading_then(folder: bytes, mailbox: Mailbox) -> Reading:
-    """How a mailbox was read when it was converted into a folder of a Maildir; nothing is decided unless the record has
-    the mailbox as done."""
-    lines = record_of(folder).lines_of(mailbox)
-    return Reading.of_words(next((one.words for one in reversed(lines) if one.what is Event.DONE), None))
-
-
-def record_of(folder: bytes) -> History:
-    """The record of the Maildir of a folder; an empty one if it can't be trusted. Raises Fault if another version wrote
-    it: without what it says, mail that is there would be missed."""
-    try:
-        with Record.open(root_of(folder), make=False) as record:
-            return record
-    except AnotherVersion:
-        raise
-    except Fault:
-        return History()
 
 
 def root_of(folder: bytes) -> bytes:

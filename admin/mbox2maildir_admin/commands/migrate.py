@@ -46,7 +46,8 @@ def task_of(given: Given) -> Telling:
     target, *names = given.operands
     # what is at a name counts only where something is said of one mailbox
     says = given.again or given.word or given.drop_deleted
-    options = options_in(given, bool(says) and is_one(given))
+    alone = bool(says) and is_one(given)
+    options = options_in(given, alone)
 
     def task(reporter: Reporter) -> None:
         if given.users:
@@ -60,7 +61,7 @@ def task_of(given: Given) -> Telling:
         else:
             migrate_named(target, names, options, reporter)
         unmet = [tie for tie in given.of.split(",") if tie not in reporter.kept.ties]
-        if given.of and unmet and not is_one(given):
+        if given.of and unmet and not alone:
             complain(UNMET % ",".join(map(named, unmet)))
 
     return task
@@ -69,7 +70,8 @@ def task_of(given: Given) -> Telling:
 def leave_unquoted(words: Sequence[bytes], options: Options, reporter: Reporter) -> bool:
     """Leaves each path that was given as several words, because it was not quoted. Returns whether there is one."""
     paths = list(joined(words))
-    then = run_next(Runs.MIGRATE, *options.words(), *(operand(path) for path, _ in paths))
+    given = *options.words(), *options.answer.options()
+    then = run_next(Runs.MIGRATE, *given, *(operand(path) for path, _ in paths))
     for path, count in paths:
         if count > 1:
             reporter.total += 1

@@ -3,11 +3,8 @@ import array
 import collections
 import importlib
 import functools
-import os
 from itertools import compress, islice
 
-from ..labels.noted import Noted, noted_of
-from ..labels.parts import checks_of
 from ..maildir.checking import DOUBTFUL_LINE, NOWHERE, SORTS, THERE, WITHOUT_FIELDS, Check
 from ..maildir.either import Either
 from ..maildir.files import forms_in, paths_of
@@ -15,10 +12,10 @@ from ..mbox.inventory import IN_MEMORY
 from ..migration.outcomes import Detail, Observer, Row, Verdict
 from ..migration.rows import Reporter, Shows
 from ..program import Program, find_program
-from ..readings.texts import Text, open_text
+from ..readings.texts import Text
 from ..terminal import NAMED
 from ..units import Place, Say
-from .files import each, for_mailboxes, reading_then, record_of, root_of
+from .files import Migrated, each, for_mailboxes
 from .options import Given
 from .running import Telling, reporter_of, run_reported
 
@@ -38,36 +35,24 @@ def verify_named(given: Given, reporter: Reporter) -> None:
     """Compares the mailboxes that are named with a Maildir."""
     maildir, *files = given.operands
 
-    def compare(folder: bytes, file: bytes) -> None:
-        noted = noted_of(record_of(maildir), file)
-        if noted:
-            verify_takeout(maildir, file, noted, reporter)
-        else:
-            verify_file(find_program(), root_of(maildir), reporter, folder, file)
+    def verify(one: Migrated) -> None:
+        verify_mailbox(find_program(), reporter, one)
 
     reporter.total = len(files)
-    each(files, lambda path: for_mailboxes(maildir, path, compare, reporter), reporter)
+    each(files, lambda path: for_mailboxes(maildir, path, verify, reporter), reporter)
 
 
-def verify_file(program: bytes, root: bytes, observer: Observer, folder: bytes, file: bytes) -> None:
-    """Compares one mailbox with its folder of a Maildir."""
-    say = observer.say(file)
-    observer.begin()
-    with open_text(file, folder, say, functools.partial(reading_then, folder)) as text:
-        check = check_of(program, folder, text, say)
+def verify_mailbox(program: bytes, observer: Observer, one: Migrated) -> None:
+    """Compares one mailbox with its folder of a Maildir, or with each folder of its labels."""
+
+    def compare(one: Migrated, text: Text) -> None:
+        check = check_of(program, one.folder, text, observer.say(one.file))
         if text.is_recorded:
             # it was decided then that no mail is in its From_ lines
             del check.besides[DOUBTFUL_LINE]
-        observer.row(row_of(file, os.path.relpath(folder, root), check))
+        observer.row(row_of(one.file, one.name, check))
 
-
-def verify_takeout(maildir: bytes, file: bytes, noted: Noted, observer: Observer) -> None:
-    """Compares a Takeout with each folder of its labels."""
-    look, recorded = functools.partial(check_of, find_program()), functools.partial(reading_then, maildir)
-    observer.total += len(noted.folders) - 1
-    for folder, check in checks_of(maildir, file, noted, recorded, look, observer.say(file)):
-        observer.begin()
-        observer.row(row_of(file, folder, check))
+    one.for_texts(compare, observer)
 
 
 def row_of(path: bytes, folder: bytes, check: Check) -> Row:

@@ -14,7 +14,7 @@ from ..users.spool import for_users
 from .files import for_planned
 from .options import Given, jobs_in
 from .running import Telling, spool_of
-from .verify import verify_file
+from .verify import verify_mailbox
 
 
 def verifying_users(given: Given) -> Telling:
@@ -34,7 +34,7 @@ class Verifier(UserWork):
 
     def run(self, names: list[bytes], relay: Relay) -> None:
         """Compares the mailboxes at these paths with the Maildir."""
-        root, verify = self.root, functools.partial(verify_file, self.spool.program, self.root, relay)
+        root, verify = self.root, functools.partial(verify_mailbox, self.spool.program, relay)
         with Record.open(root, False) as record:
             pairs = Pairs(record, root, own=names)
             for name in names:

@@ -66,10 +66,6 @@ LINKED = "it has several names (`cp -al` gives it one more): put a copy in its p
 AT_WORK = "another migrate is at work in %s"
 
 
-class AnotherVersion(Fault):
-    """Another version wrote a ledger, a list of what is prepared, or a record."""
-
-
 class Brought(NamedTuple):
     """A message of a mailbox: the word for its file, the name of that without its info, its core, and its bare form."""
 
@@ -256,7 +252,7 @@ def texts_in(folder: bytes, name: bytes = LEDGER) -> Iterator[bytes]:
     with file:
         want_trusted(path, os.fstat(file.fileno()))
         if OF_ANOTHER.match(file.peek(PIECE)):
-            raise AnotherVersion(BY_ANOTHER, Reason.LEDGER, place=path)
+            raise Fault(BY_ANOTHER, Reason.LEDGER, place=path)
         for lines in iter(lambda: file.readlines(PIECE), []):
             yield b"".join(lines[:-1] if not lines[-1].endswith(b"\n") else lines)
 

@@ -23,7 +23,7 @@ from ..terminal import named, spelled
 from ..units import Size
 from .history import TIME, Entry, Event, History, Key, Note, What
 from .ledger import Ledger, count_in
-from .lines import BY_ANOTHER, CUT, HEAD, AnotherVersion, lines_in, want_trusted, was_cut
+from .lines import BY_ANOTHER, CUT, HEAD, lines_in, want_trusted, was_cut
 
 AT_WORK_OR_LEFT = "another migrate is at work in %s, or a convert that an interrupted one left behind"
 MADE_MEANWHILE = "another migrate has made %s meanwhile"
@@ -183,7 +183,7 @@ class Record(History):
         self.has_head = lines[:1] == [VERSION_LINE]
         # a power cut may have taken the first line
         if lines and not self.has_head and b"\0" not in several[0]:
-            raise AnotherVersion(BY_ANOTHER, Reason.RECORD, place=self.path)
+            raise Fault(BY_ANOTHER, Reason.RECORD, place=self.path)
         for entry in filter(None, map(Entry.parse, lines)):
             self.take(entry)
 

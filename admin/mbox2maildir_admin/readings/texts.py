@@ -31,8 +31,9 @@ from .plans import NoMail, NotKnown, OtherKind, Plan, Question, plan_of, wants_c
 from .quoting import Quoter
 from .reading import PLAIN, UNDECIDED, Reading
 
-# how a mailbox was read when it was recorded, if it was; and where the messages of a text begin that are converted
-ReadingOf = Callable[[Mailbox], Reading]
+# how a mailbox was read when it was recorded, if it was, and whether it had the same bytes; and where the messages of a
+# text begin that are converted
+ReadingOf = Callable[[Mailbox], tuple[Reading, bool]]
 StartOf = Callable[[Mailbox, Offset], Offset]
 
 NO_LONGER = "it can no longer be read as it was read when it was migrated (%s)"
@@ -49,7 +50,7 @@ class Text(NamedTuple):
     quoted_before: Sequence[int] = ()
     full: Optional["Text"] = None
     offsets: Sequence[int] = ()
-    # whether it is read as it was when it was recorded
+    # whether it is read as it was when it was recorded, with the same bytes
     is_recorded: bool = False
 
     def bare(self, folder: bytes) -> "Text":
@@ -277,12 +278,13 @@ def open_text(path: bytes, maildir: bytes, say: Say, recorded: ReadingOf) -> Ite
     with contextlib.ExitStack() as stack:
         mailbox = stack.enter_context(Mailbox.open(path, say))
         source = stack.enter_context(content_of(mailbox, where))
-        then = stack.enter_context(text_then(source, recorded(mailbox)._replace(bare=False), where))
+        reading, is_same = recorded(mailbox)
+        then = stack.enter_context(text_then(source, reading._replace(bare=False), where))
         try:
             text = then or stack.enter_context(Choice(source, plan_of(source)).text(where))
         except Left:
             text = Text(source, Offset(0))
-        yield text._replace(start=after_internal(text, maildir), is_recorded=then is not None)
+        yield text._replace(start=after_internal(text, maildir), is_recorded=is_same and then is not None)
 
 
 def folder_for_copies(maildir: bytes, is_trial: bool = False) -> bytes:
