@@ -449,7 +449,7 @@ def hostile_homes(home: Path) -> None:
         attempt("the ledger", "Maildir/mbox2maildir-messages", secret, "left")
         attempt("what was beside", "Maildir/mbox2maildir-back", secret, "left")
         attempt("what is not whole", "Maildir/mbox2maildir-back.new", secret, "back")
-        attempt("a folder", "Maildir/.other", two / "Maildir", "Maildir/.other/new: Permission denied")
+        attempt("a folder", "Maildir/.other", two / "Maildir", "Maildir/.other: Permission denied")
         attempt("mail", "Maildir/cur/1.M9.host:2,S", secret)
         attempt("the tree", "mail", two / "mail", "mail: left")
         attempt("a mailbox", "mail/sent", two / "mail/sent")

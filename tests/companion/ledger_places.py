@@ -307,7 +307,7 @@ def rule_8_moved_before_anything_was_placed(home: Home) -> None:
     """A run over a tree is killed before it has placed mail of `mail/x`, which is `mail/y` then. The folder x stays if
     it was made, since nothing shows who made it, and holds nothing."""
     made = 0
-    for event in home.each(range(34, 70, 3), words=JOBS):
+    for event in home.each(range(38, 74, 3), words=JOBS):
         home.write("mail/x", letters(*FIVE))
         home.run("mail", kill=Kill(event=event))
         if not home.numbers("x"):

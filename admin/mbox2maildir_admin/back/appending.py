@@ -100,10 +100,12 @@ class Way(NamedTuple):
             if dry and not is_there(path):
                 yield stack.enter_context(Mailbox(path, os.open(os.devnull, os.O_RDONLY)))
                 return
-            # root follows no symbolic link, which may lead anywhere
-            path = path if os.geteuid() == 0 else os.path.realpath(path)
+            # root follows no symbolic link, which may lead anywhere. For others, a link that somebody changes meanwhile
+            # leads nothing elsewhere
+            place = path if os.geteuid() == 0 else os.path.realpath(path)
             locking = READING if dry else WRITING
-            mailbox = stack.enter_context(open_mailbox(path, say, False, not self.options.now, locking))
+            mailbox = stack.enter_context(open_mailbox(place, say, False, not self.options.now, locking))
+            mailbox.path = path
             if mailbox.state.st_uid != os.geteuid():
                 raise Left("it belongs to another user", Reason.OTHER_OWNER, task(Todo.AS_OWNER))
             if not dry:
@@ -286,7 +288,7 @@ class Appending:
                 os.fsync(mailbox.number)
                 ledger.note(END_LINE % self.begin(goes, addition))
             return
-        want_room(Need.of(os.path.dirname(mailbox.path), [], goes.size))
+        want_room(Need.of(os.path.dirname(mailbox.place), [], goes.size))
         reads = self.reads()
         journal = Journal.made(addition, self.opened.folder, mailbox, [one.start for one in goes.entries])
         number = self.begin(goes, addition)

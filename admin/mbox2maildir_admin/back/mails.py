@@ -6,7 +6,7 @@ one: IMAP keeps some names and changes others. Any further file is new, also a c
 import collections
 import itertools
 import os
-from collections.abc import Callable, Iterable, Iterator, Sequence
+from collections.abc import Callable, Container, Iterable, Iterator, Sequence
 from typing import NamedTuple, TypeVar
 
 from ..faults import Fault, Reason
@@ -14,10 +14,9 @@ from ..ledger.assign import File, by_form, files_of
 from ..ledger.lines import RETURNED, Line, State
 from ..ledger.ledger import Ledger
 from ..ledger.prepared import has_list
-from ..looks import is_folder
+from ..looks import is_link, state_at
 from ..maildir.files import listings_of
 from ..maildir.folders import folder_shown, folders_in, name_of
-from ..maildir.making import SUBFOLDERS
 from ..mbox.bases import BASE, before_info
 from ..mbox.core import forms_of
 from ..mbox.files import open_file
@@ -77,6 +76,10 @@ class Slot(NamedTuple):
         """The core of its message."""
         return self.file.lines[0].message.core
 
+    def own_of(self, several: Sequence[Mail]) -> Mail:
+        """Which of the files with its name it is: of several, one that holds its message."""
+        return next((one for one in several if one.core == self.core), several[0])
+
     @property
     def paths(self) -> set[str]:
         """The paths of the mailboxes that have it, or had it."""
@@ -112,13 +115,14 @@ class Findings(NamedTuple):
         """Finds the file of each message that mailboxes brought, by the lines about each folder, and the files of all:
         by its name, or by its core, in the folder; then in other folders."""
         left = {mail.path: mail for mail in mails}
-        homes: collections.defaultdict[bytes, dict[bytes, bytes]] = collections.defaultdict(dict)
+        homes: collections.defaultdict[bytes, dict[bytes, list[Mail]]] = collections.defaultdict(dict)
         for mail in left.values():
-            homes[mail.folder][mail.before] = mail.path
+            homes[mail.folder].setdefault(mail.before, []).append(mail)
         several = (Slot(folder, file) for folder, its in lines for file in files_of(its, homes[folder]))
         slots = [slot for slot in several if slot.file.is_held or slot.went_back(State.FORMER)]
         slots.sort(key=lambda slot: not slot.file.is_held)
-        found = [(left.pop(homes[slot.folder][slot.file.name]), slot) for slot in slots if slot.file.name]
+        named = ((slot.own_of(homes[slot.folder][slot.file.name]), slot) for slot in slots if slot.file.name)
+        found = [(left.pop(mail.path), slot) for mail, slot in named]
         for form_of in FORMS:
             free = by_form((form_of(mail.folder, mail.before, mail.core), path) for path, mail in left.items())
             for slot in slots:
@@ -143,9 +147,22 @@ def by_folder(pairs: Iterable[tuple[bytes, One]]) -> dict[bytes, list[One]]:
     return found
 
 
-def lines_about(root: bytes) -> Iterator[tuple[bytes, list[Line]]]:
-    """The lines about the folders of a Maildir. Raises Fault if a ledger does not say all that is in its folder."""
-    for path in folders_in(root):
+def folders_once(root: bytes, with_mailbox: Container[bytes]) -> list[bytes]:
+    """The paths of the folders of a Maildir, each folder once: of the links that lead to one, and its own name, those
+    come first that have a mailbox."""
+    found = dict[tuple[int, int], bytes]()
+    turns = {one: (one != root, name_of(root, one) not in with_mailbox, is_link(one)) for one in folders_in(root)}
+    for path in sorted(turns, key=lambda one: turns[one]):
+        state = state_at(path)
+        if state:
+            found.setdefault((state.st_dev, state.st_ino), path)
+    return [*found.values()]
+
+
+def lines_about(root: bytes, places: Iterable[bytes]) -> Iterator[tuple[bytes, list[Line]]]:
+    """The lines about the folders at these places of a Maildir. Raises Fault if a ledger does not say all that is in
+    its folder."""
+    for path in places:
         folder, ledger = name_of(root, path), Ledger(path)
         if ledger.leaving:
             raise Fault(NOT_UNDONE % min(ledger.leaving), Reason.UNDO)
@@ -161,31 +178,34 @@ def lines_about(root: bytes) -> Iterator[tuple[bytes, list[Line]]]:
         yield folder, [line for line in ledger.entries(None) if line.state is not State.UNDONE]
 
 
-def mails_of(root: bytes, say: Say) -> Iterator[Mail]:
-    """The files of mail in all folders of a Maildir, each once, though programs may rename them meanwhile. The core is
-    that of the message as a mailbox would have it: its last line has ended."""
-    for place in folders_in(root):
-        folder, met = name_of(root, place), set[bytes]()
-        is_whole = all(is_folder(os.path.join(place, sub)) for sub in SUBFOLDERS[1:])
-        listings = (enumerate(listing, 1) for listing in listings_of(place)) if is_whole else ()
+def mails_of(root: bytes, places: Iterable[bytes], say: Say) -> Iterator[Mail]:
+    """The files of mail in the folders at these places of a Maildir, each once, though programs may rename them
+    meanwhile. The core is that of the message as a mailbox would have it: its last line has ended."""
+    for place in places:
+        # what was met, by its name and its inode, which may change on a network disk; or by its name and its core
+        folder, met = name_of(root, place), set[tuple[bytes, object]]()
+        listings = (enumerate(listing, 1) for listing in listings_of(place))
         for number, (name, path) in itertools.chain.from_iterable(listings):
             say("looking at file %d of %s" % (number, folder_shown(folder)))
-            if before_info(name) in met:
-                continue
             try:
-                time = int(os.lstat(path).st_mtime)
+                state, before = os.lstat(path), before_info(name)
+                if (before, state.st_ino) in met:
+                    continue
                 with open_file(path, os.O_NOFOLLOW) as file:
                     core, _ = forms_of(file.read, is_ended=True)
             except (FileNotFoundError, Fault):
                 # it is gone, or no file
                 continue
-            met.add(before_info(name))
-            yield Mail(folder, name, path, core, time)
+            if (before, core) not in met:
+                yield Mail(folder, name, path, core, int(state.st_mtime))
+            met |= {(before, state.st_ino), (before, core)}
 
 
-def findings_in(root: bytes, say: Say) -> Findings:
-    """Which mail of a Maildir is new, and what became of the rest. Raises Fault if nothing shows that."""
+def findings_in(root: bytes, with_mailbox: Container[bytes], say: Say) -> Findings:
+    """Which mail of a Maildir is new, and what became of the rest, by its folders, of which some have a mailbox. Raises
+    Fault if nothing shows that."""
     try:
-        return Findings.by(lines_about(root), mails_of(root, say))
+        places = folders_once(root, with_mailbox)
+        return Findings.by(lines_about(root, places), mails_of(root, places, say))
     except OSError as error:
         raise Fault(error.strerror, Reason.ERROR, place=error.filename or root) from error

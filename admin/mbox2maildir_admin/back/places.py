@@ -7,11 +7,12 @@ from collections.abc import Iterable, Sequence
 from contextlib import AbstractContextManager
 from typing import NamedTuple, Optional
 
-from ..faults import Left, Reason
+from ..faults import Fault, Left, Reason
 from ..ledger.history import names_of
 from ..ledger.ledger import Ledger
+from ..ledger.match import cores_of
 from ..ledger.record import Record, is_gone, unspelled
-from ..looks import is_file, is_folder, is_link, is_there
+from ..looks import is_below, is_file, is_folder, is_link, is_there
 from ..maildir.folders import (
     COMPRESSED,
     INBOX,
@@ -28,7 +29,9 @@ from ..mbox.lock_file import drop_lock, lock_file_of, spot_of
 from ..mbox.mailbox import Mailbox
 from ..migration.places import Planned, recorded
 from ..migration.trees import Tree
-from ..terminal import named, text_of
+from ..readings.reading import Reading
+from ..readings.texts import folder_for_copies, text_then
+from ..terminal import is_text, named, text_of
 
 NO_TREE = "%s has no mailbox: name a folder for new mailboxes too, such as that of the old ones (not Thunderbird's)"
 TREE_GONE = "%s has no mailbox, and the folder of the others is not there: %s"
@@ -63,6 +66,8 @@ class Places:
             self.trees = [names.tree]
         # by folders, as they are named on the disk: the mailboxes, in the order of the names
         self.found: collections.defaultdict[bytes, list[bytes]] = collections.defaultdict(list)
+        # by the paths of the mailboxes to which mail would go back by a rehearsal: the folders of that mail
+        self.would = dict[bytes, bytes]()
         for name in names.paths:
             for one in trees[name].placed(record, root, set()) if name in trees else [self.planned(name)]:
                 if one.folder:
@@ -73,14 +78,34 @@ class Places:
         one = recorded(Planned(name, INBOX), self.record)
         if self.record.folders_given(name) or not is_file(name):
             return one
-        # the record does not know its path: a ledger may show that it is the file of a mailbox that is gone from
-        # another path. It is not read for that, so a mailbox on another disk is not known
-        inode = os.stat(name).st_ino
-        for place in folders_in(self.record.maildir):
-            sources = Ledger(place).sources.items()
-            if any(source.inode == inode and is_gone(path) for path, source in sources):
-                return one._replace(folder=name_of(self.record.maildir, place))
+        try:
+            # root follows no symbolic link
+            mailbox = Mailbox.open(name, follow=os.geteuid() != 0)
+        except (Fault, OSError):
+            # its row says why it can't be opened
+            return one
+        with mailbox:
+            # the record does not know its path: a ledger may show that it was moved
+            for place in folders_in(self.record.maildir):
+                ledger = Ledger(place)
+                if any(self.is_moved(ledger, path, mailbox) for path in ledger.sources):
+                    return one._replace(folder=name_of(self.record.maildir, place))
         return one
+
+    def is_moved(self, ledger: Ledger, path: str, mailbox: Mailbox) -> bool:
+        """Whether a mailbox is the one of a ledger that is gone from its path. It has the same bytes; or it is the same
+        file, which may have got another's inode, and has all that was brought. It is not read if it has another size
+        and inode."""
+        before = ledger.sources[path]
+        is_same = bool(before.inode) and before.inode == mailbox.state.st_ino
+        if not (is_same or before.key[0] == mailbox.size) or not is_gone(path):
+            return False
+        if before.key == mailbox.key():
+            # any two that are empty have the same bytes
+            return is_same or mailbox.size > 0
+        reading = Reading.of_words(before.words)._replace(bare=False)
+        with text_then(mailbox, reading, folder_for_copies(self.record.maildir, self.record.is_dry)) as text:
+            return is_same and text is not None and ledger.is_in(path, cores_of(text.messages()))
 
     def name_of(self, path: bytes, folder: bytes) -> str:
         """The name by which Dovecot knows the mailbox of a folder: that of its path below a tree."""
@@ -100,9 +125,9 @@ class Places:
             raise Left(GONE % named(unspelled(paths[0])), Reason.MISSING)
         if folder == INBOX and not found:
             raise Left(self.names.no_inbox, Reason.NO_MAILBOX)
-        return [found[0] if folder == INBOX else self.new(folder, paths)]
+        return [found[0] if folder == INBOX else self.new(folder)]
 
-    def new(self, folder: bytes, paths: Sequence[str]) -> bytes:
+    def new(self, folder: bytes) -> bytes:
         """The new mailbox of a folder, in the first tree."""
         if not self.trees and self.names.tree and not is_there(self.names.tree):
             raise Left(TREE_GONE % (folder_shown(folder), named(self.names.tree)), Reason.MISSING)
@@ -110,9 +135,11 @@ class Places:
             raise Left(NO_TREE % folder_shown(folder), Reason.NO_MAILBOX)
         parts, tree = name_given(folder).split(b"/"), self.trees[0]
         nested = os.path.join(tree, *parts)
-        if folder_on_disk(os.path.relpath(nested, tree)) == folder and self.is_free(nested, paths):
+        # a mailbox whose name is not UTF-8 becomes no folder
+        is_its_own = is_text(folder) and folder_on_disk(os.path.relpath(nested, tree)) == folder
+        if is_its_own and self.is_free(nested, folder):
             return nested
-        return self.first_free(os.path.join(tree, b"-".join(parts)), paths)
+        return self.first_free(os.path.join(tree, b"-".join(parts)), folder)
 
     def beside(self, path: bytes, folder: bytes, tried: Sequence[bytes]) -> bytes:
         """The new mailbox beside one that takes nothing, and beside further ones that were tried. That of an inbox
@@ -120,26 +147,32 @@ class Places:
         if folder == INBOX and self.trees and os.path.relpath(path, self.trees[0]).startswith(b"../"):
             path = os.path.join(self.trees[0], b"inbox")
         path = next((path[: -len(end)] for end in COMPRESSED if path.endswith(end)), path)
-        return self.first_free(path + BESIDE, Ledger(folder_path(self.record.maildir, folder)).paths(), tried)
+        return self.first_free(path + BESIDE, folder, tried)
 
-    def first_free(self, path: bytes, paths: Sequence[str], tried: Sequence[bytes] = ()) -> bytes:
-        """The first of the names for a new mailbox that is free, and was not tried."""
+    def first_free(self, path: bytes, folder: bytes, tried: Sequence[bytes] = ()) -> bytes:
+        """The first of the names for a new mailbox of a folder that is free, and was not tried."""
         for one in (path, *(b"%s-%d" % (path, number) for number in range(2, NAMES))):
-            if one not in tried and self.is_free(one, paths):
+            if one not in tried and self.is_free(one, folder):
                 return one
         raise Left("no name is free for a new mailbox: %s" % named(path), Reason.NO_MAILBOX)
 
-    @staticmethod
-    def is_free(path: bytes, paths: Sequence[str]) -> bool:
-        """Whether a mailbox can be made at a path, or was made there before for a folder whose ledger has these
-        paths."""
+    def is_free(self, path: bytes, folder: bytes) -> bool:
+        """Whether a mailbox can be made at a path for a folder, or was made there for it before. None can be made where
+        a rehearsal would have made one for another folder, nor above or below that."""
+        others = (one for one, its in self.would.items() if (one, its) != (path, folder))
+        if any(is_below(path, one) or is_below(one, path) for one in others):
+            return False
         if is_there(path):
             is_own = is_file(path) and not is_link(path)
-            return is_own and (not os.path.getsize(path) or bool(set(names_of(path)) & set(paths)))
+            return is_own and (not os.path.getsize(path) or self.is_of(path, folder))
         above = os.path.dirname(os.path.abspath(path))
         while not is_there(above):
             above = os.path.dirname(above)
         return is_folder(above)
+
+    def is_of(self, path: bytes, folder: bytes) -> bool:
+        """Whether the ledger of a folder has the mailbox at a path."""
+        return not {*names_of(path)}.isdisjoint(Ledger(folder_path(self.record.maildir, folder)).paths())
 
 
 class Keeper:

@@ -65,14 +65,13 @@ class Folders:
 
     def __init__(self, way: Way) -> None:
         self.way, self.places, self.is_dry = way, way.places, way.options.dry
-        # whether nothing is left, and the folders whose mail would go back, by the paths of their mailboxes
-        self.is_right, self.would = True, dict[bytes, bytes]()
+        self.is_right = True
 
     def run(self) -> Next:
         """Brings back the mail of each folder, and tells its row. Returns what moves the Maildir aside, once all of its
         mail is back."""
         root, observer = self.way.record.maildir, self.way.observer
-        found = findings_in(root, observer.say(root))
+        found = findings_in(root, self.places.found, observer.say(root))
         observer.rest(named(root))
         if not self.is_dry:
             self.drop_locks()
@@ -86,7 +85,7 @@ class Folders:
             for path in sorted(stands):
                 self.tell(nothing_new(Target(path, folder, (), stands[path])))
         if self.way.options.dovecot and self.places.trees:
-            for row in rows_of(self.places, self.is_dry, self.would):
+            for row in rows_of(self.places, self.is_dry):
                 self.tell(row)
         if self.is_dry or not self.is_right:
             return NOTHING
@@ -98,7 +97,7 @@ class Folders:
     def tell(self, row: Row) -> None:
         """Tells a row."""
         self.is_right = self.is_right and not row.left_for
-        self.would.update({row.path: row.folder} if row.verdict == Verdict.WOULD_BACK else {})
+        self.places.would.update({row.path: row.folder} if row.verdict == Verdict.WOULD_BACK else {})
         self.way.observer.row(row)
 
     def drop_locks(self) -> None:

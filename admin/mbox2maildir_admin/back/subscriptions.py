@@ -2,7 +2,7 @@
 import contextlib
 import os
 import stat
-from collections.abc import Iterator, Mapping
+from collections.abc import Iterator
 
 from ..faults import Fault, Left, Reason
 from ..ledger.history import Note, names_of
@@ -25,11 +25,10 @@ Name = tuple[bytes, ...]
 
 
 class Lists:
-    """The two lists of names, the mailboxes by their folders, and the folders whose mail would go back in a rehearsal,
-    by the paths of their mailboxes."""
+    """The two lists of names, and the mailboxes by their folders."""
 
-    def __init__(self, places: Places, would: Mapping[bytes, bytes]) -> None:
-        self.root, self.tree, self.places, self.would = places.record.maildir, places.trees[0], places, would
+    def __init__(self, places: Places) -> None:
+        self.root, self.tree, self.places = places.record.maildir, places.trees[0], places
         self.old, self.has_tabs = names_in(os.path.join(self.tree, OLD_SUBSCRIPTIONS), b"/")
         self.new, _ = names_in(os.path.join(self.root, SUBSCRIPTIONS), b".")
 
@@ -53,7 +52,7 @@ class Lists:
             return name
         with contextlib.suppress(Left):
             path = self.places.of(folder_of(name))[0]
-            if path in self.would or is_there(path):
+            if path in self.places.would or is_there(path):
                 return self.below(path)
         return ()
 
@@ -62,7 +61,7 @@ class Lists:
         subscribed to the folder would not see that mail."""
         ledger = Ledger(folder_path(self.root, folder))
         there = filter(is_there, map(unspelled, ledger.paths()))
-        for path in (*there, *(path for path, its in self.would.items() if its == folder)):
+        for path in (*there, *(path for path, its in self.places.would.items() if its == folder)):
             if self.below(path) and not any(name in ledger.begun for name in names_of(path)):
                 yield self.below(path)
 
@@ -103,14 +102,13 @@ def folder_of_old(name: Name) -> bytes:
     return on_disk(folder_of_place(b"/".join(name).decode()))
 
 
-def rows_of(places: Places, is_dry: bool, would: Mapping[bytes, bytes]) -> Iterator[Row]:
-    """Writes the list of the first tree, and gives its row, if anything is to change in it. In a rehearsal, mail of
-    some folders would go back to the mailboxes at these paths."""
+def rows_of(places: Places, is_dry: bool) -> Iterator[Row]:
+    """Writes the list of the first tree, and gives its row, if anything is to change in it."""
     path = os.path.join(places.trees[0], OLD_SUBSCRIPTIONS)
     try:
         if not is_there(os.path.join(places.record.maildir, SUBSCRIPTIONS)):
             return
-        lists = Lists(places, would)
+        lists = Lists(places)
         names = lists.names()
         if set(names) == set(lists.old):
             return

@@ -1,4 +1,5 @@
 """The files of a Maildir."""
+import contextlib
 import errno
 import hashlib
 import os
@@ -8,6 +9,7 @@ from collections.abc import Callable, Container, Iterator
 from typing import Optional
 
 from ..faults import Fault
+from ..looks import state_at
 from ..mbox.core import forms_of
 from ..mbox.files import BLOCK, REGULAR, open_file
 from .making import WITH_MAIL
@@ -19,6 +21,9 @@ CLOCK_TICK = 0.1
 # what comes before the letters of flags in the name of a file
 INFO = b":2,"
 
+# the errors of listing what is not there, or is no folder
+MISSING = FileNotFoundError, NotADirectoryError
+
 # the name of a file, and its path
 Named = tuple[bytes, bytes]
 # looks at an open file, whose state this is, and gives its digest if that is known without hashing it
@@ -29,17 +34,22 @@ def paths_of(maildir: bytes) -> Iterator[Named]:
     """The names of a Maildir's mail, each with its path. `new` comes before `cur`, since mail programs move files that
     way."""
     for sub in WITH_MAIL:
-        with os.scandir(os.path.join(maildir, sub)) as entries:
-            for entry in entries:
-                yield entry.name, entry.path
+        yield from paths_in(os.path.join(maildir, sub))
+
+
+def paths_in(place: bytes) -> Iterator[Named]:
+    """The names of what is in a folder on the disk, each with its path."""
+    with os.scandir(place) as entries:
+        for entry in entries:
+            yield entry.name, entry.path
 
 
 def mail_in(folder: bytes) -> Iterator[Named]:
-    """The names and paths of the mail in a folder; none if the folder does not exist."""
-    try:
-        yield from paths_of(folder)
-    except FileNotFoundError:
-        pass
+    """The names and paths of the mail in a folder. Its `new` or its `cur` may be missing, as after a copy that left out
+    what is empty; or both, if it does not exist."""
+    for sub in WITH_MAIL:
+        with contextlib.suppress(*MISSING):
+            yield from paths_in(os.path.join(folder, sub))
 
 
 def names_in(folder: bytes) -> list[bytes]:
@@ -55,20 +65,21 @@ def letters_of(name: bytes) -> str:
     return name.partition(INFO)[2].decode("latin-1")
 
 
-def listings_of(maildir: bytes) -> Iterator[Iterator[Named]]:
-    """Lists a Maildir's mail, and lists it again if a mail program renames files meanwhile, which a listing may
+def listings_of(folder: bytes) -> Iterator[Iterator[Named]]:
+    """Lists the mail of a folder, and lists it again if a mail program renames files meanwhile, which a listing may
     miss."""
     for _ in range(PASSES):
-        began, before = time.time(), changed_at(maildir)
-        yield paths_of(maildir)
+        began, before = time.time(), changed_at(folder)
+        yield mail_in(folder)
         # the clock of a file system has ticks
-        if changed_at(maildir) == before and max(before) < began - CLOCK_TICK:
+        if changed_at(folder) == before and max(before) < began - CLOCK_TICK:
             return
 
 
-def changed_at(maildir: bytes) -> list[float]:
-    """The times at which files of a Maildir's two folders were last added, renamed or removed."""
-    return [os.stat(os.path.join(maildir, sub)).st_mtime for sub in WITH_MAIL]
+def changed_at(folder: bytes) -> list[float]:
+    """The times at which files in `new` and `cur` were last added, renamed or removed; 0 for one that is missing."""
+    states = (state_at(os.path.join(folder, sub)) for sub in WITH_MAIL)
+    return [state.st_mtime if state else 0 for state in states]
 
 
 def digest_of(

@@ -160,7 +160,7 @@ def release_lock(spot: Spot, number: int) -> None:
 def look_for_lock_file(mailbox: Mailbox) -> bool:
     """Whether a lock file is there that counts for nothing: an old one, or one that a killed run left. It stays, and is
     only mentioned. Raises Left if another program has one."""
-    path = mailbox.path + LOCK
+    path = mailbox.place + LOCK
     state = state_at(path, False)
     if not state:
         return False
@@ -175,7 +175,7 @@ def look_for_lock_file(mailbox: Mailbox) -> bool:
 def lock_file_of(mailbox: Mailbox, owner: bytes) -> Iterator[None]:
     """Holds FILE.lock for an open mailbox. One that a killed run left goes first. In a folder where this user may make
     no file the other locks must do. Raises Left if another program has it."""
-    spot = spot_of(mailbox.path)
+    spot = spot_of(mailbox.place)
     drop_lock(spot, owner)
     number = None if look_for_lock_file(mailbox) else taken(spot, owner)
     try:

@@ -98,7 +98,10 @@ class Mailbox:
 
     def __init__(self, path: bytes, number: int, digest: Optional[Digest] = None, say: Say = silent) -> None:
         """Takes an open descriptor as the text of a path. The descriptor is closed in the end."""
-        self.path, self.number, self.digest, self.say = path, number, digest, say
+        # where its file was opened, and its locks are; `path` is the one by which it is known, and may lead there by
+        # symbolic links
+        self.path = self.place = path
+        self.number, self.digest, self.say = number, digest, say
         # what is to be said of the mailbox; and for a copy, the state of its file when it was copied, and for how many
         # seconds it was
         self.remarks: list[Remark] = []

@@ -1,5 +1,6 @@
 """The last block of what is printed: what is left, and what asks for a look, in groups, each command once."""
 import glob
+import itertools
 from collections.abc import Iterable, Iterator, Sequence
 from typing import NamedTuple, Optional
 
@@ -104,8 +105,9 @@ class Group:
                     yield from lines_below(row.quotes if is_asked else first_of(row.quotes), ())
             if len(named_here) < len(one.rows):
                 yield "%sand %d more (--all names them)" % (WITHIN, len(one.rows) - len(named_here))
-            for letter, several in zip(LETTERS, steps):
-                yield from lines_of(several, "%s: " % letter if is_asked else "")
+            letters = ["%s: " % letter for letter in LETTERS] if is_asked else []
+            for letter, several in zip(itertools.chain(letters, itertools.repeat("")), steps):
+                yield from lines_of(several, letter)
 
     def title(self) -> str:
         """Why the rows are there, and how many they are."""

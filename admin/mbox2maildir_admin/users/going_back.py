@@ -93,22 +93,22 @@ class Asking(Keeper):
     @contextlib.contextmanager
     def locked(self, mailbox: Mailbox, owner: bytes) -> Iterator[None]:
         """Holds FILE.lock for an open mailbox. Raises Left if another program has it."""
-        if os.path.realpath(mailbox.path) not in self.places:
+        if os.path.realpath(mailbox.place) not in self.places:
             with super().locked(mailbox, owner):
                 yield
             return
-        refusal = self.refusal(TAKE, mailbox.path)
+        refusal = self.refusal(TAKE, mailbox.place)
         # an old one counts for nothing
         if refusal and not (refusal.reason is Reason.LOCKED and look_for_lock_file(mailbox)):
             raise refusal
-        number = None if refusal else hold(spot_of(mailbox.path))
+        number = None if refusal else hold(spot_of(mailbox.place))
         try:
             yield
         finally:
             if number is not None:
                 os.close(number)
             if not refusal:
-                self.refusal(RELEASE, mailbox.path)
+                self.refusal(RELEASE, mailbox.place)
 
     def make(self, path: bytes) -> None:
         """Makes a mailbox, if it is not there. Raises Left if root can't make it."""
