@@ -108,6 +108,15 @@ def moved_by_a_killed_run(home: Path) -> None:
             break
 
 
+def undone_once_moved(home: Path) -> None:
+    """The undo of a mailbox that was moved takes its list of UIDs away, so that the next one keeps its own."""
+    migrated(home, text_of(*FIELDS))
+    (home / "box").rename(home / "moved")
+    equal("undone", by_json(["migrate", "--undo", "--now", "M", "moved"], home).row["verdict"], "undone")
+    row = migrated(home, text_of("X-UID: 4\n", base="333 4"), "other").row
+    equal("the list of the next one", (row["remarks"], listed(home)), ([], ("3 V333 N5", ["4"])))
+
+
 def left_by_a_killed_run(home: Path) -> None:
     """A lock that has a list in it is a run's. If that is no longer at work, the next run goes on at once."""
     migrated(home, text_of(*FIELDS))

@@ -25,6 +25,8 @@ NO_LEDGER = "left (ledger): M/mbox2maildir-messages: it does not belong to you, 
 NO_MORE = "\nold/%d: left (record): M/mbox2maildir-record: it is full: ..."
 SPOILT = '@case $PWD in */.c) chmod 620 ../mbox*messages;; esac; "$real" "$@"'
 UNNOTED = '@"$real" "$@"; chmod 620 mbox*messages; echo "mbox2maildir: folder call 9 failed" >&2; exit 1'
+UNDO_KILLED = "a: left (undo): its undo was interrupted"
+NOT_SYNCED = "left (sync-failed): its sync failed: ..."
 # the date that a message has, by its From_ line, and a program that ends with the first message
 DATED = "!test $(($(stat -c %Y $(grep -l two M/new/*)) % 60)) = 2"
 FIRST_ALONE = '@"$real" convert . ../placed && kill -9 $PPID'
@@ -182,6 +184,17 @@ STORIES: dict[str, list[Step]] = {
         *(("migrate --again M a", "a: done: placed 1 message..."), f"= one two {LEDGER[2:]}.damaged?"),
         ("migrate M a", "a: done before"),
     ],
+    # what is put aside takes the place of nothing
+    "a_ledger_is_damaged_twice": [
+        *(("a", ONE), "migrate M a", f"!echo hello >>{LEDGER}; cp {LEDGER} first", ("a", ONE + TWO)),
+        *("migrate --again M a", f"!echo hello >>{LEDGER}; cp {LEDGER} second", ("a", ONE + TWO + THREE)),
+        *("migrate --again M a", f"!cmp {LEDGER}.damaged first; cmp {LEDGER}.damaged.2 second"),
+    ],
+    # a name that this program gives only to very many equal messages
+    "a_file_with_a_large_number": [
+        *(("a", NUMBERED), "!mbox2maildir convert M a; a=$(echo M/new/*); mv $a ${a%.1}.4294967296"),
+        *(("migrate --dovecot --again M a", "a: done: placed 0 messages; ..."), "= one"),
+    ],
     # the folder has another name by now, and only its ledger could say so
     "the_record_is_lost_and_a_ledger_cannot_be_read": [
         *(("a", ONE), "migrate --folder A M a", f"!rm {RECORD}; mv M/.A M/.B; cd M/.B; mv mbox*s ../../kept"),
@@ -240,6 +253,41 @@ STORIES: dict[str, list[Step]] = {
         *steps(("a", ONE), *killed("migrate M a"), "!rm M/new/*", *killed("migrate M a"), "!rm M/new/*"),
         ("migrate M a", "a: done: when its mail was placed, up to 1 message that had been deleted or moved came back"),
         ("migrate M a", "a: done before: when its mail was placed, up to 1 message that had been deleted or moved ..."),
+    ],
+    # it is left for the reasons for which any other one is, and says what any other one says
+    "an_emptied_mailbox": [
+        *(("a", ONE + TWO), "migrate M a", ("a", b"")),
+        *(
+            ("migrate M a", "a: done: 2 messages gone from it that it had brought"),
+            ("migrate M a", BEFORE),
+            "= one two",
+        ),
+        *(f"!printf '<\\t%s\\n' $PWD/a >>{LEDGER}", ("migrate M a", UNDO_KILLED)),
+        *((">", "a: undone: removed 0 messages; kept 2 messages that it no longer has"), "= one two"),
+    ],
+    "an_emptied_mailbox_whose_undo_was_killed": [
+        *(
+            ("a", ONE),
+            "migrate M a",
+            f"!printf '<\\t%s\\n' $PWD/a >>{LEDGER}",
+            ("a", b""),
+            ("migrate M a", UNDO_KILLED),
+        ),
+        *((">", "a: undone: removed 0 messages; kept 1 message that it no longer has"), "= one"),
+    ],
+    "an_emptied_mailbox_whose_sync_failed": [
+        *(("a", ONE), SYNC_FAILS, ("migrate M a", f"a: {NOT_SYNCED}"), RESTORED, ("a", b"")),
+        *(("migrate M a", f"a: {NOT_SYNCED}"), ("migrate --again M a", "a: done"), ("migrate M a", BEFORE)),
+    ],
+    "an_emptied_mailbox_of_a_damaged_ledger": [
+        *(("a", ONE), "migrate M a", f"!echo hello >>{LEDGER}", ("a", b"")),
+        ("migrate M a", "a: left (ledger): the ledger of its folder is damaged in line 6, so nothing shows which ..."),
+        *((">", "a: done"), ("migrate M a", BEFORE), f"= one {LEDGER[2:]}.damaged?"),
+    ],
+    # what the ledger lacks of it, it gets: no undo in the folder waits for that
+    "an_emptied_mailbox_of_which_the_ledger_is_gone": [
+        *(("a", ONE), "migrate M a", ("b", TWO), f"!rm {LEDGER} M/new/*", ("a", b""), "migrate --again M b"),
+        *("migrate M a", ("migrate M a", BEFORE), ("migrate --undo M b", "b: undone: removed 1 message"), "="),
     ],
     "a_mailbox_was_begun_and_moved": [
         *steps(("a", ONE), *killed("migrate M a"), "!mv a b", ("migrate --dry-run M b", "b: would be done")),

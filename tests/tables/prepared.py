@@ -26,6 +26,14 @@ SYNC_FAILED = "a: left (sync-failed): its sync failed: read the system's log and
 KILLED = killed(LAST)
 TEN: list[Step] = [*((f"old/{number}", ONE) for number in range(10)), FIRST_OF_TREE]
 ALL_TEN = " ".join(f"{number}/one" for number in range(10))
+# of a mailbox that is not met, the path is given that it has without a link
+BEHIND_A_LINK = "\n".join(
+    [f"disk/old/3: {NOT_MET}"]
+    + [
+        f"link/old/{number}: " + ("no mail: by --no-mail" if number == 3 else "done: 1 prepared before")
+        for number in range(10)
+    ]
+)
 TEN_DONE = "\n".join(f"old/{number}: done: 1 prepared before" for number in range(10))
 
 STORIES: dict[str, list[Step]] = {
@@ -89,10 +97,19 @@ STORIES: dict[str, list[Step]] = {
         *(FIRST, "migrate --again M a", "= one:F"),
     ],
     "an_emptied_mailbox": [
-        *(("a", ONE), FIRST, ("a", b""), (FIRST, "a: prepared"), "="),
-        *(("a", ONE), FIRST, ("a", b""), (LAST, "a: done"), "="),
+        *(("a", ONE), FIRST, ("a", b""), (FIRST, "a: prepared: 0 prepared before, 1 message removed"), "="),
+        *(("a", ONE), FIRST, ("a", b""), (LAST, "a: done: 0 prepared before, 1 message removed"), "="),
     ],
-    "an_emptied_mailbox_by_again": [("a", ONE), FIRST, ("a", b""), "migrate --again M a", "= one"],
+    "an_emptied_mailbox_by_again": [
+        *(("a", ONE + TWO), FIRST, ("a", b"")),
+        ("migrate --again M a", "a: done: 2 prepared before stay, whatever the mailbox has now"),
+        "= one two",
+    ],
+    "an_emptied_mailbox_and_what_somebody_edited": [
+        *(("a", ONE + TWO), FIRST, "!echo more >>$(grep -l 'Subject: one' M/new/*)", ("a", b"")),
+        (LAST, "a: done: 0 prepared before, 1 message removed; kept 1 file that somebody edited"),
+        "= one",
+    ],
     # where somebody reads
     "somebody_reads": [
         *(("a", ONE), FIRST, READ, ("a", ONE + TWO)),
@@ -263,6 +280,11 @@ STORIES: dict[str, list[Step]] = {
     "undone_in_the_folder_that_is_named": [
         *(("a", ONE), FIRST, "!mv a b", ("migrate --undo --folder INBOX M b", "b: undone: removed 1 message"), "="),
     ],
+    "undone_in_the_folder_of_another": [
+        *(("old/a", ONE), ("b", TWO), FIRST_OF_TREE),
+        ("migrate --undo --folder a M b", "b: left (undo): no ledger has it, so nothing shows which files are its own"),
+        *("= a/one .a+", ("migrate --undo --folder a M old/a", "old/a: undone: removed 1 message"), "="),
+    ],
     # it had begun to write the list of UIDs
     "killed_and_undone_with_dovecot": [
         *steps(("old/a", ONE), f"{FIRST_OF_TREE} --dovecot", ("old/a", ONE + TWO)),
@@ -305,6 +327,12 @@ STORIES: dict[str, list[Step]] = {
         *(*TEN[:-1], ("older/c", TWO), f"{FIRST_OF_TREE} older", (TREE, f"{TEN_DONE}\nolder/c: {NOT_MET}")),
         f"= {ALL_TEN} c/two .c+",
         *(("migrate M older", "older/c: done: 1 prepared before"), f"= {ALL_TEN} c/two"),
+    ],
+    "a_tree_behind_a_link": [
+        *(*((f"disk/{path}", text) for path, text in TEN[:-1]), "!ln -s disk link", f"{FIRST_OF_TREE[:-3]}link/old"),
+        ("disk/old/3", b"milk\n"),
+        ("migrate --no-mail 3 M link/old", BEHIND_A_LINK),
+        f"= {ALL_TEN} .3+",
     ],
     "a_file_that_holds_no_mail_any_more": [
         *(("old/a", ONE), ("old/b", ONE), FIRST_OF_TREE, ("old/a", b"milk\n")),

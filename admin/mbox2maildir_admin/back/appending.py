@@ -28,7 +28,6 @@ from ..nexts import Todo, task
 from ..program import Program
 from ..readings.copies import copy_of, unnamed
 from ..readings.reading import MBOXRD
-from ..readings.texts import folder_for_copies
 from ..remarks import Says
 from ..terminal import first_of, named
 from ..units import Size, counted
@@ -73,7 +72,7 @@ class Way(NamedTuple):
     @property
     def disk(self) -> bytes:
         """A folder on the disk where copies are made."""
-        return folder_for_copies(self.record.maildir, self.options.dry)
+        return self.options.disk(self.record.maildir)
 
     def say_numbers(self, target: Target, mailbox: Mailbox) -> tuple[Numbering, Known]:
         """Has an open mailbox say which UIDs were given, before it gets mail: if that is interrupted, some are never

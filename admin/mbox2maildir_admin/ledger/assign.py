@@ -19,11 +19,11 @@ from .lines import FOREIGN, NAMELESS, NOBODYS, SHARED, Brought, Line, State
 
 
 class Means(NamedTuple):
-    """What it means that a file may stand for a new message: the step of docs/LEDGER.md in which it is taken; what a
-    row says of it, if anything; whether it stands for no more messages than another mailbox brought beyond those that
-    this one has; and whether a run has finished with the file, unless the lines about it say that."""
+    """What it means that a file may stand for a new message: without --again, the step of docs/LEDGER.md in which it is
+    taken; what a row says of it, if anything; whether it stands for no more messages than another mailbox brought
+    beyond those that this one has; and whether a run has finished with the file, unless the lines about it say that."""
 
-    step: int
+    step: int = 0
     says: Optional[Sentence] = None
     is_limited: bool = False
     is_finished: Optional[bool] = None
@@ -45,8 +45,8 @@ class Why(Enum):
     # another mailbox brought it once, or a killed run of that
     ONCE_THEIRS = Means(5, Says.SHARED)
     # with --again, it is there, whoever brought it; or it is nobody's, and was read just now
-    ANY = Means(6)
-    ANY_NOBODYS = Means(6, Says.THERE_ALREADY, is_finished=True)
+    ANY = Means()
+    ANY_NOBODYS = Means(says=Says.THERE_ALREADY, is_finished=True)
 
 
 # the states of what a mailbox brought, whether it has it still or not

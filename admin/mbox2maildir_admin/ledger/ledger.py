@@ -17,6 +17,7 @@ import os
 from collections.abc import Container, Iterable, Iterator
 from typing import Optional, Union
 
+from ..looks import is_there
 from ..maildir.making import LEDGER, SyncNames, sync_folder
 from ..mbox.core import SHORT
 from ..mbox.inventory import Inventory
@@ -174,14 +175,11 @@ class Source:
         return len(self.cores) // SHORT - sum(self.lost.values())
 
 
-class Ledger:
-    """What mailboxes brought into a folder, by their paths as the record spells them."""
+class Told:
+    """What the lines of a ledger say: before any is taken, nothing."""
 
-    def __init__(self, folder: bytes, verified: Iterable[int] = (), dry: bool = False) -> None:
-        """Reads the ledger of a folder, which need not exist. Batches with these numbers count as ended: this run has
-        verified them, and their disk is not synced yet. Lines that a rehearsal appends stay in memory. Raises Fault if
-        others may have written to it."""
-        self.folder, self.is_made, self.is_dry, self.in_memory = folder, False, dry, b""
+    def __init__(self) -> None:
+        self.is_made, self.in_memory = False, b""
         self.number, self.size, self.last = "", 0, 0
         # the last number of each mailbox: of a batch that is whole or, if it was undone since, of that
         self.lasts: dict[str, int] = {}
@@ -203,6 +201,17 @@ class Ledger:
         self.looked_at: Optional[tuple[int, int, tuple[int, ...]]] = None
         # the paths of mailboxes whose undo is not finished: what they have belongs to nobody
         self.leaving: set[str] = set()
+
+
+class Ledger(Told):
+    """What mailboxes brought into a folder, by their paths as the record spells them."""
+
+    def __init__(self, folder: bytes, verified: Iterable[int] = (), dry: bool = False) -> None:
+        """Reads the ledger of a folder, which need not exist. Batches with these numbers count as ended: this run has
+        verified them, and their disk is not synced yet. Lines that a rehearsal appends stay in memory. Raises Fault if
+        others may have written to it."""
+        super().__init__()
+        self.folder, self.is_dry = folder, dry
         number, first = 1, 0
         for text, several in pieces_in(folder):
             if several and self.batch:
@@ -422,15 +431,11 @@ class Ledger:
         else:
             self.size = append(self.folder, lines, since=since)
 
-    def note_empty(self, path: str, key: tuple[int, str], inode: int) -> None:
-        """Notes that a mailbox with this size and SHA-256, in the file with this inode, has no message any more, if it
-        had some."""
-        source = self.sources.get(path)
-        if source and source.count():
-            has = (line.message for line in self.entries(source.has()) if line[:2] == (path, State.HELD))
-            lost = [one._replace(word=LOST) for one in has]
-            head = Head.without_files(len(lost), key, source.words, path, inode)
-            self.note(END_LINE % self.begin(head, lost))
+    def note_without_files(self, key: tuple[int, str], words: str, path: str, inode: int, *messages: Brought) -> None:
+        """Notes of a mailbox with this size and SHA-256, in the file with this inode, how it was read, and messages of
+        which no file is placed."""
+        head = Head.without_files(len(messages), key, words, path, inode)
+        self.note(END_LINE % self.begin(head, messages))
 
     def move(self, old: str, new: str) -> None:
         """Notes that a mailbox has another path now."""
@@ -453,15 +458,14 @@ class Ledger:
 
     def forget_all(self) -> None:
         """Forgets all lines."""
-        self.number, self.size, self.last, self.damage, self.is_made = "", 0, 0, None, False
-        self.sources, self.open, self.ended, self.undone, self.batch = {}, {}, {}, {}, None
-        self.lasts, self.begun, self.leaving, self.failed = {}, {}, set(), set()
+        super().__init__()
 
     def put_aside(self) -> None:
-        """Begins anew. What is damaged stays beside it."""
-        path, last = os.path.join(self.folder, LEDGER), self.last
+        """Begins anew. What is damaged stays beside it, each time under another name."""
+        path, last = os.path.join(self.folder, LEDGER) + b".damaged", self.last
+        aside = itertools.chain([path], (b"%b.%d" % (path, number) for number in itertools.count(2)))
         if not self.is_dry:
-            os.rename(path, path + b".damaged")
+            os.rename(os.path.join(self.folder, LEDGER), next(one for one in aside if not is_there(one)))
         self.forget_all()
         # a rehearsal still reads the lines of the file
         self.last = last

@@ -11,7 +11,7 @@ import itertools
 import os
 import re
 import time
-from collections.abc import Iterable, Iterator, Sequence
+from collections.abc import Container, Iterable, Iterator, Sequence
 from typing import NamedTuple, Optional
 
 from ..faults import Fault, Reason
@@ -239,6 +239,10 @@ class Prepared:
             if not self.take(line) and not line.endswith(CUT):
                 raise Fault(LIST_DAMAGED % number, Reason.LEDGER, place=os.path.join(folder, PREPARED))
         return self
+
+    def is_from(self, names: Container[str]) -> bool:
+        """Whether it was prepared from the mailbox of these names."""
+        return self.origin is not None and self.origin.path in names
 
     def take(self, line: bytes) -> bool:
         """Takes a line, and returns whether it is one."""

@@ -63,7 +63,7 @@ class Record(History):
 
     @classmethod
     @contextlib.contextmanager
-    def open(cls, maildir: bytes, make: bool = True) -> Iterator["Record"]:
+    def open(cls, maildir: bytes, make: bool) -> Iterator["Record"]:
         """Opens the record of a Maildir, makes it if it is missing, and locks it. Without `make` it is only read, and
         need not exist, and lines stay in memory. In the end it is closed; programs that inherited it keep the lock."""
         record = cls(maildir)

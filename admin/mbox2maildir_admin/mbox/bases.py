@@ -8,7 +8,11 @@ from typing import Optional
 
 from ..units import Place
 
-BASE = re.compile(rb"(?P<digest>[0-9a-f]{64})(?P<count>\.[1-9][0-9]{0,19})(?=[:,]|\Z)")
+# the largest count, and the numbers of as many digits that are less: one digit is, and all before it are the same
+MOST = b"18446744073709551615"
+LESS = [b"%b[0-%d][0-9]{%d}" % (MOST[:at], MOST[at] - 49, 19 - at) for at in range(1, 20) if MOST[at] > 48]
+COUNT = b"|".join([rb"[1-9][0-9]{0,18}", *LESS, MOST])
+BASE = re.compile(rb"(?P<digest>[0-9a-f]{64})(?P<count>\.(?:%b))(?=[:,]|\Z)" % COUNT)
 # a base that only the info may follow
 OWN = re.compile(BASE.pattern.replace(b"[:,]", b":"))
 # the bytes of a digest, and the count of the first message that has it
@@ -46,7 +50,7 @@ class Table:
     """
 
     def __init__(self) -> None:
-        self.digests, self.counts = bytearray(), array.array("I")
+        self.digests, self.counts = bytearray(), array.array("Q")
         # how many messages have the same digest, if several have, by the place of the first one
         self.repeats: dict[int, int] = {}
         # for fewer messages, none needs another slot

@@ -9,7 +9,7 @@ from typing import NamedTuple, Optional
 from ..faults import Fault, Left, Reason
 from ..ledger.ledger import Batch, Source
 from ..ledger.history import Entry, History, Key, Note
-from ..ledger.lines import counted_in
+from ..ledger.lines import LOST, Brought, counted_in
 from ..ledger.match import Files, Match, cores_of
 from ..ledger.record import Record, unspelled
 from ..maildir.files import mail_in, names_in
@@ -20,7 +20,7 @@ from ..mbox.mailbox import Mailbox
 from ..nexts import NOTHING, Answer, Does, Next
 from ..readings.plans import Plan, Question, plan_of
 from ..readings.reading import MBOXO, UNDECIDED, UNQUOTED, Reading, renumbered, with_deleted
-from ..readings.texts import Choice, choice_of, content_of, folder_for_copies, text_then
+from ..readings.texts import Choice, choice_of, content_of, text_then
 from ..readings.diagnosis import look_at
 from ..remarks import Remark, Says
 from ..units import Line, counted
@@ -29,18 +29,17 @@ from .options import Options
 from .steps import Contents, remarks_on_lost
 
 
-def note_empty(known: Known) -> list[Remark]:
-    """Notes that a mailbox has no mail, and, if it has no byte, that it has its folder. Returns what is to be said of
-    what it had."""
-    ledger, mailbox, said = known.ledger, known.opened.mailbox, list[Remark]()
-    if known.is_begun:
-        # a run was killed that had begun with it
-        nothing = Files(ledger.folder, Inventory())
-        said += remarks_on_lost(Match.of(ledger, known.path, nothing, lambda place: False))
-    ledger.note_empty(known.path, mailbox.key(), mailbox.state.st_ino)
+def note_empty(known: Known, reading: Reading, lost: Iterable[Brought]) -> None:
+    """Notes that a mailbox has no mail any more, if it had some or may have, and, if it has no byte, that it has its
+    folder. A batch that has no end gets none: what it was to place is not wanted."""
+    ledger, path, mailbox = known.ledger, known.path, known.opened.mailbox
+    source = ledger.sources.get(path)
+    if source and source.count() or known.is_begun or known.is_lacking:
+        words = ledger.last_read(path).words if path in ledger.paths() else reading.words()
+        its = (one._replace(word=LOST) for one in lost)
+        ledger.note_without_files(mailbox.key(), words, path, mailbox.state.st_ino, *its)
     if not mailbox.size:
         known.record.add(Note.EMPTY, known.key, 0, mailbox.path)
-    return said
 
 
 def note_answer(record: Record, opened: Opened, plan: Plan) -> None:
@@ -102,7 +101,7 @@ BEGUN_OTHERWISE = (
 def as_before(options: Options, known: Known) -> Optional[tuple[str, list[Remark]]]:
     """The words by which a mailbox was read, and what is to be said of it, if nothing is new in it as it is read so;
     None if something is, or if it cannot be read so any more."""
-    source, disk = known.ledger.sources.get(known.path), folder_for_copies(known.opened.root, options.dry)
+    source, disk = known.ledger.sources.get(known.path), options.disk(known.opened.root)
     if not source or known.is_begun:
         return None
     # mail that is marked as deleted by now, and was not brought, is new
@@ -132,7 +131,7 @@ def contradicts(options: Options, opened: Opened, line: Entry) -> bool:
     """Whether a decision gives other messages of a mailbox than those that it had when it was done."""
     if options.decision._replace(alone=True) == UNDECIDED:
         return False
-    by = folder_for_copies(opened.root, options.dry), options.extra.start_of
+    by = options.disk(opened.root), options.extra.start_of
     try:
         with choice_of(opened.mailbox, by[0], decision=options.decision) as choice:
             then, now = Reading.of_words(line.words)._replace(bare=False), choice.plan.reading
@@ -184,7 +183,7 @@ class Before(NamedTuple):
 def want_same_reading(options: Options, known: Known, choice: Choice, contents: Contents) -> None:
     """Raises Left if more of what the ledger has of a mailbox is in it as it was read then, with what to run."""
     before, opened = Before.of(known, contents.reading), known.opened
-    disk = folder_for_copies(opened.root, options.dry)
+    disk = options.disk(opened.root)
     command = options.command(opened, again=options.again, dovecot=before.reading.bare)
     if before.reading.bare != contents.reading.bare and not options.again and has_begun(known):
         says = "its conversion was begun %s --dovecot" % ("with" if before.reading.bare else "without")
@@ -259,7 +258,7 @@ def answer_shown(options: Options, known: Known, question: Question) -> Optional
     had = Before.of(known, options.decision).had()
     if not had or not question.is_on_lines:
         return None
-    with content_of(known.opened.mailbox, folder_for_copies(known.opened.root, options.dry)) as text:
+    with content_of(known.opened.mailbox, options.disk(known.opened.root)) as text:
         by = [options._replace(decision=answer.decision) for answer in question.answers]
         given = [given_by(one, known, text, had, question.doubtful) for one in by]
     most = max((one.brought for one in given), default=0)
@@ -270,7 +269,7 @@ def answer_shown(options: Options, known: Known, question: Question) -> Optional
 def given_by(options: Options, known: Known, text: Mailbox, had: Had, lines: Iterable[Line]) -> Effect:
     """What the answer gives by which this mailbox would be migrated, of what it has brought."""
     choice = Choice(text, plan_of(text, decision=options.decision))
-    with choice.text(folder_for_copies(known.opened.root, options.dry)) as whole:
+    with choice.text(options.disk(known.opened.root)) as whole:
         part = whole.begun_by(options.extra.start_of)
         contents = Contents(part, part.messages(), choice.plan.bared(options.extra.IS_BARE).reading)
         is_shown = are_brought(had, contents.inventory, lines)

@@ -97,7 +97,7 @@ class Dovecot(Extra):
             remove_part(one.opened.folder, name)
         if found:
             if one.was_begun:
-                remove_lists(self.record, one.opened)
+                remove_lists(self.record, one.opened, one.known.path)
             self.write(one, found)
         elif one.contents.is_bare:
             # the folder keeps its numbers, and its new messages get those flags of their headers that their files lack
@@ -117,7 +117,7 @@ class Dovecot(Extra):
         # a list with another UIDVALIDITY is about other numbers
         if head and found and int(found[1]) == head.validity and int(found[2]) <= head.last:
             new = text[: found.start(2)] + b"%d" % (head.last + 1) + text[found.end(2) :]
-            if self.is_own(one.opened.name, folder, LIST):
+            if is_written(self.record, one.opened.name, folder, LIST):
                 self.writer(one.opened.name)(LIST, len(new), hashlib.sha256(new).hexdigest())
             replace(os.path.join(folder, LIST), text, new)
 
@@ -178,7 +178,7 @@ class Dovecot(Extra):
         if numbered and one.had_brought and LIST in there:
             return [WHAT_IS_NEW]
         for name in there:
-            if not self.is_own(opened.name, opened.folder, name):
+            if not is_written(self.record, opened.name, opened.folder, name):
                 raise Left("%s is there: %s" % (named(name), NUMBERED_BY_DOVECOT), Reason.NUMBERED)
         if LIST in there:
             is_same = numbered is not None and numbered.key == Key(opened.name, *opened.mailbox.key())
@@ -186,23 +186,23 @@ class Dovecot(Extra):
             return None if is_same or one.was_begun else [WHAT_IS_NEW]
         return [DONE_WITHOUT] if one.had_brought else None
 
-    def is_own(self, folder: bytes, path: bytes, name: bytes) -> bool:
-        """Whether the record has a file as one that was written for a mailbox of the folder of this name, which is at
-        this path."""
-        notes = [
-            one for one in self.record.notes(Note.WROTE, folder) if os.path.basename(one.path) == os.fsdecode(name)
-        ]
-        most = max((one.key.size for one in notes), default=0)
-        text = content_of(os.path.join(path, name), most) if name in (KEYWORDS, LIST) else None
-        return text is not None and hashlib.sha256(text).hexdigest() in {one.key.digest for one in notes}
+
+def is_written(record: Record, folder: bytes, path: bytes, name: bytes) -> bool:
+    """Whether the record has a file as one that was written for a mailbox of the folder of this name, which is at this
+    path."""
+    notes = [one for one in record.notes(Note.WROTE, folder) if os.path.basename(one.path) == os.fsdecode(name)]
+    most = max((one.key.size for one in notes), default=0)
+    text = content_of(os.path.join(path, name), most) if name in (KEYWORDS, LIST) else None
+    return text is not None and hashlib.sha256(text).hexdigest() in {one.key.digest for one in notes}
 
 
-def remove_lists(record: Record, opened: Opened) -> None:
-    """Removes the files that were written for a mailbox, unless somebody has changed them since."""
-    numbered, own, there = record.numbered(opened.name), Dovecot(record), names_in(opened.folder)
-    is_its_own = numbered is not None and numbered.path in names_of(opened.mailbox.path)
+def remove_lists(record: Record, opened: Opened, path: str) -> None:
+    """Removes the files that were written for a mailbox, which the ledger may still have at the path that it was moved
+    from, unless somebody has changed them since."""
+    numbered, there = record.numbered(opened.name), names_in(opened.folder)
+    is_its_own = numbered is not None and numbered.path in (path, *names_of(opened.mailbox.path))
     for name in (LIST, KEYWORDS):
-        if is_its_own and name in there and own.is_own(opened.name, opened.folder, name):
+        if is_its_own and name in there and is_written(record, opened.name, opened.folder, name):
             os.unlink(os.path.join(opened.folder, name))
     sync_folder(opened.folder)
 

@@ -11,7 +11,7 @@ from ..ledger.match import cores_of
 from ..ledger.record import Record, is_gone, unspelled
 from ..looks import is_there, state_at
 from ..maildir.folders import INBOX, folder_path
-from ..maildir.making import SyncNames, make_maildir, sync_folder
+from ..maildir.making import SyncNames, make_maildir
 from ..mbox.inventory import Inventory
 from ..mbox.mailbox import Mailbox
 
@@ -30,7 +30,7 @@ class Opened(NamedTuple):
         """A mailbox that goes into the folder of this name in a Maildir."""
         return cls(mailbox, root, name, folder_path(root, name))
 
-    def make_folder(self, sync: SyncNames = sync_folder) -> None:
+    def make_folder(self, sync: SyncNames) -> None:
         """Makes the folder if it is missing. `sync` syncs its names."""
         make_maildir(self.folder, self.name == INBOX, sync)
 
@@ -79,6 +79,11 @@ class Known:
         return self.by_index is not None and self.by_index.ledger == self.ledger.number
 
     @property
+    def is_lacking(self) -> bool:
+        """Whether the ledger, as it is by now, lacks something that the index has of the path of the mailbox."""
+        return any(one.path in self.names for one in self.record.unknown_to(self.opened.name, self.ledger))
+
+    @property
     def is_begun(self) -> bool:
         """Whether a run was killed that may have placed something of the mailbox."""
         return self.ledger.pending(self.path) is not None
@@ -89,7 +94,8 @@ class Known:
         if not mailbox.size:
             source = self.ledger.sources.get(self.path)
             notes = self.record.noting(Note.EMPTY, self.opened.name, mailbox.path)
-            return None if source and source.count() else next((one for one in notes if one.key == self.key), None)
+            is_open = self.path in self.ledger.leaving or source and source.count()
+            return None if is_open else next((one for one in notes if one.key == self.key), None)
         if self.by_index:
             return self.by_index if self.has_bytes_of(self.by_index) and self.by_index.what is Event.DONE else None
         return self.done_at(self.path)

@@ -25,6 +25,7 @@ from ..ledger.record import Record, unspelled
 from ..looks import is_folder
 from ..maildir.disk import Need, want_room, want_syncs
 from ..maildir.folders import INBOX, folder_shown
+from ..mbox.inventory import Inventory
 from ..mbox.locks import open_mailbox, snapshot
 from ..mbox.mailbox import CHANGED_MEANWHILE, Mailbox
 from ..nexts import NOTHING, Answer, Does, Next, Phrase
@@ -33,7 +34,7 @@ from ..progress import Spent
 from ..readings.copies import unnamed
 from ..readings.plans import NoMail, NotKnown, OtherKind, Question
 from ..readings.reading import UNDECIDED, Reading
-from ..readings.texts import Choice, choice_at_once, choice_of, folder_for_copies, read_messages
+from ..readings.texts import Choice, Text, choice_at_once, choice_of, read_messages
 from ..remarks import Remark, Says
 from ..terminal import first_of, named
 from ..units import Say, counted, silent
@@ -102,7 +103,7 @@ class Migration:
     @property
     def disk(self) -> bytes:
         """A folder on the disk where copies are made."""
-        return folder_for_copies(self.record.maildir, self.options.dry)
+        return self.options.disk(self.record.maildir)
 
     def migrate_path(
         self, path: bytes, name: bytes, say: Say = silent, follow: bool = False, why: Optional[Fault] = None
@@ -310,14 +311,14 @@ class Transfer:
         keeps it from being done."""
         if self.preparation and not again:
             want_usable(self.preparation, self.options, self.opened)
-        if part.choice.plan.is_empty:
-            return Outcome(self.bring_nothing(part, again))
-        said = want_syncs(self.opened.folder, self.options.any_disk)
         if self.path in self.ledger.leaving:
             undo = self.options.undo_command(self.opened)
             raise Left("its undo was interrupted", Reason.UNDO, (Answer(undo),))
         if self.has_failed() and not again:
             raise Left(SYNC_FAILED, Reason.SYNC_FAILED)
+        if part.choice.plan.is_empty:
+            return Outcome(self.bring_nothing(part, again))
+        said = want_syncs(self.opened.folder, self.options.any_disk)
         with part.read() as contents:
             steps, row = (self.first_steps if self.options.prepare else self.other_steps)(part, contents, again, said)
             if self.options.dry:
@@ -328,20 +329,25 @@ class Transfer:
     def bring_nothing(self, part: Part, again: bool) -> Row:
         """Brings a mailbox without mail, which only gets its folder, from which everything is removed that is prepared.
         A first pass removes the folder too if it was made for that: the mailbox may go later."""
-        preparation = None if self.options.dry else self.preparation
+        choice, preparation = part.choice, None if self.options.dry else self.preparation
+        contents = Contents(Text(choice.mailbox, choice.plan.start), Inventory(), choice.plan.reading)
+        again = again if self.options.prepare else self.go_by_ledger(contents, again)
+        match, options, said = self.matched(part, contents, again), self.options._replace(again=again), list[Remark]()
+        if self.prepared:
+            said += remarks_on_prepared(self.prepared, options, self.opened.mailbox.say)
+        said += [] if again or self.options.prepare else remarks_on_lost(match)
         has_list = preparation is not None and preparation.prepared.is_there and not again
-        if preparation and has_list:
-            preparation.prepared.look(self.opened.mailbox.say)
         if self.options.prepare:
             if preparation and has_list:
                 preparation.empty()
-            return self.row(part)
+            return self.row(part, said)
         if preparation:
             if has_list:
-                preparation.prepared.remove_unwanted()
+                said += Says.KEPT_EDITED.of_any(preparation.prepared.remove_unwanted())
             preparation.forget()
         self.record.make(self.opened.make_folder)
-        return self.row(part, note_empty(self.known))
+        note_empty(self.known, contents.reading, match.dropped)
+        return self.row(part, said)
 
     def first_steps(self, part: Part, contents: Contents, again: bool, said: Sequence[Remark]) -> tuple[Steps, Row]:
         """What a first pass does by what it finds of the messages, and the row that says so."""

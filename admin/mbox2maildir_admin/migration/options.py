@@ -7,10 +7,11 @@ from ..kinds.making import Where
 from ..kinds.named import passes_over
 from ..labels.choosing import Choosing
 from ..looks import may_write, top_above
-from ..maildir.folders import INBOX, words_of
+from ..maildir.folders import INBOX, folder_of, on_disk, words_of
 from ..nexts import Command, Runs
 from ..readings.plans import Question
 from ..readings.reading import UNDECIDED, Reading
+from ..readings.texts import folder_for_copies
 from ..terminal import bytes_of, operand, option
 from .known import Opened
 from .steps import Extra
@@ -50,6 +51,15 @@ class Options(NamedTuple):
     names: Sequence[bytes] = ()
     home: bytes = b""
     is_labelled: bool = False
+
+    @property
+    def named_folder(self) -> Optional[bytes]:
+        """The folder for mailboxes that are files, by its name on the disk; None if none is named."""
+        return None if self.folder is None else on_disk(folder_of(self.folder))
+
+    def disk(self, maildir: bytes) -> bytes:
+        """A folder on the disk where copies are made of what goes into a Maildir."""
+        return folder_for_copies(maildir, self.dry)
 
     def words(self) -> list[str]:
         """The options, as words of a command."""

@@ -72,7 +72,7 @@ from ..remarks import Remark, Says
 from ..terminal import named, operand, spelled, text_of
 from ..units import Offset, Say, counted, silent
 from .carrying import PREPARED_SYNC_FAILED, SYNC_FAILED
-from .dovecot import KEYWORDS, LIST, Dovecot, remove_part
+from .dovecot import KEYWORDS, LIST, is_written, remove_part
 from .known import Known, Opened
 from .options import Options
 from .outcomes import Row, Verdict, row_left
@@ -154,7 +154,7 @@ class Preparation:
             self.take_begun()
             self.give_names_back()
             for file in names_in(folder):
-                if Dovecot(self.record).is_own(self.name, folder, file):
+                if is_written(self.record, self.name, folder, file):
                     os.unlink(os.path.join(folder, file))
             for file in (KEYWORDS, LIST):
                 remove_part(folder, file)
@@ -236,15 +236,20 @@ def mend(
     return one if stage is Stage.FREE and record.has_prepared and not one.reader() else None
 
 
+def other_in(prepared: Prepared, names: Sequence[str]) -> bytes:
+    """The path of the mailbox from which a folder is prepared if it is there, and is another one than that of these
+    names; empty otherwise. What was prepared from one that is gone is whose mailbox comes: it may have been moved."""
+    other = unspelled(prepared.origin.path) if prepared.origin else b""
+    # a symbolic link may lead from one to the other
+    return other if other and is_there(other) and not {*names_of(other)} & {*names} else b""
+
+
 def want_free(one: Preparation, known: Known) -> None:
     """Raises Left if a folder cannot be prepared from a mailbox."""
-    if one.is_open:
-        origin = one.prepared.origin
-        other = unspelled(origin.path) if origin else known.opened.mailbox.path
-        # a symbolic link may lead from one to the other
-        if not {*names_of(other)} & {*known.names} and is_there(other):
-            raise Left(ANOTHER % named(other), Reason.PREPARED)
-    elif one.stage in (Stage.MAIL, Stage.OVER):
+    other = other_in(one.prepared, known.names) if one.is_open else b""
+    if other:
+        raise Left(ANOTHER % named(other), Reason.PREPARED)
+    if one.stage in (Stage.MAIL, Stage.OVER):
         raise Left(NOT_FREE, Reason.PREPARED)
 
 
@@ -275,7 +280,7 @@ def reader_in(record: Record, name: bytes, prepared: Prepared) -> Optional[bytes
     has begun to finish it, files that were prepared may have flags."""
     folder = prepared.folder
     for file in names_in(folder):
-        is_ours = prepared.batch and Dovecot(record).is_own(name, folder, file)
+        is_ours = prepared.batch and is_written(record, name, folder, file)
         if file.startswith(b"dovecot") and not is_ours:
             return os.path.join(folder, file)
     for file, path in mail_in(folder):
@@ -291,10 +296,13 @@ def reader_in(record: Record, name: bytes, prepared: Prepared) -> Optional[bytes
 
 
 def origin_now(known: Known, contents: Contents, names: Iterable[bytes]) -> Origin:
-    """What is read of a mailbox now, for the list. It may be in a tree of one of these names."""
+    """What is read of a mailbox now, for the list. It may be in a tree of one of these names: then the paths of both
+    have no symbolic link, so that one begins with the other."""
     mailbox = known.opened.mailbox
-    tree = top_above(real_path(mailbox.path), map(real_path, names))
-    its = len(contents.inventory), contents.reading.words(), spelled(tree) if tree else "", known.path
+    real = real_path(mailbox.path)
+    tree = top_above(real, map(real_path, names))
+    place = (spelled(tree), spelled(real)) if tree else ("", known.path)
+    its = len(contents.inventory), contents.reading.words(), *place
     return Origin(mailbox.key(), facts_of_mailbox(mailbox.copied or mailbox.state), *its)
 
 

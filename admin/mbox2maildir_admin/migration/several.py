@@ -9,7 +9,7 @@ from ..jobs.order import Group, InOrder, groups_of, jobs_of, largest_first
 from ..kinds.folders import is_maildir
 from ..ledger.record import Record
 from ..looks import is_below, is_file, is_folder, is_link, is_surely, is_there, real_path, type_at
-from ..maildir.folders import INBOX, folder_of, on_disk
+from ..maildir.folders import INBOX
 from ..maildir.making import real_place, want_maildir, want_own, want_roots, want_roots_alone
 from ..maildir.disk import Syncs
 from ..mbox.files import is_empty
@@ -219,7 +219,7 @@ class Several:
     def plan(self) -> Iterator[Planned]:
         """The mailboxes in their order, with their folders. Reports the rows of what is not migrated."""
         names: dict[bytes, bytes] = {}
-        folder = self.migration.options.folder
+        folder = self.migration.options.named_folder
         for name in self.names:
             names.setdefault(os.path.abspath(name), name)
         for name in names.values():
@@ -243,7 +243,7 @@ class Several:
             elif self.own and is_link(name):
                 self.observer.row(row_left(name, b"", link_left(name)))
             else:
-                one = Planned(name, INBOX if folder is None else on_disk(folder_of(text_of(folder))))
+                one = Planned(name, INBOX if folder is None else folder)
                 if folder is None:
                     one = self.pairs.judged(recorded(one, record))
                 else:

@@ -17,7 +17,7 @@ from typing import NamedTuple, Optional
 from ..faults import Fault, Left, Reason
 from ..flags.renaming import sync_names
 from ..ledger.assign import File, by_form, files_of
-from ..ledger.lines import END_LINE, LOST, NOBODYS, Brought, Head, Line, State
+from ..ledger.lines import LOST, NOBODYS, Brought, Line, State
 from ..ledger.match import cores_of
 from ..ledger.gone import without_line
 from ..ledger.history import Event, names_of
@@ -26,21 +26,21 @@ from ..ledger.prepared import Prepared, has_list
 from ..ledger.record import Record, unspelled
 from ..looks import is_there
 from ..maildir.files import digest_of, forms_in, mail_in
-from ..maildir.folders import INBOX, folder_of, folder_shown, folders_in, name_of, on_disk
-from ..maildir.making import RECORD, real_place
+from ..maildir.folders import INBOX, folder_path, folder_shown, folders_in, name_of
+from ..maildir.making import RECORD, open_folder, real_place
 from ..mbox.bases import DIGEST, base_in, before_info, is_own
 from ..mbox.locks import WITHOUT_LOCKS, open_mailbox
 from ..mbox.mailbox import CHANGED_MEANWHILE, Mailbox, is_unchanged
 from ..migration.dovecot import Dovecot, remove_lists
 from ..migration.known import Known, Opened, moved_in
 from ..migration.outcomes import Observer, Row, Verdict, row_left
-from ..migration.preparing import remove_prepared
+from ..migration.preparing import other_in, remove_prepared
 from ..migration.several import refuse
 from ..migration.options import Options
 from ..migration.steps import Extra
 from ..nexts import Todo, task
 from ..readings.reading import Reading, with_deleted
-from ..readings.texts import NO_LONGER, content_of, folder_for_copies, text_then
+from ..readings.texts import NO_LONGER, content_of, text_then
 from ..remarks import Remark, Says
 from ..terminal import first_of, named
 from ..units import Say, counted
@@ -103,7 +103,7 @@ class Undo:
 
     def run(self, path: bytes, say: Say) -> Row:
         """Undoes a mailbox, and returns its row. `say` takes the progress."""
-        folder, size = folder_in(self.options), None
+        folder, size = self.options.named_folder, None
         name = folder or b""
         try:
             if folder is None:
@@ -157,7 +157,7 @@ class Undo:
 
     def cores_now(self, opened: Opened, ledger: Ledger, path: str) -> Cores:
         """How often the mailbox has each core now, as it was read when it was migrated."""
-        words, disk = ledger.last_read(path).words, folder_for_copies(self.record.maildir, self.options.dry)
+        words, disk = ledger.last_read(path).words, self.options.disk(self.record.maildir)
         reading = Reading.of_words(words)
         extra = Dovecot(self.record) if reading.bare else Extra()
         # it still has what was marked as deleted since
@@ -175,22 +175,15 @@ class Undo:
                 ledger.note(b"<\t%s\n" % path.encode())
             hand_over(ledger, plan)
             counts = remove(opened, plan)
-            remove_lists(self.record, opened)
+            remove_lists(self.record, opened, path)
             sync_names(opened.folder)
             ledger.undo(path)
             return counts
 
 
-def folder_in(options: Options) -> Optional[bytes]:
-    """The folder of the Maildir that options name, by its name on the disk."""
-    return None if options.folder is None else on_disk(folder_of(options.folder))
-
-
 def undo_own(root: bytes, path: bytes, options: Options, observer: Observer) -> None:
     """Undoes a mailbox in a Maildir of the user who runs this."""
-    if os.geteuid() == 0:
-        # a symbolic link above it may lead elsewhere by then
-        root = real_place(root)
+    root = real_place(root)
     refuse(root, [path], Options(options.dry, folder=options.folder, now=options.now, undo=True))
     if not is_there(os.path.join(root, RECORD)):
         raise Fault("it has no record, so nothing was migrated into it", Reason.UNDO, place=root)
@@ -198,7 +191,7 @@ def undo_own(root: bytes, path: bytes, options: Options, observer: Observer) -> 
     with Record.open(root, not options.dry) as record:
         observer.begin()
         say = functools.partial(observer.progress, named(path))
-        row = undo_prepared(record, path, folder_in(options), options.dry, say)
+        row = undo_prepared(record, path, options, say)
         observer.row(row or Undo(record, options).run(path, say))
 
 
@@ -284,9 +277,8 @@ def hand_over(ledger: Ledger, plan: Sequence[Becomes]) -> None:
             handed[other.path] += other.message._replace(word=LOST), one.line.message
     for path, several in handed.items():
         if ledger.pending(path) is None:
-            read = ledger.last_read(path)
-            head = Head.without_files(len(several), read.key, read.words, path, read.inode)
-            ledger.note(END_LINE % ledger.begin(head, sorted(several, key=lambda one: one.word != LOST)))
+            read, lost_first = ledger.last_read(path), sorted(several, key=lambda one: one.word != LOST)
+            ledger.note_without_files(read.key, read.words, path, read.inode, *lost_first)
 
 
 def remove(opened: Opened, plan: Sequence[Becomes], dry: bool = False) -> Counts:
@@ -348,8 +340,7 @@ def want_same(mailbox: Mailbox) -> None:
 def alone_in(folder: bytes) -> Iterator[None]:
     """Locks a folder, so that no converter is at work in it meanwhile. On a disk without locks there is no lock. Raises
     Left if a converter is at work."""
-    number = os.open(folder, os.O_RDONLY | os.O_DIRECTORY | os.O_CLOEXEC)
-    try:
+    with open_folder(folder) as number:
         try:
             fcntl.flock(number, fcntl.LOCK_EX | fcntl.LOCK_NB)
         except BlockingIOError as fault:
@@ -358,21 +349,20 @@ def alone_in(folder: bytes) -> Iterator[None]:
             if fault.errno not in WITHOUT_LOCKS:
                 raise
         yield
-    finally:
-        os.close(number)
 
 
-def undo_prepared(record: Record, path: bytes, folder: Optional[bytes], dry: bool, say: Say) -> Optional[Row]:
-    """Removes what was prepared from the mailbox of a path, which need not be there, or in a folder, and returns its
-    row; None if nothing is prepared there, or a list that is there does not count."""
+def undo_prepared(record: Record, path: bytes, options: Options, say: Say) -> Optional[Row]:
+    """Removes what was prepared from the mailbox of a path, which need not be there, and returns its row; None if
+    nothing was, or a list that is there does not count. In a folder that is named, what was prepared from one that is
+    gone counts too: this may be it, moved."""
+    folder = options.named_folder
     try:
-        name, names = folder, names_of(path) if folder is None else ()
-        for place in folders_in(record.maildir) if names else ():
-            origin = Prepared.read(place).origin if has_list(place) else None
-            if origin and origin.path in names:
-                name = name_of(record.maildir, place)
-                break
-        return None if name is None else remove_prepared(record, path, name, dry, say)
+        names, several = names_of(path), folders_in(record.maildir)
+        for place in several if folder is None else [folder_path(record.maildir, folder)]:
+            prepared = Prepared.read(place) if has_list(place) else None
+            if prepared and (prepared.is_from(names) if folder is None else not other_in(prepared, names)):
+                return remove_prepared(record, path, name_of(record.maildir, place), options.dry, say)
+        return None
     except (Fault, OSError) as fault:
         return row_left(path, folder or b"", fault)
 

@@ -14,9 +14,16 @@ class NamesTest(unittest.TestCase):
         for name, own in (
             (NAME + b".1", True),
             (NAME + b".20", True),
+            (NAME + b".18446744073709551615", True),
+            (NAME + b".18446744073709551599", True),
+            (NAME + b".9999999999999999999", True),
             # a name that a mail program gave to a copy; no number, or none in the right form; another program's
             (NAME + b".1,S=12", False),
             (NAME + b".0", False),
+            (NAME + b".18446744073709551616", False),
+            (NAME + b".18446744073709551620", False),
+            (NAME + b".20000000000000000000", False),
+            (NAME + b".100000000000000000000", False),
             (NAME, False),
             (NAME.upper() + b".1", False),
             (b"1700000000.M1P2.host", False),
@@ -60,7 +67,8 @@ class TableTest(unittest.TestCase):
         self.assertEqual((list(table.bases()), table.name(0)), (bases, NAME + b".3"))
 
     def test_very_many_equal_messages(self) -> None:
-        self.assertEqual(Table.of([DIGEST + b".70000"]).name(0), NAME + b".70000")
+        for count in (b".70000", b".4294967296", b".18446744073709551615"):
+            self.assertEqual(Table.of([DIGEST + count]).name(0), NAME + count)
 
     def test_places(self) -> None:
         table = Table()
