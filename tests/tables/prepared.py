@@ -329,8 +329,8 @@ STORIES: dict[str, list[Step]] = {
         *(("migrate M older", "older/c: done: 1 prepared before"), f"= {ALL_TEN} c/two"),
     ],
     "a_tree_behind_a_link": [
-        *(*((f"disk/old/{number}", ONE) for number in range(10)), "!ln -s disk link", f"{FIRST_OF_TREE[:-3]}link/old"),
-        ("disk/old/3", b"milk\n"),
+        *((f"disk/old/{number}", ONE) for number in range(10)),
+        *("!ln -s disk link", f"{FIRST_OF_TREE[:-3]}link/old", ("disk/old/3", b"milk\n")),
         ("migrate --no-mail 3 M link/old", BEHIND_A_LINK),
         f"= {ALL_TEN} .3+",
     ],
