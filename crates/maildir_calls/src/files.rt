@@ -9,7 +9,7 @@ use crate::own::{FILE_MODE, Facts, check_own, check_same};
 use std::io;
 use std::io::ErrorKind;
 
-/// Creates the file `path` of `folder`, or empties it if it exists, and opens it for writing.
+/// Makes the file `path` of `folder`, or empties it if it is there, and opens it for writing.
 /// Returns an error, and changes nothing, if anything but a file of our own has the name.
 #[tactic(auto, unfolding(crate::specs::Files::CreatesFile))]
 pub fn create_file<C: Calls>(calls: &mut C, folder: &str, path: &str) -> io::Result<C::File>

@@ -1,4 +1,4 @@
--- What a run of the program did to Maildirs, by its words and its status.
+-- What a command did to Maildirs, by its words and its status.
 use Rattle.std.proofs.Common.{◌≡◌, ℕ, suc, zero, List, [], ◌∷◌, length, take, codes, Bool, OnOk, Result, Ok, Err, refl, sym, ap, subst, arith}
 use Rattle.std.specs.Io.KnownBytes.{Keeps}
 use Rattle.maildir_run.specs.Delivery.{IsSwept}

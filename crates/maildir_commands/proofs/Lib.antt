@@ -28,7 +28,7 @@ pub mod Reports
 pub mod Output
 -- A Maildir that rests, or in which no other program acts.
 pub mod Resting
--- What a run of the program did to Maildirs, by its words and its status.
+-- What a command did to Maildirs, by its words and its status.
 pub mod Ending
 -- What any commands leave of a Maildir that follow one another.
 pub mod AnyCommands

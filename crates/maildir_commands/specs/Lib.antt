@@ -22,7 +22,7 @@ pub mod Commands
 pub mod Episodes
 -- The promise on any commands, on one page: what is promised, what is assumed, what may happen, and what a command does to Maildirs.
 pub mod Promise
--- What a run of the program does.
+-- What a command does, and how it ends.
 pub mod Program
 -- A command that is killed.
 pub mod Killed

@@ -11,7 +11,7 @@ use Rattle.maildir_commands.specs.declared.command.Form.{Form}
 use Rattle.maildir_commands.specs.declared.command.Form.TheVariants as forms
 use Rattle.maildir_commands.specs.declared.command.Form.TheVariants.{Regular}
 
--- what is written for the messages of a text: their regular spelling, or a line for each
+-- what is written for the messages of a text: their regular spelling, or a row for each
 abbrev pub output_of : Form → List Entry → List ℕ
 output_of Regular = flat_map spelling
 output_of forms.List = table_of

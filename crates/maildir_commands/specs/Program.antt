@@ -1,4 +1,4 @@
--- What a run of the program does.
+-- What a command does, and how it ends.
 use Rattle.std.specs.Prelude.{◌≡◌, ◌⊎◌, ℕ, List, [], length, max, codes, Option, Some, None, Result, Ok, Err, OnOk, IfErr}
 use Rattle.std.specs.Io.KnownBytes.{Keeps}
 use Rattle.std.specs.declared.io.Error.{Error}
@@ -89,7 +89,7 @@ pub record Did (words : List (List ℕ)) (answer : Result Unit Fault) (old new :
 abbrev pub Tells : List ℕ → Option (List ℕ) → Option (List ℕ) → Type 0
 Tells line was is = (written : Result Unit TextFault) × Writes was is written line
 
--- how a run ended: it is done, a fault stopped it, or the words are wrong
+-- how a command ended: it is done, a fault stopped it, or the words are wrong
 pub data Ending : Type 0 where
   Done : Ending
   Stopped : (fault : Fault) → Ending
@@ -101,14 +101,14 @@ status_of Done = 0
 status_of (Stopped fault) = 1
 status_of WrongWords = 2
 
--- A run of the program with these words ended in this way. `was` and `is` are what had been written to standard error before and after the run. If all was
--- done, nothing was added. Otherwise one line was added, for the fault that ended the work or for wrong words, or a prefix of it if the writer failed.
+-- A command with these words ended in this way. `was` and `is` are what had been written to standard error before and after it. If all was done, nothing was
+-- added. Otherwise one line was added, for the fault that ended the work or for wrong words, or a prefix of it if the writer failed.
 abbrev pub Ends : List (List ℕ) → Ending → SeenProgram → SeenProgram → Option (List ℕ) → Option (List ℕ) → Type 0
 Ends words Done old new was is = Did words (Ok tt) old new × Keeps was is
 Ends words (Stopped fault) old new was is = Did words (Err fault) old new × Tells (told (fault_text fault)) was is
 Ends words WrongWords old new was is = ¬ AreOfAForm words × Tells (told (codes "wrong words")) was is
 
--- A run of the program with these words ended with this status. It led from one moment of a machine and of its streams to another.
+-- A command with these words ended with this status. It led from one moment of a machine and of its streams to another.
 pub record RanOn {M : Type 0} (at : M → SeenMachine) (words : List (List ℕ)) (status : ℕ) (old new : M) (was is : Streams) : Type 0 where
   pub ending : Ending
   pub status_is : status ≡ status_of ending
@@ -120,7 +120,7 @@ pub record RanOn {M : Type 0} (at : M → SeenMachine) (words : List (List ℕ))
   -- If the words are of no form, nothing was done.
   pub untouched : status ≡ 2 → (new ≡ old) × (is.input ≡ was.input)
 
--- The words could not be read, with this error. If an allocation failed, the status is 1, and the line says so; otherwise
+-- There are no words, or there is no buffer for the output, with this error. If an allocation failed, the status is 1, and the line says so; otherwise
 -- it is 2, and the line is that of wrong words.
 abbrev pub RefusesWords : Error → ℕ → Option (List ℕ) → Option (List ℕ) → Type 0
 RefusesWords error status was is =

@@ -12,7 +12,7 @@ AreRewrite words = (words ≡ []) ⊎ (words ≡ codes "rewrite" ∷ [])
 abbrev pub convert_words : List ℕ → List (List ℕ) → List (List ℕ)
 convert_words maildir files = codes "convert" ∷ maildir ∷ files
 
--- What the program is asked to do: to write a text in its regular spelling or as a list, or to deliver the messages of texts into a
+-- What the program is asked to do: to write a text in its regular spelling or as a table, or to deliver the messages of texts into a
 -- Maildir. The texts are those of the files that are named; if none is named, the text is that of standard input.
 pub data Request : Type 0 where
   ToWrite : (form : Form) → (file : Option (List ℕ)) → Request

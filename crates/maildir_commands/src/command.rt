@@ -8,7 +8,7 @@ ghost use Rattle.maildir_commands.specs.Private.Words.{request};
 pub enum Form {
     /// In their regular spelling.
     Regular,
-    /// As a list, with a line for each.
+    /// As a table, with a row for each.
     List,
 }
 

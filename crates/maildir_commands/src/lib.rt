@@ -3,14 +3,14 @@
 //!
 //! [`start`] takes what a program is started with: its words, its streams and a [`Machine`]. [`run`]
 //! does what the words after its own name say, and returns the status: 0 if it is done, 1 after a
-//! [`Fault`], 2 if the words are wrong. [`run_killed`] is a run in a process that is killed.
+//! [`Fault`], 2 if the words are wrong. [`run_killed`] is a command that is killed.
 //! [`deliver`] delivers one source into a folder and syncs it.
 //!
 //! Proved: the words alone decide which command runs; with status 0 every message of every named
 //! source is delivered, synced and reported, or every message is written to the output; each fault
 //! is possible for its command, and its cause holds; of failed reads, writes and allocations no
-//! cause is stated. [`laws`] has what any sequence of commands leaves, with power cuts between
-//! them.
+//! cause is stated. [`laws`] has what any commands leave that follow one another, with power cuts
+//! between them.
 //!
 //! ```rust
 //! use maildir_commands::run;

@@ -99,8 +99,8 @@ pub fn run<M: Machine, I: Read, W: Write + Drop, E: Write>(
     }
 }
 
-/// Writes to standard error why the words could not be read, and returns the status: 1 if an
-/// allocation failed, otherwise 2, since words that are not UTF-8 are of no form.
+/// Writes to standard error why there are no words, or no buffer for the output, and returns the
+/// status: 1 if an allocation failed, otherwise 2, since words that are not UTF-8 are of no form.
 pub fn refuse<E: Write>(error: &io::Error, err: &mut E) -> u8
     ensures { RefusesWords error.now result (E.contents err.old) (E.contents err.new) }
 {

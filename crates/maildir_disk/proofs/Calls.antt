@@ -3,7 +3,7 @@
 pub mod Answered
 -- Consequences of what is assumed of a system.
 pub mod Passing
--- A write that appends in several steps, between which other programs act, is one write at the moment when its file was created.
+-- A write that appends in several steps, between which other programs act, is one write at the moment when its file was made.
 pub mod Pieces
 -- A write that appends in several steps while no other program acts.
 pub mod QuietWrites

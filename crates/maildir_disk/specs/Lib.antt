@@ -1,6 +1,6 @@
 -- A Maildir on a file system: its files, the clock, and when each folder was last changed.
 pub mod World
--- What the system calls of a write do: create or truncate a file of `tmp`, append to it, sync it.
+-- What the system calls of a write do: make or empty a file of `tmp`, append to it, sync it.
 pub mod Writing
 -- What it means that a placement finds no file.
 pub mod Placing

@@ -1,4 +1,4 @@
--- What the system calls of a write do: create or truncate a file of `tmp`, append to it, sync it.
+-- What the system calls of a write do: make or empty a file of `tmp`, append to it, sync it.
 use Rattle.std.specs.Prelude.{◌≡◌, ◌⊎◌, ℕ, List, [], ◌++◌, take, Option, Some, None, Result, Ok, Err}
 use Rattle.std.specs.IoError.{error_kind}
 use Rattle.std.specs.declared.io.Error.{Error}
@@ -23,7 +23,7 @@ rewritten files name change (Some held) = insert files name (change held)
 abbrev pub changed : List ℕ → (List ℕ → List ℕ) → Files → Files
 changed name change s = record s { tmp = rewritten s.tmp name change (get s.tmp name) }
 
--- the file is created, or truncated if it was there; after an error it may have been
+-- the file is made, or emptied if it was there; after an error it may have been
 abbrev pub Created : {A E : Type 0} → Spared → List ℕ → World → Result A E → World → Type 0
 Created spared name old (Ok _) new = Comes spared (effect (Writing name [])) old new
 Created spared name old (Err _) new = Acts spared old new ⊎ Comes spared (effect (Writing name [])) old new

@@ -26,7 +26,7 @@ const PATIENCE_SECS: u64 = 30;
 // How long to wait after a change during a listing.
 const PAUSE_MILLIS: u64 = 1;
 
-/// The names of all entries of a folder at one moment, though files in it are created, removed and
+/// The names of all entries of a folder at one moment, though files in it are made, removed and
 /// renamed meanwhile. readdir(3) takes several steps, and can miss a file that is renamed between
 /// two of them. So the names are returned only if no change before the end of the listing could
 /// have set the stamp that the folder has before and after it; otherwise the folder is listed

@@ -29,7 +29,7 @@ pub trait System {
     /// The name in `tmp` under which the file was opened.
     ghost name_of: { Self.File → List ℕ };
 
-    /// No file was created under its name since it was opened.
+    /// No file was made under its name since it was opened.
     ghost is_current: { Self → Self.File → Type 0 };
 
     /// readdir(3) of a folder, in several steps: the names of its entries.
@@ -52,7 +52,7 @@ pub trait System {
     fn sleep(&mut self, pause: Duration)
         ensures { Looks (at self.old) (at self.new) };
 
-    /// Creates a file of `tmp`, or truncates it if it is there, and opens it for writing.
+    /// Makes a file of `tmp`, or empties it if it is there, and opens it for writing.
     fn create(&mut self, name: &str) -> io::Result<Self::File>
         ensures makes { MakesFile name.now (at self.old) result (at self.new) }
         ensures name { Honestly (at self.old).honest (λ _.
@@ -101,13 +101,15 @@ pub trait System {
             (at self.new).world.files left)
             (at self.old).may_leave (at self.new).may_leave)) };
 
-    /// fsync(2) of the Maildir, so that it and its three folders are durable. After an error nothing
-    /// is assumed of the calls that follow; what is said of this call holds with any answer.
+    /// fsync(2) of the Maildir and its parent, so that the Maildir and its three folders are durable.
+    /// After an error nothing is assumed of the calls that follow; what is said of this call holds
+    /// with any answer.
     fn sync_root(&mut self) -> io::Result<()>
         ensures asks { Asks (at self.old) result (at self.new) }
         ensures rooted { Honestly (at self.old).honest (λ _.
             OnOk result (at self.new).rooted) };
 
+    /// A system that is quiet is honest, whichever bases are spared.
     ghost quiet_is_honest: { (system : Self) (spared : Spared) → (at system).quiet →
         (at system).honest spared };
 

@@ -9,7 +9,7 @@ use std::alloc::Global;
 /// A change of the files of a Maildir at one moment, which a power cut keeps or loses as a whole.
 #[derive(Clone, Copy)]
 pub(crate) enum Change<'a> {
-    /// A file of `tmp` is created, or truncated if it is there.
+    /// A file of `tmp` is made, or emptied if it is there.
     Make(&'a str),
     /// A file of `tmp` that is there holds these bytes.
     Hold(&'a str, &'a [u8]),

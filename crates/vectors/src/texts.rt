@@ -49,7 +49,7 @@ pub(crate) type Message<'a> = (&'a [u8], &'a [u8]);
 /// A file: its folder, its name and its bytes.
 pub(crate) type File<'a> = (Sub, &'a str, &'a [u8]);
 
-/// A text, its messages, their regular spelling and their list, and the files that a run makes of
+/// A text, its messages, their regular spelling and their table, and the files that a run makes of
 /// it.
 pub(crate) struct Text<'a> {
     pub name: &'a str,

@@ -1,4 +1,4 @@
-// What is written of a text: a list of its messages, or its regular spelling.
+// What is written of a text: a table of its messages, or its regular spelling.
 use crate::rows::{Shown, same};
 use crate::sources::{Cut, FAULTY, LIMIT};
 use crate::texts::{TWO_LINES, UNENDED, texts};

@@ -1,4 +1,4 @@
--- A write that appends in several steps, between which other programs act, is one write at the moment when its file was created.
+-- A write that appends in several steps, between which other programs act, is one write at the moment when its file was made.
 use Rattle.std.proofs.Common.{◌≡◌, ◌⊎◌, inl, inr, ℕ, Bool, true, false, cond, not, List, [], ◌∷◌, ◌++◌, map, Option, Some, None, refl, sym, ◌∙◌, ap}
 use Rattle.std.proofs.Common.{Result, Ok, Err, take, arith, rules}
 use Rattle.maildir_disk.proofs.Common.{Error, get, insert, remove, get-insert, get-remove, same_map, cases_Bool, false_from_ne_true, is_converter_name, Files}

@@ -13,7 +13,7 @@ use Rattle.maildir_disk.proofs.Calls.Pieces.{append_failed, not_created, write_c
 use Rattle.maildir_disk.proofs.Calls.QuietWrites.{appended_quietly, grown_quietly, not_created_quietly, torn_quietly, written_quietly}
 use Rattle.maildir_disk.proofs.Left.Lefts.{left_both, left_more, left_torn, left_written}
 
--- The file `under`, which was created with this name, holds these bytes, as if they had been written when it was created.
+-- The file `under`, which was made with this name, holds these bytes, as if they had been written when it was made.
 pub record WritesSoFar (name held under : List ℕ) (is_current : Type 0) (old new : SeenSystem) : Type 0 where
   pub honest : Honestly old.honest new.honest
   pub left : Honestly old.honest (λ spared. Follows (Leaves spared (Writing name [])) old.may_leave new.may_leave)
@@ -27,7 +27,7 @@ pub record WritesSoFar (name held under : List ℕ) (is_current : Type 0) (old n
   pub holds : Honestly old.honest (λ spared. Written spared name held old.world new.world)
   pub quietly : old.quiet → new.world.files ≡ effect (Writing name held) old.world.files
 
--- the file was not created
+-- the file was not made
 pub not_made : {A B E F : Type 0} {name bytes : List ℕ} {a b : SeenSystem} {error : E} (result : Result B F) → IsErr result
     → MakesFile {A = A} name a (Err error) b → TakesEffect (Writing name bytes) a result b
 not_made (Ok _) is_err makes = absurd (false≢true is_err)

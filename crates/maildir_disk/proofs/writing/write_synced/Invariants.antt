@@ -2,7 +2,7 @@ use Rattle.std.proofs.Common.{◌≤◌, length, take}
 use Rattle.maildir_disk.proofs.Calls.Writes.{WritesSoFar}
 use Rattle.maildir_disk.proofs.writing.write_synced.Given as goal
 
--- the file holds a prefix of the bytes, as if written when it was created; if the system is quiet, nothing else has changed
+-- the file holds a prefix of the bytes, as if written when it was made; if the system is quiet, nothing else has changed
 abbrev pub invariant-loop : goal.invariant-loop
 invariant-loop g l = record {
   within : l.at ≤ length l.bytes;
