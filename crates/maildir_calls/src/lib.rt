@@ -1,5 +1,5 @@
-//! The decisions between the calls of a machine: which calls are made, in which order, and what
-//! follows from their answers.
+//! The decisions between the calls of a file system: which calls are made, in which order, and
+//! what follows from their answers.
 //!
 //! [`Calls`] is a file system by its calls. [`MaildirAt`] is the Maildir at a path, by the calls that
 //! [`System`](maildir_disk::System) asks for, over any such file system: [`MaildirAt::open`] makes it

@@ -120,7 +120,7 @@ pub record RanOn {M : Type 0} (at : M → SeenMachine) (words : List (List ℕ))
   -- If the words are of no form, nothing was done.
   pub untouched : status ≡ 2 → (new ≡ old) × (is.input ≡ was.input)
 
--- There are no words, or there is no buffer for the output, with this error. If an allocation failed, the status is 1, and the line says so; otherwise
+-- There are no words, or no buffer for the output, because of this error. If an allocation failed, the status is 1, and the line says so; otherwise
 -- it is 2, and the line is that of wrong words.
 abbrev pub RefusesWords : Error → ℕ → Option (List ℕ) → Option (List ℕ) → Type 0
 RefusesWords error status was is =

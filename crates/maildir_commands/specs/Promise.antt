@@ -1,6 +1,6 @@
 -- The promise on any commands, on one page: what is promised, what is assumed, what may happen, and what a command does to Maildirs.
 --
--- A text is what a mailbox file holds (`Mailbox`). A message of it has a body and a base. The body is the whole message, its header too, with the escapes
+-- A text is what a mailbox file holds (`Mailbox`). A message of it has a body and a base. The body is the whole message, its header too, with the quoting
 -- of the mailbox undone, and without the line `From `. The base is the front of its file name: the digest of the body, a dot, and the message's number
 -- among those of its text with this digest. So a message that stands once in each of two texts has the same base in both, and is the same file.
 --

@@ -77,7 +77,7 @@ pub record FilesAndLeft : Type 0 where
   pub files : Files
   pub left : Files
 
--- A sync of the Maildir that returned Ok: first the names in `new` became durable, then those in `cur`.
+-- A sync of the Maildir that answered Ok: first the names in `new` became durable, then those in `cur`.
 pub record Syncs (spared : Spared) (old before new left : Files) : Type 0 where
   pub mid : FilesAndLeft
   pub first : KeepsNames spared New old before mid.files mid.left

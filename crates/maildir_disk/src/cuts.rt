@@ -11,7 +11,7 @@ ghost use Rattle.maildir_run.specs.Texts.{MessagesOf};
 ghost use Rattle.maildir_disk.specs.PowerCuts.{AreAlike, FilesAndLeft, HasBody, IsIntact, IsKilled};
 ghost use Rattle.maildir_disk.specs.PowerCuts.{IsSingle, LeavesOneEach, LeftByOthers, Syncs};
 
-/// What a power cut leaves of a run, whatever the run returned, over this text or another that has
+/// What a power cut leaves of a run, whatever the run answered, over this text or another that has
 /// the same body under each common base. Messages that were intact in what a cut would have left
 /// before the run are intact after it. Each message that a cut would have left before the run is
 /// left after it.
@@ -58,7 +58,7 @@ pub fn left_by_others()
         AllSpared spared (HasBody before) ms → AllSpared spared (HasBody now) ms }
 {}
 
-/// A sync that returned Ok makes the messages at home durable, if a power cut would have left them
+/// A sync that answered Ok makes the messages at home durable, if a power cut would have left them
 /// intact.
 pub fn kept_by_a_sync()
     ensures { (spared : Spared) (ms : List Message) (old before new left : Files) → AreNamed ms →

@@ -61,7 +61,7 @@ impl<S: System> DiskFolder<S> {
     }
 
     /// fsync(2) of `new`, `cur`, the Maildir and its parent, so that no power cut undoes a
-    /// placement that returned Ok. It is not one of the folder's calls, and is not counted.
+    /// placement that answered Ok. It is not one of the folder's calls, and is not counted.
     ///
     /// # Errors
     ///
@@ -193,7 +193,7 @@ impl<S: System> DiskFolder<S> {
         self.system.unlink(name)
     }
 
-    // Counts a call with this result.
+    // Counts a call with this answer.
     fn count_call<T>(&mut self, answer: Result<T, FolderFault>) -> Result<T, FolderFault>
         ensures { Counts answer self.old result self.new }
     {

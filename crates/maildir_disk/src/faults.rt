@@ -34,7 +34,7 @@ impl From<io::Error> for OpenFault {
     }
 }
 
-// The fault of a call that failed.
+/// The fault of a call that failed.
 pub(crate) fn answer_of<T>(outcome: io::Result<T>) -> Result<T, FolderFault>
     ensures ok { IfOk outcome (λ value. result ≡ Ok value) }
     ensures allocation { IfErr outcome (λ error. IsFailedAllocation error →

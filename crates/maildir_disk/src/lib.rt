@@ -1,7 +1,7 @@
 //! A Maildir on a file system, with what a power cut may leave of it.
 //!
 //! [`System`] is the file system by the calls that one Maildir needs, with what is assumed of
-//! each: `maildir_calls` implements it over a machine's calls, `maildir_memory` in memory.
+//! each: `maildir_calls` implements it over any file system's calls, `maildir_memory` in memory.
 //! [`DiskFolder`] is a [`Folder`](maildir_run::Folder) over any such system: it syncs each file
 //! before it is placed, lists a folder as it was at one moment, and syncs `new` and `cur` once
 //! they were listed. [`DiskFolder::sync`] syncs the folders. After a failed sync of a folder it

@@ -27,8 +27,8 @@ pub struct Target {
 }
 
 impl Target {
-    // The target of a base: in `cur` with info if a flag is set, otherwise in `new` under the base
-    // alone.
+    /// The target of a base: in `cur` with info if a flag is set, otherwise in `new` under the base
+    /// alone.
     pub(crate) fn under_flags(
         alloc: Global,
         base: String,

@@ -127,7 +127,7 @@ abbrev pub Listed : {E : Type 0} → Spared → Sub → Files → Result (Vec (S
 Listed spared sub old (Ok names) new = Lists spared sub old (names_of names) new
 Listed spared sub old (Err _) new = AnyMoves spared (Listing sub) old new
 
--- in a quiet folder no other program acts, and a call that returned Ok had its effect once
+-- in a quiet folder no other program acts, and a call that answered Ok had its effect once
 abbrev pub CalledQuietly : {A E : Type 0} → Call → Files → Result A E → Files → Type 0
 CalledQuietly call old (Ok _) new = IsReady call old × (new ≡ effect call old)
 CalledQuietly call old (Err _) new = (moves : List Move) × IsOwn moves × (new ≡ after all_bases old call moves)
@@ -142,7 +142,7 @@ CountsFailure (Err Absent) old new = GoesUp old new
 CountsFailure (Err fault.Failed) old new = GoesUp old new
 CountsFailure other old new = new ≡ old
 
--- a result is not `Absent`
+-- an answer is not `Absent`
 abbrev pub IsNotAbsent : {A : Type 0} → Result A FolderFault → Type 0
 IsNotAbsent (Err Absent) = ⊥
 IsNotAbsent other = Unit {0}

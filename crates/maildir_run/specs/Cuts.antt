@@ -1,5 +1,5 @@
 -- What a power cut may leave of a folder, from one call to the next.
--- For `new` and `cur`: the files that a reader finds after the cut. For `tmp`: what each file that is there now would hold, wherever a reader finds it.
+-- For `new` and `cur`: the files that are found after the cut. For `tmp`: what each file that is there now would hold, wherever it is found.
 use Rattle.std.specs.Prelude.{◌≡◌, ℕ, List, [], ◌∷◌, IsTrue, IsFalse, Option, Some, None, Result, Ok, Err, if◌then◌else◌}
 use Rattle.std.specs.List.{list_any}
 use Rattle.std.specs.FinMap.{get, insert}
@@ -46,12 +46,12 @@ pub record Leaves (spared : Spared) (call : Call) (old new : Files) : Type 0 whe
   -- no rename is half kept, if a power cut keeps or loses each as one change
   pub whole : IsTrue spared.whole → AreWhole kept
 
--- a reader finds a written file with its bytes, wherever it finds it
+-- a written file is found with its bytes, wherever it is found
 abbrev pub IsFoundWhole : Spared → Call → Files → Type 0
 IsFoundWhole spared (Writing name bytes) s = IsTrue (is_spared_name spared name) → (held : List ℕ) → get s.tmp name ≡ Some held → held ≡ bytes
 IsFoundWhole spared other s = Unit {0}
 
--- what a power cut leaves of a call with this result
+-- what a power cut leaves of a call with this answer
 abbrev pub LeavesOf : {A E : Type 0} → Spared → Call → Files → Result A E → Files → Type 0
 LeavesOf spared call old (Ok _) new = Leaves spared call old new × IsFoundWhole spared call new
 LeavesOf spared call old (Err _) new = Leaves spared call old new

@@ -6,7 +6,7 @@ pub mod Files
 pub mod Delivery
 -- The messages of a text, as a folder is to have them.
 pub mod Texts
--- What one run owes, and sequences of runs, with any results, and other programs' actions.
+-- What one run owes, and chains of runs, with any answers, and other programs' actions.
 pub mod Runs
 -- The calls of a folder: the effect of each, and what may happen before, within and after it.
 pub mod Calls

@@ -1,4 +1,4 @@
--- What one run owes, and sequences of runs, with any results, and other programs' actions.
+-- What one run owes, and chains of runs, with any answers, and other programs' actions.
 use Rattle.std.specs.Prelude.{◌≡◌, Bool, ℕ, ◌+◌, ◌*◌, ◌-◌, ◌%◌, ◌^◌, ◌≤◌, List, [], ◌∷◌, ◌++◌, length, All, AllPairs, IfOk, OnOk, Option, Some, Result}
 use Rattle.mbox_text.specs.declared.entry.Entry.{Entry}
 use Rattle.mbox_text.specs.Mbox.{Mbox}
@@ -37,7 +37,7 @@ pub record EndedWell (spared : Spared) (ms : List Message) (old : Files) (report
   pub delivered : Delivered spared ms new
   pub reports : ReportsMessages spared ms old report
 
--- What a run over these messages owes, whatever it returned.
+-- What a run over these messages owes, whatever it answered.
 pub record KeepsMessages (spared : Spared) (ms : List Message) (old : Files) (answer : Result Report RunFault) (new : Files) : Type 0 where
   -- the folder is sound, as against the run's start
   pub sound : Sound spared ms old new
@@ -53,17 +53,17 @@ pub record IsRun (spared : Spared) (t : List ℕ) (old : Files) (answer : Result
   pub keeps : (ms : List Message) → MessagesOf t ms → AllSpared spared (IsSoundAt old) ms → KeepsMessages spared ms old answer new
   pub is_read : OnOk answer ((entries : List Entry) × Mbox t entries)
 
--- the calls of a run that returned Ok: three listings, one removal for each swept name,
+-- the calls of a run that answered Ok: three listings, one removal for each swept name,
 -- and a write and a placement for each placed message; the count has 128 bits
 abbrev pub CountsRun : Report → ℕ → ℕ → Type 0
 CountsRun report old new = new % 2 ^ 128 ≡ (old + (3 + report.swept + 2 * report.placed)) % 2 ^ 128
 
--- a finite sequence of links, each from one moment to the next
+-- a finite chain of links, each from one moment to the next
 abbrev pub Chain : {L S : Type 0} → (L → S → S → Type 0) → List L → S → S → Type 0
 Chain step [] old new = new ≡ old
 Chain {L} {S} step (link ∷ links) old new = (mid : S) × step link old mid × Chain step links mid new
 
--- a link of a sequence: a run with this result, or an action of another program
+-- a link of a chain: a run with this answer, or an action of another program
 pub data Link : Type 0 where
   Ran : (answer : Result Report RunFault) → Link
   Acted : (action : Action) → Link
@@ -73,6 +73,6 @@ abbrev pub Linked : Spared → List ℕ → Link → Files → Files → Type 0
 Linked spared t (Ran answer) old new = IsRun spared t old answer new
 Linked spared t (Acted action) old new = new ≡ acted spared action old
 
--- a finite sequence of runs over a text, with any results, and of other programs' actions
+-- a finite chain of runs over a text, with any answers, and of other programs' actions
 abbrev pub Runs : Spared → List ℕ → List Link → Files → Files → Type 0
 Runs spared t = Chain (Linked spared t)

@@ -22,7 +22,7 @@ abbrev pub shown_sender : List ℕ → List ℕ
 shown_sender [] = codes "-"
 shown_sender (c ∷ sender) = map shown_byte (c ∷ sender)
 
--- the row of a message: its number, base, place, info, the body's length in bytes, and the sender
+-- the row of a message: its index, base, place, info, the body's length in bytes, and the sender
 unfoldable pub message_row : ℕ → Entry → Target → List ℕ
 message_row index entry target =
     decimal index ++ 32
@@ -33,7 +33,7 @@ message_row index entry target =
     ∷ (shown_sender (sender entry.from_line) ++ 10
     ∷ [])))))
 
--- the rows of some messages with their targets, counted from a number
+-- the rows of some messages with their targets, counted from an index
 unfoldable pub rows_from : ℕ → List Entry → List Target → List ℕ
 rows_from index [] ts = []
 rows_from index (entry ∷ entries) [] = []

@@ -22,7 +22,7 @@ abbrev pub call_of : Task → Call
 call_of (Ask sub names) = Listing sub
 call_of (Do call) = call
 
--- the task's call returned Ok, in an honest folder
+-- the task's call answered Ok, in an honest folder
 abbrev pub Done : Spared → Task → Files → Files → Type 0
 Done spared (Ask sub names) old new = Lists spared sub old names new
 Done spared (Do call) old new = Succeeded spared call old new
@@ -95,6 +95,6 @@ task_of ms (Place i) = map (λ m. Do (Placing m.target.base m.target.place m.tar
 abbrev pub tasks_of : List Message → List Step → List Task
 tasks_of ms steps = flat_map (task_of ms) steps
 
--- the plan for these messages: the three listings, and the steps for the names that they returned
+-- the plan for these messages: the three listings, and the steps for the names that they answered
 abbrev pub planned_tasks : Listings → List Message → List Task
 planned_tasks names ms = listing_tasks names ++ tasks_of ms (planned names.tmp names.new names.cur (map (λ m. m.target) ms))

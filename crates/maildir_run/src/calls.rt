@@ -24,7 +24,7 @@ impl Calls {
         Calls { made: 0 }
     }
 
-    /// Counts a call with this result, and returns the result for the run: the fault of a call that
+    /// Counts a call with this answer, and returns the answer for the run: the fault of a call that
     /// failed gets the number of that call.
     pub(crate) fn answer<T>(&mut self, answer: Result<T, FolderFault>) -> Result<T, RunFault>
         ensures made { self.new.made ≡ capped (self.old.made + 1) }

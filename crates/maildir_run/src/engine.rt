@@ -84,9 +84,9 @@ impl<'a> Engine<'a> {
         }
     }
 
-    /// Delivers the next message, if it was not there: writes it in `tmp` under its base, and then
-    /// places it at its target by one rename. Only what this call itself wrote is placed
-    /// (maildir(5)). The set of bases is asked once.
+    // Delivers the next message, if it was not there: writes it in `tmp` under its base, and then
+    // places it at its target by one rename. Only what this call itself wrote is placed
+    // (maildir(5)).
     fn deliver<F: Folder>(&mut self, folder: &mut F, body: &[u8]) -> Result<(), RunFault>
         requires { self.old.messages < 2 ^ 63 }
         ensures delivers { let at = F.at in (bodies : List (List ℕ)) → Named bodies self.old.namer →

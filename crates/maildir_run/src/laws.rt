@@ -139,9 +139,9 @@ pub fn messages_have_bases()
         AreDistinct ms }
 {}
 
-/// What is left after any sequence of runs over a text, with any results, and of other programs'
+/// What is left after any chain of runs over a text, with any answers, and of other programs'
 /// actions. A folder that had none of the text's spared messages is sound for these. One more run
-/// that returns Ok delivers them, and no other program undoes that, whatever it does to all other
+/// that answers Ok delivers them, and no other program undoes that, whatever it does to all other
 /// messages.
 pub fn after_any_runs()
     ensures sound { (spared : Spared) (t : List ℕ) (ms : List Message) (links : List Link)
@@ -160,11 +160,11 @@ pub fn after_any_runs()
         Delivered spared ms (acted spared action s) }
 {}
 
-/// What is left after any sequence of runs over several texts, with any results, and of other
+/// What is left after any chain of runs over several texts, with any answers, and of other
 /// programs' actions. A folder in which no converter's base had the digest of one of their bodies
 /// is sound for all of them, and each body has the numbers 1 to n, and no others. A body is there
-/// at least as often as in each text of which a run returned Ok, and at most as often as in one of
-/// which a run was made. Each message of a text of which a run returned Ok is at home. The premise
+/// at least as often as in each text of which a run answered Ok, and at most as often as in one of
+/// which a run was made. Each message of a text of which a run answered Ok is at home. The premise
 /// is that distinct bodies have distinct digests.
 pub fn several_texts()
     ensures sound { (spared : Spared) (texts : List Mailbox) (links : List LinkOver)
@@ -207,7 +207,7 @@ pub fn all_are_spared()
         (report.swept ≤ leftover_count s) }
 {}
 
-/// If the messages are delivered, a quiet run changes no file, and a run that returns Ok places
+/// If the messages are delivered, a quiet run changes no file, and a run that answers Ok places
 /// nothing, sweeps nothing and makes three calls, the listings.
 pub fn nothing_left_to_do()
     ensures same { (ms : List Message) (s : Files) → Delivered all_bases ms s → alone ms s ≡ s }

@@ -12,7 +12,7 @@ use std::alloc::{AllocError, Global};
 use std::io::Read;
 use std::mem;
 
-/// How many bytes one read asks for.
+// How many bytes one read asks for.
 const PIECE: usize = 65536;
 
 /// Reads a source and gives its messages as they become complete, under a budget of reads.
@@ -76,8 +76,8 @@ impl Reader {
     }
 }
 
-/// Makes one read of those that are left, into the buffer, and returns how many bytes it took: none
-/// only at the source's end.
+// Makes one read of those that are left, into the buffer, and returns how many bytes it took: none
+// only at the source's end.
 fn read_piece<R: Read>(
     source: &mut R,
     buffer: &mut Vec<u8>,
@@ -100,7 +100,7 @@ fn read_piece<R: Read>(
     }
 }
 
-/// Takes one read from a budget.
+// Takes one read from a budget.
 fn spend(reads: &mut u64) -> Result<(), RunFault>
     ensures spent { OnOk result (reads.new + 1 ≡ reads.old) }
     ensures refused { IfErr result (λ fault. (fault ≡ RunFault.TooManyReads) × (reads.old ≡ 0)) }
@@ -114,7 +114,7 @@ fn spend(reads: &mut u64) -> Result<(), RunFault>
     }
 }
 
-/// Feeds a splitter of which no call failed.
+// Feeds a splitter of which no call failed.
 fn feed(splitter: &mut Splitter, piece: &[u8], out: &mut Vec<Entry>) -> Result<(), RunFault>
     ensures fed { OnOk result
         (Takes splitter.old piece.now out.old.items out.new.items splitter.new) }
@@ -130,7 +130,7 @@ fn feed(splitter: &mut Splitter, piece: &[u8], out: &mut Vec<Entry>) -> Result<(
     }
 }
 
-/// Appends the last message of a splitter of which no call failed.
+// Appends the last message of a splitter of which no call failed.
 fn finish(splitter: Splitter, out: &mut Vec<Entry>) -> Result<(), RunFault>
     ensures last { OnOk result ((last : Option Entry) ×
         (out.new.items ≡ out.old.items ++ option_to_list last) × GivesLast splitter last) }

@@ -29,7 +29,7 @@ pub(crate) fn sweep<F: Folder>(
     remove_planned(folder, calls, &steps)
 }
 
-/// Makes the removals of a plan, in its order. Returns how many it made.
+// Makes the removals of a plan, in its order. Returns how many it made.
 fn remove_planned<F: Folder>(
     folder: &mut F,
     calls: &mut Calls,

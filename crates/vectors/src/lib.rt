@@ -5,8 +5,8 @@
 //! faults are. Their values are worked by hand from the rules, or are another program's:
 //! `sha256sum`'s for digests.
 //!
-//! `texts` has the worked texts: each with its messages, its regular spelling, its table and
-//! its files, which are split, spelled, listed, rewritten and delivered. `sources` and `writers` have
+//! `texts` has the worked texts: each with its messages, its regular spelling, its table and its
+//! files, which are split, spelled, listed, rewritten and delivered. `sources` and `writers` have
 //! what is read and written through, with their faults. `rows` has how a row is compared: one that
 //! fails says its name, what was got and what was wanted. Each other file has the rows of what it
 //! is named for. `refusals` makes each call again after an allocation that failed; `examples` has

@@ -22,7 +22,7 @@ fn want_of(step: &Step) -> Want<'_> {
     }
 }
 
-/// The texts of a list.
+/// A list of these texts.
 pub(crate) fn names(alloc: Global, texts: &[&str]) -> Result<Vec<String>, AllocError> {
     let mut names = Vec::new(alloc);
     for text in texts {

@@ -19,7 +19,7 @@ use Rattle.maildir_run.proofs.Tasks.PlanLemmas.{planned_are}
 use Rattle.maildir_run.proofs.Tasks.TaskEffects.{EachTask, PlacesNone, all_parts, stopped_parts, listings_place_none, sweep_places_none}
 use Rattle.maildir_disk.proofs.Left.LeftHomes.{HoldsAt, SteadyAt, steady_same, steady_then, leaves_elsewhere, leaves_placing, AllHold}
 
--- how what a power cut leaves changes in a run with this result
+-- how what a power cut leaves changes in a run with this answer
 abbrev pub RunLeaves : (spared : Spared) {A E : Type 0} → List Message → (Files → Type 0) → Result A E → (Files → Type 0) → Type 0
 RunLeaves spared ms before answer now = Follows (λ old new. (names : Listings) × Performs (leaving spared) (planned_tasks names ms) old answer new) before now
 

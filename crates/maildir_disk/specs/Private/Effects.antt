@@ -8,7 +8,7 @@ use Rattle.maildir_disk.specs.declared.disk_folder.DiskFolder.{DiskFolder}
 use Rattle.maildir_disk.specs.SeenSystem.{SeenSystem}
 use Rattle.maildir_run.specs.Files.{Honestly}
 
--- System calls that returned this have the effect of a call of the folder.
+-- System calls that answered this have the effect of a call of the folder.
 pub record TakesEffect {A E : Type 0} (call : Call) (old : SeenSystem) (result : Result A E) (new : SeenSystem) : Type 0 where
   pub honest : Honestly old.honest new.honest
   pub called : Honestly old.honest (λ spared. Called spared call old.world.files result new.world.files)
@@ -19,7 +19,7 @@ pub record TakesEffect {A E : Type 0} (call : Call) (old : SeenSystem) (result :
   pub quiet : old.quiet → new.quiet
   pub quietly : old.quiet → CalledQuietly call old.world.files result new.world.files
 
--- The folder counted one call with this result, and returned the result.
+-- The folder counted one call with this answer, and returned the answer.
 pub record Counts {S A : Type 0} (answer : Result A FolderFault) (old : DiskFolder S) (result : Result A FolderFault) (new : DiskFolder S) : Type 0 where
   pub same : result ≡ answer
   pub system : new.system ≡ old.system

@@ -124,7 +124,7 @@ impl MemFiles {
     }
 }
 
-/// Whether a file of this name may be moved to the target: it is free, and has the same base.
+// Whether a file of this name may be moved to the target: it is free, and has the same base.
 fn is_free(there: &FileTree, name: &str, target: &str) -> bool
     ensures { result ≡ may_take there.now name.now target.now }
 {

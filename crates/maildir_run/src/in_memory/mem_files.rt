@@ -94,8 +94,8 @@ impl MemFiles {
         self.in_tmp.set(name, bytes)
     }
 
-    // Returns whether the file was there. The copy comes first, so that nothing changes if an
-    // allocation fails.
+    /// Returns whether the file was there. The copy comes first, so that nothing changes if an
+    /// allocation fails.
     pub(crate) fn rename(
         &mut self,
         name: &str,

@@ -33,7 +33,7 @@ pub fn rewrite<R: Read, W: Write>(
     print_all(alloc, source, &mut Rewriter { count: 0 }, out, reads)
 }
 
-/// Writes messages in their regular spelling one after the other.
+// Writes messages in their regular spelling one after the other.
 #[derive(Drop)]
 struct Rewriter {
     count: u64,
@@ -55,7 +55,7 @@ impl Printer for Rewriter {
     }
 }
 
-/// Writes messages in their regular spelling.
+// Writes messages in their regular spelling.
 #[tactic(auto, using(crate::proofs::Output::Each::each_prefix))]
 fn write_entries<W: Write>(entries: &[Entry], out: &mut W) -> Result<(), RunFault>
     ensures written { Writes (W.contents out.old) (W.contents out.new) result

@@ -10,7 +10,7 @@ use maildir_name::Target;
 use mbox_text::{Entry, sender_of};
 use std::alloc::{AllocError, Global};
 
-/// The row of a message: its number, base, place, info (or `-`), size in bytes and sender, with one
+/// The row of a message: its index, base, place, info (or `-`), size in bytes and sender, with one
 /// space between two of them and a `\n` at the end (this project's own rule).
 pub(crate) fn row_of(
     alloc: Global,

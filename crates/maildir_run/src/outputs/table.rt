@@ -14,7 +14,7 @@ use std::alloc::Global;
 use std::io::{Read, Write};
 
 /// Writes one row for each message of the source's text, in order, and returns how many there are:
-/// the message's number from 1, its base, its place (`new` or `cur`), its info or `-`, the size of
+/// the message's index from 1, its base, its place (`new` or `cur`), its info or `-`, the size of
 /// its body in bytes, and its sender with `?` for each byte outside 0x21 to 0x7E, or `-`. Makes at
 /// most `reads` reads, each of at most 65,536 bytes. Keeps in memory: one message, what one read
 /// returned, and the digests so far.
@@ -37,7 +37,7 @@ pub fn list_text<R: Read, W: Write>(
     print_all(alloc, source, &mut Lister::new(alloc), out, reads)
 }
 
-/// Lists messages one after the other.
+// Lists messages one after the other.
 #[derive(Drop)]
 struct Lister {
     alloc: Global,
