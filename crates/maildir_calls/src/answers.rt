@@ -44,9 +44,7 @@ fn has_no_sync(error: &io::Error) -> bool
 
 /// The result of an attempt to lock a Maildir: Ok also if the file system has no locks.
 ///
-/// # Errors
-///
-/// [`OpenFault::Locked`] if another program holds the lock.
+/// Errors: [`OpenFault::Locked`] if another program holds the lock.
 pub(crate) fn locked(outcome: io::Result<()>) -> Result<(), OpenFault>
     ensures locks { Locks outcome result }
     ensures not_absent { IfErr result (λ fault. ¬ (fault ≡ OpenFault.Folder FolderFault.Absent)) }

@@ -35,17 +35,15 @@ pub struct MaildirAt<C, F> {
 }
 
 impl<C: Calls + Drop> MaildirAt<C, C::File> {
-    /// Opens the Maildir at `path`. The folder, and `tmp`, `new` and `cur` in it, are created with
-    /// mode 0700 if they are missing. The parent of `path` must exist. If the folder is created, it
+    /// Opens the Maildir at `path`. The folder, and `tmp`, `new` and `cur` in it, are made with
+    /// mode 0700 if they are missing. The parent of `path` must exist. If the folder is made, it
     /// must also be possible to open the parent, so that it can be synced. The folder stays locked
     /// while it is open, if the file system has locks for folders.
     ///
-    /// # Errors
-    ///
-    /// [`OpenFault::Locked`] if another program holds the lock; nothing in the folder was read or
-    /// changed. [`FolderFault::Failed`] if the Maildir cannot be opened to be locked, and then
-    /// nothing in it was changed; or if one of the four is no folder and cannot be created. Folders
-    /// that were created stay, except a Maildir whose parent cannot be opened.
+    /// Errors: [`OpenFault::Locked`] if another program holds the lock; nothing in the folder was
+    /// read or changed. [`FolderFault::Failed`] if the Maildir cannot be opened to be locked, and
+    /// then nothing in it was changed; or if one of the four is no folder and cannot be made.
+    /// Folders that were made stay, except a Maildir whose parent cannot be opened.
     /// [`FolderFault::OutOfMemory`] if an allocation failed. The calls are returned beside the fault.
     pub fn open(mut calls: C, alloc: Global, path: &str) -> Result<Self, (C, OpenFault)>
         ensures opens { IfOk result (IsOpenAt path.now (C.trace calls) (λ made. C.trace made)) }

@@ -26,9 +26,7 @@ pub struct Held<F> {
 /// Opens a Maildir: makes it if it is missing, locks it, and makes those of its three folders that
 /// are missing. A Maildir that was made is removed again if its parent cannot be opened.
 ///
-/// # Errors
-///
-/// [`OpenFault::Locked`] if another program holds the lock; then no folder in it was made.
+/// Errors: [`OpenFault::Locked`] if another program holds the lock; then no folder in it was made.
 /// [`FolderFault::OutOfMemory`] if an allocation failed; [`FolderFault::Failed`] if a call did.
 pub fn open_folders<C: Calls>(calls: &mut C, paths: &Paths) -> Result<Held<C::File>, OpenFault>
     ensures opens { Traces (OpensAtPath (string_bytes paths.now.root) result)

@@ -61,7 +61,7 @@ pub fn there_already(error: io::Error, found: io::Result<Facts>) -> io::Result<b
 /// to the owner of the folder, and nobody else may open it. Otherwise somebody could have opened it
 /// already, and would read the message while it is written.
 ///
-/// Error: of the kind `Other`, if the check fails.
+/// Errors: of the kind `Other`, if the check fails.
 pub fn check_own(found: &Facts, owner: u32) -> io::Result<()>
     ensures own { IsOk result ↔ IsOfOwner found.now owner }
     ensures kind { IfErr result (λ error. error_kind error ≡ ErrorKind.Other) }
@@ -76,7 +76,7 @@ pub fn check_own(found: &Facts, owner: u32) -> io::Result<()>
 /// Checks that the file that was opened is the one that was found and checked before, and is still
 /// our own.
 ///
-/// Error: of the kind `Other`, if the check fails.
+/// Errors: of the kind `Other`, if the check fails.
 pub fn check_same(opened: &Facts, found: &Facts) -> io::Result<()>
     ensures same { IsOk result ↔ IsSameOwn opened.now found.now }
     ensures kind { IfErr result (λ error. error_kind error ≡ ErrorKind.Other) }

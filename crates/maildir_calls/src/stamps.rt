@@ -11,7 +11,7 @@ use std::time::{Duration, SystemTime, UNIX_EPOCH};
 
 /// When the file was last changed.
 ///
-/// Error: of the kind `Other`, if the file system keeps no such time.
+/// Errors: of the kind `Other`, if the file system keeps no such time.
 pub fn time_of_change(found: &Facts) -> io::Result<SystemTime>
     ensures { TellsChange found.now result }
 {

@@ -1,4 +1,4 @@
-// A command that is killed: from one of its calls on, none is made.
+// A command that is killed: from one of its calls on, no call is made but the closing of a Maildir.
 ghost use Rattle.std.specs.Prelude.{◌≡◌, List, ℕ, IfErr, Option, map, string_bytes};
 ghost use Rattle.std.specs.Io.Buffered.{writer_contents};
 ghost use Rattle.std.specs.IoError.{error_kind};
@@ -20,8 +20,8 @@ use std::io::{BufWriter, ErrorKind, Read, Write};
 use std::time::{Duration, Instant, SystemTime};
 
 /// A machine, a Maildir, a reader or a writer, of a process that is killed: some calls are made as
-/// ever, and from then on none is made, and each fails. Calls of whatever shares a count, and of
-/// what a machine opens, are counted together.
+/// ever, and from then on none is made, and each fails. Only the closing of a Maildir is made at
+/// any time. Calls of whatever shares a count, and of what a machine opens, are counted together.
 #[derive(Drop)]
 pub struct Killed<'a, T> {
     inner: T,

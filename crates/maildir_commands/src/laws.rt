@@ -45,8 +45,9 @@ pub fn after_any_commands<M: Machine>()
 /// What is left of one text after any commands, if it is the only one that goes into a Maildir, the
 /// Maildir was new to it, other programs only move and flag its messages, and a power cut keeps or
 /// loses each rename as one change. Nothing is lost, doubled or cut short: each message is missing,
-/// or in exactly one file with exactly its bytes. Once a command has ended with status 0, or has
-/// printed anything, each message is in exactly one file, and so it is after any power cut.
+/// or in exactly one file with exactly its bytes. Once a conversion whose words name this text once
+/// has ended with status 0, or has printed anything, each message is in exactly one file, and so it
+/// is after any power cut.
 pub fn after_commands_over_one_text<M: Machine>()
     ensures { (path : List ℕ) (text : Mailbox) (episodes : List Episode) (old new : M) →
         (M.at old).honest all_whole → HasItsMessages text →

@@ -38,7 +38,7 @@ pub(crate) fn report_line(report: Report) -> ArrayVec<u8, REPORT_BYTES>
 
 /// Writes the line of a fault to standard error, in one piece.
 ///
-/// Error: `WriteFault` if the writer failed or took no byte; then a prefix of the line was taken.
+/// Errors: `WriteFault` if the writer failed or took no byte; then a prefix of the line was taken.
 pub(crate) fn tell_fault<E: Write>(fault: Fault, err: &mut E) -> Result<(), TextFault>
     ensures told { Writes (E.contents err.old) (E.contents err.new) result
         (told (fault_text fault)) }
@@ -49,7 +49,7 @@ pub(crate) fn tell_fault<E: Write>(fault: Fault, err: &mut E) -> Result<(), Text
 
 /// Writes to standard error that the words are of no form, in one piece.
 ///
-/// Error: `WriteFault` if the writer failed or took no byte; then a prefix of the line was taken.
+/// Errors: `WriteFault` if the writer failed or took no byte; then a prefix of the line was taken.
 pub(crate) fn tell_wrong_words<E: Write>(err: &mut E) -> Result<(), TextFault>
     ensures told { Writes (E.contents err.old) (E.contents err.new) result
         (told (codes "wrong words")) }

@@ -37,6 +37,7 @@ pub trait Machine {
         ensures { ClosesMaildir path.now (opened Self.Maildir.System maildir) (at self.old)
             (at self.new) };
 
+    /// A machine that is quiet is honest, whichever bases are spared.
     ghost quiet_is_honest: { (machine : Self) (spared : Spared) → (at machine).quiet →
         (at machine).honest spared };
 

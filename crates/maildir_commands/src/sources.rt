@@ -80,7 +80,7 @@ fn deliver_each<M: Machine, W: Write + Drop>(
 /// prints the run's line and flushes it, so that each printed line stays true whatever becomes of
 /// the next source, and through a power cut (this project's own rule).
 ///
-/// Error: the fault of the run; the fault of the sync, as that of the folder call after the run's
+/// Errors: the fault of the run; the fault of the sync, as that of the folder call after the run's
 /// last one, or `OutOfMemory`; or `OutputFault` if the line could not be written.
 pub fn deliver<S: System, I: Read, W: Write + Drop>(
     alloc: Global,

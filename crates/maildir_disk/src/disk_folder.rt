@@ -63,10 +63,9 @@ impl<S: System> DiskFolder<S> {
     /// fsync(2) of `new`, `cur`, the Maildir and its parent, so that no power cut undoes a
     /// placement that answered Ok. It is not one of the folder's calls, and is not counted.
     ///
-    /// # Errors
-    ///
-    /// [`FolderFault::Failed`] if one of the four could not be synced, or if a sync of a folder
-    /// failed before, here or in a listing; [`FolderFault::OutOfMemory`] if an allocation failed.
+    /// Errors: [`FolderFault::Failed`] if one of the four could not be synced, or if a sync of a
+    /// folder failed before, here or in a listing; [`FolderFault::OutOfMemory`] if an allocation
+    /// failed.
     pub fn sync(&mut self) -> Result<(), FolderFault>
         ensures syncs { SyncsMaildir (system_of S.System self.old) result
             (system_of S.System self.new) }

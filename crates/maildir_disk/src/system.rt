@@ -101,9 +101,9 @@ pub trait System {
             (at self.new).world.files left)
             (at self.old).may_leave (at self.new).may_leave)) };
 
-    /// fsync(2) of the Maildir and its parent, so that the Maildir and its three folders are durable.
-    /// After an error nothing is assumed of the calls that follow; what is said of this call holds
-    /// with any answer.
+    /// fsync(2) of the Maildir and its parent, so that the Maildir and its three folders are
+    /// durable. After an error nothing is assumed of the calls that follow; what is said of this
+    /// call holds with any answer.
     fn sync_root(&mut self) -> io::Result<()>
         ensures asks { Asks (at self.old) result (at self.new) }
         ensures rooted { Honestly (at self.old).honest (λ _.

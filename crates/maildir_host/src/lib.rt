@@ -6,11 +6,12 @@
 //! [`MaildirAt`](maildir_calls::MaildirAt).
 //!
 //! This crate is trusted: no proof knows what these calls do to a disk. Besides making them it says
-//! which fields of a stat(2) become the [`Facts`](maildir_calls::Facts), and that a list of a
-//! folder has all of its entries, unless one fails. Which calls are made, in which order, and what
-//! follows from what they answer is decided in `maildir_calls`, and proved there. What is proved
-//! here is that the calls are safe and end, that a Maildir is opened at the path that was named,
-//! and that its folder begins with no calls and no failures.
+//! which paths they get, which fields of a stat(2) become the [`Facts`](maildir_calls::Facts), and
+//! that a list of a folder has all of its entries, unless one fails. Which calls are made, in which
+//! order, and what follows from what they answer is decided in `maildir_calls`, and proved there.
+//! What is proved here is that the calls are safe and end. Of [`OpenAt`], which the program does
+//! not use, it is also proved that a Maildir is opened at the path that was named, and that its
+//! folder begins with no calls and no failures.
 //!
 //! ```rust
 //! use maildir_disk::DiskFolder;

@@ -1,4 +1,4 @@
-//! File systems and machines in memory: doubles for tests, and one of plain data that shows that the
+//! File systems and machines in memory: doubles for tests, and two of plain data that show that the
 //! assumptions can be met.
 //!
 //! [`MemSystem`] is a Maildir in memory, for tests. Other programs may act within its calls, its
@@ -6,10 +6,13 @@
 //! ([`Stamps`]), and a power cut may leave any case of what was not synced. It logs the files that
 //! its calls touch ([`Touched`]). [`MemMachine`] is a [`Machine`](maildir_commands::Machine) with
 //! texts and such Maildirs. [`PlainSystem`] and [`PlainMachine`] are as small as they can be.
+//! [`MemCalls`] answers each call of a file system as its script says (an [`Answer`]), and records
+//! it (a [`MemCall`]).
 //!
 //! Proved: the two of plain data do what the traits that they implement state, so what is assumed
 //! there can be met; and so can what is assumed of any commands that follow one another
-//! ([`PlainMachine::losing`]).
+//! ([`PlainMachine::losing`]). [`MemCalls`] has each call on record with its answer, as long as
+//! there is memory for that.
 //!
 //! ```rust
 //! use maildir_disk::DiskFolder;

@@ -23,9 +23,9 @@ use std::io::ErrorKind;
 /// A text, with the word that names it.
 #[derive(Clone, Copy)]
 pub struct NamedText<'a> {
-    /// The word.
+    /// The path that opens it, as it stands.
     pub name: &'a str,
-    /// The text.
+    /// What a source of it gives.
     pub text: &'a [u8],
 }
 

@@ -26,13 +26,13 @@ pub struct MemFile {
     pub(crate) name: String,
 }
 
-/// A Maildir in memory, with clocks. Each call that only reads, and each step of a write, pops one
-/// turn and performs its acts, which are other programs'. A listing of a folder that changes
-/// meanwhile returns no names, and a write takes half of its bytes.
+/// A Maildir in memory, with clocks. Each call but `rename` and `unlink` pops one turn and performs
+/// its acts, which are other programs'. A listing of a folder that changes meanwhile returns no
+/// names, and a write takes half of its bytes.
 ///
-/// After [`lose`](MemSystem::lose), a power cut may lose each change that was not synced: a created
-/// file, the appended bytes after any prefix, a rename, half of another program's act. Until the
-/// Maildir is synced, it may lose all of it.
+/// After [`lose`](MemSystem::lose), a power cut may lose each change that was not synced: a file
+/// that was made, the appended bytes after any prefix, a rename, half of another program's act.
+/// Until the Maildir is synced, it may lose all of it.
 #[derive(Drop)]
 pub struct MemSystem {
     alloc: Global,

@@ -3,7 +3,7 @@ ghost use Rattle.std.specs.Prelude.{◌≡◌, ◌==◌, ◌||◌, ◌<◌, ◌�
 ghost use Rattle.maildir_name.specs.Flags.{flags, field, header, lines, stands_in as stands};
 ghost use Rattle.maildir_name.specs.Flags.{is_blank as blank, begins_with_name as begins};
 
-/// What the header of a message says about it: a flag for each letter of the fields Status and
+/// The flags in the header of a message: which of five letters stand in its fields Status and
 /// X-Status.
 #[derive(Clone, Copy, PartialEq, Eq)]
 pub struct Flags {

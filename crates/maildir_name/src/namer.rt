@@ -46,7 +46,7 @@ impl Namer {
     /// The target of the next body: its base is the digits of the body's SHA-256, a dot, and how
     /// many bodies up to and with this one have that digest (this project's own rule).
     ///
-    /// Error: `OutOfMemory` if an allocation failed; the namer is then unchanged.
+    /// Errors: `OutOfMemory` if an allocation failed; the namer is then unchanged.
     pub fn target(&mut self, body: &[u8]) -> Result<Target, NameFault>
         ensures next { IfOk result (λ target. (bodies : List (List ℕ)) → Named bodies self.old →
             length bodies < 2 ^ 63 →

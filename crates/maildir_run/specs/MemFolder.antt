@@ -96,7 +96,7 @@ pub record Scripted {A : Type 0} (call : Call) (old : MemFolder) (result : Resul
   pub script : SameScript old new
   pub told : CountsCall old new
 
--- what is seen of it as of any folder: it takes effect as reported, and a power cut takes nothing from it
+-- what is seen of it as of any folder: it takes effect as reported, a power cut takes nothing from it, and all files count as touched
 abbrev pub seen_of : MemFolder → Seen
 seen_of m = record {
   honest = λ _. Unit {0};

@@ -7,7 +7,6 @@ use Rattle.maildir_run.specs.Calls.{Writing, Placing, Removing}
 use Rattle.maildir_run.specs.Delivery.{Message}
 use Rattle.maildir_run.specs.Tasks.{Task, Do}
 
--- ---- the tasks of each part
 -- the converter's names among these are removed
 abbrev pub sweep_of : List (List ℕ) → List Task
 sweep_of names = map (λ name. Do (Removing name)) (filter is_converter_name names)

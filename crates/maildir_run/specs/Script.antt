@@ -79,7 +79,7 @@ fails Plain = false
 fails Twice = false
 fails other = true
 
--- whether a call takes memory: a placement does if its file is there, and a removal does not
+-- a call takes memory: a placement does if its file is there, and a removal does not
 abbrev pub TakesMemory : Call → Files → Type 0
 TakesMemory (Removing _) s = ⊥
 TakesMemory (Placing name place target) s = IsReady (Placing name place target) s

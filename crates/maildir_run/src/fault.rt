@@ -1,4 +1,4 @@
-// Why a run could not be ended.
+// Why a call of this crate ended early.
 ghost use Rattle.std.specs.Prelude.{◌≡◌};
 ghost use Rattle.maildir_run.specs.declared.fault.RunFault.TheVariants.{OutOfMemory};
 

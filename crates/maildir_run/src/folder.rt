@@ -82,37 +82,31 @@ pub trait Folder {
 
     /// The names in one folder, each once, in any order, as of one moment of the call.
     ///
-    /// # Errors
-    ///
-    /// [`FolderFault::Failed`]; [`FolderFault::OutOfMemory`] if an allocation failed in this call.
+    /// Errors: [`FolderFault::Failed`]; [`FolderFault::OutOfMemory`] if an allocation failed in
+    /// this call.
     fn list(&mut self, sub: Sub) -> Result<Vec<String>, FolderFault>
         ensures lists { ListingOf sub (at self.old) result (at self.new) };
 
     /// Makes the file `name` of `tmp` hold these bytes, in place of what it held.
     ///
-    /// # Errors
-    ///
-    /// Those of [`Folder::list`].
+    /// Errors: those of [`Folder::list`].
     fn write(&mut self, name: &str, bytes: &[u8]) -> Result<(), FolderFault>
         ensures writes { CallOf (Writing name.now bytes.now) (at self.old) result (at self.new) };
 
     /// Moves the file `name` of `tmp` to `target` of `new` or `cur`, by one rename.
     ///
-    /// # Errors
-    ///
-    /// [`FolderFault::Absent`] if there was no such file; those of [`Folder::list`].
+    /// Errors: [`FolderFault::Absent`] if there was no such file; those of [`Folder::list`].
     fn place(&mut self, name: &str, place: Place, target: &str) -> Result<(), FolderFault>
         ensures places { CallOf (Placing name.now place target.now) (at self.old) result
             (at self.new) };
 
     /// Removes the file `name` of `tmp`. Returns Ok also if there was none.
     ///
-    /// # Errors
-    ///
-    /// Those of [`Folder::list`].
+    /// Errors: those of [`Folder::list`].
     fn remove(&mut self, name: &str) -> Result<(), FolderFault>
         ensures removes { CallOf (Removing name.now) (at self.old) result (at self.new) };
 
+    /// A folder that is quiet is honest, whichever bases are spared.
     ghost quiet_is_honest: { (folder : Self) (spared : Spared) → (at folder).quiet →
         (at folder).honest spared };
 

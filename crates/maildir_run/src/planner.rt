@@ -24,9 +24,7 @@ pub enum Step {
 /// converter's names in `tmp`, in the order of the list; then, for each target in order whose base
 /// is the base of no name in `new` or `cur`, its `Write` and its `Place`.
 ///
-/// # Errors
-///
-/// [`RunFault::OutOfMemory`] alone, if an allocation failed.
+/// Errors: [`RunFault::OutOfMemory`] alone, if an allocation failed.
 pub fn plan(
     alloc: Global,
     tmp: &[String],

@@ -1,5 +1,5 @@
-// Laws of the definitions. Each function's contract is a law of all lines, texts and messages; its
-// body is empty.
+//! Laws of the definitions. Each function's contract is a law of all lines, texts and messages; its
+//! body is empty.
 ghost use Rattle.std.specs.Prelude.{◌≡◌, ℕ, ◌++◌, [], ◌∷◌, ◌↔◌, false, List, map};
 ghost use Rattle.std.specs.List.{flat_map};
 ghost use Rattle.mbox_text.specs.FromLine.{built, cleaned, past_spaces, rest, sender};

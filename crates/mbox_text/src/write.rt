@@ -16,8 +16,8 @@ use std::io::{ErrorKind, Write};
 /// one `>` more before each line that is zero or more `>` and then `From `; the `\n` that the body
 /// lacks at its end; and a blank line. Allocates nothing.
 ///
-/// Error: `WriteFault` if the writer failed, or took no byte though some were offered; it has taken
-/// a prefix of the spelling.
+/// Errors: `WriteFault` if the writer failed, or took no byte though some were offered; it has
+/// taken a prefix of the spelling.
 pub fn write_entry<W: Write>(entry: &Entry, out: &mut W) -> Result<(), TextFault>
     ensures written { Writes (W.contents out.old) (W.contents out.new) result (spelling entry.now) }
     ensures causes { IfErr result (λ fault. fault ≡ TextFault.WriteFault) }
@@ -31,8 +31,8 @@ pub fn write_entry<W: Write>(entry: &Entry, out: &mut W) -> Result<(), TextFault
 
 /// Writes the bytes as they stand.
 ///
-/// Error: `WriteFault` if the writer failed, or took no byte though some were offered; it has taken
-/// a prefix of the bytes. An interrupted write is retried.
+/// Errors: `WriteFault` if the writer failed, or took no byte though some were offered; it has
+/// taken a prefix of the bytes. An interrupted write is retried.
 pub fn write_bytes<W: Write>(bytes: &[u8], out: &mut W) -> Result<(), TextFault>
     ensures written { Writes (W.contents out.old) (W.contents out.new) result bytes.now }
     ensures causes { IfErr result (λ fault. fault ≡ TextFault.WriteFault) }

@@ -62,7 +62,7 @@ pub(crate) fn made(
 /// A name, what the calls answer, which are made, and what follows.
 pub(crate) type Row<'a, T> = (&'a str, &'a [Answer], &'a [&'a str], T);
 
-/// The calls that opened the parent that is kept and the file with the lock.
+// The calls that opened the parent that is kept and the file with the lock.
 type Opened = Result<(Option<usize>, usize), OpenFault>;
 
 const FAILED: Opened = Err(OpenFault::Folder(FolderFault::Failed));

@@ -1,5 +1,5 @@
-// The same words given again and again: interrupted at each fourth call, with a power cut after each
-// command, and killed at each call.
+// The same words given again and again: interrupted at each fourth call, with a power cut after
+// each command, and killed at each call.
 use crate::cuts::{losing, losing_one};
 use crate::planning::names;
 use crate::rows::same;
@@ -98,7 +98,8 @@ type History = (
 );
 
 // The words name a missing Maildir, which is made. This many of its calls work, and a power cut
-// leaves this case. Then the words are given again, and once more for five calls.
+// leaves this case. Then the words are given again, and once more, when only five
+// calls work.
 fn history(rt: HostRuntime, calls: u64, case: usize) -> Result<History, Fail> {
     let mut machine = MemMachine::new(rt.alloc(), TEXTS);
     machine.make_of(losing(rt, &[], 1)?);

@@ -12,7 +12,7 @@ const INVALID: Answer = Answer::Fails(22);
 
 const READ_ONLY: Answer = Answer::Fails(30);
 
-/// The call that opened the file, or the error.
+// The call that opened the file, or the error.
 type Created = Result<usize, ErrorKind>;
 
 const CREATIONS: &[Row<'_, Created>] = &[
@@ -118,7 +118,7 @@ fn creations(rt: HostRuntime) -> Result<(), Fail> {
     Ok(())
 }
 
-/// Whether it is done, or the error.
+// Whether it is done, or the error.
 type Done = Result<(), ErrorKind>;
 
 fn done(outcome: io::Result<()>) -> Done {
@@ -211,7 +211,7 @@ fn syncs(rt: HostRuntime) -> Result<(), Fail> {
     Ok(())
 }
 
-/// A row of a Maildir that this run made, whose parent is open, or of one that was there.
+// A row of a Maildir that this run made, whose parent is open, or of one that was there.
 type RootRow<'a> = (bool, Row<'a, Done>);
 
 const ROOTS: &[RootRow<'_>] = &[

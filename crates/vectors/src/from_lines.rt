@@ -4,7 +4,7 @@ use mbox_text::{TextFault, build_from, is_from_line, is_quotable, rest_of, sende
 use std::alloc::Global;
 use std::test::Fail;
 
-/// A sender, a rest, and the From_ line that is built of them, if one is.
+// A sender, a rest, and the From_ line that is built of them, if one is.
 type Row<'a> = (&'a str, &'a str, Result<&'a [u8], TextFault>);
 
 /// Rows whose lines are built; the last rest is refused, since it has a line end.

@@ -6,7 +6,7 @@ use maildir_run::{RunFault, Step, plan};
 use std::alloc::{AllocError, Global};
 use std::test::Fail;
 
-/// A step as it is wanted.
+// A step as it is wanted.
 #[derive(Clone, Copy, Debug, PartialEq)]
 enum Want<'a> {
     Remove(&'a str),
@@ -41,7 +41,7 @@ fn two_targets(alloc: Global) -> Result<Vec<Target>, RunFault> {
     Ok(targets)
 }
 
-/// Three lists, and the steps that they lead to.
+// Three lists, and the steps that they lead to.
 struct Row<'a> {
     name: &'a str,
     tmp: &'a [&'a str],

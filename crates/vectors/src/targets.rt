@@ -5,10 +5,10 @@ use maildir_name::{NameFault, Namer, Place};
 use std::alloc::Global;
 use std::test::Fail;
 
-/// A body, and its base, its folder and the info of its name.
+// A body, and its base, its folder and the info of its name.
 type Row<'a> = (&'a str, &'a str, &'a str, &'a str);
 
-/// The bodies of one text.
+// The bodies of one text.
 const ROWS: &[Row<'_>] = &[
     ("", EMPTY_ONE, "new", ""),
     ("abc", ABC, "new", ""),

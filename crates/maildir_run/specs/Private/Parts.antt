@@ -44,7 +44,6 @@ pub record Performed (tasks : List Task) (old new : Seen) (made made' : ℕ) (fa
   pub cause : GoesUpWith fault old.failures new.failures
   pub call_number : HasCallNumber fault made'
 
--- ---- the tasks of each part
 -- the names that a listing answered
 abbrev pub names_in : {E : Type 0} → Result (Vec (String Global) Global) E → List (List ℕ)
 names_in (Ok names) = names_of names

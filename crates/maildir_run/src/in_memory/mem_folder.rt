@@ -71,9 +71,7 @@ impl MemFolder {
 
     /// Sets one file, in place of what stood under its name. No call is counted.
     ///
-    /// # Errors
-    ///
-    /// [`FolderFault::OutOfMemory`] if an allocation failed; nothing is changed then.
+    /// Errors: [`FolderFault::OutOfMemory`] if an allocation failed; nothing is changed then.
     pub fn put(&mut self, sub: Sub, name: String, bytes: Vec<u8>) -> Result<(), FolderFault>
         ensures ok { OnOk result (files_of self.new ≡ with_file sub (string_bytes name) bytes.items
             (files_of self.old)) }
@@ -102,9 +100,7 @@ impl MemFolder {
 
     /// Another program does this. No call is counted.
     ///
-    /// # Errors
-    ///
-    /// [`FolderFault::OutOfMemory`] if an allocation failed; nothing is changed then.
+    /// Errors: [`FolderFault::OutOfMemory`] if an allocation failed; nothing is changed then.
     pub fn act(&mut self, act: &Act) -> Result<(), FolderFault>
         ensures ok { OnOk result (files_of self.new ≡ performed act.now (files_of self.old)) }
         ensures err { OnErr result (files_of self.new ≡ files_of self.old) }
@@ -119,9 +115,7 @@ impl MemFolder {
     /// Another program does half of this: a file that it moves is under both names. Half of any
     /// other act does nothing. No call is counted.
     ///
-    /// # Errors
-    ///
-    /// [`FolderFault::OutOfMemory`] if an allocation failed; nothing is changed then.
+    /// Errors: [`FolderFault::OutOfMemory`] if an allocation failed; nothing is changed then.
     pub fn act_half(&mut self, act: &Act) -> Result<(), FolderFault>
         ensures ok { OnOk result (files_of self.new ≡ half_performed act.now (files_of self.old)) }
         ensures err { OnErr result (files_of self.new ≡ files_of self.old) }
@@ -144,9 +138,7 @@ impl MemFolder {
 
     /// A folder with the same files, no calls, and a script with no line.
     ///
-    /// # Errors
-    ///
-    /// [`FolderFault::OutOfMemory`] if an allocation failed.
+    /// Errors: [`FolderFault::OutOfMemory`] if an allocation failed.
     pub fn copy(&self) -> Result<MemFolder, FolderFault>
         ensures files { IfOk result (λ copy. files_of copy ≡ files_of self.now) }
         ensures calls { IfOk result (λ copy. call_count copy ≡ 0) }
