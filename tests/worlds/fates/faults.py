@@ -219,8 +219,8 @@ class Attempt:
             wrong += [f"status 0: {run.out[-300:]}"] * (not all(rights))
         if not wrong and not is_each:
             # a program whose start failed may still be at work
-            for maildir in world.maildirs.values():
-                wait_for_lock(Path(os.fsdecode(maildir)))
+            for path in world.maildirs.values():
+                wait_for_lock(Path(os.fsdecode(path)))
             wrong = [f"the run after it: {line}" for line in wrong_after(world, migrate(world, self.place))]
         return told(fault, failed, wrong)
 
