@@ -216,6 +216,7 @@ def nothing_outside(home: Path) -> None:
     mailbox(there, mail)
     row = by_json("migrate --now M tree", home).of("tree/link")
     equal("the row", (row["folder"], row["kind"]), ("Letters", "one mail without a From_ line"))
+    equal("whoever runs it", [one["user"] for one in row["next"]], [None])
     equal("its command", run_printed(row.command, home).status, 0)
     equal("what the link leads to", there.read_bytes(), mail)
     equal("the folders", subjects(home / "M/.Letters"), ["one", "one"])
@@ -297,6 +298,10 @@ def several_inboxes(home: Path) -> None:
     equal(f"{answer}: {command}", command.count("--drop-deleted --folder INBOX"), 1)
     named = by_json(["migrate", "--drop-deleted", "--folder", "Work", "N", other], home).row
     equal("a folder of another name", (named["verdict"], named["next"]), ("done", []))
+    # it leaves this folder alone
+    row = by_json(["migrate", "--drop-deleted", "--folder", "imap-example-net/INBOX", "N", other], home).row
+    equal("of two folders", run_printed(row.commands[-1], home).status, 0)
+    equal("where it is", [subjects(home / "N"), subjects(home / "N/.Work")], [["one"], ["one"]])
 
 
 def what_cannot_be_read(home: Path) -> None:
@@ -332,6 +337,7 @@ def profile_of_one_account(home: Path) -> None:
         ("ImapMail/a.b/Feeds.json", b"{}"),
         ("Mail/c/Inbox", b""),
         ("Mail/c/z", b"hello\n"),
+        ("Mail/z", TWO),
         ("Mail/e/Inbox/cur/1", ONE),
         ("Mail/e/Inbox/new/1", ONE),
         ("Mail/e/Inbox/tmp/1", ONE),
@@ -339,7 +345,8 @@ def profile_of_one_account(home: Path) -> None:
         mailbox(top / name, text)
     ran = by_json("migrate --dry-run --now M old", home)
     found = {row["path"][23:]: row["folder"] for row in ran.rows if row["verdict"] == "would be done"}
-    equal(f"folders: {ran.output}", found, {"ImapMail/a.b/INBOX": "INBOX", "ImapMail/a.b/Trash": "Trash"})
+    wanted = {"ImapMail/a.b/INBOX": "INBOX", "ImapMail/a.b/Trash": "Trash", "Mail/z": "Mail/z"}
+    equal(f"folders: {ran.output}", found, wanted)
     equal("not known", ran.of("old/Profiles/x.default/Mail/c/z")["reason"], "not-known")
     mailbox(home / "other/Mail/c/Inbox", ONE)
     mailbox(home / "other/notes", TWO)
@@ -442,6 +449,17 @@ STORIES: dict[str, list[Step]] = {
         (f"migrate {BY_PATHS}", f"tree/box: done before\ntree/letter: {BY_WORD}\ntree/photos.zip: done: its name ..."),
         ("tree/letter", ONE[1:]),
         ("verify M tree", "tree/box: whole\ntree/letter: left (not-known): ...\ntree/photos.zip: whole"),
+    ],
+    # nothing is asked about it, though a copy may be beside it
+    "passed_over_beside_a_copy": [
+        *(("tree/notes", b"hello\n"), ("tree/notes.gz", ONE)),
+        ("migrate --no-mail tree/notes M tree", f"tree/notes.gz: left (copy): ...\ntree/notes: {BY_WORD}"),
+    ],
+    # `verify` and `dates` leave it out too, by which they fail
+    "a_maildir_in_a_tree": [
+        *(("tree/box", ONE), "migrate M tree", "!mkdir -p tree/new/cur tree/new/new tree/new/tmp"),
+        ("verify M tree", "tree/box: whole\ntree/new: left (maildir): it is a Maildir"),
+        "!mbox2maildir-admin dates M tree; test $? = 1",
     ],
     # as two names were to its people; what is named by itself is one of them, and a symbolic link is none
     "two_names": [
