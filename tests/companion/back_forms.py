@@ -242,6 +242,10 @@ def without_dates(home: Home) -> None:
     house.deliver(PLAIN)
     equal("rows", house.back(), [Told("mail/inbox-back", messages=3)])
     house.has({**dict.fromkeys(PATHS, []), "mail/inbox-back": PLAIN})
+    # nor does that one, once it has none either
+    (home.path / "mail/inbox-back").write_bytes(old)
+    house.deliver(PLAIN[:1], first=9)
+    equal("rows later", house.back(1), [Told("mail/inbox-back", "not-held", 1)])
 
 
 def without_an_end(home: Home) -> None:
@@ -313,7 +317,7 @@ def fields_of_programs(home: Home) -> None:
     """Fields stay in mail, but those by which any mailbox is read, and those of a program that has its own in each
     message of the mailbox. The row names what is left out."""
     head, end = b"Subject: new\n", b"\nnew\n"
-    boxes = {f"mail/{name}": numbered(keeper, 1, 2) for name, keeper in KEEPERS.items()}
+    boxes = {f"mail/{name}": numbered(keeper, 1, 26) for name, keeper in KEEPERS.items()}
     boxes.update({"spool": OLD, "mail/doubt": numbered(KEEPERS["Thunderbird"], 1) + letters(2)})
     house = House(home, boxes)
     for path in (*boxes, "mail/new"):
@@ -325,6 +329,7 @@ def fields_of_programs(home: Home) -> None:
         own = KEEPERS[name].names if name in KEEPERS else ()
         there = [one for one in names_in(message) if one.lower().encode() in own]
         equal(f"{path}: the program's own", len(there), len({*there}))
+        equal(f"{path}: the number after 26", b"X-Evolution: 0000001b-" in message, name == "Evolution")
         kept = b"".join(fields for program, fields in FIELDS.items() if program not in (ANY, name))
         equal(f"{path}: what stays", bare(message, own), head + kept + end)
         gone = [names_in(fields) for program, fields in FIELDS.items() if program in (ANY, name)]
