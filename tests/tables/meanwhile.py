@@ -297,6 +297,16 @@ STORIES: dict[str, list[Step]] = {
         *(("a", NUMBERED), "migrate --dovecot M a", ("more", TWO), "!mv a b; cat more >>b"),
         ("migrate --dovecot M b", "b: done: it grew by 1 message; Dovecot gives what is new its UIDs"),
     ],
+    "its_ledger_cannot_be_written_any_more": [
+        *(("a", ONE), '@"$real" "$@"; rm mbox*messages; mkdir mbox2maildir-messages'),
+        ("migrate M a", "a: left (ledger): M/mbox2maildir-messages: Is a directory"),
+    ],
+    # its UIDs stay too: a mail program may know them
+    "a_mailbox_with_uids_lost_its_ledger_and_grew": [
+        *(("a", NUMBERED), "migrate --dovecot M a", f"!rm {LEDGER}; cp M/dovecot-uidlist kept", ("a", NUMBERED + TWO)),
+        ("migrate --dovecot --again M a", "a: done: ...Dovecot gives what is new its UIDs"),
+        "!tail -n +2 kept >uids; tail -n +2 M/dovecot-uidlist | cmp - uids",
+    ],
     "a_mailbox_was_edited_as_a_whole": [
         *(("a", numbered("first", 5)), "migrate M a", ("a", numbered("second", 5))),
         ("migrate M a", "a: left (rewritten): 5 messages that it brought are gone from it, and as many are new: ..."),
