@@ -117,6 +117,7 @@ NONSENSE = [
     row(remarks=[["", "x", 0, 0]]),
     row(remarks=[["grew", "x", 0, -1]]),
     row(remarks=[["grew"]]),
+    row(remarks=[["grew", "x", 0, 0, 0]]),
     row(quotes=[[-1, "x", False]]),
     row(quotes=[["7", "x", False]]),
     row(counts=[["x", -1]]),

@@ -60,6 +60,14 @@ class TableTest(unittest.TestCase):
             places = [wanted[b"%032d.%d" % (number, one)] for one in range(1, count + 1)]
             self.assertEqual(list(table.places_of(b"%032d" % number)), places)
 
+    def test_searches_are_short(self) -> None:
+        """Slots that follow each other are few: a search goes through them, in a mailbox of any size."""
+        draw, table = random.Random(76), Table()
+        for _ in range(3000):
+            table.add(draw.randbytes(32))
+        taken = "".join(" x"[slot >= 0] for slot in table.slots).split()
+        self.assertLess(max(map(len, taken)), 1000)
+
     def test_bases_of_another_order(self) -> None:
         bases = [DIGEST + b".3", OTHER + b".1", DIGEST + b".1"]
         table = Table.of(bases)
