@@ -208,6 +208,24 @@ def rule_1_killed_beside_mail_of_others(home: Home) -> None:
         home.has(0, 1, 20)
 
 
+def rule_1_killed_and_mail_of_others_deleted(home: Home) -> None:
+    """A run is killed that had found a file with a name of another program's in place of a message: mail of that
+    program, or what a run had placed and that program has renamed. A reader deletes it. It comes back, and that is
+    said. Nobody knows how far the run came before a name was changed."""
+    for is_renamed, call in home.each((False, True), range(8, 12)):
+        home.bring(FIRST=letters(20))
+        if is_renamed:
+            home.killed(Kill(call=11), OLD=letters(0, 1))
+            home.rename(0)
+        else:
+            home.place_file("17000.1.host:2,S", mail_of(letters(0))[0])
+        home.killed(Kill(call=call), OLD=letters(0, 1))
+        home.take(0)
+        row = home.done("OLD")["OLD"]
+        home.has(0, 1, 20)
+        want_said(row, "up", "to", 1 + is_renamed, "came", "back")
+
+
 def rule_1_two_were_killed(home: Home) -> None:
     """Two mailboxes were done, but for the last step. What another one brings back of both is counted together."""
     home.bring(OLD=letters(0, 1), TWIN=letters(2, 3))

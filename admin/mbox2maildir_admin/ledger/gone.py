@@ -23,7 +23,7 @@ from ..mbox.core import SHORT
 from ..remarks import Remark, Says
 from .ledger import Ledger
 from .lines import FOREIGN, LOST, digest_at, pieces_in
-from .match import Match
+from .match import Hashes, Match
 
 # the most by which the times differ that the kernel gives a file and its folder in one rename, in nanoseconds
 RENAME_TICK = 20000000
@@ -116,21 +116,23 @@ def gone_before(ledger: Ledger) -> collections.Counter[bytes]:
 
 def gone_of(ledger: Ledger, number: int) -> collections.Counter[bytes]:
     """The cores of messages of a batch that was not ended, which have no file and may have had one: those that were
-    there when it was begun, and those that it placed. If it placed all, all had one."""
+    there when it was begun, whoever had given them their names, and those that it placed. If it placed all, all had
+    one."""
     batch = ledger.open[number]
     first = len(batch.letters) - (0 if batch.is_placed else batch.head.nowhere)
-    before, after = Table(), Table()
-    places: tuple[list[int], list[int]] = ([], [])
+    listed = mail_in(ledger.folder) if first else ()
+    there = Hashes(before_info(name) for name, _ in listed)
+    gone, table, places = array.array("Q"), Table(), array.array("Q")
     for at, (_, one) in enumerate(ledger.messages({number})):
         base = base_in(one.name)
-        table = after if at >= first else before
-        if base and one.word != LOST and table.place_of(base) is None:
+        if at < first:
+            # a file whose name no line can have would be found by what it holds
+            gone.extend([at] * (one.word != LOST and one.name not in there))
+        elif base and table.place_of(base) is None:
             table.keep(base)
-            places[at >= first].append(at)
-    there = {before.own_place(name) for name, _ in mail_in(ledger.folder)} if len(before) else set()
-    gone = [places[0][place] for place in range(len(before)) if place not in there]
-    if len(after):
-        gone += [places[1][place] for place in may_be_gone(ledger.folder, after, batch.head.times)]
+            places.append(at)
+    if len(table):
+        gone.extend(places[place] for place in may_be_gone(ledger.folder, table, batch.head.times))
     return collections.Counter(digest_at(batch.cores, at) for at in gone)
 
 
