@@ -31,6 +31,11 @@ NOT_SYNCED = "left (sync-failed): its sync failed: ..."
 DATED = "!test $(($(stat -c %Y $(grep -l two M/new/*)) % 60)) = 2"
 FIRST_ALONE = '@"$real" convert . ../placed && kill -9 $PPID'
 CAME_BACK = "a: done: ...up to ... deleted or moved came back..."
+GREW_AND_CAME_BACK = (
+    "a: done: it grew by 1 message; when its mail was placed, up to 1 message that had been deleted or moved came back"
+)
+# a reader deletes a message when the program begins
+DELETES_ONE = '@test -e ../gone || rm $(grep -l one new/*); : >../gone; "$real" "$@"'
 CUT = "From d Mon Mar  3 12:00:00 2025\\nSubject: four\\n\\nhe"
 OF_NOBODY, BEFORE = "a: done: 2 messages there already, by no mailbox", "a: done before"
 # what is done to a mailbox once it was converted, whose row waits for the sync of the disk
@@ -49,7 +54,7 @@ STORIES: dict[str, list[Step]] = {
     # the program numbers equal messages, so it gets those that are there too; of the others none comes back
     "what_is_deleted_once_it_was_looked_at": [
         *(("a", ONE + THREE), "!mbox2maildir convert M a", ("a", ONE + TWO + ONE + THREE + FOUR)),
-        '@test -e ../gone || rm $(grep -l one new/*); : >../gone; "$real" "$@"',
+        DELETES_ONE,
         (
             "migrate --again M a",
             "a: done: placed 3 messages; ...; ...up to 1 message that had been deleted or moved ...",
@@ -60,6 +65,16 @@ STORIES: dict[str, list[Step]] = {
         *(("a", TWO), "!mbox2maildir convert M a", ("a", ONE + TWO + THREE)),
         '@test -e ../gone || rm new/*; : >../gone; "$real" "$@"',
         *(("migrate --again M a", "a: done: placed 2 messages; 1 message there already, by no mailbox"), "= one three"),
+    ],
+    # the run is killed before it says so: while the program is at work, or at the end
+    "what_is_deleted_once_a_run_has_looked_that_is_killed": [
+        *steps(("a", ONE + TWO), "migrate M a", ("a", ONE + TWO + ONE), f"{DELETES_ONE}; kill -9 $PPID"),
+        *("migrate M a", RESTORED, "= one one two", ("migrate M a", GREW_AND_CAME_BACK)),
+    ],
+    "what_is_deleted_once_a_run_has_looked_that_is_not_noted": [
+        *steps(("a", ONE + TWO), "migrate M a", ("a", ONE + TWO + ONE), DELETES_ONE),
+        *(("migrate M a", GREW_AND_CAME_BACK), RESTORED, f"!sed -i '$d' {LEDGER} {RECORD}"),
+        *(("migrate M a", GREW_AND_CAME_BACK), "= one one two"),
     ],
     # the program removes it, though nothing is to be placed
     "a_power_cut_kept_a_file_in_tmp_too": [

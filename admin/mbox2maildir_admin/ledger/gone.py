@@ -12,13 +12,13 @@ import array
 import collections
 import contextlib
 import os
-from collections.abc import Sequence
+from collections.abc import Iterator, Sequence
 
 from ..faults import Fault
 from ..maildir.files import mail_in, names_in
 from ..maildir.folders import folders_in
 from ..maildir.making import SUBFOLDERS
-from ..mbox.bases import BASE, Table, base_in, before_info, is_own
+from ..mbox.bases import BASE, FIRST, Table, base_in, before_info, is_own
 from ..mbox.core import SHORT
 from ..remarks import Remark, Says
 from .ledger import Ledger
@@ -134,6 +134,32 @@ def gone_of(ledger: Ledger, number: int) -> collections.Counter[bytes]:
     if len(table):
         gone.extend(places[place] for place in may_be_gone(ledger.folder, table, batch.head.times))
     return collections.Counter(digest_at(batch.cores, at) for at in gone)
+
+
+def placed_again(ledger: Ledger, path: str) -> int:
+    """How many messages came back by a run of a mailbox that was killed, though it was not to place them. Of equal ones
+    the program gets also those that are there, and places those of them that were deleted after the run had looked.
+    Their files were written since the batch was begun. Before they get their dates, the next batch counts them."""
+    number = ledger.pending(path)
+    if number is None or not ledger.open[number].head.times:
+        return 0
+    numbers, count, began_at = {number}, 0, ledger.open[number].head.times[0]
+
+    def names() -> Iterator[bytes]:
+        return (one.name for _, one in ledger.messages(numbers, was_nowhere=True))
+
+    own, digests = Hashes(names()), {digest_in(name) for name in names() if not name.endswith(FIRST)}
+    for name, file in mail_in(ledger.folder) if digests else ():
+        before = before_info(name)
+        if is_own(before) and digest_in(before) in digests and before not in own:
+            with contextlib.suppress(FileNotFoundError):
+                count += os.lstat(file).st_mtime_ns > began_at
+    return count
+
+
+def digest_in(name: bytes) -> bytes:
+    """The part of a name of this program's that equal messages share."""
+    return name.rpartition(b".")[0]
 
 
 def unexplained(root: bytes, match: Match) -> set[bytes]:

@@ -80,9 +80,12 @@ def carry_out(steps: Steps, row: Row, program: Program) -> Outcome:
     else:
         batch, ends_list = begin(steps, own), own.ends_list
         if not own.has_nothing_new:
-            back = own.back + convert(steps, program, batch)
+            more = convert(steps, program, batch)
+            if more:
+                # if this run is killed before it says so, later ones do
+                batch = begin(steps, own, more)
             said += steps.extra.apply(steps)
-            said += date_and_verify(steps, back)
+            said += date_and_verify(steps, own.back + more)
             want_none_cut(steps, own.may_be_cut)
     row, its = row._replace(remarks=(*row.remarks, *said)), (unspelled(steps.known.path), opened.mailbox.state)
     return Outcome(row, opened.folder, batch, ends_list, *its)
@@ -109,9 +112,9 @@ def prepare(steps: Steps, first: FirstPass, program: Program) -> list[Remark]:
     return said
 
 
-def begin(steps: Steps, own: OtherPass) -> int:
+def begin(steps: Steps, own: OtherPass, more: int = 0) -> int:
     """Notes in the ledger what is going to be there, and in the list of what is only prepared that it is finished by
-    that. Returns the number of the batch."""
+    that. Returns the number of the batch. Once all is placed, the batch is begun anew if more messages came back."""
     known, prepared, origin = steps.known, own.prepared, own.origin
     record, ledger, opened, mailbox = known.record, known.ledger, known.opened, known.opened.mailbox
     if prepared:
@@ -121,7 +124,7 @@ def begin(steps: Steps, own: OtherPass) -> int:
     record.make(opened.make_folder, ledger.make)
     words, inode, now = steps.contents.reading.words(), mailbox.state.st_ino, int(time.time())
     its = times_of(opened.folder), mailbox.key(), words, known.path, inode, now
-    head = Head(steps.placing.count_of_lines(), len(steps.placing.nowhere), own.back, *its)
+    head = Head(steps.placing.count_of_lines(), 0 if more else len(steps.placing.nowhere), own.back + more, *its)
     return ledger.begin(head, steps.placing.lines())
 
 

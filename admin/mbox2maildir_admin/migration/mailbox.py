@@ -16,7 +16,7 @@ from ..faults import Fault, Left, Reason
 from ..kinds.look import Look
 from ..kinds.named import is_no_mail
 from ..labels.noted import line_of
-from ..ledger.gone import back_in, gone_before, gone_from, unexplained
+from ..ledger.gone import back_in, gone_before, gone_from, placed_again, unexplained
 from ..ledger.history import Key, Note
 from ..ledger.ledger import Ledger, count_in, has_failed
 from ..ledger.match import Files, Match, Stand
@@ -546,4 +546,4 @@ class Transfer:
             back += sum((gone & collections.Counter(map(match.inventory.core, match.nowhere))).values())
         number = ledger.pending(self.path)
         # what came back in runs that were killed too was not said yet
-        return back if number is None else back + ledger.open[number].head.back
+        return back if number is None else back + ledger.open[number].head.back + placed_again(ledger, self.path)
