@@ -20,6 +20,7 @@ ALL, LOOKED = ONE + TWO + THREE, looked(ONE, TWO, THREE)
 PLACED = ("M/cur/1700000000.1.mbox:2,S", ONE.split(b"\n", 1)[1][:-1])
 RENAMES = "!cd M; n=0; for a in new/* cur/*; do test ! -e $a || mv $a cur/17000.$((n += 1)).host:2,S; done"
 LOSES = "!rm $(grep -l 'Subject: three' M/new/*)"
+BACK = "when its mail was placed, up to {} that had been deleted or moved came back".format
 CAME_BACK = "a: done: ...up to {} that had been deleted or moved came back".format
 # lines `From ` within messages that their lengths end, and one that nobody has quoted
 SHED = [with_length(head, b"hello\nFrom the shed.\n") + b"\n" for head in (A, B, C)]
@@ -89,6 +90,15 @@ STORIES: dict[str, list[Step]] = {
     "the_last_is_taken": [
         *steps(("a", ALL), *killed("migrate M a"), f"{LOSES}; cd M; a=$(grep -l two new/*); mv $a cur/${{a#new/}}:2,S"),
         *(("migrate M a", CAME_BACK("1 message")), "= one three two:S"),
+    ],
+    # and it is gone from the mailbox before a run says so
+    "what_came_back_is_lost": [
+        *steps(("a", ONE), "migrate M a", ("a", ONE + THREE), *killed("migrate M a"), LOSES, *killed("migrate M a")),
+        *(
+            ("a", ONE),
+            ("migrate M a", f"a: done before: 1 message gone from it that it had brought; {BACK('1 message')}"),
+        ),
+        *(("migrate M a", f"a: done before: {BACK('1 message')}"), "= one three"),
     ],
     "shared_but_for_fields": [
         *(

@@ -374,11 +374,14 @@ class Transfer:
         match, prepared = self.matched(part, contents, again), None if again else self.prepared
         self.note_answer(part)
         ends_list = again or prepared is not None
-        if known.path in known.ledger.sources and not match.count_new():
-            steps = Steps.of(known, contents, match, options.extra, OtherPass(again, ends_list, has_nothing_new=True))
-            return steps, self.row_before(contents.reading.words(), len(contents.inventory), remarks_on_lost(match))
-        origin = origin_now(known, contents, options.names) if prepared and not prepared.origin else None
         back = 0 if again else self.may_come_back(match)
+        if known.path in known.ledger.sources and not match.count_new():
+            # what came back in a run that was killed stays, also if the mailbox no longer has it
+            own = OtherPass(again, ends_list, back=back, has_nothing_new=True)
+            said = [*remarks_on_lost(match), *Says.CAME_BACK.of_any(back)]
+            steps = Steps.of(known, contents, match, options.extra, own)
+            return steps, self.row_before(contents.reading.words(), len(contents.inventory), said)
+        origin = origin_now(known, contents, options.names) if prepared and not prepared.origin else None
         own = OtherPass(again, ends_list, prepared, origin, back, names_that_may_be_cut(known, match))
         steps = Steps.of(known, contents, match, options.extra, own)
         hindrance = options.extra.hindrance(steps)
