@@ -5,7 +5,7 @@ from typing import NewType
 # a place in a text, in bytes from its beginning
 Offset = NewType("Offset", int)
 # the number of a line of a text, counted from 1
-Line = NewType("Line", int)
+LineNumber = NewType("LineNumber", int)
 # the place of a message among those of its text, counted from 0
 Place = NewType("Place", int)
 # the size of a text, or of the body of a message, in bytes

@@ -11,7 +11,7 @@ from mbox2maildir_admin.faults import Fault
 from mbox2maildir_admin.mbox.mailbox import Mailbox
 from mbox2maildir_admin.readings.quoting import Quoter
 from mbox2maildir_admin.readings.reading import Reading
-from mbox2maildir_admin.units import Line, Offset
+from mbox2maildir_admin.units import LineNumber, Offset
 
 from tests.support.splitter import WORDS, begins_dated, is_from, lines_of, split
 from tests.worlds.letters import letters
@@ -139,7 +139,7 @@ def copied(path: bytes, word: str, mail: frozenset[int], begin: frozenset[int]) 
     """The companion's copy of a file; None if the companion refuses it."""
     with Mailbox.open(path) as mailbox:
         try:
-            reading = Reading(word, frozenset(map(Line, mail)), frozenset(map(Line, begin)))
+            reading = Reading(word, frozenset(map(LineNumber, mail)), frozenset(map(LineNumber, begin)))
             quoter = Quoter(reading, mailbox, Offset(0))
             copy = b"".join(quoter.run())
             quoter.check(len(copy), quoter.messages)

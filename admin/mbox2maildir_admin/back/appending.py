@@ -11,7 +11,7 @@ from ..kinds.starts import text_start
 from ..labels.noted import line_of
 from ..ledger.history import Key, Note, names_of
 from ..ledger.ledger import Ledger, Source
-from ..ledger.lines import END_LINE, RETURNED, Brought, Head
+from ..ledger.lines import END_LINE, RETURNED, BatchHead, Brought
 from ..ledger.record import Record, is_gone
 from ..looks import is_file, is_there
 from ..maildir.making import GOES_BACK_NEW
@@ -314,7 +314,7 @@ class Appending:
         key = NO_KEY if goes.has_more else (Size(size + goes.size), hashed.hexdigest())
         lines = [Brought(RETURNED, mail.before, mail.core, inventory.bare(place)) for mail, place in goes.there]
         lines += [Brought(RETURNED, one.mail.before, one.mail.core, one.bares[-1]) for one in goes.entries]
-        head = Head.without_files(len(lines), key, self.style.words, self.known.path, mailbox.state.st_ino)
+        head = BatchHead.without_files(len(lines), key, self.style.words, self.known.path, mailbox.state.st_ino)
         number = self.known.ledger.begin(head, lines)
         if self.numbering.first:
             # a further run knows the numbers of the Maildir as those of the mailbox

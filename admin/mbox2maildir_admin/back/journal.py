@@ -18,7 +18,7 @@ from ..maildir.making import GOES_BACK, sync_folder
 from ..mbox.files import Reader, open_regular, write_all
 from ..mbox.mailbox import Mailbox
 from ..terminal import named, spelled
-from ..units import Line, Offset
+from ..units import LineNumber, Offset
 
 NO_FILE = "%s is not a regular file: remove it, and run this again"
 BY_ANOTHER = "%s: this version did not write it: run back again with the version that did"
@@ -115,7 +115,7 @@ class Journal(NamedTuple):
                 break
         return count
 
-    def torn_in(self, mailbox: Mailbox) -> Optional[Line]:
+    def torn_in(self, mailbox: Mailbox) -> Optional[LineNumber]:
         """The line of the message that was appended in part; None if none was, or if the mailbox does not begin as
         before, which shows nothing."""
         if not self.is_begun_by(mailbox):
@@ -173,7 +173,7 @@ class Journal(NamedTuple):
         self.remove()
         return True
 
-    def recover(self, mailbox: Mailbox) -> Optional[Line]:
+    def recover(self, mailbox: Mailbox) -> Optional[LineNumber]:
         """Takes back what a killed run has appended in part. What it appended as a whole stays, to be found by its
         messages. Returns the line of a message that is not complete, and stays, since something else has changed
         since; None if there is none. This is gone then."""

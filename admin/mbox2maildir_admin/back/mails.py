@@ -175,7 +175,7 @@ def lines_about(root: bytes, places: Iterable[bytes]) -> Iterator[tuple[bytes, l
         if is_prepared or begun:
             then = run_next(Runs.MIGRATE, operand(root), *begun[:1] or ["MAILBOX"])
             raise Fault(NOT_DONE % folder_shown(folder), Reason.PREPARED if is_prepared else Reason.OTHER, then)
-        yield folder, [line for line in ledger.entries(None) if line.state is not State.UNDONE]
+        yield folder, [line for line in ledger.message_lines(None) if line.state is not State.UNDONE]
 
 
 def mails_of(root: bytes, places: Iterable[bytes], say: Say) -> Iterator[Mail]:

@@ -50,11 +50,11 @@ class Dates:
         dating.give_all(folder)
         if dating.one_date is not None:
             complain("%s: all From_ lines have the same date: %s" % (named(file), named(dating.one_date.rstrip())))
-        for count, undone in enumerate(dating.undone(folder)):
+        for count, undated in enumerate(dating.not_dated(folder)):
             if count == UNDATED:
                 complain("%s: and %d more" % (named(file), dating.messages - dating.dated - UNDATED))
                 break
-            complain("%s: %s" % (named(file), undone))
+            complain("%s: %s" % (named(file), undated))
         into = " -> %s" % folder_shown(one.name) if one.is_part else ""
         by_header = ", by header %d" % dating.by_header if dating.by_header else ""
         line = "%s: messages %d, dated %d%s" % (into, dating.messages, dating.dated, by_header)

@@ -9,7 +9,7 @@ from ..faults import Fault, Reason, complain_of
 from ..kinds.folders import is_maildir
 from ..kinds.look import Look
 from ..kinds.others import Holds
-from ..ledger.history import Entry, Event, History, Note, names_of
+from ..ledger.history import Event, History, Note, RecordLine, names_of
 from ..ledger.record import Record
 from ..looks import is_folder, is_there, type_at
 from ..maildir.disk import trial_folder
@@ -101,7 +101,7 @@ class Migrated(NamedTuple):
         same = [line for line in self.record.lines_of(mailbox) if line.what is Event.DONE]
         its = [self.record.last_of(folder, names) for folder in self.record.folders_with(names)]
 
-        def nearness(line: Entry) -> tuple[bool, ...]:
+        def nearness(line: RecordLine) -> tuple[bool, ...]:
             has_folder, has_path = line.key.folder == self.name, line.path in names
             return has_folder and has_path, line in same, has_folder, has_path
 

@@ -17,7 +17,7 @@ from ..mbox.files import LONG
 from ..mbox.lines import AROUND
 from ..mbox.mailbox import Mailbox
 from ..mbox.pieces import FROM, Piece
-from ..units import Line, Offset
+from ..units import LineNumber, Offset
 
 # the lines within messages with correct lengths that look like From_ lines, by a date or by what follows; all lines
 # `From ` within such messages; those that count as the beginnings of messages, but may be text; and all about which it
@@ -133,10 +133,11 @@ class Doubts:
         self.mailbox.check()
         return lines
 
-    def after(self, count: int) -> list[tuple[Line, Offset]]:
+    def after(self, count: int) -> list[tuple[LineNumber, Offset]]:
         """The lines after the first ones that may begin messages, and where each begins."""
         rows = zip(self.lines[count:], self.whys[count:], self.offsets[count:])
-        return [(Line(line), Offset(offset)) for line, why, offset in rows if why in (MAY_BEGIN, LIKE_FIRST, UNMARKED)]
+        begin = MAY_BEGIN, LIKE_FIRST, UNMARKED
+        return [(LineNumber(line), Offset(offset)) for line, why, offset in rows if why in begin]
 
     def ties(self, what: str) -> Ties:
         """The ties of the text, which is this."""

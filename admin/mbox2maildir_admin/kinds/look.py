@@ -15,7 +15,7 @@ from ..mbox.lines import AskedAbout, Lines, Said
 from ..mbox.mailbox import Mailbox
 from ..mbox.pieces import FROM, Piece, header_of
 from ..terminal import NAMED
-from ..units import Line, Offset
+from ..units import LineNumber, Offset
 from .doubts import AGAINST, CUT, DELETED, DOUBTFUL, KEEPING, MAY_BE_MAIL, SAID, Doubts
 from .starts import ADDRESS, OPENING, Ending, end_of_row, ending_of, is_after_blank, joins_in, may_be_mail, shape_of
 
@@ -266,22 +266,23 @@ class Look:
         """How many lines are of these sorts."""
         return sum(self.seen[sort].count for sort in sorts)
 
-    def numbers(self, *sorts: str) -> Optional[set[Line]]:
+    def numbers(self, *sorts: str) -> Optional[set[LineNumber]]:
         """The numbers of the lines of these sorts; None if there are too many of them."""
         numbers = {self.lines[offset] for sort in sorts for offset in self.seen[sort].offsets}
         return numbers if len(numbers) == self.count(*sorts) else None
 
-    def first(self, sort: str) -> list[tuple[Line, str, Line]]:
+    def first(self, sort: str) -> list[tuple[LineNumber, str, LineNumber]]:
         """The first lines of a sort, and what is said of each."""
         return [(self.lines[offset], text, self.lines[other]) for offset, text, other in self.seen[sort].first]
 
     @functools.cached_property
-    def lines(self) -> Mapping[Optional[int], Line]:
+    def lines(self) -> Mapping[Optional[int], LineNumber]:
         """The numbers of the lines that were seen, by their offsets. Most mail has none of which anything is said."""
         several = self.seen.values()
         others = {other for lines in several for *_, other in lines.first if other is not None}
         offsets = sorted(others.union(*(lines.offsets for lines in several)))
-        at: dict[Optional[int], Line] = {None: Line(0), **dict(zip(offsets, self.mailbox.lines_at(offsets)))}
+        at: dict[Optional[int], LineNumber] = {None: LineNumber(0)}
+        at.update(zip(offsets, self.mailbox.lines_at(offsets)))
         self.mailbox.check()
         return at
 
@@ -293,14 +294,15 @@ class Look:
         """What is said of lines."""
         if self.after_nulls:
             _, first, _ = self.first("dated")[0]
-            yield Said(Line(1), "the mbox text begins here, at byte %d, after NUL bytes" % (self.start + 1), first)
+            says = "the mbox text begins here, at byte %d, after NUL bytes" % (self.start + 1)
+            yield Said(LineNumber(1), says, first)
         elif self.start:
-            yield Said(Line(1), "a byte order mark or blank lines stand before the text")
+            yield Said(LineNumber(1), "a byte order mark or blank lines stand before the text")
         unsaid = [*["undated"] * bool(self.ending), *["quoted twice", "quoted, by length"] * self.ends_by_lengths()]
         for sort in (one for one in SAID if one not in unsaid):
             yield from self.said(sort)
             if self.count(sort) > NAMED:
-                yield Said(Line(0), "and %d more lines like the last one" % (self.count(sort) - NAMED))
+                yield Said(LineNumber(0), "and %d more lines like the last one" % (self.count(sort) - NAMED))
 
     def are_deleted(self) -> bool:
         """Whether Thunderbird marked messages as deleted. Its marks count only if each message has one, but for those

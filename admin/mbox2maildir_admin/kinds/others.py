@@ -15,7 +15,7 @@ from ..mbox.pieces import pieces_of
 from ..nexts import Does, Task, Template, Todo
 from ..patterns import pattern
 from ..terminal import shown
-from ..units import Line, Offset
+from ..units import LineNumber, Offset
 from .look import Look, signs_of
 from .making import Makes, Recipe
 from .named import index_of
@@ -303,7 +303,7 @@ def finding_of(look: Look) -> Finding:
     found = [Said(line_of(begins.offset), BEGINS % (begins.offset + 1), shown(begins.from_line[:72]))] if begins else []
     head = mailbox.at(0, HEAD)
     if head.startswith(b"From "):
-        why = [Said(Line(1), NO_FROM_LINE, shown(head.split(b"\n")[0][:72]))]
+        why = [Said(LineNumber(1), NO_FROM_LINE, shown(head.split(b"\n")[0][:72]))]
         if begins:
             return Finding("damaged", ASK_LINE, Holds.MAIL, why + found)
         return Finding("not known", ASK_FILE, Holds.UNKNOWN, why)
@@ -318,7 +318,7 @@ def finding_of(look: Look) -> Finding:
     if not begins and begins_with_mail(head):
         return Finding("one mail without a From_ line", (Makes(AS_ONE_MAIL),), Holds.MAIL)
     if is_rest_of_from_line(text):
-        found.insert(0, Said(Line(1), "this may be the rest of a From_ line", line))
+        found.insert(0, Said(LineNumber(1), "this may be the rest of a From_ line", line))
     if not found:
         return unknown(mailbox, cut(head.split(b"\n")[0]))
     makes = Makes(BEGIN_AT, more=(str(blanks + 1),)) if blanks else Makes(BEGIN_ALL)
@@ -331,7 +331,7 @@ def unknown(mailbox: Mailbox, line: str) -> Finding:
     index = index_of(mailbox.path)
     if index and not is_like_mail:
         return Finding(NO_MAIL + index, LEAVE, Holds.NO_MAIL)
-    said = [Said(Line(1), "", line)]
+    said = [Said(LineNumber(1), "", line)]
     return Finding("not known", LIKE_MAIL if is_like_mail else NOT_KNOWN, Holds.UNKNOWN, said)
 
 

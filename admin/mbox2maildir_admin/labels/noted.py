@@ -4,7 +4,7 @@ import itertools
 from typing import NamedTuple, Optional
 
 from ..faults import Fault
-from ..ledger.history import Entry, History, Key, Note, names_of
+from ..ledger.history import History, Key, Note, RecordLine, names_of
 from ..ledger.record import Record, is_gone, unspelled
 from ..maildir.folders import INBOX
 from ..mbox.mailbox import Mailbox
@@ -27,7 +27,7 @@ class Noted(NamedTuple):
         return " ".join(["word=%s" % self.choosing.word, *labels, *("in=%s" % encoded(one) for one in self.folders)])
 
     @classmethod
-    def of(cls, line: Optional[Entry]) -> "Noted":
+    def of(cls, line: Optional[RecordLine]) -> "Noted":
         """Reads the words of a line; without one, nothing was noted."""
         from urllib.parse import unquote_to_bytes
 
@@ -44,7 +44,7 @@ def encoded(name: bytes) -> str:
     return quote(name, safe="")
 
 
-def line_of(record: History, mailbox: Mailbox) -> Optional[Entry]:
+def line_of(record: History, mailbox: Mailbox) -> Optional[RecordLine]:
     """The line about an open mailbox, which may have been moved, that names the folders of its labels; None if it went
     into none."""
     lines = {path: line for path, line in record.labelled().items() if line.words != NOTHING}
@@ -63,7 +63,7 @@ def note(record: Record, mailbox: Mailbox, noted: Noted, messages: int) -> None:
         note_nothing(record, before)
 
 
-def note_nothing(record: Record, line: Entry) -> None:
+def note_nothing(record: Record, line: RecordLine) -> None:
     """Notes that the mailbox of a line has no folders any more."""
     record.add(Note.LABELS, line.key, line.messages, unspelled(line.path), NOTHING)
 

@@ -151,7 +151,7 @@ def files_named(lines: list[Line], name: Optional[bytes]) -> Iterator[File]:
 
 def nobodys(name: bytes, core: bytes, bare: bytes) -> File:
     """A file of a name that no mailbox brought, which holds a message of these forms."""
-    return File([Line("", State.DROPPED, Brought(FOREIGN, name, core, bare))], name)
+    return File([Line("", State.OVERTAKEN, Brought(FOREIGN, name, core, bare))], name)
 
 
 def says_whose(message: Brought, is_ended: bool) -> bool:

@@ -67,7 +67,7 @@ class Key(NamedTuple):
     digest: str
 
 
-class Entry(NamedTuple):
+class RecordLine(NamedTuple):
     """A line. Its path is spelled as in the file."""
 
     what: What
@@ -82,7 +82,7 @@ class Entry(NamedTuple):
     number: int = 0
 
     @classmethod
-    def parse(cls, line: bytes) -> Optional["Entry"]:
+    def parse(cls, line: bytes) -> Optional["RecordLine"]:
         """Reads a line; None if it is no line of a mailbox."""
         found = LINE.match(line)
         what = BY_WORD.get(found.group(1).decode()) if found else None
@@ -122,77 +122,76 @@ class History:
         self.numbers: dict[bytes, str] = {}
         self.folders: dict[str, bytes] = {}
         # how many bytes each ledger had that a line names, and its last number
-        self.seen: dict[str, int] = {}
+        self.ledger_sizes: dict[str, int] = {}
         self.last_numbers: dict[str, int] = {}
         # the index: by folders and paths the last line about each mailbox, the last of all at the end
-        self._index: collections.defaultdict[bytes, dict[str, Entry]] = collections.defaultdict(dict)
+        self._index: collections.defaultdict[bytes, dict[str, RecordLine]] = collections.defaultdict(dict)
         # the folders that a path had; and the names that such folders have now, by those that they had for a path
         self._folders: collections.defaultdict[str, dict[bytes, None]] = collections.defaultdict(dict)
         self._names: dict[tuple[bytes, str], bytes] = {}
         # the sizes of the texts that have an event: one of another size is not read to find out whether it has one
         self.sizes: set[int] = set()
-        # the same of each text that a mailbox was, by its size and its SHA-256
-        self._texts: collections.defaultdict[tuple[int, str], dict[tuple[bytes, str], Entry]] = collections.defaultdict(
-            dict
-        )
+        # the last line with an event of each text, by its size and its SHA-256: by the folders and paths that it has
+        self._texts: collections.defaultdict[tuple[int, str], dict[tuple[bytes, str], RecordLine]]
+        self._texts = collections.defaultdict(dict)
         # the last folder that a path had with a mailbox of no byte, until that has an event
         self._empty: dict[str, bytes] = {}
         # the mailbox that a folder was prepared from last, until something of the folder is done
-        self._prepared: dict[bytes, Entry] = {}
+        self._prepared: dict[bytes, RecordLine] = {}
         # whether anything was ever prepared
         self.has_prepared = False
         # by what they note and their folder, in their order
-        self._notes: collections.defaultdict[tuple[Note, bytes], list[Entry]] = collections.defaultdict(list)
+        self._notes: collections.defaultdict[tuple[Note, bytes], list[RecordLine]] = collections.defaultdict(list)
 
-    def take(self, entry: Entry) -> None:
+    def take(self, line: RecordLine) -> None:
         """Takes the next line."""
-        entry = self.where_it_is_now(entry)
-        folder = entry.key.folder
-        if isinstance(entry.what, Event):
-            self._index[folder].pop(entry.path, None)
-            self._index[folder][entry.path] = entry
-            self._folders[entry.path].pop(folder, None)
-            self._empty.pop(entry.path, None)
-            self.forget_notes(folder, entry.path, Note.FOUND)
-        if entry.what is Event.UNDONE:
-            self.forget_notes(folder, entry.path, Note.NUMBERED, Note.ANSWERED)
+        line = self.where_it_is_now(line)
+        folder = line.key.folder
+        if isinstance(line.what, Event):
+            self._index[folder].pop(line.path, None)
+            self._index[folder][line.path] = line
+            self._folders[line.path].pop(folder, None)
+            self._empty.pop(line.path, None)
+            self.forget_notes(folder, line.path, Note.FOUND)
+        if line.what is Event.UNDONE:
+            self.forget_notes(folder, line.path, Note.NUMBERED, Note.ANSWERED)
             for several in self._texts.values():
-                several.pop((folder, entry.path), None)
-        elif isinstance(entry.what, Event):
-            self.sizes.add(entry.key.size)
-            self._texts[entry.key[1:]][folder, entry.path] = entry
-            self._folders[entry.path][folder] = None
-            self.forget_notes(folder, entry.path, *([Note.EMPTY] if entry.messages else []))
+                several.pop((folder, line.path), None)
+        elif isinstance(line.what, Event):
+            self.sizes.add(line.key.size)
+            self._texts[line.key[1:]][folder, line.path] = line
+            self._folders[line.path][folder] = None
+            self.forget_notes(folder, line.path, *([Note.EMPTY] if line.messages else []))
         else:
-            self._notes[entry.what, folder].append(entry)
-            self._empty.update({entry.path: folder} if entry.what is Note.EMPTY else {})
-        if entry.what is Note.PREPARED:
-            self._prepared[folder], self.has_prepared = entry, True
-        elif entry.what in (Note.UNPREPARED, Event.DONE):
+            self._notes[line.what, folder].append(line)
+            self._empty.update({line.path: folder} if line.what is Note.EMPTY else {})
+        if line.what is Note.PREPARED:
+            self._prepared[folder], self.has_prepared = line, True
+        elif line.what in (Note.UNPREPARED, Event.DONE):
             self._prepared.pop(folder, None)
-        if entry.what in (Note.PREPARED, Note.UNPREPARED):
+        if line.what in (Note.PREPARED, Note.UNPREPARED):
             self._notes.pop((Note.EMPTY, folder), None)
-        if entry.what is Note.UNPREPARED:
-            self.forget_notes(folder, entry.path, Note.ANSWERED)
+        if line.what is Note.UNPREPARED:
+            self.forget_notes(folder, line.path, Note.ANSWERED)
 
-    def where_it_is_now(self, entry: Entry) -> Entry:
+    def where_it_is_now(self, line: RecordLine) -> RecordLine:
         """A line with the name that its folder has now, which people may have renamed."""
-        folder = entry.key.folder
-        if entry.ledger:
-            self.seen[entry.ledger] = entry.size
-            self.last_numbers[entry.ledger] = max(entry.number, self.last_numbers.get(entry.ledger, 0))
-            if self.numbers.get(folder) != entry.ledger:
-                folder = self.folders.get(entry.ledger, folder)
-                self._names[entry.key.folder, entry.path] = folder
-        return entry._replace(key=entry.key._replace(folder=folder))
+        folder = line.key.folder
+        if line.ledger:
+            self.ledger_sizes[line.ledger] = line.size
+            self.last_numbers[line.ledger] = max(line.number, self.last_numbers.get(line.ledger, 0))
+            if self.numbers.get(folder) != line.ledger:
+                folder = self.folders.get(line.ledger, folder)
+                self._names[line.key.folder, line.path] = folder
+        return line._replace(key=line.key._replace(folder=folder))
 
-    def prepared(self, folder: bytes) -> Optional[Entry]:
+    def prepared(self, folder: bytes) -> Optional[RecordLine]:
         """The mailbox that a folder was prepared from last, if nothing of the folder is done since."""
         return self._prepared.get(folder)
 
     def prepared_from(self, names: Container[str]) -> list[bytes]:
         """The folders that were prepared last from one of some paths, and of which nothing is done since."""
-        return [folder for folder, entry in self._prepared.items() if entry.path in names]
+        return [folder for folder, line in self._prepared.items() if line.path in names]
 
     def forget_notes(self, folder: bytes, path: str, *several: Note) -> None:
         """Forgets what is noted of a mailbox in a folder."""
@@ -200,11 +199,11 @@ class History:
             notes = self._notes[note, folder]
             notes[:] = [one for one in notes if one.path != path]
 
-    def index_of(self, folder: bytes) -> list[Entry]:
+    def index_of(self, folder: bytes) -> list[RecordLine]:
         """The lines of the index about a folder, in their order, also those of mailboxes that were undone."""
         return [*self._index.get(folder, {}).values()]
 
-    def last_events(self, folder: bytes) -> list[Entry]:
+    def last_events(self, folder: bytes) -> list[RecordLine]:
         """The lines about the mailboxes that a folder has, in their order."""
         return [one for one in self.index_of(folder) if one.what is not Event.UNDONE]
 
@@ -223,7 +222,7 @@ class History:
         found = [one for one in folders if any(note.path in names for note in self.notes(Note.FOUND, one))]
         return found if len(found) == len(folders) else []
 
-    def last_of(self, folder: bytes, names: Container[str]) -> Optional[Entry]:
+    def last_of(self, folder: bytes, names: Container[str]) -> Optional[RecordLine]:
         """The last line with an event of one of some paths in a folder."""
         return next((one for one in reversed(self.last_events(folder)) if one.path in names), None)
 
@@ -243,20 +242,20 @@ class History:
         given = [self._empty[name] for name in names if self._empty.get(name, INBOX) != INBOX]
         return self.folders_with(names) or given[:1]
 
-    def lines(self) -> Iterator[Entry]:
+    def lines(self) -> Iterator[RecordLine]:
         """The lines about the mailboxes of all folders."""
-        return (entry for folder in self._index for entry in self.last_events(folder))
+        return (line for folder in self._index for line in self.last_events(folder))
 
-    def lines_of(self, mailbox: Mailbox) -> list[Entry]:
+    def lines_of(self, mailbox: Mailbox) -> list[RecordLine]:
         """The lines about the mailboxes that had the bytes of this one, in any folder. It is not read to find this out
         if none had its size."""
         return [*self._texts.get(mailbox.key(), {}).values()] if mailbox.size in self.sizes else []
 
-    def notes(self, note: Note, folder: bytes) -> list[Entry]:
+    def notes(self, note: Note, folder: bytes) -> list[RecordLine]:
         """The lines that note this of a folder, in their order."""
         return self._notes.get((note, folder), [])
 
-    def numbered(self, folder: bytes) -> Optional[Entry]:
+    def numbered(self, folder: bytes) -> Optional[RecordLine]:
         """The line of the mailbox whose numbers a folder has, if it has any."""
         notes = self.notes(Note.NUMBERED, folder)
         return notes[-1] if notes else None
@@ -266,14 +265,14 @@ class History:
         notes = (notes for (note, _), notes in self._notes.items() if note is Note.NUMBERED)
         return any(one.path in paths for several in notes for one in several)
 
-    def noting(self, note: Note, folder: bytes, path: bytes) -> list[Entry]:
+    def noting(self, note: Note, folder: bytes, path: bytes) -> list[RecordLine]:
         """The lines that note this with a path, in their order."""
         name = spelled(path)
-        return [entry for entry in self.notes(note, folder) if entry.path == name]
+        return [line for line in self.notes(note, folder) if line.path == name]
 
-    def labelled(self) -> dict[str, Entry]:
+    def labelled(self) -> dict[str, RecordLine]:
         """The last lines that name the folders of mailboxes by their labels, by the paths of these mailboxes."""
-        return {entry.path: entry for entry in self.notes(Note.LABELS, INBOX)}
+        return {line.path: line for line in self.notes(Note.LABELS, INBOX)}
 
 
 @functools.lru_cache(maxsize=1 << 10)

@@ -29,7 +29,7 @@ from .lines import (
     END,
     END_LINE,
     FAILED,
-    HEAD,
+    FIRST_LINE,
     LOST,
     MOVED,
     NAMELESS,
@@ -37,8 +37,8 @@ from .lines import (
     SHARED,
     UNDOING,
     UNDONE,
+    BatchHead,
     Brought,
-    Head,
     Line,
     Messages,
     State,
@@ -53,7 +53,7 @@ from .lines import (
 
 # what a line that is not that of a message is, by its first sign
 BY_SIGN = {
-    **{b"m": HEAD, b"@": BATCH, b"+": ALL_PLACED, b"=": END},
+    **{b"m": FIRST_LINE, b"@": BATCH, b"+": ALL_PLACED, b"=": END},
     **{b">": MOVED, b"<": UNDOING, b"-": UNDONE, b"!": FAILED},
 }
 
@@ -61,7 +61,7 @@ BY_SIGN = {
 class Batch:
     """What a run brings of one mailbox: an intention, until it is ended."""
 
-    def __init__(self, head: Head) -> None:
+    def __init__(self, head: BatchHead) -> None:
         self.head, self.path = head, head.path
         # the words of its lines, and the digests that they have, one after the other
         self.letters, self.cores, self.bares = bytearray(), bytearray(), bytearray()
@@ -71,7 +71,7 @@ class Batch:
     @property
     def is_whole(self) -> bool:
         """Whether it has all of its lines. Before that nothing of it is placed."""
-        return len(self.letters) == self.head.wanted
+        return len(self.letters) == self.head.lines
 
     def take(self, words: bytes, cores: bytes, bares: bytes) -> None:
         """Takes lines by their words and digests, one after the other."""
@@ -236,7 +236,7 @@ class Ledger(Told):
         if sign == b"m":
             self.number = words[0]
         elif sign == b"@":
-            self.last, self.batch = int(words[0]), Batch(Head.of(found))
+            self.last, self.batch = int(words[0]), Batch(BatchHead.of(found))
             self.open[self.last] = self.batch
             if self.batch.head.begun:
                 self.begun.setdefault(self.batch.path, self.batch.head.begun)
@@ -299,7 +299,7 @@ class Ledger(Told):
         several = (number for number, batch in self.open.items() if batch.path == path and batch.is_whole)
         return max((number for number in several if number > self.last_end(path)), default=None)
 
-    def last_read(self, path: str) -> Union[Head, Source]:
+    def last_read(self, path: str) -> Union[BatchHead, Source]:
         """How a mailbox was when it was read last: the words of its reading, its size and SHA-256, and its inode."""
         number = self.pending(path)
         return self.sources[path] if number is None else self.open[number].head
@@ -346,7 +346,7 @@ class Ledger(Told):
             if number in numbers:
                 yield from ((number, one) for at, one in several.counted() if at >= first or not was_nowhere)
 
-    def entries(self, cores: Optional[Container[bytes]]) -> Iterator[Line]:
+    def message_lines(self, cores: Optional[Container[bytes]]) -> Iterator[Line]:
         """The lines of messages that have one of these cores; of all messages without them."""
         # by their paths: what mailboxes have, by the messages, and what they had once
         held: collections.defaultdict[str, collections.defaultdict[tuple[bytes, ...], list[Line]]]
@@ -355,7 +355,7 @@ class Ledger(Told):
         states = {number: (path, State.HELD) for number, path in self.ended.items()}
         states.update((number, (path, State.UNDONE)) for number, path in self.undone.items())
         for number, its in self.open.items():
-            states[number] = its.path, State.OPEN if number > self.last_end(its.path) else State.DROPPED
+            states[number] = its.path, State.OPEN if number > self.last_end(its.path) else State.OVERTAKEN
         for number, several, first in self.pieces():
             for at, one in several.counted(cores) if number in states else ():
                 line = Line(*states[number], one, number, at >= first)
@@ -401,7 +401,7 @@ class Ledger(Told):
             sync(self.folder)
             self.is_made = True
 
-    def begin(self, head: Head, messages: Iterable[Brought]) -> int:
+    def begin(self, head: BatchHead, messages: Iterable[Brought]) -> int:
         """Begins a batch, and returns its number. It is on the disk then. Raises Fault if that fails, or if
         another process has begun one since the ledger was read."""
         self.make()
@@ -434,7 +434,7 @@ class Ledger(Told):
     def note_without_files(self, key: tuple[int, str], words: str, path: str, inode: int, *messages: Brought) -> None:
         """Notes of a mailbox with this size and SHA-256, in the file with this inode, how it was read, and messages of
         which no file is placed."""
-        head = Head.without_files(len(messages), key, words, path, inode)
+        head = BatchHead.without_files(len(messages), key, words, path, inode)
         self.note(END_LINE % self.begin(head, messages))
 
     def move(self, old: str, new: str) -> None:

@@ -1,13 +1,13 @@
 """The lines of a ledger: what they say, and how its file is read and written."""
 import binascii
 import collections
+import enum
 import fcntl
 import itertools
 import os
 import re
 import stat
 from collections.abc import Container, Iterable, Iterator, Sequence
-from enum import Enum
 from typing import NamedTuple, Optional, Union
 
 from ..faults import Fault, Reason, naming
@@ -29,11 +29,11 @@ NAMELESS = b"-"
 NAME = pattern(rb"[!-~]+\Z")
 # what the first line of a ledger begins with: the number stands for the form of its lines
 BEGINS = b"mbox2maildir\t3\t"
-HEAD = pattern(BEGINS + rb"([0-9a-f]{32})\Z")
+FIRST_LINE = pattern(BEGINS + rb"([0-9a-f]{32})\Z")
 # what a list of what is prepared begins with
-FIRST_LINE = b"mbox2maildir-prepared\t1"
+FIRST_OF_LIST = b"mbox2maildir-prepared\t1"
 # the beginning of a ledger or a list of another version, perhaps behind lines that were cut
-OF_ANOTHER = pattern(rb"(?:.*\t\n)*(?!%s|%s\n)mbox2maildir(?:-prepared)?\t.*[^\t\n]\n" % (BEGINS, FIRST_LINE))
+OF_ANOTHER = pattern(rb"(?:.*\t\n)*(?!%s|%s\n)mbox2maildir(?:-prepared)?\t.*[^\t\n]\n" % (BEGINS, FIRST_OF_LIST))
 BY_ANOTHER = (
     "this version did not write it: finish with the version that did, or move this file away and run migrate with "
     "--again"
@@ -109,15 +109,15 @@ class Messages(NamedTuple):
                 yield at, Brought(self.words[at : at + 1], name, core, digest_at(self.bares, at))
 
 
-class State(Enum):
+class State(enum.Enum):
     """What a line counts for: the mailbox has the message, had it once, or its batch has not ended, and perhaps a later
     one of the mailbox has; or all of the mailbox was undone."""
 
-    HELD = "held"
-    FORMER = "former"
-    OPEN = "open"
-    DROPPED = "dropped"
-    UNDONE = "undone"
+    HELD = enum.auto()
+    FORMER = enum.auto()
+    OPEN = enum.auto()
+    OVERTAKEN = enum.auto()
+    UNDONE = enum.auto()
 
 
 class Line(NamedTuple):
@@ -135,12 +135,12 @@ class Line(NamedTuple):
 Piece = tuple[bytes, Optional[Messages]]
 
 
-class Head(NamedTuple):
+class BatchHead(NamedTuple):
     """What the first line of a batch says: how many lines follow, how many of these are of messages that are placed,
     how many may come back, when names had changed, the mailbox's size and SHA-256, its reading and its path, the inode
     of its file, by which it is known after it was renamed, and when a migration began it, in seconds since 1970."""
 
-    wanted: int
+    lines: int
     nowhere: int
     back: int
     times: tuple[int, ...]
@@ -151,23 +151,23 @@ class Head(NamedTuple):
     begun: int
 
     @classmethod
-    def without_files(cls, count: int, key: tuple[int, str], words: str, path: str, inode: int) -> "Head":
+    def without_files(cls, count: int, key: tuple[int, str], words: str, path: str, inode: int) -> "BatchHead":
         """That of a batch of so many lines which places nothing."""
         return cls(count, 0, 0, (), key, words, path, inode, 0)
 
     @classmethod
-    def of(cls, found: re.Match[bytes]) -> "Head":
+    def of(cls, found: re.Match[bytes]) -> "BatchHead":
         """What a line says."""
-        wanted, nowhere, back, begun, times, size, digest, inode, words, path = (
+        lines, nowhere, back, begun, times, size, digest, inode, words, path = (
             one.decode() for one in found.groups(default=b"0")[1:]
         )
         changed, key = tuple(map(int, filter(None, times.split(",")))), (int(size), digest)
-        return cls(int(wanted), int(nowhere), int(back), changed, key, words, path, int(inode), int(begun))
+        return cls(int(lines), int(nowhere), int(back), changed, key, words, path, int(inode), int(begun))
 
     def line(self, number: int) -> bytes:
         """The same as a line."""
         times, key = ",".join(map(str, self.times)), "%d-%s" % self.key + ("-%d" % self.inode if self.inode else "")
-        words = ["@", number, self.wanted, self.nowhere, self.back, self.begun, times, key, self.words, self.path]
+        words = ["@", number, self.lines, self.nowhere, self.back, self.begun, times, key, self.words, self.path]
         return "\t".join(map(str, words)).encode()
 
 

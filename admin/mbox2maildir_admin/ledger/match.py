@@ -127,11 +127,11 @@ class Match:
         self.ledger, self.path, self.files, self.is_deleted = ledger, path, files, is_deleted
         self.inventory = files.inventory
         # by place: how the message stands; and what stands for those that were found
-        self.states = bytearray(len(self.inventory))
+        self.stands = bytearray(len(self.inventory))
         self.found: dict[int, Brought] = {}
         # how often the mailbox no longer has a core, and the lines about these messages
         self.lost: collections.Counter[bytes] = collections.Counter()
-        self.dropped: list[Brought] = []
+        self.lost_lines: list[Brought] = []
         # of these, what only left the folder of a label, and is in the Takeout all the same
         self.unlabelled: collections.Counter[bytes] = collections.Counter()
         # the lines of the ledger about these messages, by their cores
@@ -155,7 +155,7 @@ class Match:
         self.find_strangers()
         self.find_files()
         # all that is nowhere then is placed, and what the mailbox no longer has is noted
-        self.find_dropped()
+        self.find_lost_lines()
         return self
 
     @classmethod
@@ -175,7 +175,7 @@ class Match:
             its += [nobodys(name, core, bare) for bare, name in unnamed.get(core, ())]
             self.give(places, Offers(offers_again(its, path), (), collections.Counter()))
         several = itertools.chain.from_iterable(self.lines.values())
-        self.dropped = [one.message for one in several if one[:2] == (path, State.HELD)]
+        self.lost_lines = [one.message for one in several if one[:2] == (path, State.HELD)]
         return self
 
     def find_known(self) -> None:
@@ -183,7 +183,7 @@ class Match:
         source = self.ledger.sources.get(self.path)
         if source:
             # 1 and 0 are KNOWN and NOWHERE
-            self.states, self.lost = source.known(self.inventory)
+            self.stands, self.lost = source.known(self.inventory)
 
     def find_mine(self) -> None:
         """Finds what a run that was killed has placed under the bases of this text. Most of it needs no more
@@ -191,16 +191,16 @@ class Match:
         table, there = self.inventory.table, self.files.there
         for one in self.ledger.intended(self.path, was_nowhere=True):
             place = table.own_place(one.name)
-            if place is None or not there[place] or self.states[place] != Stand.NOWHERE:
+            if place is None or not there[place] or self.stands[place] != Stand.NOWHERE:
                 continue
             if self.may_count(one.name, place):
-                self.states[place] = Stand.MINE
+                self.stands[place] = Stand.MINE
 
     def take_prepared(self, place: int, base: bytes, name: Optional[bytes]) -> None:
         """Takes the file with this base, which was prepared for a message that is nowhere, and its name unless that is
         the one of the text."""
         self.files.take(base)
-        self.states[place] = Stand.FRESH if name else Stand.MINE
+        self.stands[place] = Stand.FRESH if name else Stand.MINE
         if name:
             self.found[place] = Brought(PLACED, name, self.inventory.core(place), self.inventory.bare(place))
 
@@ -212,13 +212,13 @@ class Match:
     def is_mine(self, name: bytes) -> bool:
         """Whether a run that was killed has placed a file of the mailbox under this name, which the text has."""
         place = self.inventory.table.own_place(name)
-        return place is not None and self.states[place] == Stand.MINE
+        return place is not None and self.stands[place] == Stand.MINE
 
     def read_lines(self) -> None:
         """Looks into the ledger for what is new, and for what is lost."""
         if self.ledger.last:
             cores = {self.inventory.core(place) for place in self.nowhere}.union(self.lost)
-            for line in self.ledger.entries(cores):
+            for line in self.ledger.message_lines(cores):
                 if line.state is State.UNDONE:
                     self.files.kept.add(line.message.name)
                 elif says_whose(line.message, line.state in BROUGHT):
@@ -343,25 +343,25 @@ class Match:
         """Notes that a file stands for a message, as what it is offered for means."""
         word, name, says = offer.word_for(self.path), offer.line.message.name, offer.why.value.says
         self.found[place] = Brought(word, name, self.inventory.core(place), self.inventory.bare(place))
-        self.states[place] = Stand.FRESH if offer.is_fresh else Stand.FOUND
+        self.stands[place] = Stand.FRESH if offer.is_fresh else Stand.FOUND
         if says:
             self.seen[says, offer.line.path] += 1
 
-    def find_dropped(self) -> None:
+    def find_lost_lines(self) -> None:
         """Finds the lines of what the mailbox no longer has: first forms that it has not, then files that are gone."""
         places = range(len(self.inventory)) if self.lost else ()
         forms = {self.inventory.bare(place) for place in places if self.inventory.core(place) in self.lost}
         for core, count in self.lost.items():
             lines = [one for one in self.lines.get(core, ()) if one.path == self.path and one.state is State.HELD]
             held = sorted((one.message for one in lines), key=lambda one: (one.bare in forms, one.name in self.present))
-            self.dropped += held[:count]
+            self.lost_lines += held[:count]
 
     def places(self, *stands: Stand) -> Sequence[int]:
         """The places of the messages that stand so."""
-        count = sum(map(self.states.count, stands))
-        if count in (0, len(self.states)):
+        count = sum(map(self.stands.count, stands))
+        if count in (0, len(self.stands)):
             return range(count)
-        are_wanted = self.states.translate(bytes(one in stands for one in range(256)))
+        are_wanted = self.stands.translate(bytes(one in stands for one in range(256)))
         return array.array("Q", itertools.compress(itertools.count(), are_wanted))
 
     @property
@@ -371,7 +371,7 @@ class Match:
 
     def count(self, stand: Stand) -> int:
         """How many messages stand so."""
-        return self.states.count(stand)
+        return self.stands.count(stand)
 
     @property
     def new(self) -> Sequence[int]:

@@ -71,7 +71,7 @@ class Placing:
     def lines(self) -> Iterator[Brought]:
         """The lines of the batch, in the order in which messages are placed."""
         match, inventory = self.match, self.inventory
-        yield from (one._replace(word=LOST) for one in match.dropped)
+        yield from (one._replace(word=LOST) for one in match.lost_lines)
         for place in sorted(match.found):
             yield match.found[place]
         for place in itertools.chain(match.places(Stand.MINE), self.nowhere):
@@ -80,7 +80,7 @@ class Placing:
     def count_of_lines(self) -> int:
         """How many lines these are."""
         match = self.match
-        return len(match.dropped) + len(match.found) + match.count(Stand.MINE) + len(self.nowhere)
+        return len(match.lost_lines) + len(match.found) + match.count(Stand.MINE) + len(self.nowhere)
 
     def files(self, places: Sequence[int]) -> Inventory:
         """The messages at these places, with the bases of their files."""

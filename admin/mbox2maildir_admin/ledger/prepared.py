@@ -24,7 +24,7 @@ from ..mbox.inventory import NO_DATE, Inventory
 from ..remarks import PLACES, Remark
 from ..patterns import pattern
 from ..units import Say
-from .lines import CUT, FIRST_LINE, append, lines_in
+from .lines import CUT, FIRST_OF_LIST, append, lines_in
 from .match import Match
 from .placing import Placing
 
@@ -208,7 +208,7 @@ class Prepared:
     def __init__(self, folder: bytes) -> None:
         """Takes a folder without a list."""
         self.folder = folder
-        self.is_there = self.has_head = False
+        self.is_there = self.has_first_line = False
         self.table, self.facts = Table(), array.array("Q")
         # where each file was when it was verified, `new` or `cur`, with its info
         self.homes: list[Optional[bytes]] = []
@@ -261,8 +261,8 @@ class Prepared:
         self.is_whole = self.is_whole or line == WHOLE
         self.has_failed = self.has_failed or line == FAILED
         self.is_made = self.is_made or line == MADE
-        self.has_head = self.has_head or line == FIRST_LINE
-        return bool(begun or finishes or as_read or took) or line in (WHOLE, FAILED, MADE, FIRST_LINE)
+        self.has_first_line = self.has_first_line or line == FIRST_OF_LIST
+        return bool(begun or finishes or as_read or took) or line in (WHOLE, FAILED, MADE, FIRST_OF_LIST)
 
     def take_file(self, file: re.Match[bytes]) -> bool:
         """Takes the line of a file, and returns whether it is one: no inode has more than 64 bits."""
@@ -404,21 +404,21 @@ class Prepared:
             aside = aside_of(self.folder)
             remove_aside(aside)
             os.mkdir(aside, 0o700)
-            append(aside, [FIRST_LINE + b"\n", MADE + b"\n"], name=PREPARED)
+            append(aside, [FIRST_OF_LIST + b"\n", MADE + b"\n"], name=PREPARED)
             sync_folder(aside)
             os.rename(aside, self.folder)
             sync_folder(os.path.dirname(self.folder))
-            self.is_made = self.is_there = self.has_head = True
+            self.is_made = self.is_there = self.has_first_line = True
         elif not self.is_there:
             self.append()
 
     def append(self, *lines: bytes) -> None:
         """Appends lines, which are on the disk when this returns."""
-        append(self.folder, [*[FIRST_LINE + b"\n"] * (not self.has_head), *lines], name=PREPARED)
-        if not self.has_head:
+        append(self.folder, [*[FIRST_OF_LIST + b"\n"] * (not self.has_first_line), *lines], name=PREPARED)
+        if not self.has_first_line:
             # a run may have been killed before the name of the file was on the disk
             sync_folder(self.folder)
-        self.is_there = self.has_head = True
+        self.is_there = self.has_first_line = True
 
     def names(self) -> Iterator[bytes]:
         """The lines of what is wanted, and not there."""
@@ -451,7 +451,7 @@ class Prepared:
         """Writes lines into the list beside the other one."""
         flags = os.O_WRONLY | os.O_CREAT | os.O_TRUNC | os.O_NOFOLLOW | os.O_CLOEXEC
         with open(os.open(os.path.join(self.folder, NEXT_LIST), flags, 0o600), "wb") as file:
-            file.write(FIRST_LINE + b"\n" + (MADE + b"\n") * self.is_made)
+            file.write(FIRST_OF_LIST + b"\n" + (MADE + b"\n") * self.is_made)
             file.writelines(lines)
             file.flush()
             os.fsync(file.fileno())

@@ -21,9 +21,9 @@ from ..maildir.folders import folder_path, folders_in, name_of
 from ..maildir.making import LEDGER, RECORD, SyncNames, has_begun, make_alone, sync_folder, synced_once
 from ..terminal import named, spelled
 from ..units import Size
-from .history import TIME, Entry, Event, History, Key, Note, What
+from .history import TIME, Event, History, Key, Note, RecordLine, What
 from .ledger import Ledger, count_in
-from .lines import BY_ANOTHER, CUT, HEAD, lines_in, want_trusted, was_cut
+from .lines import BY_ANOTHER, CUT, FIRST_LINE, lines_in, want_trusted, was_cut
 
 AT_WORK_OR_LEFT = "another migrate is at work in %s, or a convert that an interrupted one left behind"
 MADE_MEANWHILE = "another migrate has made %s meanwhile"
@@ -32,7 +32,7 @@ UNREAD = (
     "it away"
 )
 # the first line says which version has written it
-VERSION_LINE = b"mbox2maildir-record\t2"
+FIRST_OF_RECORD = b"mbox2maildir-record\t2"
 # what lines of the index say
 INDEX = (*Event, Note.FOUND)
 # a larger file is no record; this is some 50,000 lines
@@ -50,13 +50,13 @@ class Record(History):
         """Takes the Maildir whose record it is. No file is open yet."""
         super().__init__()
         self.maildir, self.path = maildir, os.path.join(maildir, RECORD)
-        self._number: Optional[int] = None
-        self.size, self.is_cut, self.has_head = 0, False, False
-        self._gone: dict[str, list[Entry]] = {}
+        self._descriptor: Optional[int] = None
+        self.size, self.is_cut, self.has_first_line = 0, False, False
+        self._gone: dict[str, list[RecordLine]] = {}
         # why ledgers could not be read, by their paths
         self.unread: dict[bytes, Union[Fault, OSError]] = {}
         # the lines that wait for the file to be made; and whether lines stay in memory
-        self.waiting: list[Entry] = []
+        self.waiting: list[RecordLine] = []
         self.is_dry = False
         # the function that puts lines on the disk; for a worker, its parent does that
         self.write: Callable[..., None] = self.store
@@ -70,13 +70,13 @@ class Record(History):
         record.is_dry = not make
         try:
             record.take_file(make)
-            record.add_entry(*record.changes(is_found=True))
+            record.add_lines(*record.changes(is_found=True))
             try:
                 yield record
             finally:
                 # what cannot be written now is found by the next run
                 with contextlib.suppress(Fault):
-                    record.add_entry(*record.changes())
+                    record.add_lines(*record.changes())
         finally:
             record.close()
 
@@ -98,15 +98,15 @@ class Record(History):
             yield record
 
     @property
-    def number(self) -> int:
+    def descriptor(self) -> int:
         """The descriptor of its file."""
-        assert self._number is not None, "it is there"
-        return self._number
+        assert self._descriptor is not None, "it is there"
+        return self._descriptor
 
     @property
     def is_open(self) -> bool:
         """Whether its file is open."""
-        return self._number is not None
+        return self._descriptor is not None
 
     def take_file(self, make: bool, sync: SyncNames = sync_folder) -> None:
         """Opens its file if it exists, and reads it. With `make` it also makes and locks it, and `sync` syncs its
@@ -114,7 +114,7 @@ class Record(History):
         flags = os.O_NOFOLLOW | os.O_NONBLOCK | os.O_NOCTTY | os.O_CLOEXEC
         flags |= os.O_RDWR | os.O_APPEND | os.O_CREAT if make else os.O_RDONLY
         try:
-            self._number = os.open(self.path, flags, 0o600)
+            self._descriptor = os.open(self.path, flags, 0o600)
         except OSError as fault:
             if make or fault.errno != errno.ENOENT:
                 why = "it is a symbolic link" if fault.errno == errno.ELOOP else fault.strerror
@@ -123,7 +123,7 @@ class Record(History):
         if not self.is_open:
             return
         # a record that is only read may belong to the owner of the Maildir
-        want_trusted(self.path, os.fstat(self.number), Reason.RECORD, is_own=make)
+        want_trusted(self.path, os.fstat(self.descriptor), Reason.RECORD, is_own=make)
         if make:
             self.lock()
         self.read()
@@ -157,14 +157,14 @@ class Record(History):
 
     def close(self) -> None:
         """Closes its file, if that is open."""
-        if self._number is not None:
-            os.close(self._number)
-            self._number = None
+        if self._descriptor is not None:
+            os.close(self._descriptor)
+            self._descriptor = None
 
     def lock(self) -> None:
         """Locks it, so that only one `migrate` is at work in its Maildir. Raises Fault if another one is."""
         try:
-            fcntl.flock(self.number, fcntl.LOCK_EX | fcntl.LOCK_NB)
+            fcntl.flock(self.descriptor, fcntl.LOCK_EX | fcntl.LOCK_NB)
         except BlockingIOError as fault:
             raise Fault(AT_WORK_OR_LEFT % named(self.maildir), Reason.LOCKED) from fault
         except OSError as fault:
@@ -174,20 +174,20 @@ class Record(History):
     def read(self) -> None:
         """Reads its lines. Lines that were cut do not count. Raises Fault if another version has written it, or if
         it is too large for a record."""
-        data = os.pread(self.number, MOST + 1, 0)
+        data = os.pread(self.descriptor, MOST + 1, 0)
         if len(data) > MOST:
             raise Fault("it is too large for a record: look at it, and move it away", Reason.RECORD, place=self.path)
         self.size, self.is_cut = len(data), bool(data) and not data.endswith(b"\n")
         several = data.split(b"\n")[:-1]
         lines = [line for line in several if not was_cut(line)]
-        self.has_head = lines[:1] == [VERSION_LINE]
+        self.has_first_line = lines[:1] == [FIRST_OF_RECORD]
         # a power cut may have taken the first line
-        if lines and not self.has_head and b"\0" not in several[0]:
+        if lines and not self.has_first_line and b"\0" not in several[0]:
             raise Fault(BY_ANOTHER, Reason.RECORD, place=self.path)
-        for entry in filter(None, map(Entry.parse, lines)):
-            self.take(entry)
+        for line in filter(None, map(RecordLine.parse, lines)):
+            self.take(line)
 
-    def gone(self, place: str) -> list[Entry]:
+    def gone(self, place: str) -> list[RecordLine]:
         """The lines about those mailboxes in a folder that were gone from it when this was asked first."""
         if place not in self._gone:
             lines = (line for line in self.lines() if os.path.dirname(line.path) == place)
@@ -196,13 +196,13 @@ class Record(History):
 
     def add(self, what: What, key: Key, messages: int, path: bytes, words: Optional[str] = None) -> None:
         """Appends a line, which is on the disk when this returns."""
-        self.add_entry(Entry(what, key, messages, time.strftime(TIME, time.gmtime()), spelled(path), words))
+        self.add_lines(RecordLine(what, key, messages, time.strftime(TIME, time.gmtime()), spelled(path), words))
 
     def add_gone(self, folder: bytes, paths: Container[str]) -> None:
         """Notes of the mailboxes of some paths that a folder has nothing of them any more, since it is gone."""
         key, when = Key(folder, *NO_TEXT), time.strftime(TIME, time.gmtime())
         lines = [one for one in self.last_events(folder) if one.path in paths]
-        self.add_entry(*(Entry(Event.UNDONE, key, 0, when, one.path, "-", *one[6:]) for one in lines))
+        self.add_lines(*(RecordLine(Event.UNDONE, key, 0, when, one.path, "-", *one[6:]) for one in lines))
 
     def look(self) -> None:
         """Looks which folders have which ledgers."""
@@ -210,7 +210,7 @@ class Record(History):
         for folder in folders_in(self.maildir):
             with self.noting_unread(folder):
                 whole = (line for line in lines_in(folder) if not was_cut(line))
-                head = HEAD.match(next(whole, b""))
+                head = FIRST_LINE.match(next(whole, b""))
                 if head:
                     self.numbers[name_of(self.maildir, folder)] = head[1].decode()
         self.folders = {number: name for name, number in reversed([*self.numbers.items()])}
@@ -223,7 +223,7 @@ class Record(History):
         except (Fault, OSError) as fault:
             self.unread[os.path.join(folder, LEDGER)] = fault
 
-    def changes(self, is_found: bool = False) -> Iterator[Entry]:
+    def changes(self, is_found: bool = False) -> Iterator[RecordLine]:
         """The lines that the index lacks of the ledgers that have changed. If it was just read, mailboxes of ledgers
         that no line names are found."""
         if not is_found:
@@ -234,36 +234,36 @@ class Record(History):
         for number, name in self.folders.items():
             folder = folder_path(self.maildir, name)
             with self.noting_unread(folder):
-                if os.stat(os.path.join(folder, LEDGER)).st_size != self.seen.get(number):
-                    is_new, lines = is_found and number not in self.seen, self.changes_in(name, Ledger(folder))
+                if os.stat(os.path.join(folder, LEDGER)).st_size != self.ledger_sizes.get(number):
+                    is_new, lines = is_found and number not in self.ledger_sizes, self.changes_in(name, Ledger(folder))
                     yield from lines
                     yield from (one._replace(what=Note.FOUND) for one in lines if is_new)
 
-    def changes_in(self, name: bytes, ledger: Ledger) -> list[Entry]:
+    def changes_in(self, name: bytes, ledger: Ledger) -> list[RecordLine]:
         """The lines that the index lacks of the mailboxes of a folder, as far as its ledger has all that it had. What
         damage has left of one that no line names shows which mailboxes it has."""
         last = {one.path: one for one in self.index_of(name) if one.ledger == ledger.number}
         found = []
-        for path, number in [] if ledger.damage and ledger.number in self.seen else ledger.lasts.items():
-            before, now = last.get(path), self.entry_of(name, ledger, path)
+        for path, number in [] if ledger.damage and ledger.number in self.ledger_sizes else ledger.lasts.items():
+            before, now = last.get(path), self.index_line(name, ledger, path)
             is_known = before is not None and number >= before.number and now.says() != before.says()
             if is_known or before is None and now.what is not Event.UNDONE:
                 found.append(now)
         return found
 
     @staticmethod
-    def entry_of(name: bytes, ledger: Ledger, path: str) -> Entry:
+    def index_line(name: bytes, ledger: Ledger, path: str) -> RecordLine:
         """The line of the index about a mailbox, by the ledger of a folder."""
         event, when, number = Event.UNDONE, time.strftime(TIME, time.gmtime()), ledger.lasts[path]
         at = ledger.number, ledger.size, number
         if path not in ledger.paths():
-            return Entry(event, Key(name, *NO_TEXT), 0, when, path, "-", *at)
+            return RecordLine(event, Key(name, *NO_TEXT), 0, when, path, "-", *at)
         event = Event.DONE if ledger.pending(path) is None and path not in ledger.leaving else Event.BEGUN
         read = ledger.last_read(path)
         key = Key(name, Size(read.key[0]), read.key[1])
-        return Entry(event, key, count_in(ledger, path), when, path, read.words, *at)
+        return RecordLine(event, key, count_in(ledger, path), when, path, read.words, *at)
 
-    def unknown_to(self, name: bytes, ledger: Ledger) -> list[Entry]:
+    def unknown_to(self, name: bytes, ledger: Ledger) -> list[RecordLine]:
         """The last line about each mailbox of a folder of which the ledger there lacks something: the folder had
         another one, or it was longer once."""
         unknown = []
@@ -273,36 +273,36 @@ class Record(History):
                 unknown.append(one)
         return unknown
 
-    def add_entry(self, *entries: Entry) -> None:
+    def add_lines(self, *lines: RecordLine) -> None:
         """Appends lines at once, which are on the disk when this returns."""
-        if entries:
-            self.write(*entries)
-        for entry in entries:
-            self.take(entry)
+        if lines:
+            self.write(*lines)
+        for line in lines:
+            self.take(line)
 
-    def store(self, *entries: Entry) -> None:
+    def store(self, *lines: RecordLine) -> None:
         """Puts lines on the disk, once the file is there. Those of the index need no sync. Raises Fault if not all of
         them could be written."""
         if self.is_dry:
             return
         if not self.is_open:
-            self.waiting += entries
+            self.waiting += lines
             return
         try:
             # if a full disk cut the line before, that is ended first, so that it becomes no other one
-            begin = (CUT + b"\n") * self.is_cut + (VERSION_LINE + b"\n") * (not self.has_head)
-            piece = begin + b"".join(entry.line() for entry in entries)
+            begin = (CUT + b"\n") * self.is_cut + (FIRST_OF_RECORD + b"\n") * (not self.has_first_line)
+            piece = begin + b"".join(one.line() for one in lines)
             if self.size + len(piece) > MOST:
                 raise OSError(errno.EFBIG, "it is full: move it away; the ledgers in the folders say what was brought")
             self.is_cut = True
-            written = os.write(self.number, piece)
+            written = os.write(self.descriptor, piece)
             self.size += written
             if written != len(piece):
                 raise OSError(errno.ENOSPC, os.strerror(errno.ENOSPC))
             self.is_cut = False
-            if any(entry.what not in INDEX for entry in entries):
-                os.fsync(self.number)
-            self.has_head = True
+            if any(one.what not in INDEX for one in lines):
+                os.fsync(self.descriptor)
+            self.has_first_line = True
         except OSError as fault:
             raise Fault(fault.strerror, Reason.RECORD, place=self.path) from fault
 

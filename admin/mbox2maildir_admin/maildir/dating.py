@@ -100,7 +100,7 @@ class Dating:
         without = sum(date == NO_DATE or state == Dated.NOT_HELD for date, state in zip(self.dates, self.states))
         return Says.DATED_BY_HEADER.of_any(self.by_header) + Says.WITHOUT_DATE.of_any(without)
 
-    def undone(self, maildir: bytes) -> Iterator[str]:
+    def not_dated(self, maildir: bytes) -> Iterator[str]:
         """What is said of messages that have no file with their date."""
         for place in map(Place, range(self.messages)):
             state = self.states[place]

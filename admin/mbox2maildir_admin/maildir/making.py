@@ -98,7 +98,7 @@ def synced_once() -> Iterator[SyncNames]:
         sync_folder(folder)
 
 
-def make_maildir(folder: bytes, is_root: bool, sync: SyncNames) -> None:
+def make_maildir(folder: bytes, is_inbox: bool, sync: SyncNames) -> None:
     """Makes a Maildir, or a folder of one with its mark, if it is missing. Its names are on the disk then, if `sync`
     does that."""
     made = False
@@ -106,7 +106,7 @@ def make_maildir(folder: bytes, is_root: bool, sync: SyncNames) -> None:
         with contextlib.suppress(FileExistsError):
             os.mkdir(path, 0o700)
             made = True
-    if not is_root:
+    if not is_inbox:
         flags = os.O_WRONLY | os.O_CREAT | os.O_EXCL | os.O_NOFOLLOW | os.O_CLOEXEC
         with contextlib.suppress(FileExistsError):
             os.close(os.open(os.path.join(folder, MARK), flags, 0o600))

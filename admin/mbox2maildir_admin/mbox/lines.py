@@ -4,7 +4,7 @@ from typing import NamedTuple, Optional
 
 from ..nexts import Quote
 from ..terminal import NAMED, shown
-from ..units import Line
+from ..units import LineNumber
 from .mailbox import Mailbox
 
 # how many letters of a line are shown, and the most bytes that these may have
@@ -28,7 +28,7 @@ def texts_of(mailbox: Mailbox, lines: Collection[int]) -> dict[int, bytes]:
 class Said(NamedTuple):
     """What is said of a line, or of several if it has no number; and the line as it is printed, if it is shown."""
 
-    line: Line
+    line: LineNumber
     says: str
     text: str = ""
 

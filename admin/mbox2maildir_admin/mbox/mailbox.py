@@ -7,7 +7,7 @@ from typing import Optional, Union
 
 from ..faults import Fault, Reason
 from ..remarks import Remark
-from ..units import Line, Offset, Say, Size, silent
+from ..units import LineNumber, Offset, Say, Size, silent
 from .files import BLOCK, LONG, Reader, open_file, open_regular
 from .pieces import Piece, pieces_of
 
@@ -32,7 +32,7 @@ def is_unchanged(before: os.stat_result, now: os.stat_result) -> bool:
     return all(getattr(now, fact) == getattr(before, fact) for fact in FACTS)
 
 
-def lines_at(reader: Reader, offsets: Iterable[int]) -> Iterator[Line]:
+def lines_at(reader: Reader, offsets: Iterable[int]) -> Iterator[LineNumber]:
     """The numbers of the lines of a text that have these offsets, which must rise. The text is read from its start."""
     block, here, number = b"", 0, 1
     for offset in offsets:
@@ -44,7 +44,7 @@ def lines_at(reader: Reader, offsets: Iterable[int]) -> Iterator[Line]:
         place = offset - (reader.offset - len(block))
         number += block.count(b"\n", here, place)
         here = place
-        yield Line(number)
+        yield LineNumber(number)
 
 
 class Digest:
@@ -153,15 +153,15 @@ class Mailbox:
         self.file.offset = start
         return pieces_of(self.file.read, start)
 
-    def line_at(self, offset: int) -> Line:
+    def line_at(self, offset: int) -> LineNumber:
         """The number of the line that has an offset."""
         return next(self.lines_at([offset]))
 
-    def lines_at(self, offsets: Iterable[int]) -> Iterator[Line]:
+    def lines_at(self, offsets: Iterable[int]) -> Iterator[LineNumber]:
         """The numbers of the lines that have these offsets, which must rise."""
         return lines_at(self.again(), offsets)
 
-    def lines_with(self, numbers: Iterable[int]) -> Iterator[tuple[Line, Offset]]:
+    def lines_with(self, numbers: Iterable[int]) -> Iterator[tuple[LineNumber, Offset]]:
         """The lines of these numbers that the text has, each with the offset at which it begins, in their order."""
         # a block, and the numbers of the line in which it begins, and of the last one that begins in it
         reader, block, first, last = self.again(), b"", 1, 1
@@ -171,7 +171,7 @@ class Mailbox:
                 if not block:
                     return
                 first, last = last, last + block.count(b"\n")
-            yield Line(line), Offset(reader.offset - len(block.split(b"\n", line - first)[-1]))
+            yield LineNumber(line), Offset(reader.offset - len(block.split(b"\n", line - first)[-1]))
 
     def again(self, start: Offset = Offset(0)) -> Reader:
         """Reads the text again from an offset on. Neither digest nor progress takes note of that."""

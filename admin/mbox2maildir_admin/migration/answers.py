@@ -8,7 +8,7 @@ from typing import NamedTuple, Optional
 
 from ..faults import Fault, Left, Reason
 from ..ledger.ledger import Batch, Source
-from ..ledger.history import Entry, History, Key, Note
+from ..ledger.history import History, Key, Note, RecordLine
 from ..ledger.lines import LOST, Brought, counted_in
 from ..ledger.match import Files, Match, cores_of
 from ..ledger.record import Record, unspelled
@@ -23,7 +23,7 @@ from ..readings.reading import MBOXO, UNDECIDED, UNQUOTED, Reading, renumbered, 
 from ..readings.texts import Choice, choice_of, content_of, text_then
 from ..readings.diagnosis import look_at
 from ..remarks import Remark, Says
-from ..units import Line, counted
+from ..units import LineNumber, counted
 from .known import Known, Opened
 from .options import Options
 from .steps import Contents, remarks_on_lost
@@ -53,7 +53,7 @@ def note_answer(record: Record, opened: Opened, plan: Plan) -> None:
         record.add(Note.ANSWERED, Key(name, *mailbox.key()), plan.messages, mailbox.path, plan.answer.words())
 
 
-def answers_for(record: Record, opened: Opened) -> list[Entry]:
+def answers_for(record: Record, opened: Opened) -> list[RecordLine]:
     """The answers that were noted for a mailbox, first those for the path from which its folder was prepared."""
     prepared, path = record.prepared(opened.name), opened.mailbox.path
     paths = dict.fromkeys([unspelled(prepared.path), path] if prepared else [path])
@@ -72,7 +72,7 @@ def noted_last(record: Record, opened: Opened, given: Reading) -> Optional[Readi
 def answer_to(record: Record, opened: Opened, question: Question) -> Optional[Reading]:
     """The last answer that was noted to what is asked about a mailbox, for its lines as they are now."""
     tie = question.tied(UNDECIDED).of
-    lines = {Line(number): line for number, line in enumerate(question.doubtful, 1)}
+    lines = {LineNumber(number): line for number, line in enumerate(question.doubtful, 1)}
     for entry in reversed(answers_for(record, opened)):
         answer = Reading.of_words(entry.words)
         names = answer.text | answer.begin
@@ -116,7 +116,7 @@ def as_before(options: Options, known: Known) -> Optional[tuple[str, list[Remark
         return None if match.count_new() else (reading.words(), remarks_on_lost(match))
 
 
-def contradicted(options: Options, opened: Opened, line: Entry) -> tuple[list[Remark], Next]:
+def contradicted(options: Options, opened: Opened, line: RecordLine) -> tuple[list[Remark], Next]:
     """What is to be said of a mailbox that is done if a decision that is given now gives other messages, and the
     command that undoes it."""
     if not contradicts(options, opened, line):
@@ -127,7 +127,7 @@ def contradicted(options: Options, opened: Opened, line: Entry) -> tuple[list[Re
     return [Says.CONTRADICTED.of(*its)], then
 
 
-def contradicts(options: Options, opened: Opened, line: Entry) -> bool:
+def contradicts(options: Options, opened: Opened, line: RecordLine) -> bool:
     """Whether a decision gives other messages of a mailbox than those that it had when it was done."""
     if options.decision._replace(alone=True) == UNDECIDED:
         return False
@@ -266,7 +266,7 @@ def answer_shown(options: Options, known: Known, question: Question) -> Optional
     return best[0].decision if len(best) == 1 and best[0].is_shown else None
 
 
-def given_by(options: Options, known: Known, text: Mailbox, had: Had, lines: Iterable[Line]) -> Effect:
+def given_by(options: Options, known: Known, text: Mailbox, had: Had, lines: Iterable[LineNumber]) -> Effect:
     """What the answer gives by which this mailbox would be migrated, of what it has brought."""
     choice = Choice(text, plan_of(text, decision=options.decision))
     with choice.text(options.disk(known.opened.root)) as whole:
@@ -282,7 +282,7 @@ def given_by(options: Options, known: Known, text: Mailbox, had: Had, lines: Ite
     return Effect(options.decision, sum((had & cores_of(contents.inventory)).values()), is_shown)
 
 
-def are_brought(had: Had, inventory: Inventory, lines: Iterable[Line]) -> bool:
+def are_brought(had: Had, inventory: Inventory, lines: Iterable[LineNumber]) -> bool:
     """Whether each of these lines is in a message of a text that was brought, or between two of them. Of several with a
     core, nobody knows which were brought, unless all were."""
     has, cores = cores_of(inventory), list[bytes]()

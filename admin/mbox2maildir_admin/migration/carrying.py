@@ -17,7 +17,7 @@ from typing import Optional
 from ..faults import Fault, Left, Reason, fault_of
 from ..ledger.gone import times_of
 from ..ledger.history import Note
-from ..ledger.lines import END_LINE, FAILED_LINE, PLACED, PLACED_LINE, Head, append
+from ..ledger.lines import END_LINE, FAILED_LINE, PLACED, PLACED_LINE, BatchHead, append
 from ..ledger.match import Files, Match
 from ..ledger.prepared import FAILED, WHOLE, finish_list, remove_list
 from ..ledger.record import unspelled
@@ -124,7 +124,7 @@ def begin(steps: Steps, own: OtherPass, more: int = 0) -> int:
     record.make(opened.make_folder, ledger.make)
     words, inode, now = steps.contents.reading.words(), mailbox.state.st_ino, int(time.time())
     its = times_of(opened.folder), mailbox.key(), words, known.path, inode, now
-    head = Head(steps.placing.count_of_lines(), 0 if more else len(steps.placing.nowhere), own.back + more, *its)
+    head = BatchHead(steps.placing.count_of_lines(), 0 if more else len(steps.placing.nowhere), own.back + more, *its)
     return ledger.begin(head, steps.placing.lines())
 
 
@@ -156,7 +156,7 @@ def place_messages(steps: Steps, program: Program) -> Converted:
 
     def place(text: Mailbox, start: Offset) -> Converted:
         return program.convert(
-            text.number, start, folder, record.number, lambda at: text.say("converting", at, text.size)
+            text.number, start, folder, record.descriptor, lambda at: text.say("converting", at, text.size)
         )
 
     if before:
@@ -169,7 +169,7 @@ def place_messages(steps: Steps, program: Program) -> Converted:
         # for a text without mail, the program removes its own names from `tmp`: a power cut may have kept files there
         # that it also kept in `new` or `cur`
         with open(os.devnull, "rb") as nothing:
-            program.convert(nothing.fileno(), Offset(0), folder, record.number, lambda place: None)
+            program.convert(nothing.fileno(), Offset(0), folder, record.descriptor, lambda place: None)
     return Converted(text.end, placed)
 
 
@@ -273,7 +273,7 @@ def names_that_may_be_cut(known: Known, match: Match) -> set[bytes]:
     and that stand for no message of it any more; and those that no line has. The mailbox was written to, so a run that
     was killed may have read more of it than the lines that it had begun have."""
     ledger, path, begun_at = known.ledger, known.path, known.ledger.begun.get(known.path, 0)
-    lost = {one.name for one in [*match.dropped, *ledger.intended(path)]}
+    lost = {one.name for one in [*match.lost_lines, *ledger.intended(path)]}
     lost.difference_update(one.name for one in match.found.values())
     numbers = {number for number, its in ledger.ended.items() if its == path}
     numbers.update(number for number, batch in ledger.open.items() if batch.path == path)

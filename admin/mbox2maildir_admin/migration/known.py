@@ -5,7 +5,7 @@ import os
 from collections.abc import Container
 from typing import NamedTuple, Optional
 
-from ..ledger.history import Entry, Event, Key, Note, names_of
+from ..ledger.history import Event, Key, Note, RecordLine, names_of
 from ..ledger.ledger import Ledger, count_in
 from ..ledger.match import cores_of
 from ..ledger.record import Record, is_gone, unspelled
@@ -41,7 +41,7 @@ class Opened(NamedTuple):
 
 # a line of the index by which a mailbox went into another folder, and whether the mailbox is there twice: it was moved,
 # or has its path, and is no other one with its bytes
-Elsewhere = tuple[Entry, bool]
+Elsewhere = tuple[RecordLine, bool]
 
 
 class Known:
@@ -67,7 +67,7 @@ class Known:
         """The folder, and the mailbox by its size and its SHA-256."""
         return Key(self.opened.name, *self.opened.mailbox.key())
 
-    def has_bytes_of(self, line: Entry) -> bool:
+    def has_bytes_of(self, line: RecordLine) -> bool:
         """Whether the mailbox has the bytes of the one that a line is about. One of another size is not read for that,
         and one without a byte is no other one."""
         mailbox = self.opened.mailbox
@@ -88,7 +88,7 @@ class Known:
         """Whether a run was killed that may have placed something of the mailbox."""
         return self.ledger.pending(self.path) is not None
 
-    def done(self) -> Optional[Entry]:
+    def done(self) -> Optional[RecordLine]:
         """What is known of the mailbox if all of it is done, by its bytes; None if it is not."""
         mailbox = self.opened.mailbox
         if not mailbox.size:
@@ -100,13 +100,13 @@ class Known:
             return self.by_index if self.has_bytes_of(self.by_index) and self.by_index.what is Event.DONE else None
         return self.done_at(self.path)
 
-    def done_at(self, path: str) -> Optional[Entry]:
+    def done_at(self, path: str) -> Optional[RecordLine]:
         """What the ledger has of the mailbox of a path, if that is done and had the bytes of this one. A mailbox of
         another size is not read to find this out."""
         source, mailbox = self.ledger.sources.get(path), self.opened.mailbox
         is_same = source and source.count() and source.key[0] == mailbox.size and source.key == mailbox.key()
-        entry = self.record.entry_of(self.opened.name, self.ledger, path) if is_same else None
-        return entry if entry and entry.what is Event.DONE else None
+        line = self.record.index_line(self.opened.name, self.ledger, path) if is_same else None
+        return line if line and line.what is Event.DONE else None
 
     def elsewhere(self, inventory: Inventory) -> list[Elsewhere]:
         """Where all went, or began to go, before another folder was named for the mailbox; and that mailboxes had which
@@ -187,7 +187,7 @@ def moved_in(ledger: Ledger, mailbox: Mailbox) -> list[str]:
     return [path for path in ledger.paths() if ledger.is_of(path, key, inode) and is_gone(path)]
 
 
-def is_replaced(line: Entry) -> bool:
+def is_replaced(line: RecordLine) -> bool:
     """Whether a mailbox of another size is at the path of one."""
     state = state_at(unspelled(line.path))
     return state is not None and state.st_size != line.key.size

@@ -346,7 +346,7 @@ class Transfer:
                 said += Says.KEPT_EDITED.of_any(preparation.prepared.remove_unwanted())
             preparation.forget()
         self.record.make(self.opened.make_folder)
-        note_empty(self.known, contents.reading, match.dropped)
+        note_empty(self.known, contents.reading, match.lost_lines)
         return self.row(part, said)
 
     def first_steps(self, part: Part, contents: Contents, again: bool, said: Sequence[Remark]) -> tuple[Steps, Row]:

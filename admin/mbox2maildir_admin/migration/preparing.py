@@ -163,7 +163,7 @@ class Preparation:
                 sync_names(folder)
         for path in self.ledger.paths():
             self.ledger.undo(path)
-        self.record.add_entry(*self.record.changes_in(self.name, self.ledger))
+        self.record.add_lines(*self.record.changes_in(self.name, self.ledger))
         if not is_dry:
             self.prepared.take_back()
 

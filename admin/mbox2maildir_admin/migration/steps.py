@@ -154,7 +154,7 @@ class Steps(NamedTuple):
         """Whether nobody but this program has given the file of a message its name: this run places it, or it was
         prepared."""
         at, prepared = self.place_prepared(place), self.own.prepared
-        is_placed = self.placing.match.states[self.places[place]] == Stand.NOWHERE
+        is_placed = self.placing.match.stands[self.places[place]] == Stand.NOWHERE
         return is_placed or prepared is not None and at is not None and bool(prepared.files[at])
 
     def place_prepared(self, place: Place) -> Optional[int]:

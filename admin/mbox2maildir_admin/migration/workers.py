@@ -8,7 +8,7 @@ from typing import Any, NamedTuple, Optional
 from ..faults import Left, Reason
 from ..jobs.crew import Child, Crew, Parent
 from ..jobs.order import Group
-from ..ledger.history import BY_WORD, Entry, Key
+from ..ledger.history import BY_WORD, Key, RecordLine
 from ..ledger.record import Record
 from ..maildir.disk import Need, want_room
 from ..progress import how_far
@@ -34,10 +34,10 @@ class Work(Parent):
         """Tells that work on a mailbox begins."""
         self.tell("begins")
 
-    def write(self, *entries: Entry) -> None:
+    def write(self, *lines: RecordLine) -> None:
         """Has lines written into the record. Raises Fault if that fails."""
-        for entry in entries:
-            refusal = self.refusal("line", *entry)
+        for line in lines:
+            refusal = self.refusal("line", *line)
             if refusal:
                 raise refusal
 
@@ -121,7 +121,7 @@ class Workers(Crew):
             child.answer(*child.places[:1])
         elif what == "line":
             word, (folder, *text), *others = words
-            child.serve(self.orders.record.add_entry, Entry(BY_WORD[word], Key(bytes_of(folder), *text), *others))
+            child.serve(self.orders.record.add_lines, RecordLine(BY_WORD[word], Key(bytes_of(folder), *text), *others))
         else:
             child.has, child.wants = None, value_of(Need, words)
 

@@ -13,7 +13,7 @@ from ..mbox.lines import AskedAbout, Said
 from ..mbox.mailbox import Mailbox
 from ..mbox.pieces import from_lines_of
 from ..remarks import Remark, Says
-from ..units import Line, Offset
+from ..units import LineNumber, Offset
 from .reading import BY_LENGTHS, CR, CRLF, MBOXCL2, MBOXO, MBOXRD, PLAIN, UNQUOTED, Reading
 
 NOT_QUOTED, TAKEOUT = "not quoted", "Gmail's Takeout"
@@ -63,7 +63,7 @@ class Diagnosis(NamedTuple):
         is_kept = bool(noted.of) and not noted.drop
         return self._replace(answers=tuple(sorted(answers, key=lambda one: bool(one.drop == is_kept))))
 
-    def doubtful(self) -> list[Line]:
+    def doubtful(self) -> list[LineNumber]:
         """The lines that may begin messages, in their order."""
         return [line for line, _ in self.look.doubts.after(0)]
 
@@ -126,7 +126,7 @@ def look_at(mailbox: Mailbox, read: HowFar = Look.read) -> Diagnosis:
         mailbox.file.offset = start
         count = from_lines_of(LineEnds(mailbox.file).read)
         mailbox.check()
-        why = AskedAbout([Said(Line(0), "its lines end in CR alone")], 1)
+        why = AskedAbout([Said(LineNumber(0), "its lines end in CR alone")], 1)
         return Diagnosis(look, "line ends of CR alone", count, count, asked_about=why, answers=(PLAIN,), ends=CR)
     look = read(look)
     answers = answers_of(look)

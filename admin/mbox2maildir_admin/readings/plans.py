@@ -12,7 +12,7 @@ from ..mbox.mailbox import Mailbox
 from ..nexts import Answer, Command, Does, Phrase, Quote
 from ..remarks import Remark, Says
 from ..terminal import NAMED
-from ..units import Line, Offset
+from ..units import LineNumber, Offset
 from .quoting import Quoter
 from .reading import BY_LENGTHS, CR, CRLF, MBOXCL2, MBOXO, MBOXRD, PLAIN, UNDECIDED, UNQUOTED, Reading, renumbered
 from .diagnosis import DROP_DELETED, Diagnosis, counted_by, is_against_lengths, is_answer, look_at, reading_of
@@ -25,7 +25,7 @@ OTHER_LINES = "the answer with this --of names other lines, or none"
 NEW_LINE = "it came since the others were decided, and may begin a message"
 # the words by which lines begin messages in different ways, each with those that do it alike
 WAYS = (MBOXRD, (MBOXRD, MBOXO)), (MBOXCL2, BY_LENGTHS), (UNQUOTED, (UNQUOTED,))
-NO_LENGTHS = AskedAbout([Said(Line(0), "its lines end in CR alone, so that no length in it is right")], 1)
+NO_LENGTHS = AskedAbout([Said(LineNumber(0), "its lines end in CR alone, so that no length in it is right")], 1)
 
 
 class Plan(NamedTuple):
@@ -144,7 +144,7 @@ def plan_of(mailbox: Mailbox, read: HowFar = Look.read, decision: Reading = UNDE
     plan = planned(diagnosis, decision)
     if not diagnosis.answers or decision == UNDECIDED:
         return plan
-    order = {line: Line(number) for number, line in enumerate(diagnosis.doubtful(), 1)}
+    order = {line: LineNumber(number) for number, line in enumerate(diagnosis.doubtful(), 1)}
     answer = renumbered(decision.decided, order)._replace(of=diagnosis.tied(UNDECIDED).of, alone=decision.alone)
     return plan._replace(answer=answer)
 
@@ -165,7 +165,8 @@ def with_noted(diagnosis: Diagnosis, noted: Reading) -> Diagnosis:
         return diagnosis._replace(reading=diagnosis.reading._replace(word=word))
     if count and noted.word and diagnosis.is_on_lines and 0 < len(new) <= Lines.MANY:
         said = [Said(line, NEW_LINE, cut(diagnosis.look.mailbox.from_line_at(offset))) for line, offset in new[:NAMED]]
-        before = renumbered(noted.decided, {Line(number): line for number, line in enumerate(diagnosis.doubtful(), 1)})
+        new_numbers = {LineNumber(number): line for number, line in enumerate(diagnosis.doubtful(), 1)}
+        before = renumbered(noted.decided, new_numbers)
         lines = frozenset(line for line, _ in new)
         answers = before._replace(text=before.text | lines), before._replace(begin=before.begin | lines)
         raise question(diagnosis, AskedAbout(said, len(new)), answers)

@@ -18,7 +18,7 @@ from ..mbox.fields import Header, bare_pieces
 from ..mbox.files import BLOCK, LineEnds
 from ..mbox.mailbox import Mailbox, Watched
 from ..mbox.pieces import FROM, Piece, header_of, pieces_of
-from ..units import Line, Offset, Size
+from ..units import LineNumber, Offset, Size
 from .copies import Copy
 from .reading import BY_LENGTHS, CR, CRLF, MBOXCL2, MBOXO, UNQUOTED, Reading
 
@@ -36,16 +36,16 @@ class Break(NamedTuple):
 
     end: Offset
     start: Offset
-    line: Line = Line(0)
+    line: LineNumber = LineNumber(0)
     added: bytes = b""
 
 
-def breaks_of(mailbox: Mailbox, lines: frozenset[Line]) -> Iterator[Break]:
+def breaks_of(mailbox: Mailbox, lines: frozenset[LineNumber]) -> Iterator[Break]:
     """Where a text is parted, given the numbers of lines that begin messages by decision, of which some do not begin
     with `From `: a crash left NUL bytes before it, or a text without a last line end."""
     offsets = dict(mailbox.lines_with({*lines, *(line + 1 for line in lines)}))
     for line in sorted(lines & offsets.keys()):
-        offset, end = offsets[line], offsets.get(Line(line + 1), mailbox.size + 1) - 1
+        offset, end = offsets[line], offsets.get(LineNumber(line + 1), mailbox.size + 1) - 1
         nulls = end_of_row(mailbox, offset, b"\0")
         if nulls == offset and IS_FROM.match(mailbox.at(nulls, MOST)):
             continue
@@ -90,7 +90,7 @@ class Quoter:
             pieces = pieces_of(lambda _, blocks=blocks: next(blocks, b""), start)  # type: ignore[misc]
             for piece in pieces:
                 data = self.piece(line, piece)
-                line = Line(line + piece.data.count(b"\n"))
+                line = LineNumber(line + piece.data.count(b"\n"))
                 self.read, self.given = self.read + len(piece.data), self.given + len(data)
                 yield data
             skipped, added, start, line = one.start - one.end, len(one.added), one.start, one.line
@@ -102,7 +102,7 @@ class Quoter:
             raise Fault("line %d: it does not begin with `From `" % min(self.unmet), Reason.WRONG_LINES)
         self.mailbox.check()
 
-    def piece(self, line: Line, piece: Piece) -> bytes:
+    def piece(self, line: LineNumber, piece: Piece) -> bytes:
         """What is given of a piece, whose first line has this number. Its line `From ` begins a message or is quoted,
         and its other lines stay as they are read."""
         data, is_quoted = piece.data, False
@@ -131,7 +131,7 @@ class Quoter:
         self.quoted += is_quoted
         return b">" + data if is_quoted else data
 
-    def begins(self, line: Line, piece: Piece) -> bool:
+    def begins(self, line: LineNumber, piece: Piece) -> bool:
         """Whether a line `From ` begins a message."""
         if line in self.reading.begin or line in self.reading.text:
             return line in self.reading.begin
@@ -139,7 +139,7 @@ class Quoter:
             return is_dated(piece.from_line)
         return piece.offset >= self.claimed
 
-    def begin(self, line: Line, piece: Piece) -> bytes:
+    def begin(self, line: LineNumber, piece: Piece) -> bytes:
         """Begins a message, and returns what is given of its piece."""
         data, header = piece.data, Header.of(piece) if self.reading.word in BY_LENGTHS else None
         self.is_crlf = self.reading.ends == CRLF and piece.from_line.endswith(b"\r")

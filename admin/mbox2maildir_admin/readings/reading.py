@@ -16,7 +16,7 @@ Lines that are named as text begin no message, and lines that are named as begin
 from collections.abc import Iterable, Mapping
 from typing import NamedTuple, Optional
 
-from ..units import Line
+from ..units import LineNumber
 
 MBOXRD, MBOXO, MBOXCL, MBOXCL2, UNQUOTED = WORDS = ("mboxrd", "mboxo", "mboxcl", "mboxcl2", "unquoted")
 # the words by which a message with a correct length ends where that says
@@ -40,8 +40,8 @@ class Reading(NamedTuple):
     """
 
     word: str = ""
-    text: frozenset[Line] = frozenset()
-    begin: frozenset[Line] = frozenset()
+    text: frozenset[LineNumber] = frozenset()
+    begin: frozenset[LineNumber] = frozenset()
     of: str = ""
     drop: bool = False
     alone: bool = True
@@ -101,21 +101,21 @@ def with_deleted(reading: Reading) -> Reading:
     return reading._replace(drop=False, dropped=0)
 
 
-def renumbered(reading: Reading, new: Mapping[Line, Line]) -> Reading:
+def renumbered(reading: Reading, new: Mapping[LineNumber, LineNumber]) -> Reading:
     """The same reading with other numbers of its lines, as far as these have new ones."""
     text, begin = (frozenset(new[line] for line in lines if line in new) for lines in reading[1:3])
     return reading._replace(text=text, begin=begin)
 
 
-def numbers(lines: Iterable[Line]) -> str:
+def numbers(lines: Iterable[LineNumber]) -> str:
     """The numbers of lines, as an option has them."""
     return ",".join(map(str, sorted(lines)))
 
 
-def lines_named(texts: Iterable[str]) -> frozenset[Line]:
+def lines_named(texts: Iterable[str]) -> frozenset[LineNumber]:
     """The lines that options name, several of them with commas. Raises ValueError if one is not the number of a
     line."""
     found: list[int] = [int(number) for text in texts for number in text.split(",")]
     if min(found, default=1) < 1:
         raise ValueError("lines are counted from 1 on")
-    return frozenset(map(Line, found))
+    return frozenset(map(LineNumber, found))

@@ -25,7 +25,7 @@ from ..mbox.lines import Said
 from ..mbox.mailbox import Mailbox
 from ..mbox.pieces import pieces_of
 from ..program import Listing, Program
-from ..units import Line, Offset, Say
+from ..units import LineNumber, Offset, Say
 from .copies import copy_of
 from .plans import NoMail, NotKnown, OtherKind, Plan, Question, plan_of, wants_copy
 from .quoting import Quoter
@@ -249,7 +249,7 @@ def plan_of_packed(text: Mailbox, form: Form, read: HowFar, decision: Reading) -
         question.kind = joined(question.kind, form)
         raise
     except Left as left:
-        why = Said(Line(0), "its content is left: %s" % (left.kind or left))
+        why = Said(LineNumber(0), "its content is left: %s" % (left.kind or left))
         # what is to be done with its content, if that takes one command; else it is unpacked, or a human finds out
         # first what it holds
         recipe: Recipe = left.recipe if isinstance(left, OtherKind) else ()

@@ -20,7 +20,7 @@ from ..mbox.lines import Said
 from ..mbox.mailbox import Mailbox
 from ..progress import length
 from ..signals import INTERRUPTS, running, status_of
-from ..units import Line, Offset
+from ..units import LineNumber, Offset
 from .copies import copy_of
 from .plans import OtherKind
 
@@ -155,7 +155,7 @@ def unpacked(mailbox: Mailbox, form: Form, folder: bytes) -> Mailbox:
         size += len(piece)
         if size > most:
             says = "unpacked it has more than %s, and more than %d times its size" % (length(LARGE), TIMES)
-            raise OtherKind(mailbox.path, Said(Line(0), says), (Makes(form.unpacks),), Reason.PACKED, form.kind)
+            raise OtherKind(mailbox.path, Said(LineNumber(0), says), (Makes(form.unpacks),), Reason.PACKED, form.kind)
         if size > room:
             says = "unpacked it has more than the %s that are free" % length(room)
             raise Left(not_enough(folder, says), Reason.NO_ROOM)

@@ -5,7 +5,7 @@ from typing import Optional
 
 from ..faults import Fault
 from ..labels.noted import Noted, line_of, note_nothing
-from ..ledger.history import Entry, names_of
+from ..ledger.history import RecordLine, names_of
 from ..ledger.ledger import Ledger
 from ..ledger.record import Record
 from ..looks import is_there
@@ -76,7 +76,7 @@ class TakeoutUndo(Undo):
         verdict = Verdict.WOULD_UNDO if self.options.dry else Verdict.UNDONE
         return Row(path, folder, "", 0, verdict, remarks=(remark,))
 
-    def folders_of(self, mailbox: Mailbox, line: Optional[Entry]) -> Iterator[Opened]:
+    def folders_of(self, mailbox: Mailbox, line: Optional[RecordLine]) -> Iterator[Opened]:
         """The folders that have or had something of it, wherever they are now."""
         path = mailbox.path
         self.paths = {*names_of(path), *([line.path] if line else [])}

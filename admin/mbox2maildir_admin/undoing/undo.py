@@ -200,7 +200,7 @@ def becomes_of(ledger: Ledger, path: str, has: Cores) -> list[Becomes]:
     may have removed what is gone."""
     is_resumed = path in ledger.leaving
     there = {before_info(name) for name, _ in mail_in(ledger.folder)}
-    files = files_of((line for line in ledger.entries(None) if line.state is not State.UNDONE), there)
+    files = files_of((line for line in ledger.message_lines(None) if line.state is not State.UNDONE), there)
     gone = gone_of_others(ledger.folder, files, path, has)
 
     def order(one: tuple[Line, File]) -> tuple[bool, ...]:

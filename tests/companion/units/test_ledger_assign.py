@@ -36,7 +36,7 @@ class FilesTest(unittest.TestCase):
         several = [line(A, 1), line(A, 2), line(A, 3, OTHER), line(A, 3, OTHER), line(A, 4, THIRD)]
         self.assertEqual(seen(several, A), [([4, 3, 2], True), ([3, 1], False)])
         # what it had once, or what other runs were going to bring, is about the same file
-        states = (State.FORMER, State.OPEN, State.DROPPED)
+        states = (State.FORMER, State.OPEN, State.OVERTAKEN)
         several = [line(A, 1), *(line(A, number, state=state) for number, state in enumerate(states, 2))]
         self.assertEqual(seen(several, A), [([4, 3, 2, 1], True)])
         self.assertEqual(len(seen([line(A, 2, state=State.OPEN)] * 2, A)), 2)
@@ -63,7 +63,7 @@ class OffersTest(unittest.TestCase):
     def test_their_order(self) -> None:
         names = [b"%d" % number for number in range(7)]
         several = [
-            line(names[0], 1, OTHER, state=State.DROPPED),
+            line(names[0], 1, OTHER, state=State.OVERTAKEN),
             line(names[1], 2, state=State.FORMER),
             line(names[2], 3, OTHER),
             line(names[3], 4, OTHER, state=State.FORMER),

@@ -4,9 +4,10 @@ import unittest
 from collections.abc import Callable
 from typing import Any, Optional
 
-from mbox2maildir_admin.ledger.history import Entry, Event, Key, Note
-from mbox2maildir_admin.ledger.lines import ALL_PLACED, BATCH, CUT, END, FAILED, FOREIGN, HEAD, LOST, MOVED, NAMELESS
-from mbox2maildir_admin.ledger.lines import PLACED, SHARED, UNDOING, UNDONE, Brought, Head, Messages, pieces_of
+from mbox2maildir_admin.ledger.history import Event, Key, Note, RecordLine
+from mbox2maildir_admin.ledger.lines import ALL_PLACED, BATCH, CUT, END, FAILED, FIRST_LINE, FOREIGN, LOST, MOVED
+from mbox2maildir_admin.ledger.lines import NAMELESS, PLACED, SHARED, UNDOING, UNDONE, BatchHead, Brought, Messages
+from mbox2maildir_admin.ledger.lines import pieces_of
 from mbox2maildir_admin.ledger.prepared import AS_READ, BEGUN, AsRead, Origin, Prepared
 from mbox2maildir_admin.ledger.record import unspelled
 from mbox2maildir_admin.remarks import Remark
@@ -16,10 +17,10 @@ from mbox2maildir_admin.units import Size
 A, B = b"\xaa" * 16, b"\xbb" * 16
 HEXA, HEXB, SHA = b"aa" * 16, b"bb" * 16, "c" * 64
 NAME = b"aa" * 32 + b".1"
-TEXT = Head(3, 2, 1, (7, 8, -9), (10, SHA), "mboxo text=7,9 crlf", "/a b/\u00e4\\x0a", 5, 70)
+TEXT = BatchHead(3, 2, 1, (7, 8, -9), (10, SHA), "mboxo text=7,9 crlf", "/a b/\u00e4\\x0a", 5, 70)
 BEGINS = b"@\t12\t3\t2\t1\t70\t7,8,-9\t10-" + b"c" * 64 + b"-5\tmboxo text=7,9 crlf\t" + "/a b/\u00e4\\x0a".encode()
 WHEN = "2025-03-03T10:00:00Z"
-EVENT = Entry(Event.DONE, Key(b".a\\b", Size(10), SHA), 3, WHEN, "/b\\x0a", "mboxo text=7,9", "0" * 32, 1234, 5)
+EVENT = RecordLine(Event.DONE, Key(b".a\\b", Size(10), SHA), 3, WHEN, "/b\\x0a", "mboxo text=7,9", "0" * 32, 1234, 5)
 NOTED = b".a\\b\t10\t" + b"c" * 64 + b"\t3\t2025-03-03T10:00:00Z\t/b\\x0a"
 DONE = b"done\t" + NOTED + b"\tmboxo text=7,9\t" + b"0" * 32 + b"-1234-5"
 PLAIN = EVENT._replace(ledger="", size=0, number=0)
@@ -45,7 +46,7 @@ def by(pattern: Any, read: Callable[[Any], object]) -> Callable[[bytes], object]
     return reader
 
 
-head_of, origin_of, as_read_of = by(BATCH, Head.of), by(BEGUN, Origin.of), by(AS_READ, AsRead.of)
+head_of, origin_of, as_read_of = by(BATCH, BatchHead.of), by(BEGUN, Origin.of), by(AS_READ, AsRead.of)
 # what reads a line, what it says, and the line
 ROWS: tuple[tuple[Callable[[bytes], object], Any, bytes], ...] = (
     (message_of, Brought(PLACED, NAME, A, A), b"p\t" + NAME + b"\t="),
@@ -55,9 +56,9 @@ ROWS: tuple[tuple[Callable[[bytes], object], Any, bytes], ...] = (
     (message_of, Brought(LOST, NAMELESS, A, A), b"l\t-\t" + HEXA),
     (head_of, TEXT, BEGINS),
     (head_of, TEXT._replace(times=(), inode=0), BEGINS.replace(b"7,8,-9", b"").replace(b"c-5", b"c")),
-    (Entry.parse, EVENT, DONE),
-    (Entry.parse, PLAIN._replace(what=Note.ANSWERED), b"answered\t" + NOTED + b"\tmboxo text=7,9"),
-    (Entry.parse, PLAIN._replace(what=Note.NO_MAIL, words=None), b"no-mail\t" + NOTED),
+    (RecordLine.parse, EVENT, DONE),
+    (RecordLine.parse, PLAIN._replace(what=Note.ANSWERED), b"answered\t" + NOTED + b"\tmboxo text=7,9"),
+    (RecordLine.parse, PLAIN._replace(what=Note.NO_MAIL, words=None), b"no-mail\t" + NOTED),
     (origin_of, ORIGIN, BEGAN),
     (as_read_of, AsRead(3, 2, "mboxrd or mboxo", ()), b"&\t3\t2\tmboxrd or mboxo"),
     (
@@ -85,26 +86,26 @@ WRONG = (
     (head_of, BEGINS.replace(b"\tmboxo", b"\t")),
     (head_of, BEGINS.replace(b"7,8,", b"7,,")),
     (head_of, BEGINS.replace(b"7,8,", b"7" * 5000)),
-    (Entry.parse, b""),
-    (Entry.parse, b"done\t."),
-    (Entry.parse, b"done\t" + NOTED + b"\tx\ty"),
-    (Entry.parse, b"done\t" + NOTED + b"\t"),
-    (Entry.parse, DONE.replace(b"0" * 32, b"0" * 31)),
-    (Entry.parse, DONE.replace(b"-1234", b"-")),
-    (Entry.parse, DONE.replace(b"-1234-5", b"-1234")),
-    (Entry.parse, DONE.replace(b"mboxo text=7,9", b"")),
-    (Entry.parse, DONE.replace(b"/b\\x0a", b"")),
-    (Entry.parse, DONE.replace(b"done", b"froot")),
-    (Entry.parse, DONE.replace(b"-03-", b"-13-", 1)),
-    (Entry.parse, DONE.replace(b"c" * 64, b"c" * 63)),
+    (RecordLine.parse, b""),
+    (RecordLine.parse, b"done\t."),
+    (RecordLine.parse, b"done\t" + NOTED + b"\tx\ty"),
+    (RecordLine.parse, b"done\t" + NOTED + b"\t"),
+    (RecordLine.parse, DONE.replace(b"0" * 32, b"0" * 31)),
+    (RecordLine.parse, DONE.replace(b"-1234", b"-")),
+    (RecordLine.parse, DONE.replace(b"-1234-5", b"-1234")),
+    (RecordLine.parse, DONE.replace(b"mboxo text=7,9", b"")),
+    (RecordLine.parse, DONE.replace(b"/b\\x0a", b"")),
+    (RecordLine.parse, DONE.replace(b"done", b"froot")),
+    (RecordLine.parse, DONE.replace(b"-03-", b"-13-", 1)),
+    (RecordLine.parse, DONE.replace(b"c" * 64, b"c" * 63)),
     (as_read_of, b"&\t0\t2\ta\nb"),
 )
 
 
 def says(line: bytes) -> bool:
     """Whether a line of a ledger, or of a record, says something."""
-    found = [pattern.match(line) for pattern in (HEAD, BATCH, END, FAILED, ALL_PLACED, MOVED, UNDOING, UNDONE)]
-    return any(found) or any(read(line) is not None for read in (message_of, Entry.parse, origin_of, as_read_of))
+    found = [pattern.match(line) for pattern in (FIRST_LINE, BATCH, END, FAILED, ALL_PLACED, MOVED, UNDOING, UNDONE)]
+    return any(found) or any(read(line) is not None for read in (message_of, RecordLine.parse, origin_of, as_read_of))
 
 
 def is_listed(line: bytes) -> bool:
@@ -115,7 +116,7 @@ def is_listed(line: bytes) -> bool:
 class LineTest(unittest.TestCase):
     def test_what_is_written_is_read(self) -> None:
         for read, one, line in ROWS:
-            written = Head.line(one, 12) + b"\n" if isinstance(one, Head) else one.line()
+            written = BatchHead.line(one, 12) + b"\n" if isinstance(one, BatchHead) else one.line()
             self.assertEqual((written, read(line)), (line + b"\n", one))
 
     def test_what_says_nothing(self) -> None:

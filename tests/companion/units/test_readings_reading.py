@@ -2,12 +2,12 @@
 import unittest
 
 from mbox2maildir_admin.readings.reading import UNDECIDED, Reading, lines_named, renumbered
-from mbox2maildir_admin.units import Line
+from mbox2maildir_admin.units import LineNumber
 
 
-def lines(*numbers: int) -> frozenset[Line]:
+def lines(*numbers: int) -> frozenset[LineNumber]:
     """Numbers of lines."""
-    return frozenset(map(Line, numbers))
+    return frozenset(map(LineNumber, numbers))
 
 
 class WordsTest(unittest.TestCase):
@@ -57,7 +57,7 @@ class WordsTest(unittest.TestCase):
         self.assertEqual(whole.of_text, decided._replace(ends="crlf"))
 
     def test_other_numbers_of_lines(self) -> None:
-        new = {Line(7): Line(1), Line(9): Line(2)}
+        new = {LineNumber(7): LineNumber(1), LineNumber(9): LineNumber(2)}
         found = renumbered(Reading("mboxo", lines(7), lines(9, 12)), new)
         self.assertEqual(found, Reading("mboxo", lines(1), lines(2)))
 
