@@ -38,7 +38,7 @@ class Failed(Left):
 
 
 def find_program() -> bytes:
-    """Returns the path of mbox2maildir: beside the program that was started, or else the first in PATH, or else, in a
+    """The path of mbox2maildir: beside the program that was started, or else the first in PATH, or else, in a
     clone, the one that `make` has built."""
     here = os.path.dirname(os.fsdecode(real_path(os.fsencode(sys.argv[0]))))
     clone = os.path.dirname(here) if is_folder(os.path.join(here, str(__package__))) else ""

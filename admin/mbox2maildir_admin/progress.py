@@ -20,29 +20,39 @@ UNITS = (("GB", 1e9), ("MB", 1e6), ("kB", 1e3))
 
 
 def unit_of(size: int) -> tuple[str, float]:
-    """Returns the unit in which people read a size, and how many bytes it has."""
+    """The unit in which people read a size, and how many bytes it has."""
     return next((pair for pair in UNITS if size >= pair[1]), ("bytes", 1))
 
 
 def how_far(place: int, size: int) -> str:
-    """Returns how far a place is in a text of a size."""
+    """How far a place is in a text of a size."""
     unit, long = unit_of(size)
     form = "%.1f of %.1f %s" if long > 1 else "%d of %d %s"
     return form % (place / long, size / long, unit)
 
 
 def length(size: int) -> str:
-    """Returns a number of bytes as people read it."""
+    """A number of bytes as people read it."""
     unit, long = unit_of(size)
     return "%.1f %s" % (size / long, unit) if long > 1 else counted(size, "byte")
 
 
 def duration(seconds: float) -> str:
-    """Returns a number of seconds as people read it."""
+    """A number of seconds as people read it."""
     if seconds < 100:
         return "%d s" % seconds
     minutes = int(seconds / 60 + 0.5)
     return "%d min" % minutes if minutes < 100 else "%d h %d min" % divmod(minutes, 60)
+
+
+def in_milliseconds(seconds: float) -> int:
+    """A time in milliseconds."""
+    return round(1000 * seconds)
+
+
+def milliseconds_since(began: float) -> int:
+    """How many milliseconds have passed since a time of the monotonic clock."""
+    return in_milliseconds(time.monotonic() - began)
 
 
 class Spent(NamedTuple):
@@ -77,12 +87,12 @@ class Estimate:
 
 
 def width_of(text: str) -> int:
-    """Returns how many columns of a terminal a text takes."""
+    """How many columns of a terminal a text takes."""
     return sum(2 if unicodedata.east_asian_width(letter) in "WF" else 1 for letter in text)
 
 
 def fitted(name: str, columns: int) -> str:
-    """Returns a name that fits into a number of columns: the end of a longer one."""
+    """A name that fits into a number of columns: the end of a longer one."""
     if width_of(name) <= columns:
         return name
     while name and width_of(name) + 3 > columns:
@@ -91,14 +101,14 @@ def fitted(name: str, columns: int) -> str:
 
 
 def cut(line: str, columns: int) -> str:
-    """Returns a line that fits into a number of columns: the beginning of a longer one."""
+    """A line that fits into a number of columns: the beginning of a longer one."""
     while width_of(line) > columns:
         line = line[:-1]
     return line
 
 
 def width_of_terminal() -> int:
-    """Returns how many columns the terminal has on which the line stands."""
+    """How many columns the terminal has on which the line stands."""
     try:
         return os.get_terminal_size(sys.stderr.fileno()).columns or WIDTH
     except OSError:
@@ -120,7 +130,7 @@ class Pace:
         self.doing, self.place, self.time, self.last = doing, place, now, 0
 
     def figures(self, place: int, size: int, now: float) -> list[str]:
-        """Returns what is known of the progress, the most important first: percent, the time that is left, and the
+        """What is known of the progress, the most important first: percent, the time that is left, and the
         rate."""
         figures = ["%d %%" % (100 * place // size)] if size else []
         done, seconds = place - self.place, now - self.time
@@ -131,7 +141,7 @@ class Pace:
 
 
 def composed(actor: Actor, doing: str, more: Iterable[str], columns: int) -> str:
-    """Returns a line that fits into a number of columns, with as many of `more` as leave room for a name. A line that
+    """A line that fits into a number of columns, with as many of `more` as leave room for a name. A line that
     is wider than the terminal could not be overwritten."""
     end = ": %s" % doing
     for one in more:
@@ -191,7 +201,7 @@ class Beat:
 
 
 def together(at_work: Mapping[str, Doing], task: str) -> tuple[str, str, Optional[int], Optional[int]]:
-    """Returns the progress of all that are at work at the same time: how many they are, what they do, which is their
+    """The progress of all that are at work at the same time: how many they are, what they do, which is their
     task unless all do the same, and the sums of what is known."""
     words = {doing.split(" ", 1)[0] for doing, _, _ in at_work.values()}
     known = [(place, size) for _, place, size in at_work.values() if place is not None and size is not None]
@@ -202,10 +212,10 @@ def together(at_work: Mapping[str, Doing], task: str) -> tuple[str, str, Optiona
 
 @functools.lru_cache(maxsize=None)
 def of_this_run() -> Progress:
-    """Returns the progress of a command that does one file after the other."""
+    """The progress of a command that does one file after the other."""
     return Progress()
 
 
 def say_of(path: bytes) -> Say:
-    """Returns the function that takes the progress of a file."""
+    """The function that takes the progress of a file."""
     return Beat(functools.partial(of_this_run().say, Actor(named(path))))

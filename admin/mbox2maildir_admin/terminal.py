@@ -25,18 +25,18 @@ class OutputFault(Exception):
 
 
 def text_of(name: Union[bytes, str]) -> str:
-    """Returns a name as a text, in which a byte that is not UTF-8 is a surrogate, whatever the locale. A text stays as
+    """A name as a text, in which a byte that is not UTF-8 is a surrogate, whatever the locale. A text stays as
     it is."""
     return name if isinstance(name, str) else name.decode("utf-8", "surrogateescape")
 
 
 def bytes_of(text: str) -> bytes:
-    """Returns the bytes of such a text. A letter that stands for no byte raises an error."""
+    """The bytes of such a text. A letter that stands for no byte raises an error."""
     return text.encode("utf-8", "surrogateescape")
 
 
 def shown(name: Union[bytes, str]) -> str:
-    """Returns a name, or a line of mail, as it is printed: bytes that are no printable character are escaped."""
+    """A name, or a line of mail, as it is printed: bytes that are no printable character are escaped."""
     text = text_of(name)
     if text.isprintable():
         return text
@@ -44,7 +44,7 @@ def shown(name: Union[bytes, str]) -> str:
 
 
 def named(name: Union[bytes, str]) -> str:
-    """Returns a name as it stands in a sentence or before a row: in quotes if it could be taken for a part of that."""
+    """A name as it stands in a sentence or before a row: in quotes if it could be taken for a part of that."""
     text = shown(name)
     return "'%s'" % shown(text_of(name).replace("\\", "\\\\").replace("'", "\\'")) if UNCLEAR.search(text) else text
 
@@ -55,23 +55,23 @@ def spelled(path: bytes) -> str:
 
 
 def operand(name: bytes) -> str:
-    """Returns a name as a word of a command that is never an option."""
+    """A name as a word of a command that is never an option."""
     return text_of(b"./" + name if name.startswith(b"-") else name)
 
 
 def first_of(names: Sequence[bytes], between: str = ", ", most: int = NAMED) -> str:
-    """Returns the first of some names, as they stand in a sentence, and how many more there are."""
+    """The first of some names, as they stand in a sentence, and how many more there are."""
     more = " and %d more" % (len(names) - most) if names[most:] else ""
     return between.join(map(named, names[:most])) + more
 
 
 def option(name: str, value: bytes) -> list[str]:
-    """Returns an option with its value, as words of a command."""
+    """An option with its value, as words of a command."""
     return ["%s=%s" % (name, text_of(value))] if value.startswith(b"-") else [name, text_of(value)]
 
 
 def quoted(name: str) -> str:
-    """Returns a word of a command as a shell reads it as one word."""
+    """A word of a command as a shell reads it as one word."""
     if name.isprintable():
         return shlex.quote(name)
     return "$'%s'" % shown(name.replace("\\", "\\\\").replace("'", "\\'"))

@@ -22,5 +22,5 @@ def silent(*_: object) -> None:
 
 
 def counted(count: int, noun: str, plural: str = "s") -> str:
-    """Returns a count with its noun, and the ending that this has in the plural."""
+    """A count with its noun, and the ending that this has in the plural."""
     return "%d %s%s" % (count, noun, "" if count == 1 else plural)

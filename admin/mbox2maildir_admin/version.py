@@ -7,7 +7,7 @@ NAME = "VERSION"
 
 
 def version() -> str:
-    """Returns the version from a file: an installed package has it beside this file, the source tree at its top."""
+    """The version from a file: an installed package has it beside this file, the source tree at its top."""
     here = os.path.dirname(os.path.dirname(os.path.realpath(__file__)))
     for folder in (here, os.path.dirname(here)):
         try:

@@ -30,7 +30,7 @@ NOT_READ_BACK = "what would be appended to it would not be read back as it is"
 DISK_FULL = "no room is left on its disk, or on that of the Maildir"
 UNLESS = ", unless somebody has removed %s from the mailbox"
 # what the name of a Maildir ends in that has been moved aside
-ASIDE = b".back"
+MOVED_ASIDE = b".back"
 Remarks = tuple[Remark, ...]
 
 
@@ -90,7 +90,7 @@ class Folders:
         if self.is_dry or not self.is_right:
             return NOTHING
         ends = b"", *(b"-%d" % number for number in range(2, 100))
-        names = (root.rstrip(b"/") + ASIDE + end for end in ends)
+        names = (root.rstrip(b"/") + MOVED_ASIDE + end for end in ends)
         name = next((name for name in names if not may_be(is_there, name)), None)
         return run_next(Runs.MOVE, operand(root), operand(name)) if name else NOTHING
 

@@ -8,8 +8,8 @@ from typing import Any, Optional
 from ..progress import length
 from ..terminal import complain
 
-# the places in the plan of the mailboxes that go into one folder
-Group = Sequence[int]
+# the places in a plan of the mailboxes that go into one folder: they follow one another
+SameFolder = Sequence[int]
 # on most disks more of them would wait for each other
 MOST = 8
 # how much memory a process may take, with the programs that it runs: enough for a mailbox of 500,000 messages
@@ -36,7 +36,7 @@ def jobs_of(asked: Optional[int], count: int) -> int:
     return jobs
 
 
-def groups_of(folders: Sequence[bytes]) -> list[Group]:
+def in_groups(folders: Sequence[bytes]) -> list[SameFolder]:
     """The mailboxes of a plan in groups, by their places. Mailboxes of one folder are in one group, since they must
     follow one another; one that goes nowhere is a group of its own."""
     groups: dict[tuple[bytes, int], list[int]] = {}
@@ -45,7 +45,7 @@ def groups_of(folders: Sequence[bytes]) -> list[Group]:
     return list(groups.values())
 
 
-def largest_first(groups: Sequence[Group], paths: Sequence[bytes]) -> list[Group]:
+def largest_first(groups: Sequence[SameFolder], paths: Sequence[bytes]) -> list[SameFolder]:
     """Groups of mailboxes, of which each has a path, the largest group first: lest it is alone at the end."""
     sizes = list(map(size_of, paths))
     return sorted(groups, key=lambda places: sum(sizes[place] for place in places), reverse=True)

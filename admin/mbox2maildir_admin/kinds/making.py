@@ -16,7 +16,7 @@ MIGRATE_COPY = Template("migrate-copy", ADMIN + " migrate {all} {copy}")
 # prints the mailboxes in a folder, as Takeouts and `readpst -r` name them
 PRINTS = Single(Template("print-mailboxes", "find {copy} -name '*mbox' -type f"))
 # how the name of a new folder begins that is among the names of a tree: trees pass it over
-ASIDE = b".mbox2maildir-original-"
+ORIGINAL = b".mbox2maildir-original-"
 # how many bytes of a file's name go into the name of the new folder, which has an ending of its own
 LONGEST = 200
 
@@ -78,7 +78,7 @@ class Where(NamedTuple):
             ends = [PRINTS]
         elif self.migrate:
             ends = [Single(MIGRATE_COPY, self.migrate)]
-        aside = new_folder(self.aside, path, ASIDE if self.is_in_tree else b"")
+        aside = new_folder(self.aside, path, ORIGINAL if self.is_in_tree else b"")
         command = Command((aside, Single(makes.template, (*name, *makes.more)), *ends), self.user)
         if not self.migrate or self.is_dry or only_prints:
             return Answer(command, makes.does)

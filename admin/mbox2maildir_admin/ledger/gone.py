@@ -17,7 +17,7 @@ from collections.abc import Iterator, Sequence
 from ..faults import Fault
 from ..maildir.files import mail_in, names_in
 from ..maildir.folders import folders_in
-from ..maildir.making import SUBFOLDERS
+from ..maildir.making import SUBFOLDERS, TMP
 from ..mbox.bases import BASE, FIRST, Table, base_in, before_info, is_own
 from ..mbox.core import SHORT
 from ..remarks import Remark, Says
@@ -50,7 +50,7 @@ def may_be_gone(folder: bytes, table: Table, before: tuple[int, ...]) -> list[in
             with contextlib.suppress(FileNotFoundError):
                 changes[place] = os.lstat(path).st_ctime_ns
     times, placed = times_of(folder), [place for place, change in enumerate(changes) if change]
-    left = [table.own_place(name) for name in names_in(os.path.join(folder, SUBFOLDERS[0])) if is_own(name)]
+    left = [table.own_place(name) for name in names_in(os.path.join(folder, TMP)) if is_own(name)]
     in_tmp = [place for place in left if place is not None and not changes[place]]
     # the place before which it may have placed all messages
     end = len(table)
@@ -182,9 +182,9 @@ def without_line(root: bytes, folder: bytes) -> set[bytes]:
     """The names of this program's that files of a folder have, and no line of a ledger of the Maildir, whatever became
     of its batch. So the ledger of the folder is older than these files."""
     names = set(filter(is_own, (before_info(name) for name, _ in mail_in(folder))))
-    for place in (folder, *folders_in(root)):
+    for path in (folder, *folders_in(root)):
         # what cannot be read explains nothing
         with contextlib.suppress(Fault, OSError):
-            for _, several in pieces_in(place) if names else ():
+            for _, several in pieces_in(path) if names else ():
                 names.difference_update(several.names if several else ())
     return names

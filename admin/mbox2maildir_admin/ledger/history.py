@@ -115,7 +115,8 @@ class RecordLine(NamedTuple):
 
 
 class History:
-    """What was done with which mailbox. A folder is asked for by its name on the disk, a path as it is."""
+    """What was done with which mailbox. A folder is asked for by its name on the disk; a path as it is if it is bytes,
+    and as lines spell it if it is text."""
 
     def __init__(self) -> None:
         # the numbers of the ledgers that folders have, and the folder that has each
@@ -189,9 +190,9 @@ class History:
         """The mailbox that a folder was prepared from last, if nothing of the folder is done since."""
         return self._prepared.get(folder)
 
-    def prepared_from(self, names: Container[str]) -> list[bytes]:
+    def prepared_from(self, paths: Container[str]) -> list[bytes]:
         """The folders that were prepared last from one of some paths, and of which nothing is done since."""
-        return [folder for folder, line in self._prepared.items() if line.path in names]
+        return [folder for folder, line in self._prepared.items() if line.path in paths]
 
     def forget_notes(self, folder: bytes, path: str, *several: Note) -> None:
         """Forgets what is noted of a mailbox in a folder."""
@@ -210,37 +211,37 @@ class History:
     def name_now(self, folder: bytes, path: bytes) -> bytes:
         """The name that a folder has now which was named for the mailbox of a path. Raises OSError if the path can't be
         looked at."""
-        names = names_of(path)
-        several = (folder, *(self._names[folder, name] for name in names if (folder, name) in self._names))
-        return next((one for one in several if self.last_of(one, names)), folder)
+        paths = names_of(path)
+        several = (folder, *(self._names[folder, one] for one in paths if (folder, one) in self._names))
+        return next((one for one in several if self.last_of(one, paths)), folder)
 
     def found_of(self, path: bytes) -> list[bytes]:
         """The folders whose ledgers have a mailbox, if no other line names them. Raises OSError if the path can't be
         looked at."""
-        names = names_of(path)
-        folders = self.folders_with(names)
-        found = [one for one in folders if any(note.path in names for note in self.notes(Note.FOUND, one))]
+        paths = names_of(path)
+        folders = self.folders_with(paths)
+        found = [one for one in folders if any(note.path in paths for note in self.notes(Note.FOUND, one))]
         return found if len(found) == len(folders) else []
 
-    def last_of(self, folder: bytes, names: Container[str]) -> Optional[RecordLine]:
+    def last_of(self, folder: bytes, paths: Container[str]) -> Optional[RecordLine]:
         """The last line with an event of one of some paths in a folder."""
-        return next((one for one in reversed(self.last_events(folder)) if one.path in names), None)
+        return next((one for one in reversed(self.last_events(folder)) if one.path in paths), None)
 
     def folders_of(self, path: bytes) -> list[bytes]:
         """The folders in which a path, or the path that it leads to, has an event, the last one at the end. Raises
         OSError if the path can't be looked at."""
         return self.folders_with(names_of(path))
 
-    def folders_with(self, names: Iterable[str]) -> list[bytes]:
+    def folders_with(self, paths: Iterable[str]) -> list[bytes]:
         """The folders in which one of some paths has an event, the last one at the end."""
-        return list(dict.fromkeys(folder for name in names for folder in self._folders.get(name, {})))
+        return list(dict.fromkeys(folder for path in paths for folder in self._folders.get(path, {})))
 
     def folders_given(self, path: bytes) -> list[bytes]:
         """The same or, if a mailbox has brought nothing, the folder that it was given last. INBOX is not given: a file
         without a folder gets it."""
-        names = names_of(path)
-        given = [self._empty[name] for name in names if self._empty.get(name, INBOX) != INBOX]
-        return self.folders_with(names) or given[:1]
+        paths = names_of(path)
+        given = [self._empty[one] for one in paths if self._empty.get(one, INBOX) != INBOX]
+        return self.folders_with(paths) or given[:1]
 
     def lines(self) -> Iterator[RecordLine]:
         """The lines about the mailboxes of all folders."""

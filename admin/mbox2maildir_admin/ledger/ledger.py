@@ -1,13 +1,6 @@
-"""The ledger of a folder: which messages each mailbox brought there, in lines that are only appended.
-
-Its first line has a number of its own, by which it is known wherever its folder is. A batch begins with a line `@`: its
-number, how many lines it has, how many of these, at the end, are of messages that are placed in their order, how many
-messages may come back that were deleted, when it was begun, when names in the folder were last changed, the mailbox's
-size and SHA-256, the words by which it is read, and its path. Each message has a line: how it came to its file, the
-name of that, the digest of its core and, if that is another one, of its bare form. These lines are an intention. A line
-`+` says that all of them have a file now, and a line `!` that a sync failed. They count once a line `=` says that
-everything of the batch was verified, and is on the disk. A line `>` says that a mailbox was moved, a line `<` that its
-files are being removed, and a line `-` that all of it was undone.
+"""The ledger of a folder: which messages each mailbox brought there, in the lines of docs/LEDGER.md, which are only
+appended. It has a number of its own, by which it is known wherever its folder is. The lines of a batch are an
+intention: they count once all of it was verified, and is on the disk.
 """
 import array
 import collections
@@ -384,10 +377,10 @@ class Ledger(Told):
         numbers = {number for number, batch in self.open.items() if batch.path == path and number > after}
         return (one for _, one in self.messages(numbers, was_nowhere))
 
-    def names(self, *more: Iterable[int]) -> Iterator[bytes]:
+    def names(self, more: Iterable[int] = ()) -> Iterator[bytes]:
         """The names of the files that mailboxes have placed, or share, in batches that have ended, and in more with
         these numbers."""
-        numbers = {*self.ended}.union(*more)
+        numbers = {*self.ended, *more}
         for number, several, _ in self.pieces():
             if number in numbers:
                 named = zip(several.words, several.names)

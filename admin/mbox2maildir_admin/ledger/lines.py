@@ -218,12 +218,12 @@ def want_alone(number: int, folder: bytes, since: int) -> None:
 
 
 def digest_at(digests: Union[bytes, bytearray], at: int) -> bytes:
-    """The digest at a place of a row."""
+    """The digest at a place, of digests one after the other."""
     return bytes(digests[at * SHORT : (at + 1) * SHORT])
 
 
 def counted_in(digests: bytearray, wanted: Optional[Container[bytes]] = None) -> collections.Counter[bytes]:
-    """How often each digest is in a row, or each of those that are wanted."""
+    """How often each digest, or each of those that are wanted, is among digests one after the other."""
     several = (digest_at(digests, at) for at in range(len(digests) // SHORT))
     return collections.Counter(several if wanted is None else (one for one in several if one in wanted))
 

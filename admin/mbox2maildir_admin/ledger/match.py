@@ -136,7 +136,7 @@ class Match:
         self.unlabelled: collections.Counter[bytes] = collections.Counter()
         # the lines of the ledger about these messages, by their cores
         self.lines: dict[bytes, list[Line]] = {}
-        # those of the names in these lines that are there, and files of other programs by their bare forms
+        # those of the names in these lines that are there, and the files that no line explains, by their bare forms
         self.present: set[bytes] = set()
         self.strangers: collections.defaultdict[bytes, list[bytes]] = collections.defaultdict(list)
         # what a row says of new messages, with the path of the mailbox whose file it says that of, and of how many
@@ -179,7 +179,7 @@ class Match:
         return self
 
     def find_known(self) -> None:
-        """Finds what the mailbox did not have before, and what it no longer has."""
+        """Finds what the mailbox has brought before, and what it no longer has."""
         source = self.ledger.sources.get(self.path)
         if source:
             # 1 and 0 are KNOWN and NOWHERE

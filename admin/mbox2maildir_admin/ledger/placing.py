@@ -82,7 +82,7 @@ class Placing:
         match = self.match
         return len(match.lost_lines) + len(match.found) + match.count(Stand.MINE) + len(self.nowhere)
 
-    def files(self, places: Sequence[int]) -> Inventory:
+    def messages_at(self, places: Sequence[int]) -> Inventory:
         """The messages at these places, with the bases of their files."""
         if len(places) == len(self.inventory) and not self.names and not self.match.count(Stand.FRESH):
             return self.inventory

@@ -17,10 +17,11 @@ from typing import NamedTuple, Optional
 from ..faults import Fault, Reason
 from ..looks import is_there
 from ..maildir.files import CLOCK_TICK, digest_of, mail_in, names_in
-from ..maildir.making import PREPARED, WITH_MAIL, sync_folder
+from ..maildir.making import PREPARED, TMP, WITH_MAIL, sync_folder
 from ..mbox.bases import FIRST, Table, base_in, before_info
 from ..mbox.core import SHORT
 from ..mbox.inventory import NO_DATE, Inventory
+from ..progress import milliseconds_since
 from ..remarks import PLACES, Remark
 from ..patterns import pattern
 from ..units import Say
@@ -87,25 +88,15 @@ def facts_of(state: os.stat_result) -> Facts:
     return state.st_ino, state.st_size, max(0, state.st_ctime_ns)
 
 
-def in_milliseconds(seconds: float) -> int:
-    """A time in milliseconds."""
-    return round(1000 * seconds)
-
-
-def milliseconds_since(began: float) -> int:
-    """How many milliseconds have passed since a time of the monotonic clock."""
-    return in_milliseconds(time.monotonic() - began)
-
-
-def home_of(name: bytes, path: bytes) -> bytes:
+def sub_with_info(name: bytes, path: bytes) -> bytes:
     """Where a file is, `new` or `cur`, with its info."""
     return os.path.basename(os.path.dirname(path)) + name[len(before_info(name)) :]
 
 
 @functools.lru_cache(maxsize=1024)
-def shared(home: bytes) -> bytes:
+def shared(sub: bytes) -> bytes:
     """The same bytes, once for all files that have them: a list of others would take much memory."""
-    return home
+    return sub
 
 
 def finish_list(folder: bytes) -> None:
@@ -211,7 +202,7 @@ class Prepared:
         self.is_there = self.has_first_line = False
         self.table, self.facts = Table(), array.array("Q")
         # where each file was when it was verified, `new` or `cur`, with its info
-        self.homes: list[Optional[bytes]] = []
+        self.subs: list[Optional[bytes]] = []
         # what the latest pass has read, and whether it was whole; whether a sync failed, and whether the folder was
         # made for this; and in which batch it is finished
         self.origin: Optional[Origin] = None
@@ -271,7 +262,7 @@ class Prepared:
             if int(file[2]) > MOST_INODE:
                 return False
             self.set_facts(place, (int(file[2]), int(file[3]), int(file[4])))
-            self.homes[place] = shared(file[5])
+            self.subs[place] = shared(file[5])
         if file[6]:
             one = self.messages
             known = self.table.digest(place)[:SHORT] if file[6] == SAME else bytes.fromhex(file[6].decode())
@@ -288,7 +279,7 @@ class Prepared:
             return place
         self.table.keep(base)
         self.facts.extend(READ_AGAIN)
-        self.homes.append(None)
+        self.subs.append(None)
         self.files.append(MISSING)
         self.verified.append(0)
         self.wanted.append(0)
@@ -378,7 +369,7 @@ class Prepared:
     def remove_unwanted(self) -> int:
         """Removes the files that no message wants, if they are still what was looked at, and what a killed run has left
         in `tmp`. Returns how many are not, and stay."""
-        before, tmp = len(self.edited), os.path.join(self.folder, b"tmp")
+        before, tmp = len(self.edited), os.path.join(self.folder, TMP)
         for name in names_in(tmp):
             # the record is locked, so none is at work
             if self.table.own_place(name) is not None:
@@ -420,8 +411,8 @@ class Prepared:
             sync_folder(self.folder)
         self.is_there = self.has_first_line = True
 
-    def names(self) -> Iterator[bytes]:
-        """The lines of what is wanted, and not there."""
+    def missing_lines(self) -> Iterator[bytes]:
+        """The lines of the files that are wanted, and not there."""
         for place, is_wanted in enumerate(self.wanted):
             if is_wanted and not self.files[place]:
                 yield b"p\t%s\n" % self.table.name(place)
@@ -436,18 +427,18 @@ class Prepared:
         if text and places:
             head, lines = [*head, text.as_read.line()], map(self.line, places, map(text.words, range(len(places))))
         # all of them at once would take much memory
-        self.write_part(itertools.chain(head, lines, [WHOLE + b"\n"]))
+        self.write_next(itertools.chain(head, lines, [WHOLE + b"\n"]))
         self.is_there = True
 
     def line(self, place: int, words: bytes = b"") -> bytes:
         """The line of a file that is wanted, with these words about its message; empty for others."""
         if not self.wanted[place]:
             return b""
-        home = self.homes[place]
-        more = b"\t%d\t%d\t%d\t%s%s" % (*self.facts_at(place), home, words) if home else b""
+        sub = self.subs[place]
+        more = b"\t%d\t%d\t%d\t%s%s" % (*self.facts_at(place), sub, words) if sub else b""
         return b"p\t%s%s\n" % (self.table.name(place), more)
 
-    def write_part(self, lines: Iterable[bytes]) -> None:
+    def write_next(self, lines: Iterable[bytes]) -> None:
         """Writes lines into the list beside the other one."""
         flags = os.O_WRONLY | os.O_CREAT | os.O_TRUNC | os.O_NOFOLLOW | os.O_CLOEXEC
         with open(os.open(os.path.join(self.folder, NEXT_LIST), flags, 0o600), "wb") as file:
@@ -460,7 +451,7 @@ class Prepared:
         """Notes that nobody finishes it any more. All files stay in the list."""
         self.wanted = bytearray(b"\1") * len(self.table)
         origin = [self.origin.line()] if self.origin else []
-        self.write_part([*origin, *map(self.line, range(len(self.table)))])
+        self.write_next([*origin, *map(self.line, range(len(self.table)))])
         finish_list(self.folder)
         self.wanted, self.batch = bytearray(len(self.table)), None
         self.is_whole = False
@@ -474,8 +465,8 @@ class Prepared:
         self.facts = array.array("Q", READ_AGAIN) * len(self.table)
         for place, name, path in self.listed():
             if self.wanted[place]:
-                facts, home = facts_of(os.lstat(path)), home_of(name, path)
-                self.homes[place] = shared(home)
+                facts, sub = facts_of(os.lstat(path)), sub_with_info(name, path)
+                self.subs[place] = shared(sub)
                 self.verified[place] &= facts == tuple(looked_at[3 * place : 3 * place + 3])
                 if 0 < facts[2] < before and facts[2] % 10**9:
                     self.set_facts(place, facts)

@@ -18,7 +18,7 @@ from typing import Optional, Union
 from ..faults import Fault, Reason, fault_of
 from ..looks import is_there, may_be
 from ..maildir.folders import folder_path, folders_in, name_of
-from ..maildir.making import LEDGER, RECORD, SyncNames, has_begun, make_alone, sync_folder, synced_once
+from ..maildir.making import LEDGER, RECORD, SyncNames, is_partly_there, make_alone, sync_folder, synced_once
 from ..terminal import named, spelled
 from ..units import Size
 from .history import TIME, Event, History, Key, Note, RecordLine, What
@@ -85,7 +85,7 @@ class Record(History):
     def to_migrate(cls, maildir: bytes, dry: bool) -> Iterator["Record"]:
         """The same for a migration. A Maildir that is not there is made later, once a mailbox was read; a rehearsal
         makes nothing. Raises Fault if a ledger cannot be read, and no line of the index names its folder."""
-        is_open = has_begun(maildir) and not dry
+        is_open = is_partly_there(maildir) and not dry
         if is_open:
             make_alone(maildir)
         with cls.open(maildir, is_open) as record:
@@ -187,15 +187,15 @@ class Record(History):
         for line in filter(None, map(RecordLine.parse, lines)):
             self.take(line)
 
-    def gone(self, place: str) -> list[RecordLine]:
-        """The lines about those mailboxes in a folder that were gone from it when this was asked first."""
-        if place not in self._gone:
-            lines = (line for line in self.lines() if os.path.dirname(line.path) == place)
-            self._gone[place] = [line for line in lines if is_gone(line.path)]
-        return self._gone[place]
+    def gone(self, above: str) -> list[RecordLine]:
+        """The lines about those mailboxes in the folder of this path that were gone when this was asked first."""
+        if above not in self._gone:
+            lines = (line for line in self.lines() if os.path.dirname(line.path) == above)
+            self._gone[above] = [line for line in lines if is_gone(line.path)]
+        return self._gone[above]
 
     def add(self, what: What, key: Key, messages: int, path: bytes, words: Optional[str] = None) -> None:
-        """Appends a line, which is on the disk when this returns."""
+        """Appends a line: see `add_lines`."""
         self.add_lines(RecordLine(what, key, messages, time.strftime(TIME, time.gmtime()), spelled(path), words))
 
     def add_gone(self, folder: bytes, paths: Container[str]) -> None:
@@ -274,15 +274,15 @@ class Record(History):
         return unknown
 
     def add_lines(self, *lines: RecordLine) -> None:
-        """Appends lines at once, which are on the disk when this returns."""
+        """Appends lines at once: `store` puts them on the disk, or the parent of a worker."""
         if lines:
             self.write(*lines)
         for line in lines:
             self.take(line)
 
     def store(self, *lines: RecordLine) -> None:
-        """Puts lines on the disk, once the file is there. Those of the index need no sync. Raises Fault if not all of
-        them could be written."""
+        """Puts lines on the disk. Those of the index need no sync, those of a rehearsal stay in memory, and before the
+        file is made all wait. Raises Fault if not all of them could be written."""
         if self.is_dry:
             return
         if not self.is_open:

@@ -25,7 +25,7 @@ WORTHWHILE = 1 << 14
 # the digest of a file and its owner
 Digested = tuple[Optional[bytes], Optional[int]]
 # a file: the place of the message to which its name belongs, if it belongs to one, its name and its path
-File = tuple[Optional[Place], bytes, bytes]
+ListedFile = tuple[Optional[Place], bytes, bytes]
 # what was read of a file ahead: its digest and its owner, or the error of the read; None if it was not read
 Ahead = Union[Digested, OSError, None]
 # looks at the open file of a message, whose state this is, and gives its digest if that is known without hashing it
@@ -127,14 +127,14 @@ class Check:
                 self.take_copy(place, digest)
         self.find_doubles(maildir)
 
-    def read_ahead(self, files: Iterable[File], again: bool) -> Iterator[tuple[File, Ahead]]:
+    def read_ahead(self, files: Iterable[ListedFile], again: bool) -> Iterator[tuple[ListedFile, Ahead]]:
         """Yields the files in their order. Several threads read ahead those that are read as a message's."""
         if self.threads == 1:
             yield from ((file, None) for file in files)
             return
         from concurrent.futures import Future, ThreadPoolExecutor
 
-        ahead: "collections.deque[Future[list[tuple[File, Ahead]]]]" = collections.deque()
+        ahead: "collections.deque[Future[list[tuple[ListedFile, Ahead]]]]" = collections.deque()
         left = iter(files)
         with ThreadPoolExecutor(self.threads) as pool:
             try:
@@ -148,9 +148,9 @@ class Check:
                 for batch_ahead in ahead:
                     batch_ahead.cancel()
 
-    def read_some(self, files: list[File], again: bool) -> list[tuple[File, Ahead]]:
+    def read_some(self, files: list[ListedFile], again: bool) -> list[tuple[ListedFile, Ahead]]:
         """Reads those of some files that are read as a message's. The others are left for later."""
-        some: list[tuple[File, Ahead]] = []
+        some: list[tuple[ListedFile, Ahead]] = []
         for file in files:
             place, _, path = file
             ahead: Ahead = None
@@ -198,7 +198,7 @@ class Check:
         """Reads the file of a message."""
         return digest_of(path, look=functools.partial(self.look_first, place) if self.look_first else None)
 
-    def look_at(self, file: File, ahead: Ahead, again: bool) -> None:
+    def look_at(self, file: ListedFile, ahead: Ahead, again: bool) -> None:
         """Looks at a file that has a message's base, or at any other file, which may have a message's bytes."""
         place, name, path = file
         if place is None:

@@ -88,6 +88,7 @@ class Dating:
                 place = table.place(name)
                 if place is not None:
                     try:
+                        # no size is asked for, so the file is opened, and not hashed
                         digest_of(path, (), functools.partial(self.give, place))
                     except FileNotFoundError:
                         # the file was renamed meanwhile

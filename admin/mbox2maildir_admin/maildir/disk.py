@@ -22,7 +22,7 @@ from ..remarks import Remark, Says
 from ..signals import INTERRUPTS
 from ..terminal import is_text, named
 from .files import changed_at, paths_of
-from .making import SUBFOLDERS, WITH_MAIL, open_folder, sync_folder
+from .making import SUBFOLDERS, TMP, WITH_MAIL, open_folder, sync_folder
 
 # the beginning of the names of files that are made to see what fails, and of copies until they are complete
 PREFIX = b"." + ADMIN.encode() + b"-"
@@ -66,7 +66,7 @@ class Need(NamedTuple):
 
     @classmethod
     def of(cls, folder: bytes, sizes: Collection[int], copy: int = 0, freed: Collection[int] = ()) -> "Need":
-        """Returns what files of these sizes need, and a copy of this size, once files of other sizes are removed."""
+        """What files of these sizes need, and a copy of this size, once files of other sizes are removed."""
         there = folder_there(folder)
         block = os.statvfs(there).f_frsize or 4096
         size, less = (sum(-(-size // block) * block for size in several) for several in (sizes, freed))
@@ -103,7 +103,7 @@ def what_fails(folder: bytes, size: int) -> Optional[str]:
 
     step, path = "make a file in tmp", None
     try:
-        number, path = tempfile.mkstemp(prefix=PREFIX, dir=os.path.join(folder, b"tmp"))
+        number, path = tempfile.mkstemp(prefix=PREFIX, dir=os.path.join(folder, TMP))
         with os.fdopen(number, "wb", 0) as file:
             step = "write %d bytes in tmp" % size
             while size > 0:
@@ -272,7 +272,7 @@ class Syncs(Generic[One]):
         folders: dict[int, bytes] = {}
         for maildir in (maildir for _, maildir in self.waiting if maildir):
             # symbolic links may put its mail on other disks
-            for path in (maildir, os.path.join(maildir, b"new"), os.path.join(maildir, b"cur")):
+            for path in (maildir, *(os.path.join(maildir, sub) for sub in WITH_MAIL)):
                 folders.setdefault(os.stat(path).st_dev, path)
         for disk, path in folders.items():
             if disk in self.failed:
@@ -292,7 +292,7 @@ def sync_disk(path: bytes) -> None:
 
 @functools.lru_cache(maxsize=None)
 def call_of_system() -> Callable[[int], None]:
-    """Returns the function that syncs the disk of an open file: the call syncfs. If Python cannot make it, all disks
+    """The function that syncs the disk of an open file: the call syncfs. If Python cannot make it, all disks
     are synced by a call that reports no error, as syncfs itself reported none before Linux 5.8."""
     try:
         # the module is loaded only here, so that the other commands do not wait for it

@@ -12,9 +12,9 @@ from ..looks import is_folder, is_there, real_path, upwards, way_to
 from ..nexts import Answer, Command, Runs, Todo, run_next, task
 from ..terminal import named, operand, text_of
 
-# the folders that have the mail: programs move files from the first one into the second
-WITH_MAIL = b"new", b"cur"
-SUBFOLDERS = b"tmp", *WITH_MAIL
+# where files are made, and the folders that have the mail: programs move files from the first of these into the second
+TMP, WITH_MAIL = b"tmp", (b"new", b"cur")
+SUBFOLDERS = TMP, *WITH_MAIL
 # marks a folder of a Maildir
 MARK = b"maildirfolder"
 # the record of a migration has this name; a Maildir without other names is known by it
@@ -49,7 +49,7 @@ def want_maildir(maildir: bytes) -> None:
         raise Fault("it is neither a Maildir nor empty", Reason.NO_MAILDIR, then, place=maildir)
 
 
-def has_begun(maildir: bytes) -> bool:
+def is_partly_there(maildir: bytes) -> bool:
     """Whether there is a Maildir, or a part of one."""
     return any(is_there(os.path.join(maildir, name)) for name in (*SUBFOLDERS, RECORD))
 

@@ -25,7 +25,7 @@ from ..maildir.checking import DOUBLE, DOUBTFUL_LINE, Check
 from ..maildir.dating import Dating
 from ..maildir.disk import what_fails, why_not_listed
 from ..maildir.files import mail_in
-from ..maildir.making import PREPARED
+from ..maildir.making import PREPARED, TMP
 from ..mbox.bases import base_in, before_info, is_own, own_base_in
 from ..mbox.core import beginning_of
 from ..mbox.files import BLOCK, Reader, open_file
@@ -97,7 +97,7 @@ def prepare(steps: Steps, first: FirstPass, program: Program) -> list[Remark]:
     known, contents, prepared = steps.known, steps.contents, first.prepared
     known.record.make()
     prepared.make_folder()
-    prepared.append(first.origin.line(), *prepared.names())
+    prepared.append(first.origin.line(), *prepared.missing_lines())
     known.record.make(steps.opened.make_folder)
     before = known.record.prepared(steps.opened.name)
     if not before or (before.key, before.path) != (known.key, known.path):
@@ -120,7 +120,7 @@ def begin(steps: Steps, own: OtherPass, more: int = 0) -> int:
     if prepared:
         record.make()
         prepared.make_folder()
-        prepared.append(*([origin.line()] if origin else []), *prepared.names(), b">\t%d\n" % (ledger.last + 1))
+        prepared.append(*([origin.line()] if origin else []), *prepared.missing_lines(), b">\t%d\n" % (ledger.last + 1))
     record.make(opened.make_folder, ledger.make)
     words, inode, now = steps.contents.reading.words(), mailbox.state.st_ino, int(time.time())
     its = times_of(opened.folder), mailbox.key(), words, known.path, inode, now
@@ -165,7 +165,7 @@ def place_messages(steps: Steps, program: Program) -> Converted:
     if placing.rest < len(inventory):
         ran = place(text, inventory.offset(placing.rest))
         return ran._replace(placed=placed + ran.placed)
-    if not before and (not steps.own.prepared or any(map(base_in, os.listdir(os.path.join(folder, b"tmp"))))):
+    if not before and (not steps.own.prepared or any(map(base_in, os.listdir(os.path.join(folder, TMP))))):
         # for a text without mail, the program removes its own names from `tmp`: a power cut may have kept files there
         # that it also kept in `new` or `cur`
         with open(os.devnull, "rb") as nothing:

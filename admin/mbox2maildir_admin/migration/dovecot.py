@@ -30,7 +30,7 @@ from ..ledger.record import Record
 from ..looks import is_there
 from ..maildir.files import names_in
 from ..maildir.folders import INBOX, folder_of_place, folder_shown
-from ..maildir.making import sync_folder
+from ..maildir.making import TMP, sync_folder
 from ..mbox.fields import headers_at
 from ..mbox.files import WHOLE, open_file, read_up_to
 from ..mbox.lock_file import Spot, drop_lock, make_held
@@ -260,7 +260,7 @@ def replace(path: bytes, text: bytes, new: bytes) -> None:
 
 def part_path(folder: bytes, name: bytes) -> bytes:
     """The path at which a file is written before it gets its name."""
-    return os.path.join(folder, b"tmp", b"mbox2maildir-admin-" + name)
+    return os.path.join(folder, TMP, b"mbox2maildir-admin-" + name)
 
 
 def remove_part(folder: bytes, name: bytes) -> None:

@@ -20,7 +20,6 @@ from ..ledger.gone import back_in, gone_before, gone_from, placed_again, unexpla
 from ..ledger.history import Key, Note
 from ..ledger.ledger import Ledger, count_in, has_failed
 from ..ledger.match import Files, Match, Stand
-from ..ledger.prepared import in_milliseconds, milliseconds_since
 from ..ledger.record import Record, unspelled
 from ..looks import is_folder
 from ..maildir.disk import Need, want_room, want_syncs
@@ -30,7 +29,7 @@ from ..mbox.locks import open_mailbox, snapshot
 from ..mbox.mailbox import CHANGED_MEANWHILE, Mailbox
 from ..nexts import NOTHING, Answer, Does, Next, Phrase
 from ..program import Program
-from ..progress import Spent
+from ..progress import Spent, in_milliseconds, milliseconds_since
 from ..readings.copies import unnamed
 from ..readings.plans import NoMail, NotKnown, OtherKind, Question
 from ..readings.reading import UNDECIDED, Reading
@@ -528,9 +527,9 @@ class Transfer:
 
     def want_sure(self, contents: Contents, match: Match) -> None:
         """Raises Left if nobody knows what the files of the folder are, or whether it is the same mailbox."""
-        strangers = unexplained(self.opened.root, match) if match.count(Stand.NOWHERE) else []
-        if strangers:
-            left = Left(PARTLY_THERE % len(strangers), Reason.PARTLY_THERE)
+        bases = unexplained(self.opened.root, match) if match.count(Stand.NOWHERE) else []
+        if bases:
+            left = Left(PARTLY_THERE % len(bases), Reason.PARTLY_THERE)
             if self.options.prepare:
                 raise left
             raise self.left_to_place(left, contents, self.matched_again(self.ledger, contents))

@@ -49,11 +49,10 @@ from ..ledger.prepared import (
     ReadText,
     aside_of,
     has_list,
-    home_of,
-    milliseconds_since,
     origin_in,
     remove_aside,
     remove_list,
+    sub_with_info,
 )
 from ..ledger.record import Record, unspelled
 from ..looks import is_folder, is_there, may_be, real_path, top_above
@@ -64,7 +63,7 @@ from ..mbox.bases import base_in, before_info, own_base_in
 from ..mbox.dates import seconds_of
 from ..mbox.inventory import NO_DATE
 from ..nexts import NOTHING, Answer, Does, Next, Runs, Todo, run_next, task
-from ..progress import Spent
+from ..progress import Spent, milliseconds_since
 from ..readings.plans import Plan
 from ..readings.reading import UNDECIDED, Reading
 from ..readings.texts import Choice, Text
@@ -170,11 +169,11 @@ class Preparation:
     def give_names_back(self) -> None:
         """Gives files the names that they were prepared with. Those that only the killed run has placed are removed."""
         for place, name, path in list(self.prepared.listed()):
-            home = self.prepared.homes[place]
-            if home is None and digest_of(path)[0] == self.prepared.table.digest(place):
+            sub = self.prepared.subs[place]
+            if sub is None and digest_of(path)[0] == self.prepared.table.digest(place):
                 os.unlink(path)
-            elif home and home != home_of(name, path):
-                target = os.path.join(self.folder, home[:3], before_info(name) + home[3:])
+            elif sub and sub != sub_with_info(name, path):
+                target = os.path.join(self.folder, sub[:3], before_info(name) + sub[3:])
                 if not is_there(target):
                     os.rename(path, target)
 
@@ -284,12 +283,12 @@ def reader_in(record: Record, name: bytes, prepared: Prepared) -> Optional[bytes
         if file.startswith(b"dovecot") and not is_ours:
             return os.path.join(folder, file)
     for file, path in mail_in(folder):
-        home, at = home_of(file, path), prepared.table.place_of(base_in(file))
+        sub, at = sub_with_info(file, path), prepared.table.place_of(base_in(file))
         if at is None:
-            is_read = home.startswith(b"cur")
+            is_read = sub.startswith(b"cur")
         else:
-            is_own, before = own_base_in(file) is not None, prepared.homes[at]
-            is_read = not is_own or not prepared.batch and before is not None and home != before
+            is_own, before = own_base_in(file) is not None, prepared.subs[at]
+            is_read = not is_own or not prepared.batch and before is not None and sub != before
         if is_read:
             return path
     return None

@@ -5,7 +5,7 @@ from collections.abc import Callable, Iterator, Sequence
 from typing import TYPE_CHECKING, Optional
 
 from ..faults import Fault, Left, Reason
-from ..jobs.order import Group, InOrder, groups_of, jobs_of, largest_first
+from ..jobs.order import InOrder, SameFolder, in_groups, jobs_of, largest_first
 from ..kinds.folders import is_maildir
 from ..ledger.record import Record
 from ..looks import is_below, is_file, is_folder, is_link, is_surely, is_there, real_path, type_at
@@ -138,7 +138,7 @@ class Several:
         folders = [
             one.folder and real_path(one.folder_in(self.migration.record.maildir)) for one in plan if options.jobs != 1
         ]
-        groups = groups_of(folders)
+        groups = in_groups(folders)
         jobs, rows = min(jobs_of(options.jobs, len(groups)), len(groups)), InOrder(self.observer.row)
         try:
             if jobs > 1 and any(is_mbox(one.target or one.path) for one in plan):
@@ -160,7 +160,7 @@ class Several:
             rows.end()
         return [one for one in plan if one.path not in self.found]
 
-    def migrate_at_once(self, plan: Sequence[Planned], groups: Sequence[Group], jobs: int, rows: InOrder) -> None:
+    def migrate_at_once(self, plan: Sequence[Planned], groups: Sequence[SameFolder], jobs: int, rows: InOrder) -> None:
         """Migrates the mailboxes of several folders at the same time. What ends first is noted first."""
         from .workers import Orders, Workers
 

@@ -141,7 +141,7 @@ class Steps(NamedTuple):
     ) -> "Steps":
         """What is to be done by what was found of the messages."""
         placing, places = Placing(match), match.places(Stand.NOWHERE, Stand.MINE, Stand.FRESH)
-        ledger, files = known.ledger, placing.files(places)
+        ledger, files = known.ledger, placing.messages_at(places)
         before = known.is_begun, known.path in ledger.sources, ledger.begun.get(known.path, int(time.time()))
         return cls(known, contents, placing, extra, own, places, files, *before)
 

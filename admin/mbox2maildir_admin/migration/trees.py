@@ -18,7 +18,7 @@ from ..kinds.folders import (
     messages_of_mh,
     next_of_mh,
 )
-from ..kinds.making import ASIDE
+from ..kinds.making import ORIGINAL
 from ..kinds.named import is_no_mail
 from ..ledger.history import History, names_of
 from ..looks import is_folder, is_surely, is_there, may_be, real_path, state_at, type_at
@@ -151,7 +151,7 @@ class Tree:
             self.leave(entry.path, Left(error.strerror, Reason.ERROR))
             return False
         if stat.S_ISDIR(state.st_mode):
-            if entry.name.startswith(ASIDE):
+            if entry.name.startswith(ORIGINAL):
                 self.pass_over(entry.path, Says.PUT_ASIDE.of())
                 return False
             key = state.st_dev, state.st_ino

@@ -7,7 +7,7 @@ from typing import Any, NamedTuple, Optional
 
 from ..faults import Left, Reason
 from ..jobs.crew import Child, Crew, Parent
-from ..jobs.order import Group
+from ..jobs.order import SameFolder
 from ..ledger.history import BY_WORD, Key, RecordLine
 from ..ledger.record import Record
 from ..maildir.disk import Need, want_room
@@ -23,9 +23,9 @@ class Work(Parent):
     """The work of a worker: it asks its parent for whatever concerns other workers too."""
 
     # the groups of mailboxes that it may be told to do, by the places of their first ones
-    waiting: Mapping[int, Group] = {}
+    waiting: Mapping[int, SameFolder] = {}
 
-    def groups(self) -> Iterator[Group]:
+    def groups(self) -> Iterator[SameFolder]:
         """The next groups of mailboxes, as long as there are any. Each is told by its first one: an answer must fit
         into a pipe, and one folder may have any number of mailboxes."""
         return (self.waiting[first] for first, in iter(lambda: tuple(self.ask("next")), ()))
@@ -67,7 +67,7 @@ class Orders(NamedTuple):
 class Worker(Child):
     """A process at work for some mailboxes of one folder."""
 
-    def __init__(self, places: Group) -> None:
+    def __init__(self, places: SameFolder) -> None:
         super().__init__()
         # the mailboxes that it has told no row of yet
         self.places = list(places)
@@ -82,7 +82,7 @@ class Workers(Crew):
 
     parent = Work
 
-    def __init__(self, jobs: int, groups: Sequence[Group], orders: Orders) -> None:
+    def __init__(self, jobs: int, groups: Sequence[SameFolder], orders: Orders) -> None:
         super().__init__(jobs)
         self.takes.update(at=self.take_progress, ask=self.take_question, became=self.take_row)
         self.takes["begins"] = lambda _: orders.observer.begin()
