@@ -58,16 +58,16 @@ class Program:
         self.path, self.alive = path, alive
 
     def convert(
-        self, number: int, start: Offset, folder: bytes, kept: int, say_offset: Callable[[Offset], None]
+        self, number: int, start: Offset, folder: bytes, locked: int, say_offset: Callable[[Offset], None]
     ) -> Converted:
         """Converts an open text from an offset on. Nobody else may move the offset meanwhile. `say_offset` takes the
-        offset when it has changed. The program inherits the lock of the text, and that of the file `kept`."""
+        offset when it has changed. The program inherits the lock of the text, and that of the file `locked`."""
         os.lseek(number, start, os.SEEK_SET)
         # the program runs in the folder, since a Maildir's name there is UTF-8 whatever its path is
         with running(
             [self.path, b"convert", b"."],
             cwd=folder,
-            pass_fds=[kept],
+            pass_fds=[locked],
             stdin=number,
             stdout=subprocess.PIPE,
             stderr=subprocess.PIPE,

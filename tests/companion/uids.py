@@ -159,7 +159,7 @@ def another_list(home: Path) -> None:
             "os.link",
             "tmp/mbox2maildir-admin-dovecot-uidlist",
             "dovecot-uidlist is there by now: Dovecot has looked at this folder and keeps the UIDs that it gave: "
-            "run this again, which goes on without its numbers",
+            "run this again, which goes on without its UIDs",
         ),
     ):
         comes = Meanwhile(home, thing, pattern, lambda _: None if path.write_text("3 V1 N1\n") else None)

@@ -74,12 +74,12 @@ class Way(NamedTuple):
         """A folder on the disk where copies are made."""
         return self.options.disk(self.record.maildir)
 
-    def say_numbers(self, target: Target, mailbox: Mailbox) -> tuple[Numbering, Known]:
+    def say_uids(self, target: Target, mailbox: Mailbox) -> tuple[Numbering, Known]:
         """Has an open mailbox say which UIDs were given, before it gets mail: if that is interrupted, some are never
         given. Returns what it says from now on, and what is known of it."""
         opened = Opened.into(self.record.maildir, target.folder, mailbox)
         ledger = Ledger(opened.folder, dry=self.options.dry)
-        # the numbers of its folder, whatever the names of both are now
+        # the UIDs of its folder, whatever the names of both are now
         is_numbered = self.record.has_numbered({*filter(is_gone, ledger.paths()), *names_of(mailbox.path)})
         if self.options.dovecot:
             name = self.places.name_of(target.path, target.folder)
@@ -91,7 +91,7 @@ class Way(NamedTuple):
         return numbering, Known(self.record, ledger, opened)
 
     @contextlib.contextmanager
-    def opened(self, path: bytes) -> Iterator[Mailbox]:
+    def mailbox_at(self, path: bytes) -> Iterator[Mailbox]:
         """Opens a mailbox, and holds all of its locks."""
         dry, say = self.options.dry, self.observer.say(path)
         with contextlib.ExitStack() as stack:
@@ -116,24 +116,24 @@ class Way(NamedTuple):
 
     def append(self, target: Target) -> Returned:
         """Appends to a mailbox what did not come from it. Raises TakesNothing if it takes none."""
-        with self.opened(target.path) as mailbox:
+        with self.mailbox_at(target.path) as mailbox:
             if line_of(self.record, mailbox):
                 # a message without labels would keep all others from their folders
                 raise TakesNothing("it is a Takeout in the folders of its labels", Reason.OTHER_KIND)
-            numbering, known = self.say_numbers(target, mailbox)
+            numbering, known = self.say_uids(target, mailbox)
             for style in styles_of(known, self.disk, self.options.dovecot):
                 with contextlib.suppress(NotAsItIs):
                     return Appending(self, target, known, style, numbering).run()
         raise TakesNothing("nothing can be appended to it", Reason.OTHER_KIND)
 
-    def number(self, target: Target) -> Row:
+    def row_without_mail(self, target: Target) -> Row:
         """The row of a mailbox that takes no mail, once it says which UIDs were given. It also says what keywords of
         mail that went back before are to be added."""
         row = nothing_new(target)
         if not self.options.dovecot or not is_file(target.path):
             return row
-        with self.opened(target.path) as mailbox:
-            numbering, known = self.say_numbers(target, mailbox)
+        with self.mailbox_at(target.path) as mailbox:
+            numbering, known = self.say_uids(target, mailbox)
             if numbering.is_incomplete:
                 # what cannot be read as it was is said once mail goes back
                 with contextlib.suppress(Left):
@@ -317,7 +317,7 @@ class Appending:
         head = BatchHead.without_files(len(lines), key, self.style.words, self.known.path, mailbox.state.st_ino)
         number = self.known.ledger.begin(head, lines)
         if self.numbering.first:
-            # a further run knows the numbers of the Maildir as those of the mailbox
+            # a further run knows the UIDs of the Maildir as those of the mailbox
             self.way.record.add(Note.NUMBERED, Key(self.opened.name, *key), len(goes.entries), mailbox.path)
         return number
 

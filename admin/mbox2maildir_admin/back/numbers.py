@@ -44,7 +44,7 @@ from .mails import Mail, Target
 # so many bytes each disk writes at once, or not at all
 SECTOR = 512
 NOT_KEPT = "another program has changed its first message meanwhile"
-NO_BASE, NO_ROOM = "it had given the mailbox no UIDs", "the first message has no room for their names"
+NO_UIDS, NO_ROOM = "it had given the mailbox no UIDs", "the first message has no room for their names"
 # in the place of a UID
 NONE = 1 << 32
 # a line of a list about a file, and one about a keyword
@@ -90,7 +90,7 @@ def lines_of(folder: bytes, name: bytes) -> Iterable[bytes]:
         return
 
 
-class Base(NamedTuple):
+class UidLine(NamedTuple):
     """The line `X-IMAPbase` or `X-IMAP` in the header of a mailbox's first message, in which Dovecot keeps UIDVALIDITY,
     the last UID that was given, and the names of keywords: what it says, the header that it is in, where that begins in
     the mailbox, and where the value of the line begins and ends in the header. In a mailbox that Dovecot keeps empty by
@@ -104,7 +104,7 @@ class Base(NamedTuple):
     rest: bytes = b""
 
     @classmethod
-    def of(cls, mailbox: Mailbox) -> Optional["Base"]:
+    def of(cls, mailbox: Mailbox) -> Optional["UidLine"]:
         """That of a mailbox; None if it has none."""
         start = text_start(mailbox)
         if start is None:
@@ -119,9 +119,9 @@ class Base(NamedTuple):
         return None
 
     def header_with(self, wanted: MailboxHead, keywords: Sequence[bytes]) -> Optional[bytes]:
-        """The header with these numbers, and with these keywords after those that are named. Unless the rest may move,
-        it grows into the blanks that Dovecot leaves in a header; None if there are too few, or if a power cut could
-        take bytes away, since the disk does not write all that changes at once."""
+        """The header with this UIDVALIDITY and last UID, and with these keywords after those that are named. Unless the
+        rest may move, it grows into the blanks that Dovecot leaves in a header; None if there are too few, or if a
+        power cut could take bytes away, since the disk does not write all that changes at once."""
         value = self.header[self.begin : self.end]
         found = HEAD.match(value)
         assert found, "it is a head"
@@ -176,7 +176,7 @@ class Numbering:
 
     def __init__(self, name: str = "", listed: Optional[Listed] = None, is_numbered: bool = False) -> None:
         """`name` is that by which Dovecot knows the mailbox, if it does. `is_numbered` says whether the folder got the
-        numbers of the mailbox when it was migrated."""
+        UIDs of the mailbox when it was migrated."""
         self.name, self.listed, self.is_numbered = name, listed, is_numbered
         self.remarks: list[Remark] = []
         self.next: Next = NOTHING
@@ -196,25 +196,25 @@ class Numbering:
     def say(self, mailbox: Mailbox, target: Target, is_dry: bool) -> None:
         """Has the mailbox say what it is to say of its UIDs and keywords, before mail is appended: if that is
         interrupted, some UIDs are never given."""
-        base, new = Base.of(mailbox) if mailbox.size else None, list[bytes]()
-        if base:
-            self.named = set(map(bytes.lower, base.head.keywords))
-            new = self.raise_numbers(mailbox, base, self.unnamed(target.mails), is_dry)
+        line, new = UidLine.of(mailbox) if mailbox.size else None, list[bytes]()
+        if line:
+            self.named = set(map(bytes.lower, line.head.keywords))
+            new = self.raise_uids(mailbox, line, self.unnamed(target.mails), is_dry)
         elif mailbox.size:
-            self.why = NO_BASE
+            self.why = NO_UIDS
         elif self.listed:
             numbers, new = (self.listed.validity, self.listed.following - 1), self.unnamed(target.mails)
             self.first, self.is_same = b" ".join([b"X-IMAPbase: %d %010d" % numbers, *new]), True
         self.named.update(map(bytes.lower, new))
         self.is_incomplete = bool(self.unnamed([*target.returned, *target.mails]))
 
-    def raise_numbers(self, mailbox: Mailbox, base: Base, names: Sequence[bytes], is_dry: bool) -> list[bytes]:
+    def raise_uids(self, mailbox: Mailbox, line: UidLine, names: Sequence[bytes], is_dry: bool) -> list[bytes]:
         """Has the first message say all that it has room for; of the rest, says what has Dovecot write it. Returns the
         keywords among these for which there is room."""
-        wanted, head = self.wanted(base.head), base.head
-        header, new = base.header_with(wanted, []), list[bytes]()
+        wanted, head = self.wanted(line.head), line.head
+        header, new = line.header_with(wanted, []), list[bytes]()
         for name in names:
-            longer = base.header_with(wanted, [*new, name])
+            longer = line.header_with(wanted, [*new, name])
             if longer:
                 header, new = longer, [*new, name]
         self.is_same, self.given = self.listed is not None and self.listed.validity == wanted.validity, wanted.last
@@ -228,8 +228,8 @@ class Numbering:
         if more and not header:
             self.remarks = [Says.UIDS_NOT_RAISED.of()]
             self.next = run_next(Runs.UPDATE_MAILBOX, *of_this_user(), *more, self.name)
-        if header and header != base.header and not is_dry:
-            base.write(mailbox, header)
+        if header and header != line.header and not is_dry:
+            line.write(mailbox, header)
         return new
 
     def wanted(self, head: MailboxHead) -> MailboxHead:

@@ -150,7 +150,7 @@ class Folders:
         try:
             yield from self.recovered(target.folder)
             if not target.mails:
-                yield self.way.number(target)
+                yield self.way.row_without_mail(target)
                 return
             several = self.places.of(target.folder)
         except (Fault, OSError) as fault:
@@ -176,7 +176,7 @@ class Folders:
             same = [one for one in paths if os.stat(one).st_ino == journal.inode]
             # another file at its path may be a copy of it
             for path in (same or paths)[:1]:
-                with self.way.opened(path) as mailbox:
+                with self.way.mailbox_at(path) as mailbox:
                     line = journal.recover(mailbox)
                 if line is not None:
                     yield left(Target(path, folder, ()), Left(TORN % line, Reason.TORN))

@@ -226,14 +226,14 @@ def rows_once_synced(several: Sequence[tuple[Outcome, Optional[OSError]]]) -> li
     for place, (one, fault) in enumerate(several):
         with leaving(rows, place):
             if fault:
-                raise sync_failed(one.folder, one.batch)
+                raise sync_failed(one.folder_path, one.batch)
             if one.state and one.batch and not is_still(one.path, one.state):
                 raise Left(CHANGED_MEANWHILE, Reason.CHANGED)
             if one.batch:
-                ended[one.folder][place] = one
-            elif one.folder:
+                ended[one.folder_path][place] = one
+            elif one.folder_path:
                 # of a first pass
-                finish_list(one.folder)
+                finish_list(one.folder_path)
     for folder, its in ended.items():
         with leaving(rows, *its):
             append(folder, [END_LINE % one.batch for one in its.values() if one.batch])

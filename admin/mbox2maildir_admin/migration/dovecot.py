@@ -55,7 +55,7 @@ CHANGED = "Dovecot is changing %s"
 NUMBERED_BY_DOVECOT = "Dovecot has looked at this folder and keeps the UIDs that it gave"
 OF_ANOTHER = "%s has the UIDs of another mailbox"
 AFTER_THOSE = "%s, and Dovecot gives these messages UIDs after those"
-GOES_ON = "run this again, which goes on without its numbers"
+GOES_ON = "run this again, which goes on without its UIDs"
 WHAT_IS_NEW = Says.UIDS_OF_NEW.of()
 DONE_WITHOUT = Says.WITHOUT_UIDS.of("it was migrated without --dovecot")
 
@@ -65,7 +65,7 @@ NoteFile = Callable[[bytes, int, str], None]
 
 
 class Dovecot(Extra):
-    """Brings numbers, flags and keywords of a mailbox into the folder, as Dovecot's mbox driver read them. Leaves out
+    """Brings UIDs, flags and keywords of a mailbox into the folder, as Dovecot's mbox driver read them. Leaves out
     the header fields that hold them, which that driver hides."""
 
     IS_BARE = True
@@ -80,7 +80,7 @@ class Dovecot(Extra):
         return end if head else start
 
     def hindrance(self, one: Steps) -> Optional[Left]:
-        """Why the folder cannot get the numbers of the mailbox, if it can't."""
+        """Why the folder cannot get the UIDs of the mailbox, if it can't."""
         try:
             if not one.was_begun:
                 self.kept_from(one)
@@ -100,7 +100,7 @@ class Dovecot(Extra):
                 remove_lists(self.record, one.opened, one.known.path)
             self.write(one, found)
         elif one.contents.is_bare:
-            # the folder keeps its numbers, and its new messages get those flags of their headers that their files lack
+            # the folder keeps its UIDs, and its new messages get those flags of their headers that their files lack
             marks = [marks_of(fields_of(one.contents.header(Place(place))), {}) for place in one.places]
             letters = [info_of(its, "") for its in marks]
             listed = {Place(place) for place, its in enumerate(marks) if is_listed(its)}
@@ -114,7 +114,7 @@ class Dovecot(Extra):
         head, folder = first_head(one.contents.full.mailbox, one.contents.full.start), one.opened.folder
         text = content_of(os.path.join(folder, LIST), LONGEST_LIST) or b""
         found = FIRST.match(text)
-        # a list with another UIDVALIDITY is about other numbers
+        # a list with another UIDVALIDITY is about other UIDs
         if head and found and int(found[1]) == head.validity and int(found[2]) <= head.last:
             new = text[: found.start(2)] + b"%d" % (head.last + 1) + text[found.end(2) :]
             if is_written(self.record, one.opened.name, folder, LIST):
@@ -122,7 +122,7 @@ class Dovecot(Extra):
             replace(os.path.join(folder, LIST), text, new)
 
     def look(self, one: Steps) -> tuple[list[Remark], Optional[FromHeaders]]:
-        """What is to be said, and what was read of the mailbox, if the folder gets numbers."""
+        """What is to be said, and what was read of the mailbox, if the folder gets UIDs."""
         full = one.contents.full
         head, _ = internal_head(full.mailbox, full.start)
         lost = one.contents.unquoted(one.places)
@@ -166,7 +166,7 @@ class Dovecot(Extra):
         return lambda file, size, digest: self.record.add(Note.WROTE, Key(name, Size(size), digest), 0, file)
 
     def kept_from(self, one: Steps) -> Optional[list[Remark]]:
-        """What is to be said if the folder keeps the numbers that it has; None if it gets some now."""
+        """What is to be said if the folder keeps the UIDs that it has; None if it gets some now."""
         opened = one.opened
         numbered = self.record.numbered(opened.name)
         if numbered and numbered.path not in names_of(opened.mailbox.path):

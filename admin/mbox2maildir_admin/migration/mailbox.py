@@ -97,7 +97,7 @@ class Migration:
         # the batches of each folder's ledger that were verified, and whose disk is not synced yet; and the last ledger,
         # while mailboxes go into its folder
         self.verified: collections.defaultdict[bytes, set[int]] = collections.defaultdict(set)
-        self.kept: Optional[Ledger] = None
+        self.last_ledger: Optional[Ledger] = None
 
     @property
     def disk(self) -> bytes:
@@ -116,7 +116,7 @@ class Migration:
                 row = row_unchanged(self.record, self.options, path, name, say)
                 if row:
                     return Outcome(row)
-            with self.opened(path, say, follow, not (why or self.options.now)) as mailbox:
+            with self.mailbox_at(path, say, follow, not (why or self.options.now)) as mailbox:
                 opened = Opened.into(self.record.maildir, name, mailbox)
                 try:
                     return Outcome(self.judge(opened, why)) if why else self.migrate_opened(opened)
@@ -135,7 +135,7 @@ class Migration:
         except (Fault, OSError) as fault:
             return Outcome(row_left(path, name, fault))
 
-    def opened(self, path: bytes, say: Say, follow: bool, quiet: bool) -> Mailbox:
+    def mailbox_at(self, path: bytes, say: Say, follow: bool, quiet: bool) -> Mailbox:
         """A mailbox that is open and locked or, while people use it, a copy of it."""
         if not self.options.prepare:
             return open_mailbox(path, say=say, follow=follow, quiet=quiet)
@@ -164,7 +164,7 @@ class Migration:
 
     def transfer(self, opened: Opened, part: Optional[Part] = None) -> Outcome:
         """Brings a mailbox, or a part of it, into its folder, and returns what became of that."""
-        verified, ledger, self.kept = self.verified[opened.name], self.kept, None
+        verified, ledger, self.last_ledger = self.verified[opened.name], self.last_ledger, None
         if not ledger or ledger.folder != opened.folder:
             ledger = Ledger(opened.folder, verified, self.options.dry)
         preparation = None if part else mend(self.record, self.options, opened, ledger, verified)
@@ -173,7 +173,7 @@ class Migration:
             verified.add(ended.batch)
             # it ends on the disk once that is synced
             ledger.end(ended.batch)
-        self.kept = None if ended.row.verdict == Verdict.LEFT else ledger
+        self.last_ledger = None if ended.row.verdict == Verdict.LEFT else ledger
         return ended
 
 

@@ -201,9 +201,9 @@ class Outcome(NamedTuple):
     what is noted there once the disk was synced."""
 
     row: Row
-    # the folder, the batch of its ledger, which a first pass does not have, and whether a list of what was prepared
-    # there is over then
-    folder: bytes = b""
+    # the path of the folder, the batch of its ledger, which a first pass does not have, and whether a list of what was
+    # prepared there is over then
+    folder_path: bytes = b""
     batch: Optional[int] = None
     ends_list: bool = False
     # the path of the mailbox, and the state of its file: it is closed, so others may write to it

@@ -197,7 +197,7 @@ class Several:
         if one.row.verdict == Verdict.NO_MAIL:
             self.found[one.row.path] = one.row
         if one.row.path not in self.subscriptions or one.row.verdict != Verdict.NO_MAIL:
-            self.syncs.add(one.folder, (one, tell or self.observer.row))
+            self.syncs.add(one.folder_path, (one, tell or self.observer.row))
         elif tell:
             tell(None)
 

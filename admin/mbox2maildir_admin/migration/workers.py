@@ -133,9 +133,9 @@ class Workers(Crew):
     def take_row(self, child: Worker, place: int, row: Mapping[str, Any], *told: Any) -> None:
         """Takes what became of a mailbox."""
         child.places.remove(place)
-        folder, batch, ends_list, path, state = told
+        folder_path, batch, ends_list, path, state = told
         its = bytes_of(path), state and os.stat_result(*state)
-        self.ended[place] = Outcome(row_of(row), bytes_of(folder), batch, ends_list, *its)
+        self.ended[place] = Outcome(row_of(row), bytes_of(folder_path), batch, ends_list, *its)
         self.rest(child)
 
     def serve(self) -> None:

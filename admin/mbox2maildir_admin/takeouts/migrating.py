@@ -124,7 +124,7 @@ class Takeouts(Migration):
     def tell_once_synced(self, ended: Outcome) -> None:
         """Tells what became of a folder, once its disk is synced."""
         ended = ended._replace(row=ended.row._replace(is_part=bool(ended.row.folder), tie=self.tie))
-        self.syncs.add(ended.folder, (ended, self.observer.row))
+        self.syncs.add(ended.folder_path, (ended, self.observer.row))
 
     def migrate_opened(self, opened: Opened) -> Outcome:
         """Migrates an open Takeout, and reports what became of each folder but the last, which it returns. Raises Fault
