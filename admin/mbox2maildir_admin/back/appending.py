@@ -31,7 +31,7 @@ from ..readings.reading import MBOXRD
 from ..remarks import Says
 from ..terminal import first_of, named
 from ..units import Size, counted
-from .dialect import Client, Dialect, Letter, spelled
+from .dialect import Client, Dialect, Letter, written
 from .journal import Journal, NewFile
 from .mails import Mail, Target, in_order
 from .numbers import Listed, Numbering
@@ -203,9 +203,9 @@ class Appending:
     def what_goes(self, addition: NewFile) -> Goes:
         """What becomes of the mail. What is appended is in the addition then."""
         # what the mailbox did not bring is there already, wherever it comes from
-        known, _ = self.known.ledger.sources.get(self.known.path, Source()).known(self.inventory)
+        are_known, _ = self.known.ledger.sources.get(self.known.path, Source()).known(self.inventory)
         new: collections.defaultdict[bytes, list[int]] = collections.defaultdict(list)
-        for place, is_known in enumerate(known):
+        for place, is_known in enumerate(are_known):
             if not is_known:
                 new[self.inventory.core(place)].append(place)
         there: list[tuple[Mail, int]] = []
@@ -236,7 +236,7 @@ class Appending:
             letter = Letter.of(self.opened.folder, mail)
             if not letter:
                 continue
-            one = spelled(letter, self.style.dialect, self.client, number, noted)
+            one = written(letter, self.style.dialect, self.client, number, noted)
             if one.core != mail.core:
                 raise Left(FILE_CHANGED % named(mail.path), Reason.CHANGED)
             entries.append(Appended(mail, one.bares, addition.size, len(one.text), one.taken))
@@ -249,7 +249,7 @@ class Appending:
         style."""
         style = self.style
         # in an empty mailbox, the first one of these is the first of all
-        before = spelled(Letter(ANOTHER), style.dialect).text if self.mailbox.size else b""
+        before = written(Letter(ANOTHER), style.dialect).text if self.mailbox.size else b""
         with Mailbox(addition.path, os.dup(addition.number)) as text:
             bad = self.others_again(text, entries)
             are_held = not entries or style.gives(text, entries)
@@ -273,7 +273,7 @@ class Appending:
         if not self.style.again:
             return []
         others = list[Mail]()
-        before = spelled(Letter(ANOTHER), Dialect(MBOXRD, self.style.dialect.crlf)).text
+        before = written(Letter(ANOTHER), Dialect(MBOXRD, self.style.dialect.crlf)).text
         for one in entries:
             with copy_of(text, [before, text.at(one.start, one.size)], self.style.disk) as alone:
                 others += [one.mail] * (not self.style.gives_again(alone, [one]))

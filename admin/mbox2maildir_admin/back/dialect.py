@@ -1,4 +1,4 @@
-"""A message as `back` appends it: `spelled` does all that makes it of a file, for a mailbox in a dialect.
+"""A message as `back` appends it: `written` does all that makes it of a file, for a mailbox in a dialect.
 
 `migrate` reads the flags of a mail program only if each message has its fields. Those that a message has already are
 taken out only there: elsewhere they may be its sender's.
@@ -163,7 +163,7 @@ def forms_of_letter(text: bytes) -> tuple[bytes, Sequence[bytes]]:
     return pairs[-1][0], [bare for _, bare in pairs]
 
 
-class Spelled(NamedTuple):
+class Written(NamedTuple):
     """A message as a mailbox is to have it: its bytes there, its core, the bare forms in which the mailbox may give it
     back, and the names of the fields that it lacks then."""
 
@@ -173,9 +173,9 @@ class Spelled(NamedTuple):
     taken: Sequence[bytes]
 
 
-def spelled(
+def written(
     letter: Letter, dialect: Dialect, client: Client = Client(), number: int = 1, noted: Sequence[bytes] = ()
-) -> Spelled:
+) -> Written:
     """A message in a dialect: the From_ line, the header, the body, and the line that ends it. Fields that programs
     wrote are taken out, new ones come first: those in which something is noted for Dovecot, those of the client, to
     which it is the message of this number, and those that any mailbox has."""
@@ -189,7 +189,7 @@ def spelled(
     fields = [*noted, *client.fields_to_write(letter.flags, core, number)]
     fields += letter.fields_to_write(dialect.length_of(body))
     text = b"".join([from_line, with_fields(header, fields), gap, body, b"\n"])
-    return Spelled(text.replace(b"\n", b"\r\n") if dialect.crlf else text, core, bares, taken)
+    return Written(text.replace(b"\n", b"\r\n") if dialect.crlf else text, core, bares, taken)
 
 
 def with_fields(header: bytes, fields: Sequence[bytes]) -> bytes:

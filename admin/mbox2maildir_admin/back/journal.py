@@ -59,7 +59,8 @@ class Journal(NamedTuple):
     @classmethod
     def made(cls, addition: "NewFile", folder: bytes, mailbox: Mailbox, starts: Sequence[int]) -> "Journal":
         """Makes that of a folder of the addition to a mailbox, whose messages begin at these places."""
-        path, size, digest = os.path.join(folder, GOES_BACK), addition.size, digest_of(addition.number, addition.size)
+        path, size = os.path.join(folder, GOES_BACK), addition.size
+        digest = digest_up_to(addition.number, size)
         of_mailbox = mailbox.state.st_ino, *mailbox.key(), spelled(mailbox.path)
         self = cls(path, addition.number, *of_mailbox, size, digest, starts)
         listed = b",".join(b"%d" % start for start in starts)
@@ -89,7 +90,7 @@ class Journal(NamedTuple):
             size, digest, listed = int(found["size"]), found["digest"].decode(), int(found["listed"])
             of_mailbox = int(found["before"]), found["digest_before"].decode(), found["mailbox"].decode()
             starts = [int(start) for start in os.pread(number, listed, size).split(b",") if start]
-            if total == size + listed + len(found[0]) and digest_of(number, size) == digest:
+            if total == size + listed + len(found[0]) and digest_up_to(number, size) == digest:
                 return cls(path, number, int(found["inode"]), *of_mailbox, size, digest, starts)
         os.close(number)
         os.unlink(path)
@@ -101,7 +102,7 @@ class Journal(NamedTuple):
 
     def is_begun_by(self, mailbox: Mailbox) -> bool:
         """Whether a mailbox begins with what it was before."""
-        return digest_of(mailbox.number, self.before) == self.digest_before
+        return digest_up_to(mailbox.number, self.before) == self.digest_before
 
     def same(self, mailbox: Mailbox, with_holes: bool = False) -> int:
         """How many of the bytes that follow in a mailbox are the first ones that were to be appended. In a hole, a disk
@@ -238,7 +239,7 @@ class NewFile:
         sync_folder(os.path.dirname(path))
 
 
-def digest_of(number: int, size: int) -> str:
+def digest_up_to(number: int, size: int) -> str:
     """The SHA-256 of the first bytes of an open file."""
     hashed = hashlib.sha256()
     for block in Reader(number, end=size).blocks():

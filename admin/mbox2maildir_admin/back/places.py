@@ -71,7 +71,7 @@ class Places:
         for name in names.paths:
             for one in trees[name].placed(record, root, set()) if name in trees else [self.planned(name)]:
                 if one.folder:
-                    self.found[one.folder].append(one.target or one.path)
+                    self.found[one.folder].append(one.leads_to or one.path)
 
     def planned(self, name: bytes) -> Planned:
         """A mailbox that was named, with its folder."""

@@ -16,7 +16,7 @@ from .dialect import Dialect
 from .mails import Mail
 
 # takes a text, and its messages
-Look = Callable[[Mailbox, Inventory], object]
+TakeText = Callable[[Mailbox, Inventory], object]
 # begins what stands for the reading of a mailbox that would be left
 ASKED = "?"
 # how many bytes at the end of a mailbox show whether its last message has ended
@@ -46,7 +46,9 @@ class Style(NamedTuple):
     again: Optional[Reading]
     disk: bytes
 
-    def messages(self, mailbox: Mailbox, program: Optional[Program] = None, look: Optional[Look] = None) -> Inventory:
+    def messages(
+        self, mailbox: Mailbox, program: Optional[Program] = None, look: Optional[TakeText] = None
+    ) -> Inventory:
         """The messages of a mailbox that is so read. If a program is given, it must list the same messages. `look` gets
         the text that was read, and its messages."""
         if not mailbox.size:

@@ -19,7 +19,7 @@ from .journal import NewFile
 from .places import Places
 
 # the ending of its name while it is written
-PART = b".mbox2maildir-back"
+DRAFT = b".mbox2maildir-back"
 # the parts of the name of a folder
 Name = tuple[bytes, ...]
 
@@ -29,8 +29,8 @@ class Lists:
 
     def __init__(self, places: Places) -> None:
         self.root, self.tree, self.places = places.record.maildir, places.trees[0], places
-        self.old, self.has_tabs = names_in(os.path.join(self.tree, OLD_SUBSCRIPTIONS), b"/")
-        self.new, _ = names_in(os.path.join(self.root, SUBSCRIPTIONS), b".")
+        self.old, self.has_tabs = names_listed(os.path.join(self.tree, OLD_SUBSCRIPTIONS), b"/")
+        self.new, _ = names_listed(os.path.join(self.root, SUBSCRIPTIONS), b".")
 
     def names(self) -> list[Name]:
         """What the tree is to be subscribed to: the folders of the list of the Maildir that have a mailbox there, by
@@ -38,7 +38,7 @@ class Lists:
         missing there was unsubscribed, unless it is no folder. What else the list of the tree has stays, as RFC 3501,
         6.3.6 wants it, whether it is there or not."""
         old = {folder_of_old(name): name for name in reversed(self.old)}
-        wanted = {folder_of(name): old.get(folder_of(name)) or self.name_of(name) for name in self.new}
+        wanted = {folder_of_new(name): old.get(folder_of_new(name)) or self.name_of(name) for name in self.new}
         left = [name for name in self.old if folder_of_old(name) not in wanted]
         if self.places.record.notes(Note.SUBSCRIBED, INBOX):
             left = [name for name in left if not is_folder(folder_path(self.root, folder_of_old(name)))]
@@ -48,10 +48,10 @@ class Lists:
 
     def name_of(self, name: Name) -> Name:
         """The name of the mailbox for a folder; empty if it has no mailbox in the tree. INBOX has one anywhere."""
-        if folder_of(name) == INBOX:
+        if folder_of_new(name) == INBOX:
             return name
         with contextlib.suppress(Left):
-            path = self.places.of(folder_of(name))[0]
+            path = self.places.of(folder_of_new(name))[0]
             if path in self.places.would or is_there(path):
                 return self.below(path)
         return ()
@@ -80,19 +80,19 @@ class Lists:
             raise Left("it is no plain file", Reason.SUBSCRIPTIONS)
         has_tabs = self.has_tabs or not self.old
         lines = [(b"\t" if has_tabs else b"/").join(name) + b"\n" for name in names]
-        with NewFile.at(path + PART) as new:
+        with NewFile.at(path + DRAFT) as new:
             new.add(FORM * has_tabs + b"".join(lines))
             os.fchmod(new.number, stat.S_IMODE(state.st_mode) if state else 0o600)
             new.put(path)
 
 
-def names_in(path: bytes, between: bytes) -> tuple[list[Name], bool]:
+def names_listed(path: bytes, between: bytes) -> tuple[list[Name], bool]:
     """The names in a list, and whether tabs separate their parts there, and not this byte."""
     lines, has_tabs = lines_of(path)
     return [tuple(line.split(b"\t" if has_tabs else between)) for line in lines if is_text(line)], has_tabs
 
 
-def folder_of(name: Name) -> bytes:
+def folder_of_new(name: Name) -> bytes:
     """The folder on the disk for a name in the list of a Maildir."""
     return on_disk(b".".join(name).decode())
 

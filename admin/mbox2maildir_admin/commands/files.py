@@ -197,7 +197,7 @@ def for_planned(
         task(Migrated(file, planned.folder_in(maildir), maildir, record, (maildir, path)))
 
     for one in plan:
-        each([one.target or one.path], functools.partial(do_task, one), observer)
+        each([one.leads_to or one.path], functools.partial(do_task, one), observer)
     for row in rows:
         observer.row(row)
 

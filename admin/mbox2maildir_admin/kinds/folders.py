@@ -19,7 +19,7 @@ from .named import BESIDE
 from .others import FROM_LINE, QUOTE_ALL
 from .starts import OPENING
 
-Entry = os.DirEntry[bytes]
+DirEntry = os.DirEntry[bytes]
 MAILDIR, MH = "it is a Maildir", "an MH folder"
 # what servers, and programs that copy mail, write beside the three folders of a Maildir, and what this program does
 OF_MAILDIR = pattern(
@@ -52,12 +52,12 @@ def is_maildir(path: bytes) -> bool:
     return all(type_at(os.path.join(path, sub), False) == stat.S_IFDIR for sub in SUBFOLDERS)
 
 
-def has_maildir(entries: list[Entry]) -> bool:
+def has_maildir(entries: list[DirEntry]) -> bool:
     """Whether a folder with these entries is a Maildir."""
     return {*SUBFOLDERS} <= {entry.name for entry in entries if entry.is_dir(follow_symlinks=False)}
 
 
-def is_of_maildir(entry: Entry) -> bool:
+def is_of_maildir(entry: DirEntry) -> bool:
     """Whether a name in a Maildir is part of it. A mailbox of another program is not, whatever its name is."""
     if entry.is_dir(follow_symlinks=False):
         return entry.name in (*SUBFOLDERS, KEYWORDS_OF_COURIER)
@@ -67,13 +67,13 @@ def is_of_maildir(entry: Entry) -> bool:
     return entry.name in (GOES_BACK, GOES_BACK_NEW) or not head_of(entry.path).startswith(FROM)
 
 
-def is_export(path: bytes, entries: list[Entry]) -> bool:
+def is_export(path: bytes, entries: list[DirEntry]) -> bool:
     """Whether a folder with these entries is a mailbox as Apple Mail exports it."""
     is_named = os.path.basename(os.path.abspath(path)).endswith(b"." + MBOX)
     return is_named and any(entry.name == MBOX and entry.is_file(follow_symlinks=False) for entry in entries)
 
 
-def messages_of_mh(entries: list[Entry]) -> list[Entry]:
+def messages_of_mh(entries: list[DirEntry]) -> list[DirEntry]:
     """Those of the entries that are messages of MH: files that have numbers as names and begin with a header."""
     return [
         entry
@@ -148,7 +148,7 @@ class Profiles:
         if above is not None:
             self.found.append(Profile(above))
 
-    def parted(self, folder: bytes, entries: list[Entry]) -> tuple[list[Entry], list[Entry]]:
+    def parted(self, folder: bytes, entries: list[DirEntry]) -> tuple[list[DirEntry], list[DirEntry]]:
         """The names in a folder that are looked at, and the rest, which holds no mail: of a profile, and of the folder
         above the profiles. Takes a profile that is named by its parent. Raises OSError if a name can't be looked at."""
         if is_profile(folder):

@@ -102,7 +102,7 @@ class Group:
                 yield ("%s%-*s  %s" % (WITHIN, width, row.name, says_of(row))).rstrip()
                 yield from (BELOW + each.sentence() for each in row.details)
                 if len(one.rows) == 1 or is_asked and has_quotes:
-                    yield from lines_below(row.quotes if is_asked else first_of(row.quotes), ())
+                    yield from lines_below(row.quotes if is_asked else first_asked(row.quotes), ())
             if len(named_here) < len(one.rows):
                 yield "%sand %d more (--all names them)" % (WITHIN, len(one.rows) - len(named_here))
             letters = ["%s: " % letter for letter in LETTERS] if is_asked else []
@@ -153,7 +153,7 @@ def says_of(row: Row) -> str:
     return ": ".join(filter(None, [several, line]))
 
 
-def first_of(quotes: Sequence[Quote]) -> Sequence[Quote]:
+def first_asked(quotes: Sequence[Quote]) -> Sequence[Quote]:
     """The first lines that are asked about, with those around them."""
     asked = [place for place, one in enumerate(quotes) if not one.is_around]
     if len(asked) <= SHOWN_LINES:

@@ -94,7 +94,7 @@ class Dovecot(Extra):
         if dry:
             return says
         for name in (KEYWORDS, LIST):
-            remove_part(one.opened.folder, name)
+            remove_draft(one.opened.folder, name)
         if found:
             if one.was_begun:
                 remove_lists(self.record, one.opened, one.known.path)
@@ -112,7 +112,7 @@ class Dovecot(Extra):
     def raise_next(self, one: Steps) -> None:
         """Has the list of a folder give what is new no UID that the mailbox has given since."""
         head, folder = first_head(one.contents.full.mailbox, one.contents.full.start), one.opened.folder
-        text = content_of(os.path.join(folder, LIST), LONGEST_LIST) or b""
+        text = content_at(os.path.join(folder, LIST), LONGEST_LIST) or b""
         found = FIRST.match(text)
         # a list with another UIDVALIDITY is about other UIDs
         if head and found and int(found[1]) == head.validity and int(found[2]) <= head.last:
@@ -187,12 +187,12 @@ class Dovecot(Extra):
         return [DONE_WITHOUT] if one.had_brought else None
 
 
-def is_written(record: Record, folder: bytes, path: bytes, name: bytes) -> bool:
+def is_written(record: Record, name: bytes, folder: bytes, file: bytes) -> bool:
     """Whether the record has a file as one that was written for a mailbox of the folder of this name, which is at this
     path."""
-    notes = [one for one in record.notes(Note.WROTE, folder) if os.path.basename(one.path) == os.fsdecode(name)]
+    notes = [one for one in record.notes(Note.WROTE, name) if os.path.basename(one.path) == os.fsdecode(file)]
     most = max((one.key.size for one in notes), default=0)
-    text = content_of(os.path.join(path, name), most) if name in (KEYWORDS, LIST) else None
+    text = content_at(os.path.join(folder, file), most) if file in (KEYWORDS, LIST) else None
     return text is not None and hashlib.sha256(text).hexdigest() in {one.key.digest for one in notes}
 
 
@@ -210,25 +210,25 @@ def remove_lists(record: Record, opened: Opened, path: str) -> None:
 def place_file(folder: bytes, name: bytes, text: bytes, note: NoteFile) -> None:
     """Writes a file under another name, and links it to its own name once it is on the disk. A file that is there
     stays."""
-    path, part = os.path.join(folder, name), part_path(folder, name)
-    remove_part(folder, name)
+    path, draft = os.path.join(folder, name), draft_path(folder, name)
+    remove_draft(folder, name)
     if is_there(path):
-        if content_of(path, len(text)) == text:
+        if content_at(path, len(text)) == text:
             return
         then = run_next(Runs.REMOVE, operand(path))
         raise Left("an earlier run left another %s" % named(name), Reason.NUMBERED, then)
     note(path, len(text), hashlib.sha256(text).hexdigest())
-    with open(os.open(part, os.O_WRONLY | os.O_CREAT | os.O_EXCL | os.O_CLOEXEC, 0o600), "wb") as file:
+    with open(os.open(draft, os.O_WRONLY | os.O_CREAT | os.O_EXCL | os.O_CLOEXEC, 0o600), "wb") as file:
         try:
             file.write(text)
             file.flush()
             os.fsync(file.fileno())
-            os.link(part, path)
+            os.link(draft, path)
         except FileExistsError as fault:
             says = "%s is there by now: %s: %s" % (named(name), NUMBERED_BY_DOVECOT, GOES_ON)
             raise Left(says, Reason.NUMBERED) from fault
         finally:
-            os.unlink(part)
+            os.unlink(draft)
     sync_folder(folder)
 
 
@@ -258,18 +258,18 @@ def replace(path: bytes, text: bytes, new: bytes) -> None:
     sync_folder(os.path.dirname(path))
 
 
-def part_path(folder: bytes, name: bytes) -> bytes:
+def draft_path(folder: bytes, name: bytes) -> bytes:
     """The path at which a file is written before it gets its name."""
     return os.path.join(folder, TMP, b"mbox2maildir-admin-" + name)
 
 
-def remove_part(folder: bytes, name: bytes) -> None:
+def remove_draft(folder: bytes, name: bytes) -> None:
     """Removes what a killed run may have left there, even if the file has got its name since."""
     with contextlib.suppress(FileNotFoundError):
-        os.unlink(part_path(folder, name))
+        os.unlink(draft_path(folder, name))
 
 
-def content_of(path: bytes, most: int) -> Optional[bytes]:
+def content_at(path: bytes, most: int) -> Optional[bytes]:
     """What a plain file holds; of a longer one, one byte more than the most that is wanted. None if there is no such
     file."""
     try:
@@ -283,7 +283,7 @@ def content_of(path: bytes, most: int) -> Optional[bytes]:
 
 def lines_of(path: bytes) -> tuple[list[bytes], bool]:
     """The lines of a file of subscriptions, and whether tabs separate the parts of names, as in the newer form."""
-    text = content_of(path, WHOLE) or b""
+    text = content_at(path, WHOLE) or b""
     if len(text) > WHOLE:
         raise Fault("it is longer than 1 MB, so it is not a list of folders", place=path)
     first, *lines = text.split(b"\n")
@@ -302,7 +302,7 @@ def subscribe(root: bytes, old: bytes, record: Record, dry: bool) -> list[bytes]
     key = Key(INBOX, Size(len(text)), hashlib.sha256(text).hexdigest())
     if not names or any(one.key == key for one in record.notes(Note.SUBSCRIBED, INBOX)):
         return []
-    if is_there(path) and content_of(path, len(text)) != text:
+    if is_there(path) and content_at(path, len(text)) != text:
         there, has_tabs = lines_of(path)
         return [line for line in (lines if has_tabs else names) if line not in there]
     if not dry:

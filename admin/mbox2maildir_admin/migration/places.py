@@ -41,7 +41,7 @@ class Planned(NamedTuple):
     # why it goes nowhere, if it holds mail
     why: Optional[Fault] = None
     # for a symbolic link, the path that it leads to, which was migrated by hand
-    target: Optional[bytes] = None
+    leads_to: Optional[bytes] = None
     # whether it is one of several Inboxes with mail of a profile
     is_inbox: bool = False
 
@@ -51,7 +51,7 @@ class Planned(NamedTuple):
 
     def left(self, why: Fault) -> "Planned":
         """The same mailbox, which goes nowhere."""
-        return Planned(self.path, b"", "", why, self.target)
+        return Planned(self.path, b"", "", why, self.leads_to)
 
     def left_to_human(self, why: str, words: Sequence[str]) -> "Planned":
         """The same mailbox, for which a human must find a folder. The command has these words before its path."""

@@ -71,7 +71,7 @@ from ..remarks import Remark, Says
 from ..terminal import named, operand, spelled, text_of
 from ..units import Offset, Say, counted, silent
 from .carrying import PREPARED_SYNC_FAILED, SYNC_FAILED
-from .dovecot import KEYWORDS, LIST, is_written, remove_part
+from .dovecot import KEYWORDS, LIST, is_written, remove_draft
 from .known import Known, Opened
 from .options import Options
 from .outcomes import Row, Verdict, row_left
@@ -156,7 +156,7 @@ class Preparation:
                 if is_written(self.record, self.name, folder, file):
                     os.unlink(os.path.join(folder, file))
             for file in (KEYWORDS, LIST):
-                remove_part(folder, file)
+                remove_draft(folder, file)
             if all(is_folder(os.path.join(folder, sub)) for sub in WITH_MAIL):
                 # a run may have been killed before it made them
                 sync_names(folder)
@@ -398,7 +398,7 @@ def row_unchanged(record: Record, options: Options, path: bytes, name: bytes, sa
     return Row(path, name, "", origin.messages, verdict, size=origin.key[0], remarks=(*dropped, says), spent=spent)
 
 
-class Listed(NamedTuple):
+class PreparedBefore(NamedTuple):
     """A folder that was prepared before a run: its name, the path of its mailbox then, and that of its tree."""
 
     name: bytes
@@ -418,11 +418,11 @@ class Leftovers:
         """Takes the names that a run migrates."""
         self.record, self.root, self.options = record, record.maildir, options
         self.trees = [real_path(name) for name in names if is_folder(name)]
-        self.listed: list[Listed] = []
+        self.listed: list[PreparedBefore] = []
         for folder in folders_in(self.root):
             origin = origin_in(folder) if has_list(folder) else None
             if origin:
-                self.listed.append(Listed(name_of(self.root, folder), origin.path, origin.tree))
+                self.listed.append(PreparedBefore(name_of(self.root, folder), origin.path, origin.tree))
         # the first pass may have been killed before the record had it
         record.has_prepared = record.has_prepared or any(map(has_list, folders_in(self.root)))
 
@@ -455,7 +455,7 @@ class Leftovers:
             else:
                 yield self.left(one, MANY_GONE % (many[one.tree], all_of[one.tree]), one.path_in(now[one.tree]))
 
-    def left(self, one: Listed, why: str, place: bytes) -> Row:
+    def left(self, one: PreparedBefore, why: str, place: bytes) -> Row:
         """The row of a folder that stays only prepared, whose mailbox is to be at this place: that is migrated or, if
         it is not there, brought back first. What is not wanted any more is undone."""
         path, options = unspelled(one.path), self.options.of_next()

@@ -108,17 +108,18 @@ class Several:
 
     def __init__(self, migration: Migration, observer: Observer, home: Optional[UserHome]) -> None:
         options, names = migration.options, migration.options.names
-        self.migration, self.names, self.observer, self.own = migration, names, observer, home is not None
+        self.migration, self.names, self.observer, self.is_of_home = migration, names, observer, home is not None
         self.say, self.syncs = observer.progress, Syncs(self.tell_synced, home.sync_one if home else None)
         # an Inbox of a user's tree is not the user's inbox, if that is or was another mailbox
         is_taken = home and (home.has_inbox or migration.record.last_events(INBOX))
         self.taken: set[bytes] = {INBOX} if is_taken else set()
         # the symbolic links that are followed: those that were named
-        self.links = {one for one in names if not self.own and is_link(one)}
+        self.links = {one for one in names if not self.is_of_home and is_link(one)}
         # the subscriptions of trees that are to be written, and the rows of files without mail
         trees = filter(self.is_tree, names) if options.dovecot and not options.prepare else ()
         self.subscriptions = {os.path.join(tree.rstrip(b"/") or b"/", OLD_SUBSCRIPTIONS): tree for tree in trees}
-        self.pairs = Pairs(migration.record, migration.record.maildir, options.of_next(), names if self.own else None)
+        own = names if self.is_of_home else None
+        self.pairs = Pairs(migration.record, migration.record.maildir, options.of_next(), own)
         self.found: dict[bytes, Row] = {}
         # a name that is given has its verdict by that name, even if a tree has the same file; the other names of files
         self.met: NamesMet = {}
@@ -130,7 +131,7 @@ class Several:
         options, record, plan = self.migration.options, self.migration.record, list(self.plan())
         if not options.folder:
             # the mailbox of a spool is its user's inbox, whatever its name is; an exported mailbox counts as its file
-            files = [one for one in self.names if is_file(one) and (not self.own or is_below(one, options.home))]
+            files = [one for one in self.names if is_file(one) and (not self.is_of_home or is_below(one, options.home))]
             exports = [tree.export for tree in self.trees.values() if tree.export]
             plan = self.pairs.without_folders_in_inbox(plan, files + exports)
         self.observer.total += len(plan)
@@ -141,13 +142,14 @@ class Several:
         groups = in_groups(folders)
         jobs, rows = min(jobs_of(options.jobs, len(groups)), len(groups)), InOrder(self.observer.row)
         try:
-            if jobs > 1 and any(is_mbox(one.target or one.path) for one in plan):
+            if jobs > 1 and any(is_mbox(one.leads_to or one.path) for one in plan):
                 # several processes need it from the beginning
                 record.make()
             # a rehearsal needs none
             if jobs > 1 and (record.is_dry or record.is_open):
                 self.observer.at_once = jobs
-                self.migrate_at_once(plan, largest_first(groups, [one.target or one.path for one in plan]), jobs, rows)
+                paths = [one.leads_to or one.path for one in plan]
+                self.migrate_at_once(plan, largest_first(groups, paths), jobs, rows)
             else:
                 for one in plan:
                     self.observer.begin()
@@ -214,7 +216,7 @@ class Several:
 
     def is_tree(self, name: bytes) -> bool:
         """Whether a name is that of a folder of mailboxes. A symbolic link is not one if none is followed."""
-        return is_folder(name) and not (self.own and is_link(name))
+        return is_folder(name) and not (self.is_of_home and is_link(name))
 
     def plan(self) -> Iterator[Planned]:
         """The mailboxes in their order, with their folders. Reports the rows of what is not migrated."""
@@ -223,12 +225,12 @@ class Several:
         for name in self.names:
             names.setdefault(os.path.abspath(name), name)
         for name in names.values():
-            key = None if self.is_tree(name) or self.own and is_link(name) else identity(name)
+            key = None if self.is_tree(name) or self.is_of_home and is_link(name) else identity(name)
             if key:
                 self.met.setdefault(key, {}).setdefault(os.path.abspath(name), name)
         record, root, options, _ = self.pairs
         # before a file has its folder, all of its names are known
-        is_alone = len(names) == 1 and not self.own
+        is_alone = len(names) == 1 and not self.is_of_home
         trees = filter(self.is_tree, names.values())
         self.trees = {name: Tree(name, root, self.met, options, is_alone).read() for name in trees}
         self.others = other_names(self.met)
@@ -240,7 +242,7 @@ class Several:
                 for row in [*tree.rows, *maildirs]:
                     self.tell_once_synced(Outcome(row))
                 yield from placed
-            elif self.own and is_link(name):
+            elif self.is_of_home and is_link(name):
                 self.observer.row(row_left(name, b"", link_left(name)))
             else:
                 one = Planned(name, INBOX if folder is None else folder)
@@ -276,7 +278,7 @@ class Several:
 
     def run_one(self, one: Planned) -> Outcome:
         """Migrates a mailbox, unless it may not go into its folder."""
-        if self.own and one.folder not in (INBOX, b""):
+        if self.is_of_home and one.folder not in (INBOX, b""):
             try:
                 want_own(one.folder_in(self.migration.record.maildir))
             except Fault as fault:
@@ -284,11 +286,11 @@ class Several:
         reason = one.why.reason if one.why else None
         if reason is Reason.NO_FOLDER and is_empty(one.path):
             return Outcome(Row(one.path, b"", "", None, Verdict.NO_MAIL))
-        if one.target and one.why:
+        if one.leads_to and one.why:
             return Outcome(row_left(one.path, b"", one.why))
         say = Beat(functools.partial(self.progress, named(one.path)))
         follow = one.path in self.links
-        ended = self.migration.migrate_path(one.target or one.path, one.folder, say, follow, one.why)
+        ended = self.migration.migrate_path(one.leads_to or one.path, one.folder, say, follow, one.why)
         row = ended.row._replace(path=one.path)
         if one.why and reason is Reason.COPY and row.verdict == Verdict.LEFT:
             # whatever its text is, this reason comes first

@@ -10,7 +10,7 @@ from ..kinds.folders import (
     MBOX,
     MH,
     SEQUENCES,
-    Entry,
+    DirEntry,
     Profiles,
     has_maildir,
     is_export,
@@ -121,7 +121,7 @@ class Tree:
             self.pass_over(entry.path)
         return [entry.path for entry in entries if self.take(entry)]
 
-    def without_messages(self, folder: bytes, entries: list[Entry]) -> list[Entry]:
+    def without_messages(self, folder: bytes, entries: list[DirEntry]) -> list[DirEntry]:
         """The entries of a folder without those that count as one name: the parts of a Maildir, and the messages of
         MH."""
         if has_maildir(entries):
@@ -143,7 +143,7 @@ class Tree:
         names = {SEQUENCES, *(mail.name for mail in mails)}
         return [entry for entry in entries if entry.name not in names]
 
-    def take(self, entry: Entry) -> bool:
+    def take(self, entry: DirEntry) -> bool:
         """Takes a name, and returns whether it is a folder to be entered."""
         try:
             state = entry.stat(follow_symlinks=False)
@@ -246,7 +246,7 @@ class Tree:
             if target is None:
                 self.leave(path, link_left(path))
             else:
-                links.append(recorded(Planned(path, folders[-1], target=target), record))
+                links.append(recorded(Planned(path, folders[-1], leads_to=target), record))
         stay = [one for one in found if not one.why and record.folders_of(one.path)]
         taken.update(one.folder for one in [*stay, *links] if not one.why)
         moving = with_own_folders([one for one in found if one not in stay], taken, has_no_mail, self.words_by_hand)

@@ -3,12 +3,12 @@ import hashlib
 import unittest
 from typing import Optional
 
-from mbox2maildir_admin.back.dialect import LAST_TIME, Client, Dialect, Letter, date_of, parted, spelled
+from mbox2maildir_admin.back.dialect import LAST_TIME, Client, Dialect, Letter, date_of, parted, written
 
 MAIL, HEAD = b"Subject: one\n\nFrom me\n>From you\nend\n", b"Subject: one\n"
 # the word of a dialect, and whether its lines end in CR LF; a message, its flags, and whether a reader has met it; and
 # what is written of it after its From_ line
-SPELLED: list[tuple[str, bool, bytes, str, bool, bytes]] = [
+WRITTEN: list[tuple[str, bool, bytes, str, bool, bytes]] = [
     ("mboxrd", False, MAIL, "", False, HEAD + b"\n>From me\n>>From you\nend\n\n"),
     ("mboxo", False, MAIL, "", False, HEAD + b"\n>From me\n>From you\nend\n\n"),
     ("mboxcl", False, MAIL, "", False, b"Content-Length: 24\n" + HEAD + b"\n>From me\n>>From you\nend\n\n"),
@@ -62,15 +62,15 @@ READINGS: list[tuple[str, Optional[Dialect]]] = [
 
 
 class DialectTest(unittest.TestCase):
-    def test_spelled(self) -> None:
-        for word, crlf, text, flags, is_old, wanted in SPELLED:
-            line, rest = spelled(Letter(text, flags, is_old), Dialect(word, crlf)).text.split(b"\n", 1)
+    def test_written(self) -> None:
+        for word, crlf, text, flags, is_old, wanted in WRITTEN:
+            line, rest = written(Letter(text, flags, is_old), Dialect(word, crlf)).text.split(b"\n", 1)
             self.assertEqual((rest, line[:19], line.endswith(b"\r")), (wanted, b"From MAILER-DAEMON ", crlf), text)
 
     def test_the_sender(self) -> None:
         for field, wanted in SENDERS:
             letter = Letter(b"A: b\n" + field + b"\nReturn-Path: <body@x>\n")
-            self.assertEqual(spelled(letter, Dialect("mboxrd", False)).text.split(b" ")[1], wanted, field)
+            self.assertEqual(written(letter, Dialect("mboxrd", False)).text.split(b" ")[1], wanted, field)
 
     def test_parts_and_gaps(self) -> None:
         for text, parts in PARTS:
@@ -96,7 +96,7 @@ class DialectTest(unittest.TestCase):
 
     def test_what_programs_wrote_is_left_out(self) -> None:
         header = b"Content-Length: 9999\nA: b\nSTATUS: RO\nX-UID:\n 7\nX-Keywords: k\n"
-        one = spelled(Letter(header + b"\nStatus: x\n"), Dialect("mboxrd", False))
+        one = written(Letter(header + b"\nStatus: x\n"), Dialect("mboxrd", False))
         self.assertEqual(one.text.split(b"\n", 1)[1], b"A: b\n\nStatus: x\n\n")
         self.assertEqual(one.taken, [b"Content-Length", b"STATUS", b"X-UID", b"X-Keywords"])
         for header in (b"", b"Status: x", b"Status: x\n", b" Status: x\n", b"X-Mozilla-Status: 1\n"):
