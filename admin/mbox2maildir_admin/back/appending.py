@@ -137,7 +137,8 @@ class Way(NamedTuple):
             if numbering.is_incomplete:
                 # what cannot be read as it was is said once mail goes back
                 with contextlib.suppress(Left):
-                    for style in itertools.islice(styles_of(known, self.disk, self.options.dovecot), 1):
+                    style = next(styles_of(known, self.disk, self.options.dovecot), None)
+                    if style:
                         style.messages(mailbox, look=numbering.take)
                 numbering.add_keywords(target.returned, self.options.dry)
         return row._replace(remarks=(*numbering.remarks, *row.remarks), next=numbering.next)

@@ -54,7 +54,8 @@ def want_migrated(root: bytes) -> None:
 def bring_all(
     program: Program, root: bytes, names: Names, options: Options, keeper: Keeper, observer: Observer
 ) -> Next:
-    """Does it by a program, whoever runs this, and whatever was migrated."""
+    """Brings mail back by a program, whoever runs this, and whatever was migrated. Returns what moves the Maildir
+    aside."""
     os.umask(0o077)
     with Record.open(root, not options.dry) as record:
         return Folders(Way(program, record, options, Places(record, names), keeper, observer)).run()

@@ -67,7 +67,7 @@ class Lists:
 
     def below(self, path: bytes) -> Name:
         """The name of the mailbox at a path; empty if it has none in the tree."""
-        # a ledger has paths without symbolic links
+        # a ledger has paths as they were given, to the tree or to what it leads to
         trees = self.tree, os.path.realpath(self.tree)
         names = (tuple(os.path.relpath(path, tree).split(b"/")) for tree in trees)
         return next((name for name in names if name[0] != b".."), ())

@@ -39,7 +39,7 @@ def note_empty(known: Known, reading: Reading, lost: Iterable[Brought]) -> None:
         its = (one._replace(word=LOST) for one in lost)
         ledger.note_without_files(mailbox.key(), words, path, mailbox.state.st_ino, *its)
     if not mailbox.size:
-        known.record.add(Note.EMPTY, known.key, 0, mailbox.path)
+        known.record.add(Note.EMPTY, known.opened.key, 0, mailbox.path)
 
 
 def note_answer(record: Record, opened: Opened, plan: Plan) -> None:
@@ -50,7 +50,7 @@ def note_answer(record: Record, opened: Opened, plan: Plan) -> None:
     last = Reading.of_words(before[-1].words) if before else UNDECIDED
     # an answer for several mailboxes that says the same takes nothing away
     if plan.answer and plan.answer not in (last, last._replace(alone=False)):
-        record.add(Note.ANSWERED, Key(name, *mailbox.key()), plan.messages, mailbox.path, plan.answer.words())
+        record.add(Note.ANSWERED, opened.key, plan.messages, mailbox.path, plan.answer.words())
 
 
 def answers_for(record: Record, opened: Opened) -> list[RecordLine]:

@@ -147,7 +147,7 @@ class Dovecot(Extra):
     def write(self, one: Steps, found: FromHeaders) -> None:
         """Writes the files. The list comes last, since with it Dovecot accepts the others."""
         opened, whole = one.opened, one.placing.whole()
-        self.record.add(Note.NUMBERED, Key(opened.name, *opened.mailbox.key()), len(whole), opened.mailbox.path)
+        self.record.add(Note.NUMBERED, opened.key, len(whole), opened.mailbox.path)
         if found.keywords:
             text = b"".join(b"%d %s\n" % pair for pair in enumerate(found.keywords[:LETTERS]))
             place_file(opened.folder, KEYWORDS, text, self.writer(opened.name))
@@ -181,7 +181,7 @@ class Dovecot(Extra):
             if not is_written(self.record, opened.name, opened.folder, name):
                 raise Left("%s is there: %s" % (named(name), NUMBERED_BY_DOVECOT), Reason.NUMBERED)
         if LIST in there:
-            is_same = numbered is not None and numbered.key == Key(opened.name, *opened.mailbox.key())
+            is_same = numbered is not None and numbered.key == opened.key
             # one that a killed run has written was read by nobody, and the mailbox may have changed since
             return None if is_same or one.was_begun else [WHAT_IS_NEW]
         return [DONE_WITHOUT] if one.had_brought else None

@@ -16,6 +16,10 @@ from ..mbox.inventory import Inventory
 from ..mbox.mailbox import Mailbox
 
 
+# of what is known, more than one in so many is much if it is gone
+ONE_IN = 10
+
+
 class Opened(NamedTuple):
     """A mailbox that is open and locked, and the folder of a Maildir that it goes into: its name on the disk, and its
     path."""
@@ -29,6 +33,11 @@ class Opened(NamedTuple):
     def into(cls, root: bytes, name: bytes, mailbox: Mailbox) -> "Opened":
         """A mailbox that goes into the folder of this name in a Maildir."""
         return cls(mailbox, root, name, folder_path(root, name))
+
+    @property
+    def key(self) -> Key:
+        """The folder, and the mailbox by its size and its SHA-256."""
+        return Key(self.name, *self.mailbox.key())
 
     def make_folder(self, sync: SyncNames) -> None:
         """Makes the folder if it is missing. `sync` syncs its names."""
@@ -62,11 +71,6 @@ class Known:
         # no number is given again of a batch that the ledger has lost
         ledger.last = max(ledger.last, record.last_numbers.get(ledger.number, 0))
 
-    @property
-    def key(self) -> Key:
-        """The folder, and the mailbox by its size and its SHA-256."""
-        return Key(self.opened.name, *self.opened.mailbox.key())
-
     def has_bytes_of(self, line: RecordLine) -> bool:
         """Whether the mailbox has the bytes of the one that a line is about. One of another size is not read for that,
         and one without a byte is no other one."""
@@ -95,7 +99,7 @@ class Known:
             source = self.ledger.sources.get(self.path)
             notes = self.record.noting(Note.EMPTY, self.opened.name, mailbox.path)
             is_open = self.path in self.ledger.leaving or source and source.count()
-            return None if is_open else next((one for one in notes if one.key == self.key), None)
+            return None if is_open else next((one for one in notes if one.key == self.opened.key), None)
         if self.by_index:
             return self.by_index if self.has_bytes_of(self.by_index) and self.by_index.what is Event.DONE else None
         return self.done_at(self.path)

@@ -50,11 +50,10 @@ from .answers import (
 )
 from .carrying import SYNC_FAILED, carry_out, names_that_may_be_cut
 from .dovecot import DONE_WITHOUT
-from .known import Known, Opened
+from .known import ONE_IN, Known, Opened
 from .options import Options
 from .outcomes import Outcome, Row, Verdict, row_left
 from .preparing import (
-    TENTH,
     Preparation,
     mend,
     origin_now,
@@ -444,7 +443,7 @@ class Transfer:
             note_answer(self.record, self.opened, part.choice.plan)
 
     def matched_again(self, ledger: Ledger, contents: Contents) -> Match:
-        """The same if all that is nowhere is placed."""
+        """The messages of the text, with what is there of them, if all that is nowhere is placed."""
         files = Files(ledger.folder, contents.inventory, self.opened.mailbox.say)
         return Match.again(ledger, self.path, files, contents.is_trashed)
 
@@ -534,7 +533,7 @@ class Transfer:
                 raise left
             raise self.left_to_place(left, contents, self.matched_again(self.ledger, contents))
         source, lost = self.ledger.sources.get(self.path), match.count_lost()
-        is_much = source is not None and lost > max(FEW, source.count() // TENTH)
+        is_much = source is not None and lost > max(FEW, source.count() // ONE_IN)
         if is_much and match.count_new() >= lost:
             raise Left(EDITED % counted(lost, "message"), Reason.REWRITTEN, self.command(Does.STORES, again=True))
 

@@ -18,17 +18,21 @@ from .steps import Extra
 
 
 class Options(NamedTuple):
-    """How mailboxes are migrated, in the words of the command: whether nothing is made; whether all that is nowhere is
-    placed; whether with Dovecot's files; the folder for mailboxes that are files; paths and patterns of files without
-    mail; whether no quiet minute is waited for; and what is decided about how they are read. And what follows from
-    these words."""
+    """How mailboxes are migrated, in the words of the command, and what follows from these words."""
 
+    # whether nothing is made
     dry: bool = False
+    # whether all that is nowhere is placed
     again: bool = False
+    # whether with Dovecot's files
     dovecot: bool = False
+    # the folder for mailboxes that are files
     folder: Optional[str] = None
+    # paths and patterns of files without mail
     no_mail: tuple[bytes, ...] = ()
+    # whether no quiet minute is waited for
     now: bool = False
+    # what is decided about how they are read
     decision: Reading = UNDECIDED
     # how many folders are at work at the same time; None if nobody says it
     jobs: Optional[int] = 1
@@ -70,9 +74,10 @@ class Options(NamedTuple):
             "--unread": self.unread,
             "--dovecot": self.dovecot,
             "--dry-run": self.dry,
+            "--now": self.now,
+            "--any-disk": self.any_disk,
         }
         words = [word for word, is_given in given.items() if is_given]
-        words += ["--now"] * self.now + ["--any-disk"] * self.any_disk
         for pattern in self.no_mail:
             words += option("--no-mail", pattern)
         words += ["--again"] * again + self.decision.options() + (self.labels.words() if self.labels else [])

@@ -269,5 +269,5 @@ def seen(names: Sequence[bytes], observer: Observer) -> list[bytes]:
             type_at(name)
             found.append(name)
         except OSError as fault:
-            observer.row(row_left(name, b"", fault))
+            observer.leave(name, fault)
     return found

@@ -160,7 +160,7 @@ class Pairs(NamedTuple):
             if one.why or not others or self.done_in(one.path, one.folder) is not None:
                 return one
             # once a compressed file is done, its mail counts as other mail
-            compressed = [other for other in others if other[: len(one.path)] == one.path and not other.endswith(COPY)]
+            compressed = [other for other in others if other.startswith(one.path) and not other.endswith(COPY)]
             others = [other for other in others if other not in compressed or self.done_in(other) is None]
         except (Fault, OSError) as fault:
             return one.left(fault_of(fault, one.path))

@@ -72,7 +72,7 @@ from ..terminal import named, operand, spelled, text_of
 from ..units import Offset, Say, counted, silent
 from .carrying import PREPARED_SYNC_FAILED, SYNC_FAILED
 from .dovecot import KEYWORDS, LIST, is_written, remove_draft
-from .known import Known, Opened
+from .known import ONE_IN, Known, Opened
 from .options import Options
 from .outcomes import Row, Verdict, row_left
 from .places import Planned
@@ -85,10 +85,6 @@ OTHERWISE = "it was prepared %s --dovecot"
 MANY_GONE = "its mailbox is gone, as are %d of the %d of its tree that were prepared"
 NOT_MET = "it is only prepared, and no mailbox of this command goes there"
 LIST_GONE = "the list of what was prepared in its folder is gone, so nothing shows which files are only copies"
-
-
-# of what is known, the least part that is much if it is gone
-TENTH = 10
 
 
 class Stage(enum.Enum):
@@ -448,7 +444,7 @@ class Leftovers:
         for one in left:
             if one not in absent:
                 yield self.left(one, NOT_MET, unspelled(one.path))
-            elif many[one.tree] * TENTH <= all_of[one.tree]:
+            elif many[one.tree] * ONE_IN <= all_of[one.tree]:
                 row = remove_prepared(self.record, unspelled(one.path), one.name, self.options.dry)
                 if row:
                     yield row._replace(remarks=(Says.MAILBOX_GONE.of(), *row.remarks))

@@ -115,11 +115,12 @@ class Several:
         self.taken: set[bytes] = {INBOX} if is_taken else set()
         # the symbolic links that are followed: those that were named
         self.links = {one for one in names if not self.is_of_home and is_link(one)}
-        # the subscriptions of trees that are to be written, and the rows of files without mail
+        # the subscriptions of trees that are to be written
         trees = filter(self.is_tree, names) if options.dovecot and not options.prepare else ()
         self.subscriptions = {os.path.join(tree.rstrip(b"/") or b"/", OLD_SUBSCRIPTIONS): tree for tree in trees}
         own = names if self.is_of_home else None
         self.pairs = Pairs(migration.record, migration.record.maildir, options.of_next(), own)
+        # the rows of files without mail
         self.found: dict[bytes, Row] = {}
         # a name that is given has its verdict by that name, even if a tree has the same file; the other names of files
         self.met: NamesMet = {}
@@ -135,12 +136,11 @@ class Several:
             exports = [tree.export for tree in self.trees.values() if tree.export]
             plan = self.pairs.without_folders_in_inbox(plan, files + exports)
         self.observer.total += len(plan)
-        # a symbolic link may give a folder two names, and it has one ledger
-        folders = [
-            one.folder and real_path(one.folder_in(self.migration.record.maildir)) for one in plan if options.jobs != 1
-        ]
-        groups = in_groups(folders)
-        jobs, rows = min(jobs_of(options.jobs, len(groups)), len(groups)), InOrder(self.observer.row)
+        groups, jobs, rows = list[SameFolder](), 1, InOrder(self.observer.row)
+        if plan and options.jobs != 1:
+            # a symbolic link may give a folder two names, and it has one ledger
+            groups = in_groups([one.folder and real_path(one.folder_in(record.maildir)) for one in plan])
+            jobs = min(jobs_of(options.jobs, len(groups)), len(groups))
         try:
             if jobs > 1 and any(is_mbox(one.leads_to or one.path) for one in plan):
                 # several processes need it from the beginning
@@ -243,7 +243,7 @@ class Several:
                     self.tell_once_synced(Outcome(row))
                 yield from placed
             elif self.is_of_home and is_link(name):
-                self.observer.row(row_left(name, b"", link_left(name)))
+                self.observer.leave(name, link_left(name))
             else:
                 one = Planned(name, INBOX if folder is None else folder)
                 if folder is None:
