@@ -95,7 +95,7 @@ def has_others(home: Path, server: Dovecot) -> Iterator[str]:
 
 
 def moves(home: Path, server: Dovecot) -> Iterator[str]:
-    """A copy of a mailbox brings nothing, and says so. A mailbox keeps its numbers if it was moved, and then grew."""
+    """A copy of a mailbox brings nothing, and says so. A mailbox keeps its UIDs if it was moved, and then grew."""
     case = Case(home, server, "moves")
     kept(case)
     yield from says("before it was copied", case.migrate(), 0, "done")
@@ -115,7 +115,7 @@ def moves(home: Path, server: Dovecot) -> Iterator[str]:
 
 
 def grows(home: Path, server: Dovecot) -> Iterator[str]:
-    """A mailbox grew after it was done. What was there keeps its numbers, and Dovecot numbers what is new."""
+    """A mailbox grew after it was done. What was there keeps its UIDs, and Dovecot gives UIDs to what is new."""
     case = Case(home, server, "grows")
     kept(case)
     yield from says("before it grew", case.migrate(), 0, "done")

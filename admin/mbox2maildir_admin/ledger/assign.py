@@ -227,7 +227,9 @@ def offers_again(files: Iterable[File], path: str) -> list[Offer]:
     """The same with --again: all that is there, and first what the mailbox brought."""
     there = sorted((one for one in files if one.name), key=lambda one: not one.line_of(path))
     lines = ((one, one.line_of(path) or one.lines[-1]) for one in there)
-    return [Offer(Why.ANY if line.path else Why.ANY_NOBODYS, one, line, one.bare, True) for one, line in lines]
+    return [
+        Offer(Why.ANY if line.path else Why.ANY_NOBODYS, one, line, one.bare, in_any_form=True) for one, line in lines
+    ]
 
 
 class Offers:

@@ -309,7 +309,7 @@ def is_mbox(path: bytes) -> bool:
 
 def after_internal(text: Text, maildir: bytes) -> Offset:
     """Where the messages of a text begin: after the message by which Dovecot keeps an empty mailbox, which is left out
-    with its numbers, unless the Maildir has it."""
+    with its UIDs, unless the Maildir has it."""
     head, end = internal_head(text.mailbox, text.start)
     if head:
         base = next(messages_of(text.mailbox, text.start)).digest.hex().encode() + b".1"
