@@ -44,6 +44,10 @@ def one_of_a_kind(home: Path) -> None:
         mailbox(home / "old" / name, text)
     (group,) = groups_in(run("migrate --now M old", home)[1])
     equal("its commands", group.commands, ["file old/notes"])
+    mailbox(home / "old/thrice", asked(1) + asked(2) + asked(3))
+    _, out, _ = run("migrate --now M old", home)
+    shown = [line.split()[1] for line in out.splitlines() if line.strip().startswith("> ")]
+    equal("the first two lines of three that are asked about", shown, ["5", "12"])
 
 
 def groups(home: Path) -> None:

@@ -1,5 +1,6 @@
 """mbox2maildir-admin migrate of folders of mailboxes: which folder each mailbox becomes, what of a tree is left, what
 stays in the folder that the record has, and what is passed over, then and later."""
+import gzip
 import os
 import re
 import shutil
@@ -358,7 +359,7 @@ def profile_of_one_account(home: Path) -> None:
 JUNK = "--no-mail *.junk --no-mail none M tree"
 OF_JUNK = (
     "tree/a.junk: {0}\ntree/c.junk: left (other-kind): its name was c.junk\ntree/d.junk: {1}...\n"
-    "tree/e: left (not-known)...\ntree/x/b.junk: {0}"
+    "tree/e: left (not-known)...\ntree/x/b.junk: {0}\ntree/x/c.junk: {0}"
 )
 ZIPPED, LETTER = b"PK\3\4" + bytes(40), ONE.split(b"\n", 1)[1]
 PATHS = "tree/photos.zip", "tree/letter", "tree/box", "more.zip", "tree/none"
@@ -432,9 +433,10 @@ STORIES: dict[str, list[Step]] = {
     # only unknown kinds are, and later without the word, until their bytes change
     "passed_over_by_a_pattern": [
         *(("tree/a.junk", b"hello\n"), ("tree/x/b.junk", b"\0\1"), ("tree/c.junk", b"!BDN"), ("tree/d.junk", ONE)),
-        *(("tree/e", b"hello\n"), (f"migrate --dry-run {JUNK}", OF_JUNK.format(BY_WORD, "would be done"))),
+        *(("tree/e", b"hello\n"), ("tree/x/c.junk", gzip.compress(b"hello\n"))),
+        (f"migrate --dry-run {JUNK}", OF_JUNK.format(BY_WORD, "would be done")),
         *("!test ! -e M", (f"migrate {JUNK}", OF_JUNK.format(BY_WORD, "done"))),
-        *(("migrate M tree", OF_JUNK.format(BY_RECORD, "done before")), "!test $(grep -c ^no-mail M/*-record) = 2"),
+        *(("migrate M tree", OF_JUNK.format(BY_RECORD, "done before")), "!test $(grep -c ^no-mail M/*-record) = 3"),
         ("tree/a.junk", b"hello once more\n"),
         ("migrate M tree", OF_JUNK.format(BY_RECORD, "done before").replace(BY_RECORD, "left (not-known)...", 1)),
     ],

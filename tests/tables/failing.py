@@ -5,6 +5,8 @@ from tests.support.stories import RESTORED, Step, killed, run_stories, steps
 ONCE = "the system reported an error, but the same works now: read the system's log, and run this again"
 SYNC_FAILED = "a: left (sync-failed): its sync failed: read the system's log and mount the disk again before you ..."
 SECOND_IS_THERE: list[Step] = [("a", TWO), "!mbox2maildir convert M a", ("a", ONE + TWO)]
+# what was tried there is removed
+EMPTY = "!rmdir M/tmp"
 ALL_IS_THERE: list[Step] = [("a", TWO), *killed("migrate M a")]
 # programs that say nothing
 SILENT = {
@@ -74,7 +76,9 @@ if __name__ == "__main__":
             "it_says_nothing": [
                 one
                 for does, says in SILENT.items()
-                for one in steps("!rm -rf M", *SECOND_IS_THERE, f"@{does}", ("migrate --again M a", says), RESTORED)
+                for one in steps(
+                    "!rm -rf M", *SECOND_IS_THERE, f"@{does}", ("migrate --again M a", says), EMPTY, RESTORED
+                )
             ],
             **{name: story(SECOND_IS_THERE, "migrate --again M a", *row) for name, row in FAILS.items()},
             **{name: story(ALL_IS_THERE, "migrate M a", *row) for name, row in SWEEPS.items()},

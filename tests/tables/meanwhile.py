@@ -224,11 +224,16 @@ STORIES: dict[str, list[Step]] = {
         ("migrate --folder A M a", "a: left (no-folder): its mail is in B: the ledger there says so, and ..."),
         *(("migrate --folder B M a", "a: done before"), "= B/one"),
     ],
-    # a line that was torn, and one of NULs
+    # a line that was torn, and two with NULs, of which the last one has an end
     "a_torn_ledger": [
         *(("a", ONE), "migrate M a", f"!cp {LEDGER} kept; printf '=\\t1' >>{LEDGER}", ("a", ONE + TWO)),
         *(("migrate --dry-run M a", "a: would be done: it grew by 1 message"), f"!cp kept {LEDGER}"),
         *(f"!head -c 99 /dev/zero >>{LEDGER}", ("migrate M a", "a: done: it grew by 1 message"), "= one two"),
+        *(
+            f"!printf '=\\t1\\0\\0\\n' >>{LEDGER}",
+            ("a", ONE + TWO + THREE),
+            ("migrate M a", "a: done: it grew by 1 ..."),
+        ),
     ],
     # a dry run of it writes nothing
     "a_mailbox_was_moved": [

@@ -249,6 +249,11 @@ STORIES: dict[str, list[Step]] = {
             ("a", ONE), FIRST, ("a", ONE + TWO), *KILLED, ("migrate --undo M a", "a: undone: removed 1 message"), "="
         ),
     ],
+    # what another one has placed there meanwhile, by a run that was killed too
+    "killed_twice_and_undone": [
+        *steps(("a", ONE), FIRST, ("a", ONE + THREE), *KILLED, ("b", TWO), *killed("migrate --again M b")),
+        *("= one three two M+", ("migrate --undo M a", "a: undone: removed ..."), "="),
+    ],
     "undone_without_its_mailbox": [
         *(
             ("a", ONE + TWO),

@@ -77,6 +77,8 @@ def where_the_program_is(home: Path) -> None:
     # one may be installed in the folders of the system
     (home / "tools").mkdir()
     (home / "tools/python3").symlink_to(sys.executable)
+    # what nobody may run is no program
+    (home / "tools/mbox2maildir").write_text("hello\n", encoding="utf-8")
     names = f"{home}/paths:{clone}/admin:{home}/tools"
     for place in "", "clone/build", "paths", "clone/admin":
         if place:
