@@ -9,7 +9,7 @@ from typing import NamedTuple
 from ..faults import Left, Reason
 from ..kinds.starts import text_start
 from ..labels.noted import line_of
-from ..ledger.history import Key, Note, names_of
+from ..ledger.history import About, Note, names_of
 from ..ledger.ledger import Ledger, Source
 from ..ledger.lines import END_LINE, RETURNED, BatchHead, Brought
 from ..ledger.record import Record, is_gone
@@ -319,7 +319,7 @@ class Appending:
         number = self.known.ledger.begin(head, lines)
         if self.numbering.first:
             # a further run knows the UIDs of the Maildir as those of the mailbox
-            self.way.record.add(Note.NUMBERED, Key(self.opened.name, *key), len(goes.entries), mailbox.path)
+            self.way.record.add(Note.NUMBERED, About(self.opened.name, *key), len(goes.entries), mailbox.path)
         return number
 
     def reads(self) -> str:

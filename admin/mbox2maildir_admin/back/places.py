@@ -61,7 +61,7 @@ class Places:
         # in its own, Thunderbird alone knows where it would look for a new mailbox
         self.trees = [name for name, tree in trees.items() if not tree.profiles.found]
         # none is made where folders came from mailboxes: it would be in the way of these, which are elsewhere
-        has_folders = any(one.key.folder != INBOX for one in record.lines())
+        has_folders = any(one.about.folder != INBOX for one in record.lines())
         if not self.trees and names.tree and not is_there(names.tree) and not has_folders:
             self.trees = [names.tree]
         # by folders, as they are named on the disk: the mailboxes, in the order of the names

@@ -102,7 +102,7 @@ class Migrated(NamedTuple):
         its = [self.record.last_of(folder, names) for folder in self.record.folders_with(names)]
 
         def nearness(line: RecordLine) -> tuple[bool, ...]:
-            has_folder, has_path = line.key.folder == self.name, line.path in names
+            has_folder, has_path = line.about.folder == self.name, line.path in names
             return has_folder and has_path, line in same, has_folder, has_path
 
         lines = sorted((line for line in (*same, *its) if line), key=nearness)

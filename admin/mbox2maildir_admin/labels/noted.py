@@ -4,7 +4,7 @@ import itertools
 from typing import NamedTuple, Optional
 
 from ..faults import Fault
-from ..ledger.history import History, Key, Note, RecordLine, names_of
+from ..ledger.history import About, History, Note, RecordLine, names_of
 from ..ledger.record import Record, is_gone, unspelled
 from ..maildir.folders import INBOX
 from ..mbox.mailbox import Mailbox
@@ -49,23 +49,23 @@ def line_of(record: History, mailbox: Mailbox) -> Optional[RecordLine]:
     into none."""
     lines = {path: line for path, line in record.labelled().items() if line.words != NOTHING}
     here = (lines[name] for name in (names_of(mailbox.path) if lines else ()) if name in lines)
-    gone = (one for one in lines.values() if one.key.size == mailbox.size and one.key[1:] == mailbox.key())
+    gone = (one for one in lines.values() if one.about.size == mailbox.size and one.about[1:] == mailbox.key())
     return next(itertools.chain(here, (one for one in gone if is_gone(one.path))), None)
 
 
 def note(record: Record, mailbox: Mailbox, noted: Noted, messages: int) -> None:
     """Notes what goes into which folders, unless that is the last that was noted."""
-    before, key = line_of(record, mailbox), Key(INBOX, *mailbox.key())
+    before, about = line_of(record, mailbox), About(INBOX, *mailbox.key())
     is_here = before is not None and before.path in names_of(mailbox.path)
-    if not is_here or before is None or (before.key, before.words) != (key, noted.words()):
-        record.add(Note.LABELS, key, messages, mailbox.path, noted.words())
+    if not is_here or before is None or (before.about, before.words) != (about, noted.words()):
+        record.add(Note.LABELS, about, messages, mailbox.path, noted.words())
     if before and not is_here:
         note_nothing(record, before)
 
 
 def note_nothing(record: Record, line: RecordLine) -> None:
     """Notes that the mailbox of a line has no folders any more."""
-    record.add(Note.LABELS, line.key, line.messages, unspelled(line.path), NOTHING)
+    record.add(Note.LABELS, line.about, line.messages, unspelled(line.path), NOTHING)
 
 
 def has_labels(root: bytes, path: bytes) -> bool:

@@ -59,7 +59,7 @@ What = Union[Event, Note]
 BY_WORD: dict[str, What] = {**{event.value: event for event in Event}, **{note.value: note for note in Note}}
 
 
-class Key(NamedTuple):
+class About(NamedTuple):
     """What a line is about: a folder by its name on the disk, and a text by its size and its SHA-256."""
 
     folder: bytes
@@ -71,7 +71,7 @@ class RecordLine(NamedTuple):
     """A line. Its path is spelled as in the file."""
 
     what: What
-    key: Key
+    about: About
     messages: int
     when: str
     path: str
@@ -91,7 +91,7 @@ class RecordLine(NamedTuple):
         folder, size, digest, messages, when, path, words, ledger, length, number = found.groups()[1:]
         return cls(
             what,
-            Key(folder, Size(int(size)), digest.decode()),
+            About(folder, Size(int(size)), digest.decode()),
             int(messages),
             when.decode(),
             path.decode("utf-8", "replace"),
@@ -103,7 +103,7 @@ class RecordLine(NamedTuple):
 
     def line(self) -> bytes:
         """The line as bytes."""
-        folder, size, digest = self.key
+        folder, size, digest = self.about
         fields = [self.what.value, shown(folder), str(size), digest, str(self.messages), self.when, self.path]
         fields += [] if self.words is None else [self.words]
         fields += ["%s-%d-%d" % (self.ledger, self.size, self.number)] if self.ledger else []
@@ -111,7 +111,7 @@ class RecordLine(NamedTuple):
 
     def says(self) -> tuple[object, ...]:
         """What it says of a mailbox, whenever it was written."""
-        return self.what, self.key, self.messages, self.path, self.words, self.ledger, self.number
+        return self.what, self.about, self.messages, self.path, self.words, self.ledger, self.number
 
 
 class History:
@@ -147,7 +147,7 @@ class History:
     def take(self, line: RecordLine) -> None:
         """Takes the next line."""
         line = self.where_it_is_now(line)
-        folder = line.key.folder
+        folder = line.about.folder
         if isinstance(line.what, Event):
             self._index[folder].pop(line.path, None)
             self._index[folder][line.path] = line
@@ -159,8 +159,8 @@ class History:
             for several in self._texts.values():
                 several.pop((folder, line.path), None)
         elif isinstance(line.what, Event):
-            self.sizes.add(line.key.size)
-            self._texts[line.key[1:]][folder, line.path] = line
+            self.sizes.add(line.about.size)
+            self._texts[line.about[1:]][folder, line.path] = line
             self._folders[line.path][folder] = None
             self.forget_notes(folder, line.path, *([Note.EMPTY] if line.messages else []))
         else:
@@ -177,14 +177,14 @@ class History:
 
     def where_it_is_now(self, line: RecordLine) -> RecordLine:
         """A line with the name that its folder has now, which people may have renamed."""
-        folder = line.key.folder
+        folder = line.about.folder
         if line.ledger:
             self.ledger_sizes[line.ledger] = line.size
             self.last_numbers[line.ledger] = max(line.number, self.last_numbers.get(line.ledger, 0))
             if self.numbers.get(folder) != line.ledger:
                 folder = self.folders.get(line.ledger, folder)
-                self._names[line.key.folder, line.path] = folder
-        return line._replace(key=line.key._replace(folder=folder))
+                self._names[line.about.folder, line.path] = folder
+        return line._replace(about=line.about._replace(folder=folder))
 
     def prepared(self, folder: bytes) -> Optional[RecordLine]:
         """The mailbox that a folder was prepared from last, if nothing of the folder is done since."""

@@ -21,7 +21,7 @@ from ..maildir.folders import folder_path, folders_in, name_of
 from ..maildir.making import LEDGER, RECORD, SyncNames, is_partly_there, make_alone, sync_folder, synced_once
 from ..terminal import named, spelled
 from ..units import Size
-from .history import TIME, Event, History, Key, Note, RecordLine, What
+from .history import TIME, About, Event, History, Note, RecordLine, What
 from .ledger import Ledger, count_in
 from .lines import BY_ANOTHER, CUT, FIRST_LINE, lines_in, want_trusted, was_cut
 
@@ -194,15 +194,15 @@ class Record(History):
             self._gone[above] = [line for line in lines if is_gone(line.path)]
         return self._gone[above]
 
-    def add(self, what: What, key: Key, messages: int, path: bytes, words: Optional[str] = None) -> None:
+    def add(self, what: What, about: About, messages: int, path: bytes, words: Optional[str] = None) -> None:
         """Appends a line: see `add_lines`."""
-        self.add_lines(RecordLine(what, key, messages, time.strftime(TIME, time.gmtime()), spelled(path), words))
+        self.add_lines(RecordLine(what, about, messages, time.strftime(TIME, time.gmtime()), spelled(path), words))
 
     def add_gone(self, folder: bytes, paths: Container[str]) -> None:
         """Notes of the mailboxes of some paths that a folder has nothing of them any more, since it is gone."""
-        key, when = Key(folder, *NO_TEXT), time.strftime(TIME, time.gmtime())
+        about, when = About(folder, *NO_TEXT), time.strftime(TIME, time.gmtime())
         lines = [one for one in self.last_events(folder) if one.path in paths]
-        self.add_lines(*(RecordLine(Event.UNDONE, key, 0, when, one.path, "-", *one[6:]) for one in lines))
+        self.add_lines(*(RecordLine(Event.UNDONE, about, 0, when, one.path, "-", *one[6:]) for one in lines))
 
     def look(self) -> None:
         """Looks which folders have which ledgers."""
@@ -229,7 +229,7 @@ class Record(History):
         if not is_found:
             self.look()
         # of two copies of a folder, that one counts which the index has
-        its = {(one.ledger, one.key.folder) for one in self.lines()}
+        its = {(one.ledger, one.about.folder) for one in self.lines()}
         self.folders.update((number, name) for name, number in self.numbers.items() if (number, name) in its)
         for number, name in self.folders.items():
             folder = folder_path(self.maildir, name)
@@ -257,11 +257,11 @@ class Record(History):
         event, when, number = Event.UNDONE, time.strftime(TIME, time.gmtime()), ledger.lasts[path]
         at = ledger.number, ledger.size, number
         if path not in ledger.paths():
-            return RecordLine(event, Key(name, *NO_TEXT), 0, when, path, "-", *at)
+            return RecordLine(event, About(name, *NO_TEXT), 0, when, path, "-", *at)
         event = Event.DONE if ledger.pending(path) is None and path not in ledger.leaving else Event.BEGUN
         read = ledger.last_read(path)
-        key = Key(name, Size(read.key[0]), read.key[1])
-        return RecordLine(event, key, count_in(ledger, path), when, path, read.words, *at)
+        about = About(name, Size(read.key[0]), read.key[1])
+        return RecordLine(event, about, count_in(ledger, path), when, path, read.words, *at)
 
     def unknown_to(self, name: bytes, ledger: Ledger) -> list[RecordLine]:
         """The last line about each mailbox of a folder of which the ledger there lacks something: the folder had

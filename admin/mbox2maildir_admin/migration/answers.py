@@ -8,7 +8,7 @@ from typing import NamedTuple, Optional
 
 from ..faults import Fault, Left, Reason
 from ..ledger.ledger import Batch, Source
-from ..ledger.history import History, Key, Note, RecordLine
+from ..ledger.history import About, History, Note, RecordLine
 from ..ledger.lines import LOST, Brought, counted_in
 from ..ledger.match import Files, Match, cores_of
 from ..ledger.record import Record, unspelled
@@ -39,7 +39,7 @@ def note_empty(known: Known, reading: Reading, lost: Iterable[Brought]) -> None:
         its = (one._replace(word=LOST) for one in lost)
         ledger.note_without_files(mailbox.key(), words, path, mailbox.state.st_ino, *its)
     if not mailbox.size:
-        known.record.add(Note.EMPTY, known.opened.key, 0, mailbox.path)
+        known.record.add(Note.EMPTY, known.opened.about, 0, mailbox.path)
 
 
 def note_answer(record: Record, opened: Opened, plan: Plan) -> None:
@@ -50,7 +50,7 @@ def note_answer(record: Record, opened: Opened, plan: Plan) -> None:
     last = Reading.of_words(before[-1].words) if before else UNDECIDED
     # an answer for several mailboxes that says the same takes nothing away
     if plan.answer and plan.answer not in (last, last._replace(alone=False)):
-        record.add(Note.ANSWERED, opened.key, plan.messages, mailbox.path, plan.answer.words())
+        record.add(Note.ANSWERED, opened.about, plan.messages, mailbox.path, plan.answer.words())
 
 
 def answers_for(record: Record, opened: Opened) -> list[RecordLine]:
@@ -84,8 +84,8 @@ def answer_to(record: Record, opened: Opened, question: Question) -> Optional[Re
 
 def is_passed_over(record: History, mailbox: Mailbox) -> bool:
     """Whether it is noted that a file holds no mail, as long as it has its path and its bytes."""
-    keys = {entry.key for entry in record.noting(Note.NO_MAIL, INBOX, mailbox.path)}
-    return bool(keys) and Key(INBOX, *mailbox.key()) in keys
+    noted = {entry.about for entry in record.noting(Note.NO_MAIL, INBOX, mailbox.path)}
+    return bool(noted) and About(INBOX, *mailbox.key()) in noted
 
 
 READ_OTHERWISE = (

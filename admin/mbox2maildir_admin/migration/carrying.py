@@ -100,9 +100,9 @@ def prepare(steps: Steps, first: FirstPass, program: Program) -> list[Remark]:
     prepared.append(first.origin.line(), *prepared.missing_lines())
     known.record.make(steps.opened.make_folder)
     before = known.record.prepared(steps.opened.name)
-    if not before or (before.key, before.path) != (steps.opened.key, known.path):
+    if not before or (before.about, before.path) != (steps.opened.about, known.path):
         words = contents.reading.words()
-        known.record.add(Note.PREPARED, steps.opened.key, len(contents.inventory), unspelled(known.path), words)
+        known.record.add(Note.PREPARED, steps.opened.about, len(contents.inventory), unspelled(known.path), words)
     back = convert(steps, program)
     # a date changes a file's ctime
     Dating(contents.text.mailbox, steps.files).give_all(steps.opened.folder)

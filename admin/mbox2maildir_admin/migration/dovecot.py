@@ -25,7 +25,7 @@ from ..flags.dovecot_headers import (
     marks_of,
 )
 from ..flags.renaming import add_flags, give_marks
-from ..ledger.history import Key, Note, names_of
+from ..ledger.history import About, Note, names_of
 from ..ledger.record import Record
 from ..looks import is_there
 from ..maildir.files import names_in
@@ -41,7 +41,7 @@ from ..remarks import Remark, Says
 from ..terminal import is_text, named, operand
 from ..units import Offset, Place, Size
 from .known import Opened
-from .steps import Steps, Extra
+from .steps import Extra, Steps
 
 KEYWORDS, LIST, SUBSCRIPTIONS = b"dovecot-keywords", b"dovecot-uidlist", b"subscriptions"
 OLD_SUBSCRIPTIONS, FORM = b".subscriptions", b"V\t2\n\n"
@@ -147,7 +147,7 @@ class Dovecot(Extra):
     def write(self, one: Steps, found: FromHeaders) -> None:
         """Writes the files. The list comes last, since with it Dovecot accepts the others."""
         opened, whole = one.opened, one.placing.whole()
-        self.record.add(Note.NUMBERED, opened.key, len(whole), opened.mailbox.path)
+        self.record.add(Note.NUMBERED, opened.about, len(whole), opened.mailbox.path)
         if found.keywords:
             text = b"".join(b"%d %s\n" % pair for pair in enumerate(found.keywords[:LETTERS]))
             place_file(opened.folder, KEYWORDS, text, self.writer(opened.name))
@@ -163,7 +163,7 @@ class Dovecot(Extra):
 
     def writer(self, name: bytes) -> NoteFile:
         """Returns the function that records a file of a folder before it is written."""
-        return lambda file, size, digest: self.record.add(Note.WROTE, Key(name, Size(size), digest), 0, file)
+        return lambda file, size, digest: self.record.add(Note.WROTE, About(name, Size(size), digest), 0, file)
 
     def kept_from(self, one: Steps) -> Optional[list[Remark]]:
         """What is to be said if the folder keeps the UIDs that it has; None if it gets some now."""
@@ -181,7 +181,7 @@ class Dovecot(Extra):
             if not is_written(self.record, opened.name, opened.folder, name):
                 raise Left("%s is there: %s" % (named(name), NUMBERED_BY_DOVECOT), Reason.NUMBERED)
         if LIST in there:
-            is_same = numbered is not None and numbered.key == opened.key
+            is_same = numbered is not None and numbered.about == opened.about
             # one that a killed run has written was read by nobody, and the mailbox may have changed since
             return None if is_same or one.was_begun else [WHAT_IS_NEW]
         return [DONE_WITHOUT] if one.had_brought else None
@@ -191,9 +191,9 @@ def is_written(record: Record, name: bytes, folder: bytes, file: bytes) -> bool:
     """Whether the record has a file as one that was written for a mailbox of the folder of this name, which is at this
     path."""
     notes = [one for one in record.notes(Note.WROTE, name) if os.path.basename(one.path) == os.fsdecode(file)]
-    most = max((one.key.size for one in notes), default=0)
+    most = max((one.about.size for one in notes), default=0)
     text = content_at(os.path.join(folder, file), most) if file in (KEYWORDS, LIST) else None
-    return text is not None and hashlib.sha256(text).hexdigest() in {one.key.digest for one in notes}
+    return text is not None and hashlib.sha256(text).hexdigest() in {one.about.digest for one in notes}
 
 
 def remove_lists(record: Record, opened: Opened, path: str) -> None:
@@ -299,8 +299,8 @@ def subscribe(root: bytes, old: bytes, record: Record, dry: bool) -> list[bytes]
     names = [folder_of_place(place.decode()).encode() for place in places]
     lines = [name.replace(b".", b"\t") for name in names]
     text = FORM + b"".join(line + b"\n" for line in lines)
-    key = Key(INBOX, Size(len(text)), hashlib.sha256(text).hexdigest())
-    if not names or any(one.key == key for one in record.notes(Note.SUBSCRIBED, INBOX)):
+    about = About(INBOX, Size(len(text)), hashlib.sha256(text).hexdigest())
+    if not names or any(one.about == about for one in record.notes(Note.SUBSCRIBED, INBOX)):
         return []
     if is_there(path) and content_at(path, len(text)) != text:
         there, has_tabs = lines_of(path)
@@ -308,5 +308,5 @@ def subscribe(root: bytes, old: bytes, record: Record, dry: bool) -> list[bytes]
     if not dry:
         place_file(root, SUBSCRIPTIONS, text, lambda *_: None)
         # somebody who unsubscribes from a folder later is not told of it again
-        record.add(Note.SUBSCRIBED, key, 0, path)
+        record.add(Note.SUBSCRIBED, about, 0, path)
     return []

@@ -5,7 +5,7 @@ import os
 from collections.abc import Container
 from typing import NamedTuple, Optional
 
-from ..ledger.history import Event, Key, Note, RecordLine, names_of
+from ..ledger.history import About, Event, Note, RecordLine, names_of
 from ..ledger.ledger import Ledger, count_in
 from ..ledger.match import cores_of
 from ..ledger.record import Record, is_gone, unspelled
@@ -35,9 +35,9 @@ class Opened(NamedTuple):
         return cls(mailbox, root, name, folder_path(root, name))
 
     @property
-    def key(self) -> Key:
+    def about(self) -> About:
         """The folder, and the mailbox by its size and its SHA-256."""
-        return Key(self.name, *self.mailbox.key())
+        return About(self.name, *self.mailbox.key())
 
     def make_folder(self, sync: SyncNames) -> None:
         """Makes the folder if it is missing. `sync` syncs its names."""
@@ -75,7 +75,7 @@ class Known:
         """Whether the mailbox has the bytes of the one that a line is about. One of another size is not read for that,
         and one without a byte is no other one."""
         mailbox = self.opened.mailbox
-        return mailbox.size > 0 and line.key.size == mailbox.size and line.key[1:] == mailbox.key()
+        return mailbox.size > 0 and line.about.size == mailbox.size and line.about[1:] == mailbox.key()
 
     @property
     def is_cut(self) -> bool:
@@ -99,7 +99,7 @@ class Known:
             source = self.ledger.sources.get(self.path)
             notes = self.record.noting(Note.EMPTY, self.opened.name, mailbox.path)
             is_open = self.path in self.ledger.leaving or source and source.count()
-            return None if is_open else next((one for one in notes if one.key == self.opened.key), None)
+            return None if is_open else next((one for one in notes if one.about == self.opened.about), None)
         if self.by_index:
             return self.by_index if self.has_bytes_of(self.by_index) and self.by_index.what is Event.DONE else None
         return self.done_at(self.path)
@@ -130,9 +130,9 @@ class Known:
         for line in itertools.chain(same, others):
             is_same = line in same
             # the same bytes may have fewer messages as they are read now
-            if line.key.folder == self.opened.name or not is_same and line.messages > len(inventory):
+            if line.about.folder == self.opened.name or not is_same and line.messages > len(inventory):
                 continue
-            ledger = Ledger(folder_path(self.record.maildir, line.key.folder))
+            ledger = Ledger(folder_path(self.record.maildir, line.about.folder))
             cores = cores or cores_of(inventory)
             if is_same or ledger.is_in(line.path, cores):
                 found.append((line, is_gone(line.path) and (is_same or line.path in moved_in(ledger, mailbox))))
@@ -180,7 +180,7 @@ class Known:
         numbered = self.record.numbered(self.opened.name)
         # a run that is killed after the ledger says it would never say whose the UIDs are
         if numbered and numbered.path == path:
-            self.record.add(Note.NUMBERED, numbered.key, numbered.messages, self.opened.mailbox.path)
+            self.record.add(Note.NUMBERED, numbered.about, numbered.messages, self.opened.mailbox.path)
         self.ledger.move(path, self.path)
 
 
@@ -194,4 +194,4 @@ def moved_in(ledger: Ledger, mailbox: Mailbox) -> list[str]:
 def is_replaced(line: RecordLine) -> bool:
     """Whether a mailbox of another size is at the path of one."""
     state = state_at(unspelled(line.path))
-    return state is not None and state.st_size != line.key.size
+    return state is not None and state.st_size != line.about.size

@@ -17,7 +17,7 @@ from ..kinds.look import Look
 from ..kinds.named import is_no_mail
 from ..labels.noted import line_of
 from ..ledger.gone import back_in, gone_before, gone_from, placed_again, unexplained
-from ..ledger.history import Key, Note
+from ..ledger.history import About, Note
 from ..ledger.ledger import Ledger, count_in, has_failed
 from ..ledger.match import Files, Match, Stand
 from ..ledger.record import Record, unspelled
@@ -71,8 +71,8 @@ from .steps import (
     OtherPass,
     Part,
     Steps,
-    remarks_on_match,
     remarks_on_lost,
+    remarks_on_match,
 )
 
 
@@ -126,7 +126,7 @@ class Migration:
                         left.put(self.options.where(opened))
                         raise
                     if not is_noted:
-                        self.record.add(Note.NO_MAIL, Key(INBOX, *mailbox.key()), 0, mailbox.path)
+                        self.record.add(Note.NO_MAIL, About(INBOX, *mailbox.key()), 0, mailbox.path)
                     said = Says.BY_NO_MAIL if by_words else Says.NO_MAIL_NOTED
                     return Outcome(Row(path, b"", left.kind, None, Verdict.NO_MAIL, remarks=(said.of(),)))
         except NoMail as found:
@@ -400,13 +400,13 @@ class Transfer:
         is_gone = any(one.word == Says.GONE_ELSEWHERE.word for one in said)
         then = self.command(Does.BRINGS_BACK, again=True) if is_gone else NOTHING
         for line, is_moved in elsewhere:
-            its = counted(line.messages, "message"), folder_shown(line.key.folder)
+            its = counted(line.messages, "message"), folder_shown(line.about.folder)
             is_other = line.path not in self.known.names
             said.append(
                 Says.ELSEWHERE_FROM.of(*its, named(unspelled(line.path))) if is_other else Says.ELSEWHERE.of(*its)
             )
             if is_moved:
-                undo = self.options.undo_command(self.opened._replace(name=line.key.folder))
+                undo = self.options.undo_command(self.opened._replace(name=line.about.folder))
                 then += (Answer(undo, Does.UNDO_THERE),)
         joined = self.known.joined(self.options.names)
         if joined:

@@ -202,7 +202,7 @@ class Preparation:
         """Notes that nothing is prepared there any more. Without its list the folder would count as lost."""
         entry = self.record.prepared(self.name)
         if entry:
-            self.record.add(Note.UNPREPARED, entry.key, 0, unspelled(entry.path))
+            self.record.add(Note.UNPREPARED, entry.about, 0, unspelled(entry.path))
         if has_list(self.folder):
             remove_list(self.folder)
 

@@ -8,7 +8,7 @@ from typing import Any, NamedTuple, Optional
 from ..faults import Left, Reason
 from ..jobs.crew import Child, Crew, Parent
 from ..jobs.order import SameFolder
-from ..ledger.history import BY_WORD, Key, RecordLine
+from ..ledger.history import BY_WORD, About, RecordLine
 from ..ledger.record import Record
 from ..maildir.disk import Need, want_room
 from ..progress import how_far
@@ -121,7 +121,9 @@ class Workers(Crew):
             child.answer(*child.places[:1])
         elif what == "line":
             word, (folder, *text), *others = words
-            child.serve(self.orders.record.add_lines, RecordLine(BY_WORD[word], Key(bytes_of(folder), *text), *others))
+            child.serve(
+                self.orders.record.add_lines, RecordLine(BY_WORD[word], About(bytes_of(folder), *text), *others)
+            )
         else:
             child.has, child.wants = None, value_of(Need, words)
 

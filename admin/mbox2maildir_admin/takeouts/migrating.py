@@ -170,7 +170,7 @@ class Takeouts(Migration):
         mailbox = opened.mailbox
         folders = self.record.folders_of(mailbox.path)
         if not folders:
-            folders = [one.key.folder for one in self.record.lines_of(mailbox) if is_gone(one.path)]
+            folders = [one.about.folder for one in self.record.lines_of(mailbox) if is_gone(one.path)]
         if folders:
             undo = self.options._replace(is_labelled=False).undo_command(opened._replace(name=folders[-1]))
             raise Left(WITHOUT_LABELS, Reason.ANOTHER_READING, (Answer(undo),))

@@ -4,7 +4,7 @@ import unittest
 from collections.abc import Callable
 from typing import Any, Optional
 
-from mbox2maildir_admin.ledger.history import Event, Key, Note, RecordLine
+from mbox2maildir_admin.ledger.history import About, Event, Note, RecordLine
 from mbox2maildir_admin.ledger.lines import ALL_PLACED, BATCH, CUT, END, FAILED, FIRST_LINE, FOREIGN, LOST, MOVED
 from mbox2maildir_admin.ledger.lines import NAMELESS, PLACED, SHARED, UNDOING, UNDONE, BatchHead, Brought, Messages
 from mbox2maildir_admin.ledger.lines import pieces_of
@@ -20,7 +20,7 @@ NAME = b"aa" * 32 + b".1"
 TEXT = BatchHead(3, 2, 1, (7, 8, -9), (10, SHA), "mboxo text=7,9 crlf", "/a b/\u00e4\\x0a", 5, 70)
 BEGINS = b"@\t12\t3\t2\t1\t70\t7,8,-9\t10-" + b"c" * 64 + b"-5\tmboxo text=7,9 crlf\t" + "/a b/\u00e4\\x0a".encode()
 WHEN = "2025-03-03T10:00:00Z"
-EVENT = RecordLine(Event.DONE, Key(b".a\\b", Size(10), SHA), 3, WHEN, "/b\\x0a", "mboxo text=7,9", "0" * 32, 1234, 5)
+EVENT = RecordLine(Event.DONE, About(b".a\\b", Size(10), SHA), 3, WHEN, "/b\\x0a", "mboxo text=7,9", "0" * 32, 1234, 5)
 NOTED = b".a\\b\t10\t" + b"c" * 64 + b"\t3\t2025-03-03T10:00:00Z\t/b\\x0a"
 DONE = b"done\t" + NOTED + b"\tmboxo text=7,9\t" + b"0" * 32 + b"-1234-5"
 PLAIN = EVENT._replace(ledger="", size=0, number=0)
