@@ -26,7 +26,7 @@ OF_SEVERAL: list[tuple[bytes, set[str]]] = [
     (INSIDE + B + b"\n" + ODD, set()),
     (B + b"\n" + BARE, {"unquoted"}),
     # where the text begins, a message begins by each word, also without a header
-    (B.split(b"\n")[0] + b"\n\nhi\n\n" + B + b"\n" + BARE, {"unquoted"}),
+    (B.partition(b"\n")[0] + b"\n\nhi\n\n" + B + b"\n" + BARE, {"unquoted"}),
     (B + b"\n>" + BARE + BARE, {"unquoted"}),
     (B + b"\nhi\n\n" + NAMED, {*BY_LINES, "unquoted"}),
     (B + b"\n" + ODD, BY_LINES),
