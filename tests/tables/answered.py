@@ -1,6 +1,6 @@
 """What answers a question about a mailbox: what it has brought without one, and what a human has answered before. If
 neither does, a human is asked."""
-from tests.support.mail import A, B, ONE, TWO, with_length
+from tests.support.mail import A, B, C, MAY, ONE, TWO, with_length
 from tests.support.stories import Step, killed, run_stories, steps
 
 # a message by its length, in which a line may begin another one, since a program may have escaped the next line; and
@@ -14,11 +14,20 @@ UNDATED = b"From a\nSubject: x\n\none\n\nFrom a\nSubject: y\n\ntwo\n\n"
 BOTH = with_length(A, b"hello\nFrom x\n\nyes\n>From y\n") + b"\n"
 ABOVE = with_length(A, b"hello\n") + b"\n"
 BELOW = with_length(B.split(b"\n", 1)[0] + b"\n", b"yes\n>From y\n") + b"\n"
+GONE, KEPT, KEPT_TOO = (
+    head + b"X-Mozilla-Status: 000%d\n\nhello\n\n" % mark for head, mark in ((A, 8), (B, 0), (C, 0))
+)
 LINES = A + b"\n>From x\nFrom the first\nhello\n\n" + B + b"\n"
 QUOTED = A + b"\n>>From x\n\n" + TWO
 OTHER_WORDS = "!sed -i 's/\\tmbox\\(rd\\|cl2\\)\\t/\\tnone\\1\\t/' M/mbox2maildir-messages"
 ASKED, AGAIN = "a: left (unclear): ...", "as it was answered before"
 GREW = "a: done: as the messages show that it brought; it grew by 1 message"
+
+
+def in_cr(text: bytes) -> bytes:
+    """A text whose lines end in CR alone."""
+    return text.replace(b"\n", b"\r")
+
 
 # what a mailbox has brought without a question, what it has then, and what its row says
 BROUGHT = {
@@ -113,6 +122,21 @@ STORIES: dict[str, list[Step]] = {
     ],
     "all_that_is_nowhere": [
         *(("a", MEASURED), "migrate M a", ("a", MEASURED + NEW), "!rm M/new/*", "migrate --again M a", "= one two"),
+    ],
+    # an answer about a text with other line ends holds for what is added to it, and each question is about its lines
+    "line_ends_of_cr_alone": [
+        *(
+            ("a", in_cr(GONE + KEPT)),
+            ("migrate --drop-deleted M a", "a: left (unclear): line 4: this message is ma..."),
+        ),
+        *((">", "a: done: without 1 message marked as deleted"), "= two", ("a", in_cr(GONE + KEPT + KEPT_TOO))),
+        *(
+            ("migrate M a", f"a: done: without 1 message...; {AGAIN}; it grew by 1 message"),
+            "= three two",
+            ("migrate M a", "a: done before: ..."),
+        ),
+        *(("b", in_cr(A + b"\n" + MAY + b"\n")), ("migrate --folder B M b", "b: left (unclear): line 6: a line ...")),
+        *((">", "b: done"), "= B/one three two", "migrate --undo M a", "= B/one"),
     ],
     "it_is_new": [("a", MEASURED + NEW), ("migrate M a", ASKED)],
     # on the day it has more mail, and stands elsewhere

@@ -45,7 +45,7 @@ ALONE: list[tuple[bytes, set[str]]] = [
     (INSIDE + B + b"\n", WORDS),
     (DATED + b"\n" + B + b"\n" + BARE, {*BY_LINES, "unquoted"}),
     (DATED + b"\n" + B + b"\n" + BARE * 201, WORDS),
-    ((A + b"\nhi\n").replace(b"\n", b"\r"), {*BY_LINES, "unquoted"}),
+    ((A + b"\nhi\n").replace(b"\n", b"\r"), WORDS),
 ]
 
 

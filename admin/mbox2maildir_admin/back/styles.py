@@ -4,7 +4,7 @@ from collections.abc import Callable, Iterator, Sequence
 from typing import NamedTuple, Optional
 
 from ..faults import Fault, Left, Reason
-from ..kinds.starts import text_start
+from ..kinds.starts import ends_in_cr, text_start
 from ..mbox.inventory import Inventory
 from ..mbox.mailbox import Mailbox
 from ..migration.known import Known, moved_in
@@ -93,7 +93,7 @@ def styles_of(known: Known, disk: bytes, is_dovecots: bool) -> Iterator[Style]:
         for word, decision in ((MBOXRD, lengths), (MBOXCL2, lengths), (MBOXRD, None))[0 if is_dovecots else -1 :]:
             yield Style(word, Dialect(word, False), b"", False, decision, disk)
         return
-    if text_start(mailbox) is None or form_of(mailbox):
+    if text_start(mailbox) is None or form_of(mailbox) or ends_in_cr(mailbox):
         return
     now, paths = reading_now(mailbox), [known.path]
     if known.path not in ledger.paths():

@@ -20,6 +20,7 @@ from ..migration.rows import Shows
 from ..migration.trees import Tree
 from ..nexts import Answer, Command, Next, Quote, Runs, Todo, User, task
 from ..progress import say_of
+from ..readings.copies import with_lf
 from ..readings.plans import OtherKind, Question, question_of
 from ..readings.reading import UNDECIDED, Reading
 from ..readings.texts import choice_of, form_of
@@ -82,8 +83,8 @@ class Kinds:
     def say(self, found: Found, tree: Optional[Tree] = None) -> None:
         """Prints what a file is, unless it is one of a tree that holds no mail."""
         path = found.path
-        with Mailbox.open(path, say_of(path)) as mailbox:
-            diagnosis = look_at(mailbox)
+        with Mailbox.open(path, say_of(path)) as mailbox, with_lf(mailbox, trial_folder()) as text:
+            diagnosis = look_at(text)
             if tree and diagnosis.holds == Holds.NO_MAIL:
                 tree.pass_over(path, kind=diagnosis.kind.partition(": ")[2])
                 return

@@ -2,10 +2,11 @@
 
 from ..faults import Status
 from ..flags.dovecot_headers import internal_head
+from ..maildir.disk import trial_folder
 from ..mbox.mailbox import Mailbox
 from ..nexts import Command, Runs
 from ..progress import say_of
-from ..readings.copies import Copy
+from ..readings.copies import Copy, with_lf
 from ..readings.plans import Plan, Question, plan_of
 from ..readings.quoting import Quoter, give_all, write_copy
 from ..readings.reading import PLAIN, Reading
@@ -33,7 +34,7 @@ def quote_file(decision: Reading, file: bytes, output: bytes, is_bare: bool) -> 
     if output == STANDARD_OUTPUT:
         # the copy may go to a terminal
         say = silent
-    with Mailbox.open(file, say) as mailbox:
+    with Mailbox.open(file, say) as opened, with_lf(opened, trial_folder()) as mailbox:
         plan = plan_to_quote(mailbox, decision, output, is_bare)
         reading, start, messages = plan.reading if plan.is_copied else PLAIN, plan.start, plan.messages
         if is_bare:

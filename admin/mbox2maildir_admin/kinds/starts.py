@@ -88,7 +88,19 @@ def text_start(mailbox: Mailbox) -> Optional[Offset]:
 
 def is_from_line(text: bytes) -> bool:
     """Whether a text begins with a From_ line that ends in a date, or that a header follows."""
-    return any(signs_in(text)) or any(signs_in(text.replace(b"\r\n", b"\n").replace(b"\r", b"\n")))
+    return any(signs_in(text)) or any(signs_in(with_lf(text)))
+
+
+def with_lf(text: bytes) -> bytes:
+    """A text in which each CR LF, and each CR, is LF."""
+    return text.replace(b"\r\n", b"\n").replace(b"\r", b"\n")
+
+
+def ends_in_cr(mailbox: Mailbox) -> bool:
+    """Whether the lines of a text end in CR alone, by the first one: it has a CR, and is a From_ line up to that."""
+    start = text_start(mailbox)
+    head = mailbox.at(start, HEAD) if start is not None else b""
+    return b"\r" in head.split(b"\n")[0][:-1] and any(signs_in(with_lf(head)))
 
 
 def signs_in(text: bytes) -> tuple[bool, bool]:

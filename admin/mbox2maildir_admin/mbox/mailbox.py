@@ -107,6 +107,8 @@ class Mailbox:
         self.remarks: list[Remark] = []
         self.copied: Optional[os.stat_result] = None
         self.took = 0.0
+        # whether it is a copy that has LF in place of line ends of CR alone
+        self.was_cr = False
         self.take_state()
 
     @classmethod

@@ -7,15 +7,16 @@ from collections.abc import Iterable, Iterator, Sequence
 from typing import IO, Optional
 
 from ..faults import Fault, Left, Reason, naming
+from ..kinds.starts import ends_in_cr
 from ..looks import is_there
 from ..maildir.disk import PREFIX
-from ..mbox.files import BLOCK, Reader
+from ..mbox.files import BLOCK, LineEnds, Reader
 from ..mbox.inventory import Inventory
 from ..mbox.mailbox import Mailbox
 from ..mbox.pieces import from_lines_of
 from ..nexts import Todo, task
 from ..terminal import named
-from ..units import Place
+from ..units import Offset, Place
 
 CUT = "it was cut while it was read"
 
@@ -104,6 +105,18 @@ def copy_of(mailbox: Mailbox, given: Iterable[bytes], folder: bytes) -> Mailbox:
         text = Mailbox(mailbox.path, os.dup(file.fileno()), None, mailbox.say)
     if text.size != size:
         raise Fault("the copy has %d of %d bytes" % (int(text.size), size), Reason.MISREAD)
+    return text
+
+
+def with_lf(mailbox: Mailbox, folder: bytes) -> contextlib.AbstractContextManager[Mailbox]:
+    """The text that a mailbox is. If its lines end in CR alone, that is a copy in which they end in LF."""
+    if not ends_in_cr(mailbox):
+        return contextlib.nullcontext(mailbox)
+    mailbox.file.offset = Offset(0)
+    ends = LineEnds(mailbox.file)
+    text = copy_of(mailbox, iter(lambda: ends.read(BLOCK), b""), folder)
+    mailbox.check()
+    text.was_cr, text.copied = True, mailbox.state
     return text
 
 

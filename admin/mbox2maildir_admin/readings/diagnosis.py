@@ -6,24 +6,22 @@ from ..kinds.doubts import INSIDE, MAY_BE_MAIL, MAY_BE_TEXT, Ties
 from ..kinds.look import HowFar, Look
 from ..kinds.making import Recipe
 from ..kinds.others import Holds, finding_of
-from ..kinds.starts import HEAD, text_start
+from ..kinds.starts import text_start
 from ..mbox.dates import is_dated
-from ..mbox.files import LineEnds
 from ..mbox.lines import AskedAbout, Said
 from ..mbox.mailbox import Mailbox
-from ..mbox.pieces import from_lines_of
 from ..remarks import Remark, Says
 from ..units import LineNumber, Offset
 from .reading import BY_LENGTHS, CR, CRLF, MBOXCL2, MBOXO, MBOXRD, PLAIN, UNQUOTED, Reading
 
-NOT_QUOTED, TAKEOUT = "not quoted", "Gmail's Takeout"
+NOT_QUOTED, TAKEOUT, LINE_ENDS = "not quoted", "Gmail's Takeout", "line ends of CR alone"
 DROP_DELETED = Reading(drop=True)
 
 
 class Diagnosis(NamedTuple):
     """What a file is: how its text is read if that is no guess, or what may be decided about it."""
 
-    # what was seen in its text; nothing if that is not mbox text, or has lines that end in CR alone
+    # what was seen in its text; nothing if that is not mbox text
     look: Look
     kind: str
     # how many messages it has, and how many it may have; None if that is not known
@@ -39,7 +37,7 @@ class Diagnosis(NamedTuple):
     holds: Holds = Holds.MAIL
     # what is to be done with a file that is not mbox text
     recipe: Recipe = ()
-    # which line ends besides LF it may have
+    # which line ends besides LF it may have, or had before it was copied
     ends: str = CRLF
 
     @property
@@ -122,18 +120,17 @@ def look_at(mailbox: Mailbox, read: HowFar = Look.read) -> Diagnosis:
         found = finding_of(look)
         mailbox.check()
         return Diagnosis(look, found.kind, said_lines=found.said_lines, holds=found.holds, recipe=found.recipe)
-    if b"\r" in mailbox.at(start, HEAD).split(b"\n")[0][:-1]:
-        mailbox.file.offset = start
-        count = from_lines_of(LineEnds(mailbox.file).read)
-        mailbox.check()
-        why = AskedAbout([Said(LineNumber(0), "its lines end in CR alone")], 1)
-        return Diagnosis(look, "line ends of CR alone", count, count, asked_about=why, answers=(PLAIN,), ends=CR)
     look = read(look)
-    answers = answers_of(look)
     # without the lines `From ` that may be text, and with those that may be mail within messages, and within lines
     fewest, most = look.messages - look.count(*MAY_BE_TEXT), look.messages + look.count(*MAY_BE_MAIL, "joined")
+    said, answers, kept = list(look.said_lines()), answers_of(look), look.keeping()
+    if mailbox.was_cr:
+        # this is asked in any case
+        kept = kept if answers else AskedAbout([Said(LineNumber(0), "its lines end in CR alone")], 1)
+        answers = answers_of(look, reading_of(look))
+        return Diagnosis(look, LINE_ENDS, fewest, most, said, None, kept, answers, ends=CR)
     reading = None if answers and not look.shows_lengths() else reading_of(look)
-    return Diagnosis(look, kind_of(look), fewest, most, list(look.said_lines()), reading, look.keeping(), answers)
+    return Diagnosis(look, kind_of(look), fewest, most, said, reading, kept, answers)
 
 
 def reading_of(look: Look) -> Reading:
@@ -166,10 +163,10 @@ def kind_of(look: Look) -> str:
     return form + (", with wrong lengths" if count("wrong") else "")
 
 
-def answers_of(look: Look) -> tuple[Reading, ...]:
-    """What may be decided about a text; if it has deleted mail, also whether that is left out, beside what is
-    doubtful."""
-    on_lines = line_answers(look)
+def answers_of(look: Look, *certain: Reading) -> tuple[Reading, ...]:
+    """What may be decided about a text; if it has deleted mail, also whether that is left out, beside what is doubtful.
+    Where no line is, it may still be decided that the text is read as is certain."""
+    on_lines = line_answers(look) or certain
     if not look.are_deleted():
         return on_lines
     if not on_lines:

@@ -25,7 +25,6 @@ OTHER_LINES = "the answer with this --of names other lines, or none"
 NEW_LINE = "it came since the others were decided, and may begin a message"
 # the words by which lines begin messages in different ways, each with those that do it alike
 WAYS = (MBOXRD, (MBOXRD, MBOXO)), (MBOXCL2, BY_LENGTHS), (UNQUOTED, (UNQUOTED,))
-NO_LENGTHS = AskedAbout([Said(LineNumber(0), "its lines end in CR alone, so that no length in it is right")], 1)
 
 
 class Plan(NamedTuple):
@@ -229,8 +228,6 @@ def decided(diagnosis: Diagnosis, decision: Reading) -> Optional[Reading]:
             raise question(diagnosis, against, (*by_words, *by_lines))
     elif diagnosis.answers and is_against_lengths(look, decision):
         raise question_of(diagnosis)
-    if diagnosis.ends == CR and word in BY_LENGTHS:
-        raise question(diagnosis, NO_LENGTHS, diagnosis.answers)
     return Reading(word, decision.text, decision.begin, ends=diagnosis.ends)
 
 
@@ -262,7 +259,7 @@ def plan_by(diagnosis: Diagnosis, reading: Reading, decision: Reading, kind: str
 
 def wants_copy(reading: Reading, counts: Quoter) -> bool:
     """Whether a text that was measured differs from the mailbox when it is read in this way."""
-    return bool(counts.quoted or counts.left_out or reading.drop or reading.ends == CR or reading.begin)
+    return bool(counts.quoted or counts.left_out or reading.drop or reading.begin)
 
 
 def question_of(diagnosis: Diagnosis, before: str = "") -> Question:

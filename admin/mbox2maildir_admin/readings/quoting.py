@@ -4,7 +4,6 @@
 unless the word of the reading removes one.
 """
 import array
-import functools
 import itertools
 import re
 from collections.abc import Callable, Iterator
@@ -15,12 +14,11 @@ from ..flags.clients import is_deleted
 from ..kinds.starts import end_of_row
 from ..mbox.dates import is_dated
 from ..mbox.fields import Header, bare_pieces
-from ..mbox.files import BLOCK, LineEnds
 from ..mbox.mailbox import Mailbox, Watched
 from ..mbox.pieces import FROM, Piece, header_of, pieces_of
 from ..units import LineNumber, Offset, Size
 from .copies import Copy
-from .reading import BY_LENGTHS, CR, CRLF, MBOXCL2, MBOXO, UNQUOTED, Reading
+from .reading import BY_LENGTHS, CRLF, MBOXCL2, MBOXO, UNQUOTED, Reading
 
 NOT_FIRST = "line %d: the text begins here, but no message begins with this line"
 NO_FROM_LINE = "line %d: it neither begins with `From ` nor contains a From_ line"
@@ -81,12 +79,10 @@ class Quoter:
     def run(self) -> Iterator[bytes]:
         """The whole text. It is parted before each From_ line that begins within a line."""
         mailbox, start, line = self.mailbox, self.start, self.mailbox.line_at(self.start)
-        breaks = [] if self.reading.ends == CR else list(breaks_of(mailbox, self.reading.begin))
-        for one in [*breaks, Break(mailbox.end, mailbox.end)]:
+        for one in [*breaks_of(mailbox, self.reading.begin), Break(mailbox.end, mailbox.end)]:
             file = Watched(mailbox.number, Size(one.end), mailbox.digest, mailbox.say)
             file.offset = start
-            read = LineEnds(file).read if self.reading.ends == CR else file.read
-            blocks = itertools.chain(iter(functools.partial(read, BLOCK), b""), filter(None, [one.added]))
+            blocks = itertools.chain(file.blocks(), filter(None, [one.added]))
             pieces = pieces_of(lambda _, blocks=blocks: next(blocks, b""), start)  # type: ignore[misc]
             for piece in pieces:
                 data = self.piece(line, piece)
@@ -147,7 +143,7 @@ class Quoter:
         end = header.message_end(self.mailbox) if header else None
         self.claimed = end or Offset(0)
         header_end, _ = header_of(data, piece.mail_start)
-        deleted = is_deleted(data[piece.mail_start : header_end]) if self.reading.ends != CR else None
+        deleted = is_deleted(data[piece.mail_start : header_end])
         self.marked, self.deleted = self.marked + (deleted is not None), self.deleted + bool(deleted)
         self.is_dropped = self.reading.drop and bool(deleted)
         if not self.is_dropped:
@@ -171,7 +167,7 @@ class Quoter:
         if size != self.given or size != self.read + more - self.left_out:
             says = "the copy has %d bytes, but %d were read, %d added and %d left out"
             raise Fault(says % (size, self.read, more, self.left_out), Reason.MISREAD)
-        if self.reading.ends != CR and self.read != text:
+        if self.read != text:
             raise Fault("%d of its %d bytes were read" % (self.read, text), Reason.MISREAD)
         if any(one != self.messages for one in (messages, *wanted)):
             says = "the copy has %d messages, but %d were counted" % (messages, self.messages)
@@ -197,5 +193,5 @@ def write_copy(reading: Reading, mailbox: Mailbox, start: Offset, wanted: int, c
     given = give_all(quoter, copy.write, is_bare)
     size, messages = copy.written()
     quoter.check(quoter.given - given + size, messages, wanted)
-    copy.place(mailbox.state)
+    copy.place(mailbox.copied or mailbox.state)
     return quoter

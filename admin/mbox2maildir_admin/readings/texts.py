@@ -26,7 +26,7 @@ from ..mbox.mailbox import Mailbox
 from ..mbox.pieces import pieces_of
 from ..program import Listing, Program
 from ..units import LineNumber, Offset, Say
-from .copies import copy_of
+from .copies import copy_of, with_lf
 from .plans import NoMail, NotKnown, OtherKind, Plan, Question, plan_of, wants_copy
 from .quoting import Quoter
 from .reading import PLAIN, UNDECIDED, Reading
@@ -100,7 +100,8 @@ class Text(NamedTuple):
 
 
 class Choice(NamedTuple):
-    """The text that a mailbox is or, if it is packed, holds, and its plan."""
+    """The text that a mailbox is or, if it is packed, holds, and its plan. A copy with other line ends counts as
+    unpacked."""
 
     mailbox: Mailbox
     plan: Plan
@@ -204,11 +205,11 @@ def form_of(mailbox: Mailbox) -> Optional[Form]:
 
 
 def content_of(mailbox: Mailbox, folder: bytes) -> contextlib.AbstractContextManager[Mailbox]:
-    """The text that a mailbox is, or that it holds, which is unpacked on the disk of a folder. Raises Fault if it is
-    packed and not complete."""
+    """The text that a mailbox is, or that it holds, which is unpacked on the disk of a folder; its lines end in LF.
+    Raises Fault if it is packed and not complete."""
     form = form_of(mailbox)
     if not form:
-        return contextlib.nullcontext(mailbox)
+        return with_lf(mailbox, folder)
     from .unpacking import unpacked
 
     return unpacked(mailbox, form, folder)
@@ -223,7 +224,7 @@ def choice_of(
     with content_of(mailbox, folder) as text:
         form = form_of(mailbox) if text is not mailbox else None
         plan = plan_of_packed(text, form, read, decision) if form else plan_of(text, read, decision)
-        yield Choice(text, plan, form is not None)
+        yield Choice(text, plan, text is not mailbox)
 
 
 @contextlib.contextmanager
@@ -283,7 +284,8 @@ def open_text(path: bytes, maildir: bytes, say: Say, recorded: ReadingOf) -> Ite
         try:
             text = then or stack.enter_context(Choice(source, plan_of(source)).text(where))
         except Left:
-            text = Text(source, Offset(0))
+            # `convert` leaves line ends as they are
+            text = Text(mailbox if source.was_cr else source, Offset(0))
         yield text._replace(start=after_internal(text, maildir), is_recorded=is_same and then is not None)
 
 
