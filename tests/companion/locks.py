@@ -279,6 +279,8 @@ def locks_of_back(home: Path) -> None:
     rows: list[tuple[str, str, list[str]]] = [
         ("box", "true", []),
         ("box", "rm -f old/box.lock", []),
+        # another run must not take it for one that was left
+        ("box", "test -e old/box.lock && flock -n old/box.lock touch old/free", []),
         ("box", "rm -f old/box.lock; echo 17 >old/box.lock", ["box.lock"]),
         ("box" + "x" * 250, "true", []),
         ("box-no-flock", "true", []),

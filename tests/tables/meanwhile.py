@@ -268,6 +268,17 @@ STORIES: dict[str, list[Step]] = {
         *steps(("a", ONE + TWO), *killed("migrate M a"), ("a", TWO)),
         *(("migrate M a", "a: done: 1 message gone from it that it had brought"), "= one two"),
     ],
+    # what another program had delivered, a killed run has not placed
+    "a_mailbox_was_begun_and_lost_mail_that_was_there_before": [
+        *(("one", ONE), "!mkdir -p M/new M/cur M/tmp; sed '1d;$d' one >M/new/17000.M1.host", ("a", ONE + TWO)),
+        *(*killed("migrate M a"), ("a", TWO), ("migrate M a", "a: done: 1 message of other programs in the folder")),
+        "= one two",
+    ],
+    # it has two messages, whatever it lost between the runs
+    "a_mailbox_grew_and_lost_mail_before_a_run_that_was_killed": [
+        *steps(("a", ONE + TWO), "migrate M a", ("a", TWO + THREE), *killed("migrate M a")),
+        "!mbox2maildir-admin migrate --undo --dry-run M a | grep '^a -> INBOX: messages 2: would be undone'",
+    ],
     # it came back twice, and is one
     "a_message_is_deleted_after_two_runs_that_were_killed": [
         *steps(("a", ONE), *killed("migrate M a"), "!rm M/new/*", *killed("migrate M a"), "!rm M/new/*"),
@@ -298,6 +309,10 @@ STORIES: dict[str, list[Step]] = {
     "an_emptied_mailbox_whose_sync_failed": [
         *(("a", ONE), SYNC_FAILS, ("migrate M a", f"a: {NOT_SYNCED}"), RESTORED, ("a", b"")),
         *(("migrate M a", f"a: {NOT_SYNCED}"), ("migrate --again M a", "a: done"), ("migrate M a", BEFORE)),
+    ],
+    "the_sync_of_another_mailbox_failed": [
+        *(("a", ONE), SYNC_FAILS, ("migrate M a", f"a: {NOT_SYNCED}"), RESTORED, ("b", TWO)),
+        *(("migrate M b", "b: done"), ("migrate M a", f"a: {NOT_SYNCED}"), "= one two"),
     ],
     "an_emptied_mailbox_of_a_damaged_ledger": [
         *(("a", ONE), "migrate M a", f"!echo hello >>{LEDGER}", ("a", b"")),

@@ -232,6 +232,11 @@ STORIES: dict[str, list[Step]] = {
         *steps(("x", ONE), "migrate --prepare --unread --folder x M x", ("a", TWO), *KILLED, ("a", TWO + THREE)),
         *((FIRST, "a: prepared"), "= three two x/one .x+ M+"),
     ],
+    "killed_before_it_was_prepared_and_the_record_is_lost": [
+        *(("y", ONE), "migrate --folder y M y", ("x", ONE), "migrate --prepare --unread --folder x M x"),
+        *(f"!rm {RECORD}", ("a", TWO), *KILLED, ("a", TWO + THREE)),
+        *((FIRST, "a: prepared"), "= three two x/one y/one .x+ M+"),
+    ],
     "killed_and_its_ledger_is_gone": [
         *steps(("a", ONE + TWO), FIRST, ("a", ONE + TWO + THREE), *KILLED, f"!rm {LEDGER}", ("a", ONE)),
         *((LAST, "a: done: 1 prepared before, 1 message removed"), "= one"),
