@@ -27,7 +27,7 @@ MISSING = FileNotFoundError, NotADirectoryError
 # the name of a file, and its path
 Named = tuple[bytes, bytes]
 # looks at an open file, whose state this is, and gives its digest if that is known without hashing it
-Look = Callable[[int, os.stat_result], Optional[bytes]]
+LookAtFile = Callable[[int, os.stat_result], Optional[bytes]]
 
 
 def paths_of(maildir: bytes) -> Iterator[Named]:
@@ -83,7 +83,7 @@ def changed_at(folder: bytes) -> list[float]:
 
 
 def digest_of(
-    path: bytes, sizes: Optional[Container[int]] = None, look: Optional[Look] = None
+    path: bytes, sizes: Optional[Container[int]] = None, look: Optional[LookAtFile] = None
 ) -> tuple[Optional[bytes], Optional[int]]:
     """The digest of a file of one of these sizes, or of any size, and its owner. There is no digest if the size is
     another one, or if it is no file. A symbolic link may lead anywhere, and is no mail. What `look` knows is not
