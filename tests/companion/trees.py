@@ -390,6 +390,11 @@ STORIES: dict[str, list[Step]] = {
             "!test -d N/.INBOX.Haus -a -d N/.Sent",
         ),
     ],
+    # beside mail that came by itself too
+    "named_as_a_folder": [
+        *(("Sent", ONE), "!mkdir -p M/cur M/new M/tmp; cp Sent M/new/1.host"),
+        *(("migrate M Sent", "Sent: left (no-folder): INBOX has or gets other mail, ..."), "= one"),
+    ],
     # also if a symbolic link leads to it
     "what_was_left_is_done_by_hand": [
         *(("hand/twice", ONE), ("hand/twice.mbox", TWO), ("else/box", THREE), "!ln -s ../else/box hand/link"),

@@ -289,6 +289,8 @@ COPIES = [
     ((A + b"\nx\n\n" + B).replace(b"\n", b"\r"), "--as mboxo", A + b"\nx\n\n" + B),
     # a CR LF that two blocks share
     (A.replace(b"\n", b"\r") + b"\r" + X * b"x" + b"\r\n\r\n" + B, "--as mboxo", A + b"\n" + X * b"x" + b"\n\n" + B),
+    # a CR at the end of a block
+    (A.replace(b"\n", b"\r") + b"\r" + X * b"x" + b"\ryes\r", "--as mboxo", A + b"\n" + X * b"x" + b"\nyes\n"),
     (
         (with_length(A, MAY) + b"\n").replace(b"\n", b"\r\n").replace(b": 44", b": 47"),
         "",

@@ -158,6 +158,15 @@ STORIES: dict[str, list[Step]] = {
         ),
         "!test $(ls M/.a/new | wc -l) = 10 -a $(ls M/.b/new | wc -l) = 4",
     ],
+    # it had a message twice, and somebody deleted one of them
+    "one_of_two_is_gone": [
+        *(("a", ONE + ONE), "migrate M a", "!rm $(ls M/new/* | head -n 1)", ("a", ONE)),
+        *(("migrate --undo M a", "a: undone: removed 1 message; 1 message already gone"), "="),
+    ],
+    # a rehearsal takes no lock
+    "another_run_is_at_work": [
+        *(("a", ONE), "migrate M a", f"!flock {RECORD} mbox2maildir-admin migrate --now --dry-run M a"),
+    ],
     # it may have what it shares, though no run says so yet
     "another_mailbox_was_begun": [
         *steps(("a", ONE + TWO), "migrate M a", ("b", TWO + THREE), *killed("migrate M b")),
