@@ -15,7 +15,7 @@ from typing import NamedTuple, Optional
 from tests.support.running import COMPANION, NEVER, Kill, Row, Run
 from tests.worlds.letters import KINDS, Letter
 from tests.worlds.oracle import Oracle, Reading, readings
-from tests.support.ledgers import wait_for_lock
+from tests.support.ledgers import ends_in, wait_for_lock
 from tests.support.place import ENDED, Place
 from tests.worlds.rewriters import USER, Mailbox, Rewriter
 from tests.worlds.stage import Stage
@@ -210,6 +210,7 @@ class History:
         boxes = self.boxes_of(words)
         for box in boxes:
             self.sees(box)
+        ends = ends_in(self.maildir)
         ran = self.place.in_shell(in_shell) if in_shell else self.place.run_later(words, kill, self.meanwhile)
         rows = {str(row["path"]): row for row in ran.rows}
         # a mailbox may go on in another folder, which people have given another name
@@ -224,6 +225,8 @@ class History:
         if ran.is_killed:
             wait_for_lock(self.maildir)
         self.wrong += self.oracle.ran(ran.rows, ran.is_killed)
+        if ran.is_killed and ends_in(self.maildir) > ends:
+            self.oracle.lose_row()
         if not ran.is_killed:
             self.check(ran, rows)
             self.is_disturbed = False

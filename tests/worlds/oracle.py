@@ -350,6 +350,12 @@ class Oracle:
                 yield f"other bytes in {name}: {mail[:200]!r}"
         yield from self.unsaid(rows, is_killed)
 
+    def lose_row(self) -> None:
+        """A run was killed once a mailbox was done, before it told the row. What came back is said later, nothing else
+        is."""
+        for owed in self.owed.values():
+            owed["doubled"] = 0
+
     def unsaid(self, rows: Sequence[Row], is_killed: bool) -> Iterator[str]:
         """What no row has said that was done. What was left may be said later, and so may all that a killed run has
         not."""
