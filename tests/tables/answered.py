@@ -175,6 +175,15 @@ STORIES: dict[str, list[Step]] = {
         *(("a", LINES), ("migrate M a", ASKED), (">", "a: done..."), ("a", LINES.replace(b"From the", b"of the"))),
         ("migrate --undo M a", "a: left (undo): it can no longer be read as ..."),
     ],
+    # where no From_ line has a date, one that looks like the first needs no answer
+    "an_answer_and_a_message_without_a_date": [
+        *(
+            ("a", HALF := b"From a\nSubject: x\n\none\n\nFrom here on.\nyes\n\n"),
+            ("migrate M a", ASKED),
+            (">", "a: done..."),
+        ),
+        *(("a", HALF + UNDATED), ("migrate M a", f"a: done: {AGAIN}; it grew by 2 messages; ...")),
+    ],
     "an_answer_and_another_line": [*(("a", NOTED), "migrate --as unquoted M a", ("a", MORE)), ("migrate M a", ASKED)],
 }
 

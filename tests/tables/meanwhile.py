@@ -250,6 +250,14 @@ STORIES: dict[str, list[Step]] = {
         *(("migrate --dry-run M b", "b: done before"), f"!cat {LEDGER} {RECORD} | cmp - kept"),
         *(("migrate M b", "b: done before"), ("a", TWO), ("migrate M a", "a: done: INBOX has the mail of b too")),
     ],
+    "a_mailbox_was_moved_and_mail_goes_back": [
+        *(
+            ("a", ONE),
+            "migrate M a",
+            f"!mv a b; printf 'Subject: new\\n\\n' >M/new/1.host; cat {LEDGER} {RECORD} >kept",
+        ),
+        *(("back --dry-run M b", "b: would go back"), f"!cat {LEDGER} {RECORD} | cmp - kept"),
+    ],
     # the index knows the bytes that the first one had, though it has others by now
     "a_mailbox_was_moved_and_another_one_has_its_path": [
         *(("old/a", ONE + TWO), "migrate M old", "!mv old/a old/b; touch old/b.lock", ("old/a", THREE)),
@@ -268,6 +276,11 @@ STORIES: dict[str, list[Step]] = {
             ("back M old/a old/b", "old/a: nothing new\nold/b: back"),
             "!grep -q 'Subject: one' old/b",
         ),
+    ],
+    # it is no other mailbox that had the message as it was quoted before
+    "a_mailbox_gets_its_message_in_another_form": [
+        *(("a", QUOTED), "migrate --as mboxrd M a", ("a", QUOTED + QUOTED.replace(b">>From", b">From"))),
+        *(("migrate --as mboxrd M a", "a: done: it grew by 1 message"), "= three three"),
     ],
     "a_human_chose_the_folder_of_another": [
         *(("old/a", ONE), ("old/a.mbox", TWO), "migrate --folder a M old/a.mbox"),
@@ -375,6 +388,11 @@ STORIES: dict[str, list[Step]] = {
         ),
         "!mbox2maildir-admin migrate --now M a | grep 'it brings back mail that was deleted, and doubles mail that '",
         f"!! grep ^@ {LEDGER}",
+    ],
+    # a mail program has changed a header since
+    "it_was_converted_by_hand_and_read": [
+        *(("a", ONE), "!mbox2maildir convert M a", ("a", ONE.replace(b"\n\n", b"\nStatus: RO\n\n", 1))),
+        *(("migrate M a", "a: done: 1 message there already, by no mailbox; ..."), "= one"),
     ],
     "it_was_converted_by_hand_and_a_run_was_killed": [
         *(("a", ONE + TWO), "!mbox2maildir convert M a", "@kill -9 $PPID", "migrate M a", RESTORED),

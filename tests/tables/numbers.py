@@ -10,9 +10,9 @@ from typing import NamedTuple
 
 from tests.support.archives import Home, run_rules
 from tests.support.checks import equal
-from tests.support.homes import make_maildir
+from tests.support.homes import doing_first, make_maildir
 from tests.support.mail import INTERNAL
-from tests.support.running import OWNER, Row, Run
+from tests.support.running import BY_OTHERS, OWNER, Row, Run
 
 FROM = b"From a@b Mon Mar  3 09:12:44 2025\n"
 SECOND = FROM + b"Subject: b\nX-UID: 3   \n\nb\n\n"
@@ -62,6 +62,8 @@ def listed(following: int, files: bytes = b"", validity: int = 1700000000) -> by
 USER = f"-u {pwd.getpwuid(os.geteuid()).pw_name if os.geteuid() else OWNER}"
 FLAGS = f"doveadm flags add {USER} "
 UPDATE = f"doveadm mailbox update {USER} "
+# the system has no name for a user, as within a container
+NO_NAME = "import pwd; pwd.getpwuid = lambda number: {}[number]"
 CASES = {
     "UIDs and keywords of the folder, which goes on with those of its mailbox": Case(
         KEPT,
@@ -264,6 +266,9 @@ def keywords_until_they_are_there(home: Home) -> None:
     for name in ("mail", "mail/Gr\u00fc\u00dfe"):
         commands = [one["argv"] for one in home.place.run([*words[:-1], name]).rows[0]["next"]]
         equal(name, commands, [[*FLAGS.split(), "later", "mailbox", "Gr\u00fc\u00dfe", "uid", "5"]])
+    command = [str(doing_first(NO_NAME, home.path.parent / "bin")), *words]
+    (step,) = home.place.run(command, BY_OTHERS).rows[0]["next"]
+    equal("by a user without a name", step["argv"][:4], ["doveadm", "flags", "add", "later"])
     box.write_bytes(box.read_bytes().replace(b" Garden\n", b" Garden later\n", 1))
     equal("once it is named", home.place.run(words).rows[0]["next"], [])
 
