@@ -80,6 +80,56 @@ def through_a_link(home: Home) -> None:
         equal("a migration", [(row["verdict"], row["says"]) for row in rows], [("done before", "")])
 
 
+def past_a_link(home: Home) -> None:
+    """A mailbox was migrated by a path that has a link, and is named by the one without it. It is the same for
+    `migrate`, `back` and an undo, as is one with the link's name in its place."""
+    for link, name in (("link", "link/a"), ("real/link", "real/link/b/a")):
+        home.begin("--jobs", "1")
+        place = "real/mail/a" if link == "link" else "real/mail/b/a"
+        home.write(place, letters(1))
+        (home.path / link).symlink_to((home.path / "real/mail"))
+        home.place.own(*home.path.rglob("*"))
+        home.done(name, words=["--folder", "two"])
+        (row,) = home.done(place).rows.values()
+        equal("its folder", (row["folder"], row["verdict"]), ("two", "done before"))
+        (row,) = home.done("real/mail").rows.values()
+        equal("its folder, in a tree", (row["folder"], row["verdict"]), ("two", "done before"))
+        deliver(home, ".two/new/17000.M1.host", new("new"))
+        back(home, place)
+        equal("the mail", subjects_in(home.path / place), ["1", "new"])
+        (row,) = home.undo(place).rows.values()
+        equal("an undo", (row["folder"], row["verdict"]), ("two", "undone"))
+        # without a line of its own, one of this name elsewhere is another one
+        home.write("other/a", letters(2))
+        home.place.own(home.path / "other/a")
+        (row,) = home.done("other/a").rows.values()
+        equal("another one of its name", row["folder"], "INBOX")
+
+
+def not_named(home: Home) -> None:
+    """A mailbox is where the ledger has it, and another path is named, where nothing is, or a folder that has none of
+    the mailboxes. Nothing goes back then until it is named."""
+    home.begin("--jobs", "1")
+    home.write("old/inbox", letters(1))
+    home.write("mail/a", letters(2))
+    (home.path / "docs").mkdir()
+    home.place.own(*home.path.rglob("*"))
+    home.done("old/inbox", "mail")
+    for place in ("new", ".a/new"):
+        deliver(home, f"{place}/17000.M1.host", new("new"))
+    boxes = {home.path / "old/inbox": ["1"], home.path / "mail/a": ["2"]}
+    for names, count in ((["inbox", "docs"], 2), (["inbox", "mail"], 1), (["old/inbox", "docs"], 1)):
+        dry = home.place.run([*BACK, "--dry-run", "M", *names])
+        left = [row for row in dry.rows if row["verdict"] == "left"]
+        equal(f"{names}: {dry.output}", [row["reason"] for row in left], ["no-mailbox"] * count)
+    ran = back(home, "inbox", "docs", status=1)
+    for box, row in zip(boxes, ran.rows):
+        equal("what is said", row["says"], f"its mailbox is {box}, which was not named")
+    equal("what is new", [(home.path / "inbox").exists(), [*(home.path / "docs").iterdir()]], [False, []])
+    back(home, "old/inbox", "mail")
+    equal("the mail", {box: subjects_in(box) for box in boxes}, {box: [*its, "new"] for box, its in boxes.items()})
+
+
 def without_new_or_cur(home: Home) -> None:
     """A copy of the Maildir left out what is empty. What is there goes back, and nothing else was deleted."""
     for gone, there in ("new", "cur/17000.M1.host:2,"), ("cur", "new/17000.M1.host"):
@@ -206,7 +256,15 @@ def many_keywords(home: Home) -> None:
 
 
 RULES = (
-    *(through_a_link, without_new_or_cur, a_link_between_folders, two_files_of_a_name, names_that_are_not_utf8),
+    *(
+        through_a_link,
+        past_a_link,
+        not_named,
+        without_new_or_cur,
+        a_link_between_folders,
+        two_files_of_a_name,
+        names_that_are_not_utf8,
+    ),
     *(another_file_of_an_inode, new_mailboxes_of_a_rehearsal, many_keywords),
 )
 

@@ -45,8 +45,9 @@ def deliver(home: Path, user: str, folder: str = "", text: bytes = NEW, name: st
 
 
 @contextlib.contextmanager
-def migrated(home: Path) -> Iterator[None]:
-    """Users whose mail was migrated from a spool of its own group, one of whom has a folder of mailboxes."""
+def migrated(home: Path, old: str = "spool") -> Iterator[None]:
+    """Users whose mail was migrated from a spool of its own group, which may have been moved aside before, one of whom
+    has a folder of mailboxes."""
     want_users()
     with users(home):
         for name, text in zip(NAMES, (ONE, TWO, THREE)):
@@ -54,7 +55,8 @@ def migrated(home: Path) -> Iterator[None]:
         for name in ("sent", "lists/sheds"):
             theirs(mailbox(home / "homes/m61two/mail" / name, ONE), "m61two")
         as_spool(home / "spool")
-        equal("migrate", run("migrate --users --now --tree mail spool", home)[0], 0)
+        (home / "spool").rename(home / old)
+        equal("migrate", run(["migrate", "--users", "--now", "--tree", "mail", old], home)[0], 0)
         yield
 
 
@@ -264,6 +266,34 @@ def tree_elsewhere(home: Path) -> None:
         equal(
             f"in a profile of Thunderbird: {out}", "left (no-mailbox): shed has no mailbox: name a folder" in out, True
         )
+
+
+def another_spool(home: Path) -> None:
+    """The inboxes were moved aside, and the emptied spool is named, or another folder of the homes: nothing goes back
+    until each old mailbox is named."""
+    with migrated(home, "old"):
+        (home / "spool").mkdir()
+        theirs(mailbox(home / "homes/m61two/docs/note", b""), "m61two")
+        for name, folder in (("m61one", ""), ("m61two", ""), ("m61two", ".sent")):
+            deliver(home, name, folder, name=f"1700000000.M{len(folder)}.host")
+        boxes = {f"{name} INBOX": home / "old" / name for name in NAMES[:2]}
+        boxes["m61two sent"] = home / "homes/m61two/mail/sent"
+        before = state_of(home)
+        words = ["back", "--json", "--users", "--now", "--tree"]
+        rows = [json.loads(line) for line in run([*words, "docs", "spool"], home)[1].splitlines()[:-1]]
+        left = {f"{row['user']} {row['folder']}": (row["reason"], row["says"]) for row in rows if row["reason"]}
+        for name, box in boxes.items():
+            equal("its reason", left[name][0], "no-mailbox")
+            match_in(f"its mailbox is {box}, which was not named", left[name][1])
+        equal("how many there are", len(left), len(boxes))
+        after = state_of(home)
+        changed = {path for path in after if after[path] != before.get(path) and "Maildir" not in path.parts}
+        equal("the mailboxes that are new, or others than before", changed, set())
+        out = run([*words, "mail", "spool", "m61two"], home)[1]
+        equal("with the tree", [json.loads(line)["verdict"] for line in out.splitlines()[:-1]].count("back"), 1)
+        expect([*words, "mail", "old"], home, 0, None)
+        for box, text in zip(boxes.values(), (ONE, TWO, ONE)):
+            equal(str(box), rest_of(text, box), BACK)
 
 
 def second_mailbox(home: Path) -> None:
@@ -477,6 +507,7 @@ if __name__ == "__main__":
         without_mailboxes,
         in_nobodys_way,
         tree_elsewhere,
+        another_spool,
         second_mailbox,
         own_mailbox_gone,
         rights,

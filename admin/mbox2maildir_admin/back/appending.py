@@ -9,7 +9,7 @@ from typing import NamedTuple
 from ..faults import Left, Reason
 from ..kinds.starts import text_start
 from ..labels.noted import line_of
-from ..ledger.history import About, Note, names_of
+from ..ledger.history import About, Note
 from ..ledger.ledger import Ledger, Source
 from ..ledger.lines import END_LINE, RETURNED, BatchHead, Brought
 from ..ledger.record import Record, is_gone
@@ -80,7 +80,7 @@ class Way(NamedTuple):
         opened = Opened.into(self.record.maildir, target.folder, mailbox)
         ledger = Ledger(opened.folder, dry=self.options.dry)
         # the UIDs of its folder, whatever the names of both are now
-        is_numbered = self.record.has_numbered({*filter(is_gone, ledger.paths()), *names_of(mailbox.path)})
+        is_numbered = self.record.has_numbered({*filter(is_gone, ledger.paths()), *self.record.names_of(mailbox.path)})
         if self.options.dovecot:
             name = self.places.name_of(target.path, target.folder)
             numbering = Numbering(name, Listed.of(opened.folder), is_numbered)

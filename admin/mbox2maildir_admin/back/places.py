@@ -2,13 +2,13 @@
 else the one of the folder's name; else a new one. And who makes that, and FILE.lock beside a mailbox."""
 import collections
 import contextlib
+import functools
 import os
 from collections.abc import Iterable, Sequence
 from contextlib import AbstractContextManager
 from typing import NamedTuple, Optional
 
 from ..faults import Fault, Left, Reason
-from ..ledger.history import names_of
 from ..ledger.ledger import Ledger
 from ..ledger.match import cores_of
 from ..ledger.record import Record, is_gone, unspelled
@@ -37,6 +37,7 @@ NO_TREE = "%s has no mailbox: name a folder for new mailboxes too, such as that 
 TREE_GONE = "%s has no mailbox, and the folder of the others is not there: %s"
 NO_INBOX = "INBOX has no mailbox: name the one of the inbox too, such as /var/mail/NAME, even if it is not there"
 GONE = "its mailbox is gone: %s"
+NOT_NAMED = "its mailbox is %s, which was not named"
 # what the name of a mailbox ends in that stands beside another one, which takes nothing
 BESIDE = b"-back"
 # how many names are tried for a new mailbox
@@ -118,14 +119,23 @@ class Places:
         first. Raises Left if there is none, and none can be made."""
         paths = Ledger(folder_path(self.record.maildir, folder)).paths()
         found = self.found.get(folder, [])
-        there = sorted(filter(is_there, found), key=lambda one: not set(names_of(one)) & set(paths))
+        there = sorted(filter(is_there, found), key=lambda one: not set(self.record.names_of(one)) & set(paths))
         if there:
             return there
-        if paths and all(map(is_gone, paths)):
+        here = [path for path in paths if not is_gone(path)]
+        if paths and not here:
             raise Left(GONE % named(unspelled(paths[0])), Reason.MISSING)
+        # a Takeout is named without being in each folder of its labels
+        if here and self.paths_named.isdisjoint(here):
+            raise Left(NOT_NAMED % named(unspelled(here[0])), Reason.NO_MAILBOX)
         if folder == INBOX and not found:
             raise Left(self.names.no_inbox, Reason.NO_MAILBOX)
         return [found[0] if folder == INBOX else self.new(folder)]
+
+    @functools.cached_property
+    def paths_named(self) -> set[str]:
+        """The paths, as ledgers spell them, of all mailboxes that were named."""
+        return {path for found in self.found.values() for one in found for path in self.record.names_of(one)}
 
     def new(self, folder: bytes) -> bytes:
         """The new mailbox of a folder, in the first tree."""
@@ -172,7 +182,7 @@ class Places:
 
     def is_of(self, path: bytes, folder: bytes) -> bool:
         """Whether the ledger of a folder has the mailbox at a path."""
-        return not {*names_of(path)}.isdisjoint(Ledger(folder_path(self.record.maildir, folder)).paths())
+        return not {*self.record.names_of(path)}.isdisjoint(Ledger(folder_path(self.record.maildir, folder)).paths())
 
 
 class Keeper:

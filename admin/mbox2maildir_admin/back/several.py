@@ -5,7 +5,6 @@ from collections.abc import Iterator, Mapping, Sequence
 from typing import Optional, Union
 
 from ..faults import Fault, Left, Reason
-from ..ledger.history import names_of
 from ..ledger.ledger import Ledger
 from ..ledger.record import Record, is_gone, unspelled
 from ..looks import is_file, is_there, may_be
@@ -131,7 +130,7 @@ class Folders:
         paths = self.places.found.get(folder, [])
         if not paths or folder not in found.deleted and folder not in found.changed:
             return {}
-        names = {path: set(names_of(path)) for path in paths}
+        names = {path: set(self.way.record.names_of(path)) for path in paths}
         # in one that had another size when it was read last, nobody knows what it has now
         sizes = {source.key[0] for source in Ledger(folder_path(self.way.record.maildir, folder)).sources.values()}
         remarks: collections.defaultdict[bytes, Remarks] = collections.defaultdict(tuple)

@@ -5,7 +5,7 @@ import stat
 from collections.abc import Iterator
 
 from ..faults import Fault, Left, Reason
-from ..ledger.history import Note, names_of
+from ..ledger.history import Note
 from ..ledger.ledger import Ledger
 from ..ledger.record import unspelled
 from ..looks import is_folder, is_there, state_at
@@ -62,7 +62,7 @@ class Lists:
         ledger = Ledger(folder_path(self.root, folder))
         there = filter(is_there, map(unspelled, ledger.paths()))
         for path in (*there, *(path for path, its in self.places.would.items() if its == folder)):
-            if self.below(path) and not any(name in ledger.begun for name in names_of(path)):
+            if self.below(path) and not any(name in ledger.begun for name in self.places.record.names_of(path)):
                 yield self.below(path)
 
     def below(self, path: bytes) -> Name:

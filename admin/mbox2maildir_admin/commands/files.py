@@ -9,7 +9,7 @@ from ..faults import Fault, Reason, complain_of
 from ..kinds.folders import is_maildir
 from ..kinds.look import Look
 from ..kinds.others import Holds
-from ..ledger.history import Event, History, Note, RecordLine, names_of
+from ..ledger.history import Event, History, Note, RecordLine
 from ..ledger.record import Record
 from ..looks import is_folder, is_there, type_at
 from ..maildir.disk import trial_folder
@@ -97,7 +97,7 @@ class Migrated(NamedTuple):
         """How it was read when it was converted into its folder, and whether it had the same bytes. If the record does
         not have it there, it was read as this text was, or else as the mailbox of this path; nothing is decided if
         there is neither."""
-        names = names_of(mailbox.path)
+        names = self.record.names_of(mailbox.path)
         same = [line for line in self.record.lines_of(mailbox) if line.what is Event.DONE]
         its = [self.record.last_of(folder, names) for folder in self.record.folders_with(names)]
 
@@ -141,7 +141,7 @@ class Migrated(NamedTuple):
         maildir, path = self.given
         if not type_at(path) or any(is_folder(os.path.join(self.folder, sub)) for sub in WITH_MAIL):
             return
-        last = self.record.last_of(self.name, names_of(self.file))
+        last = self.record.last_of(self.name, self.record.names_of(self.file))
         words = ["--dovecot"] * any(Reading.of_words(line.words).bare for line in self.record.lines())
         if last and last.what is Event.DONE:
             why, path, words, does = "its folder is gone", self.file, ["--again", *words], Does.BRINGS_BACK

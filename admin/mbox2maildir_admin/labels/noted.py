@@ -4,7 +4,7 @@ import itertools
 from typing import NamedTuple, Optional
 
 from ..faults import Fault
-from ..ledger.history import About, History, Note, RecordLine, names_of
+from ..ledger.history import About, History, Note, RecordLine
 from ..ledger.record import Record, is_gone, unspelled
 from ..maildir.folders import INBOX
 from ..mbox.mailbox import Mailbox
@@ -48,7 +48,7 @@ def line_of(record: History, mailbox: Mailbox) -> Optional[RecordLine]:
     """The line about an open mailbox, which may have been moved, that names the folders of its labels; None if it went
     into none."""
     lines = {path: line for path, line in record.labelled().items() if line.words != NOTHING}
-    here = (lines[name] for name in (names_of(mailbox.path) if lines else ()) if name in lines)
+    here = (lines[name] for name in (record.names_of(mailbox.path) if lines else ()) if name in lines)
     gone = (one for one in lines.values() if one.about.size == mailbox.size and one.about[1:] == mailbox.key())
     return next(itertools.chain(here, (one for one in gone if is_gone(one.path))), None)
 
@@ -56,7 +56,7 @@ def line_of(record: History, mailbox: Mailbox) -> Optional[RecordLine]:
 def note(record: Record, mailbox: Mailbox, noted: Noted, messages: int) -> None:
     """Notes what goes into which folders, unless that is the last that was noted."""
     before, about = line_of(record, mailbox), About(INBOX, *mailbox.key())
-    is_here = before is not None and before.path in names_of(mailbox.path)
+    is_here = before is not None and before.path in record.names_of(mailbox.path)
     if not is_here or before is None or (before.about, before.words) != (about, noted.words()):
         record.add(Note.LABELS, about, messages, mailbox.path, noted.words())
     if before and not is_here:

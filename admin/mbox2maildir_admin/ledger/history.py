@@ -7,7 +7,8 @@ its folder's ledger, with the ledger's size and the number of the mailbox's last
 import collections
 import enum
 import functools
-from collections.abc import Container, Iterable, Iterator
+import os
+from collections.abc import Container, Iterable, Iterator, Sequence
 from typing import NamedTuple, Optional, Union
 
 from ..looks import real_path
@@ -141,6 +142,8 @@ class History:
         self._prepared: dict[bytes, RecordLine] = {}
         # whether anything was ever prepared
         self.has_prepared = False
+        # the folders of the paths of all lines, by the last names of these
+        self._places: collections.defaultdict[str, dict[str, None]] = collections.defaultdict(dict)
         # by what they note and their folder, in their order
         self._notes: collections.defaultdict[tuple[Note, bytes], list[RecordLine]] = collections.defaultdict(list)
 
@@ -148,6 +151,7 @@ class History:
         """Takes the next line."""
         line = self.where_it_is_now(line)
         folder = line.about.folder
+        self._places[os.path.basename(line.path)][os.path.dirname(line.path)] = None
         if isinstance(line.what, Event):
             self._index[folder].pop(line.path, None)
             self._index[folder][line.path] = line
@@ -208,17 +212,26 @@ class History:
         """The lines about the mailboxes that a folder has, in their order."""
         return [one for one in self.index_of(folder) if one.what is not Event.UNDONE]
 
+    def names_of(self, path: bytes) -> Sequence[str]:
+        """The paths by which lines may name what is at a path: that one, and the one that it leads to. Raises OSError
+        if it can't be looked at."""
+        return names_of(path)
+
+    def places_of(self, name: str) -> Iterable[str]:
+        """The folders of the paths of lines that have this last name."""
+        return self._places.get(name, ())
+
     def name_now(self, folder: bytes, path: bytes) -> bytes:
         """The name that a folder has now which was named for the mailbox of a path. Raises OSError if the path can't be
         looked at."""
-        paths = names_of(path)
+        paths = self.names_of(path)
         several = (folder, *(self._names[folder, one] for one in paths if (folder, one) in self._names))
         return next((one for one in several if self.last_of(one, paths)), folder)
 
     def found_of(self, path: bytes) -> list[bytes]:
         """The folders whose ledgers have a mailbox, if no other line names them. Raises OSError if the path can't be
         looked at."""
-        paths = names_of(path)
+        paths = self.names_of(path)
         folders = self.folders_with(paths)
         found = [one for one in folders if any(note.path in paths for note in self.notes(Note.FOUND, one))]
         return found if len(found) == len(folders) else []
@@ -228,20 +241,20 @@ class History:
         return next((one for one in reversed(self.last_events(folder)) if one.path in paths), None)
 
     def folders_of(self, path: bytes) -> list[bytes]:
-        """The folders in which a path, or the path that it leads to, has an event, the last one at the end. Raises
-        OSError if the path can't be looked at."""
-        return self.folders_with(names_of(path))
+        """The folders in which a path has an event by one of its names, the last one at the end. Raises OSError if the
+        path can't be looked at."""
+        return self.folders_with(self.names_of(path))
 
     def folders_with(self, paths: Iterable[str]) -> list[bytes]:
         """The folders in which one of some paths has an event, the last one at the end."""
         return list(dict.fromkeys(folder for path in paths for folder in self._folders.get(path, {})))
 
     def folders_given(self, path: bytes) -> list[bytes]:
-        """The same or, if a mailbox has brought nothing, the folder that it was given last. INBOX is not given: a file
-        without a folder gets it."""
-        paths = names_of(path)
-        given = [self._empty[one] for one in paths if self._empty.get(one, INBOX) != INBOX]
-        return self.folders_with(paths) or given[:1]
+        """The same or, if a mailbox has brought nothing, the folder for which it was prepared, or that it was given
+        last. INBOX is not given: a file without a folder gets it."""
+        paths = self.names_of(path)
+        given = *self.prepared_from(paths), *(self._empty[one] for one in paths if one in self._empty)
+        return self.folders_with(paths) or [folder for folder in given if folder != INBOX][:1]
 
     def lines(self) -> Iterator[RecordLine]:
         """The lines about the mailboxes of all folders."""

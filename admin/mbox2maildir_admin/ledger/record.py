@@ -9,14 +9,15 @@ The file belongs to the owner of the Maildir, and nothing in it is trusted that 
 import contextlib
 import errno
 import fcntl
+import functools
 import os
 import re
 import time
-from collections.abc import Callable, Container, Iterator
+from collections.abc import Callable, Container, Iterator, Sequence
 from typing import Optional, Union
 
 from ..faults import Fault, Reason, fault_of
-from ..looks import is_there, may_be
+from ..looks import is_there, may_be, real_path
 from ..maildir.folders import folder_path, folders_in, name_of
 from ..maildir.making import LEDGER, RECORD, SyncNames, is_partly_there, make_alone, sync_folder, synced_once
 from ..terminal import named, spelled
@@ -130,6 +131,13 @@ class Record(History):
         if make and not self.size:
             # no line is written before the name of the file is on the disk, and a run may have been killed before that
             sync(self.maildir)
+
+    def names_of(self, path: bytes) -> Sequence[str]:
+        """Also each path of a line, of the same last name, from whose folder a symbolic link leads to it."""
+        names = super().names_of(path)
+        real, name = os.path.split(names[-1])
+        others = (os.path.join(folder, name) for folder in self.places_of(name) if real_folder(folder) == real)
+        return *names, *(other for other in others if other not in names)
 
     def make(self, *more: Callable[[SyncNames], object]) -> None:
         """Makes the Maildir and its file, if that has not been done, and more by functions that take what syncs the
@@ -305,6 +313,16 @@ class Record(History):
             self.has_first_line = True
         except OSError as fault:
             raise Fault(fault.strerror, Reason.RECORD, place=self.path) from fault
+
+
+@functools.lru_cache(maxsize=1 << 10)
+def real_folder(folder: str) -> str:
+    """The folder, as lines spell it, to which one leads that a line spells; empty if that can't be looked at: then no
+    mailbox can be read there."""
+    try:
+        return spelled(real_path(unspelled(folder)))
+    except OSError:
+        return ""
 
 
 def unspelled(path: str) -> bytes:

@@ -25,7 +25,7 @@ from ..flags.dovecot_headers import (
     marks_of,
 )
 from ..flags.renaming import add_flags, give_marks
-from ..ledger.history import About, Note, names_of
+from ..ledger.history import About, Note
 from ..ledger.record import Record
 from ..looks import is_there
 from ..maildir.files import names_in
@@ -169,7 +169,7 @@ class Dovecot(Extra):
         """What is to be said if the folder keeps the UIDs that it has; None if it gets some now."""
         opened = one.opened
         numbered = self.record.numbered(opened.name)
-        if numbered and numbered.path not in names_of(opened.mailbox.path):
+        if numbered and numbered.path not in self.record.names_of(opened.mailbox.path):
             says = OF_ANOTHER % folder_shown(opened.name)
             if one.places and first_head(one.contents.full.mailbox, one.contents.full.start):
                 raise Left(AFTER_THOSE % says, Reason.NUMBERED)
@@ -200,7 +200,7 @@ def remove_lists(record: Record, opened: Opened, path: str) -> None:
     """Removes the files that were written for a mailbox, which the ledger may still have at the path that it was moved
     from, unless somebody has changed them since."""
     numbered, there = record.numbered(opened.name), names_in(opened.folder)
-    is_its_own = numbered is not None and numbered.path in (path, *names_of(opened.mailbox.path))
+    is_its_own = numbered is not None and numbered.path in (path, *record.names_of(opened.mailbox.path))
     for name in (LIST, KEYWORDS):
         if is_its_own and name in there and is_written(record, opened.name, opened.folder, name):
             os.unlink(os.path.join(opened.folder, name))

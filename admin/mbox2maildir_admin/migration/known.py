@@ -5,7 +5,7 @@ import os
 from collections.abc import Container
 from typing import NamedTuple, Optional
 
-from ..ledger.history import About, Event, Note, RecordLine, names_of
+from ..ledger.history import About, Event, Note, RecordLine
 from ..ledger.ledger import Ledger, count_in
 from ..ledger.match import cores_of
 from ..ledger.record import Record, is_gone, unspelled
@@ -58,7 +58,7 @@ class Known:
 
     def __init__(self, record: Record, ledger: Ledger, opened: Opened) -> None:
         self.record, self.ledger, self.opened = record, ledger, opened
-        self.names = names_of(opened.mailbox.path)
+        self.names = record.names_of(opened.mailbox.path)
         # its path as the ledger spells it
         self.path = next((name for name in self.names if name in ledger.paths()), self.names[0])
         # the lines of the index about mailboxes of which the ledger lacks something; and that about this one, which may

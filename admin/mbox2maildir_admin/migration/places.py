@@ -9,7 +9,7 @@ from typing import NamedTuple, Optional
 from ..faults import Fault, Left, Reason, fault_of
 from ..kinds.folders import Profiles
 from ..kinds.named import is_no_mail, name_of_folder
-from ..ledger.history import Event, History, Note, names_of
+from ..ledger.history import Event, History, Note
 from ..ledger.record import Record, unspelled
 from ..looks import is_file
 from ..maildir.files import mail_in
@@ -145,7 +145,7 @@ class Pairs(NamedTuple):
     def done_in(self, path: bytes, folder: bytes = b"") -> Optional[bytes]:
         """The folder, this one or one of the record, into which all of a file went, even if programs have written into
         it since."""
-        names = names_of(path)
+        names = self.record.names_of(path)
         for name in dict.fromkeys([folder, *self.record.folders_with(names)]):
             last = self.record.last_of(name, names)
             if last and last.what is Event.DONE:

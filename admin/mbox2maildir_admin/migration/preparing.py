@@ -381,7 +381,7 @@ def row_unchanged(record: Record, options: Options, path: bytes, name: bytes, sa
     origin = prepared.origin
     if not origin or not prepared.is_whole or prepared.batch or prepared.has_failed or options.decision != UNDECIDED:
         return None
-    is_same = origin.state == facts_of_mailbox(os.stat(path)) and origin.path in names_of(path)
+    is_same = origin.state == facts_of_mailbox(os.stat(path)) and origin.path in record.names_of(path)
     if not is_same or Reading.of_words(origin.words).bare != options.extra.IS_BARE:
         return None
     prepared.look(say)

@@ -20,7 +20,7 @@ from ..kinds.folders import (
 )
 from ..kinds.making import ORIGINAL
 from ..kinds.named import is_no_mail
-from ..ledger.history import History, names_of
+from ..ledger.history import History
 from ..looks import is_folder, is_surely, is_there, may_be, real_path, state_at, type_at
 from ..maildir.disk import PREFIX
 from ..maildir.folders import INBOX, LONGEST, folder_on_disk, folder_path, name_before
@@ -238,7 +238,7 @@ class Tree:
         links = []
         for path in self.links:
             try:
-                folders = record.folders_of(path) or record.prepared_from(names_of(path))
+                folders = record.folders_of(path) or record.prepared_from(record.names_of(path))
                 target = real_path(path) if folders else None
             except OSError:
                 # if this user may not look at what it leads to, it is not in this user's record

@@ -5,7 +5,7 @@ from typing import Optional
 
 from ..faults import Fault
 from ..labels.noted import Noted, line_of, note_nothing
-from ..ledger.history import RecordLine, names_of
+from ..ledger.history import RecordLine
 from ..ledger.ledger import Ledger
 from ..ledger.record import Record
 from ..looks import is_there
@@ -79,7 +79,7 @@ class TakeoutUndo(Undo):
     def folders_of(self, mailbox: Mailbox, line: Optional[RecordLine]) -> Iterator[Opened]:
         """The folders that have or had something of it, wherever they are now."""
         path = mailbox.path
-        self.paths = {*names_of(path), *([line.path] if line else [])}
+        self.paths = {*self.record.names_of(path), *([line.path] if line else [])}
         for name in dict.fromkeys([*Noted.of(line).folders, *self.record.folders_with(self.paths)]):
             folder = self.record.name_now(name, path)
             last = self.record.last_of(folder, self.paths)

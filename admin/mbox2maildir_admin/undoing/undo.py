@@ -20,7 +20,7 @@ from ..ledger.assign import File, by_form, files_of
 from ..ledger.lines import LOST, NOBODYS, Brought, Line, State
 from ..ledger.match import cores_of
 from ..ledger.gone import without_line
-from ..ledger.history import Event, names_of
+from ..ledger.history import Event
 from ..ledger.ledger import Ledger, count_in
 from ..ledger.prepared import Prepared, has_list
 from ..ledger.record import Record, unspelled
@@ -150,7 +150,7 @@ class Undo:
         """The path of a mailbox as a ledger spells it, also if it was moved from there; empty if it does not have it.
         An undo that was killed goes on from the new place."""
         mailbox, paths = opened.mailbox, ledger.paths()
-        known = next((path for path in names_of(mailbox.path) if path in paths), "")
+        known = next((path for path in self.record.names_of(mailbox.path) if path in paths), "")
         moved = () if known else moved_in(ledger, mailbox)
         has_all = (path for path in moved if ledger.is_in(path, self.cores_now(opened, ledger, path)))
         return known or next(has_all, "")
@@ -357,7 +357,7 @@ def undo_prepared(record: Record, path: bytes, options: Options, say: Say) -> Op
     gone counts too: this may be it, moved."""
     folder = options.named_folder
     try:
-        names, several = names_of(path), folders_in(record.maildir)
+        names, several = record.names_of(path), folders_in(record.maildir)
         for place in several if folder is None else [folder_path(record.maildir, folder)]:
             prepared = Prepared.read(place) if has_list(place) else None
             if prepared and (prepared.is_from(names) if folder is None else not other_in(prepared, names)):
