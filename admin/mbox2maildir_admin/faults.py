@@ -5,7 +5,7 @@ import os
 from collections.abc import Iterable, Iterator, Sequence
 from typing import Optional, Union
 
-from .looks import ABSENT, is_folder, may_be
+from .looks import ABSENT, is_folder, is_there, may_be
 from .nexts import NOTHING, Next, Phrase, Quote, Runs, Todo, by_word, lines_below, run_next, task
 from .terminal import complain, named, operand
 
@@ -148,7 +148,8 @@ def fault_of(error: Union[Fault, OSError], path: bytes) -> Fault:
     place = path if error.filename is None else os.fsencode(error.filename)
     why, is_absent, then = error.strerror or str(error), error.errno in ABSENT, NOTHING
     if error.errno == errno.EACCES:
-        then = run_next(Runs.LIST_ITSELF, operand(place))
+        # the folder above shows why it could not be made
+        then = run_next(Runs.LIST_ITSELF, operand(place if may_be(is_there, place) else os.path.dirname(place) or b"."))
     elif is_absent:
         # the folder above shows what is there
         above = place

@@ -61,6 +61,11 @@ def real_path(path: bytes) -> bytes:
     return way_to(path)[0]
 
 
+def straight(path: bytes) -> bytes:
+    """A path from the root on, without `.` and `..`, and where it leads: a symbolic link before `..` is followed."""
+    return os.path.realpath(path) if b".." in path.split(b"/") else os.path.abspath(path)
+
+
 def way_to(path: bytes) -> tuple[bytes, list[bytes]]:
     """The same, and the symbolic links that lead there."""
     links: list[bytes] = []

@@ -7,6 +7,7 @@ from collections.abc import Iterable, Sequence
 from typing import IO, Union
 
 from . import ADMIN
+from .looks import straight
 
 # standard input
 INPUT = 0
@@ -51,7 +52,7 @@ def named(name: Union[bytes, str]) -> str:
 
 def spelled(path: bytes) -> str:
     """A path as a line of a record has it. Backslashes are escaped too, so that no two paths are spelled alike."""
-    return shown(os.path.abspath(path).replace(b"\\", b"\\\\"))
+    return shown(straight(path).replace(b"\\", b"\\\\"))
 
 
 def operand(name: bytes) -> str:

@@ -315,8 +315,25 @@ def second_mailbox(home: Path) -> None:
         rows = {row.name: row.line for row in rows_in(run([*words[:5], "spool", "m61info", "m61sales"], home)[1])}
         matches("without its own", rows["m61sales"], "m61sales: left (same-user): m61info is the same user, ...")
         (home / "away").rename(home / "spool/m61one")
+        by_a_link(home, words[:3])
     for name in ("m61info", "m61sales"):
         (home / "spool" / name).unlink()
+
+
+def by_a_link(home: Path, words: list[str]) -> None:
+    """A further mailbox is prepared and done by the commands that a link to the spool gives, and is not left after that
+    by the spool's own path."""
+    (home / "link").symlink_to("spool")
+    for more in (["--prepare", "--unread"], []):
+        left = row_in(run([*words, *more, "link", "m61one", "m61sales"], home)[1], "m61sales")
+        if more:
+            given = left.command.replace("--folder NAME", "--folder Sales").split()
+            equal("its command", run(["/usr/bin/env", *given], home)[0], 0)
+        for spool in ("spool", "link"):
+            status, out, _ = run([*words, *more, spool, "m61one", "m61sales"], home)
+            equal(f"{spool} {more}: {out}", (status, "same-user" in out), (0, False))
+    equal("what is there", subjects(home / "homes/m61one/Maildir/.Sales"), ["two"])
+    (home / "link").unlink()
 
 
 def as_objects(home: Path) -> None:
@@ -515,8 +532,19 @@ def whose(home: Path) -> None:
         equal("of the system", {name: system[name].line for name in OF_SYSTEM}, lines(OF_SYSTEM))
         commands = {name: command.format(spool=here) for name, command in NAMED.items()}
         equal("what migrates them", {name: system[name].command for name in NAMED}, commands)
-        (here / "m61one.gz").unlink()
-        (here / "m61three").unlink()
+        # what a trial takes stays a trial
+        trial = "--maildir Trial --tree mail"
+        with own_settings("UID_MIN 99999"):
+            out = run([*words[:-1], *trial.split(), "spool"], home)[1]
+        command = commands["m61one"].replace(" --dry-run --as mboxcl2 ", f" --dry-run --as mboxcl2 {trial} ")
+        equal("of a trial", row_in(out, "m61one").command, command)
+        theirs(mailbox(here / "root", ONE), "root")
+        command = f"mbox2maildir-admin migrate --dry-run --as mboxcl2 {pwd.getpwnam('root').pw_dir}/Trial {here}/root"
+        equal(
+            "root's of a trial", row_in(run([*words[:-1], *trial.split(), "spool"], home)[1], "root").command, command
+        )
+        for name in ("m61one.gz", "m61three", "root"):
+            (here / name).unlink()
         says = [row.line for row in rows("UID_MIN 99999", "m61one", "nobody").values()][:2]
         equal("if they are named", sorted(says), [
             "m61one -> INBOX: mboxcl2 by --as, messages 1: would be done", lines(WHOSE)["nobody"]
@@ -530,6 +558,37 @@ def whose(home: Path) -> None:
         link = f"left (link): {home}/homes/m61one/link is a symbolic link, which is not followed"
         out = run([*words[:3], "--tree", "link/mail", "spool", "m61one"], home).out
         equal(f"a link on the way to a tree: {out}", f"m61one link/mail: {link}" in out.splitlines(), True)
+
+
+def spelled_otherwise(home: Path) -> None:
+    """Links, `..` and the current folder change nothing of which spool it is, who is the same user, and which options
+    a user's name takes."""
+    want_users()
+    with users(home):
+        theirs(mailbox(home / "closed/spool/m61one", ONE), "m61one")
+        (home / "closed").chmod(0o700)
+        (home / "link").symlink_to("closed/spool")
+        says = f"users may not enter {home}/closed\n    run this next:\n        chmod 711 {home}/closed\n"
+        expect("migrate --users link", home, 1, "", f"mbox2maildir-admin: {says}")
+        for place, text in (("deep/spool", ONE), ("spool", TWO)):
+            theirs(mailbox(home / place / "m61one", text), "m61one")
+        (home / "way").symlink_to("deep/spool")
+        for word in ("migrate", "verify", "back"):
+            expect([word, "--users", "way/../spool"], home, 0, None)
+        maildir = home / "homes/m61one/Maildir"
+        equal("what is there", subjects(maildir), ["one"])
+        expect(["migrate", "--users", "--list", "way/../spool"], home, 0, f"m61one\tfrom the spool\t{len(ONE)}\n")
+        # a folder of the user's name is no mailbox
+        next(path for path in maildir.rglob("*.1")).unlink()
+        words = ["migrate", "--users", "--again", str(home / "deep/spool"), "m61one"]
+        equal("from the homes", run(["/usr/bin/env", "-C", home / "homes", str(ADMIN), *words], home)[0], 0)
+        equal("what is there again", subjects(maildir), ["one"])
+        (home / "homes/other").symlink_to("m61one")
+        for own in ("other", "other/../m61one"):
+            with accounts.users({"m61info": home / "homes" / own}, like="m61one"):
+                theirs(mailbox(home / "deep/spool/m61info", TWO), "m61one")
+                out = run(["migrate", "--all", "--users", "deep/spool"], home)[1]
+                equal(f"{own}: {out}", "m61info: left (same-user): m61one is the same user, and" in out, True)
 
 
 @contextlib.contextmanager
@@ -636,4 +695,4 @@ def people_of_the_machine(home: Path) -> None:
 
 
 if __name__ == "__main__":
-    check_all(spool, whose, where_users_read_no_module, nobodys, people_of_the_machine)
+    check_all(spool, whose, spelled_otherwise, where_users_read_no_module, nobodys, people_of_the_machine)

@@ -147,4 +147,4 @@ def options_in(given: Given, alone: bool) -> Options:
 def is_one(given: Given) -> bool:
     """Whether a single MAILBOX is migrated that is a file, or a single NAME without a folder of mailboxes."""
     _, *names = given.operands
-    return len(names) == 1 and not given.tree and given.names is None and not is_folder(names[0])
+    return len(names) == 1 and not given.tree and given.names is None and (given.users or not is_folder(names[0]))

@@ -7,11 +7,10 @@ from typing import Any, NamedTuple, Optional
 from .. import ADMIN
 from ..labels.choosing import EACH, GIVES, WORDS as WORDS_OF_LABELS, Choosing
 from ..looks import is_folder
+from ..maildir.folders import MAILDIR
 from ..readings.reading import UNDECIDED, WORDS, Reading, lines_named
 from ..terminal import named, shown
 
-# the name of the Maildir in a home
-MAILDIR = "Maildir"
 # the groups of a help
 HOW, TAKEOUT, ANSWERS = "how", "a Takeout of Gmail", "answers for what was left"
 USERS = "for many users, as root"

@@ -5,6 +5,7 @@ from collections.abc import Callable, Mapping
 from typing import TYPE_CHECKING, Optional
 
 from ..faults import Status
+from ..looks import straight
 from ..migration.options import Options
 from ..migration.rows import INTERRUPTED, STAGES, Reporter, Shows
 from ..terminal import OutputFault, bytes_of, complain, drop
@@ -35,7 +36,7 @@ def spool_of(given: Given, options: Options) -> "Spool":
 
     path, *names = given.operands
     asked = asked_for(names, None if given.names is None else bytes_of(given.names))
-    return Spool(path, bytes_of(given.maildir), bytes_of(given.tree or ""), options, asked)
+    return Spool(straight(path), bytes_of(given.maildir), bytes_of(given.tree or ""), options, asked)
 
 
 def run_reported(task: Telling, reporter: Reporter, report: Optional[str], after: str) -> int:

@@ -7,6 +7,7 @@ from collections.abc import Iterable
 from typing import NamedTuple, Optional
 
 from ..faults import Left, Reason
+from ..looks import straight
 from ..terminal import named
 
 # the first user's number if login.defs names none, and the numbers of nobody
@@ -31,13 +32,13 @@ class Account(NamedTuple):
     @classmethod
     def of(cls, known: pwd.struct_passwd) -> "Account":
         """The account that the system knows so."""
-        home = os.path.normpath(os.fsencode(known.pw_dir))
+        home = straight(os.path.join(b"/", os.fsencode(known.pw_dir)))
         return cls(os.fsencode(known.pw_name), known.pw_uid, known.pw_gid, home)
 
     @property
     def key(self) -> AccountKey:
-        """What all of its names have in common."""
-        return self.uid, self.home
+        """What all of its names have in common, also if symbolic links lead some of them to its home."""
+        return self.uid, os.path.realpath(self.home)
 
 
 class Accounts:

@@ -27,7 +27,7 @@ class Inboxes:
 
     def __init__(self, path: bytes) -> None:
         """Opens the folder, and removes the locks that a killed run left, whoever's they are."""
-        self.path = os.path.abspath(path)
+        self.path = path
         self.number = os.open(path, FOLDER)
         for spot in self.spots():
             if spot.name.endswith(LOCK):

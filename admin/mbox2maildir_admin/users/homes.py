@@ -11,7 +11,7 @@ from ..jobs.crew import Parent
 from ..ledger.prepared import has_list
 from ..ledger.record import Record
 from ..looks import may_be
-from ..maildir.folders import folders_in
+from ..maildir.folders import MAILDIR, folders_in
 from ..maildir.making import want_own
 from ..migration.outcomes import Observer, Row
 from ..migration.places import UserHome
@@ -21,7 +21,7 @@ from ..migration.options import Options
 from ..migration.telling import Whose, told
 from ..nexts import Runs
 from ..program import Program
-from ..terminal import named, shown, text_of
+from ..terminal import bytes_of, named, option, shown, text_of
 from .accounts import Account, why_no_home
 from .clerks import InboxClerk, Inboxes, sync_by_root
 
@@ -182,11 +182,17 @@ class Spool(NamedTuple):
         """The options of the command that does this for one user, with what was decided for all."""
         return self.options.of_next()._replace(decision=self.options.decision).words()
 
+    def words_of_homes(self) -> list[str]:
+        """The options that say what is taken in each home."""
+        maildir = option("--maildir", self.maildir) if self.maildir != bytes_of(MAILDIR) else []
+        return maildir + (option("--tree", self.tree) if self.tree else [])
+
 
 def is_recorded(maildir: bytes, mailbox: bytes) -> bool:
-    """Whether the record of a Maildir has a mailbox by its path."""
+    """Whether the record of a Maildir has a mailbox by its path, or what was prepared from it."""
     with Record.open(maildir, False) as record:
-        return bool(record.folders_of(mailbox))
+        names = record.names_of(mailbox)
+        return bool(record.folders_with(names) or record.prepared_from(names))
 
 
 class Relay(Parent, Observer):

@@ -7,7 +7,7 @@ from typing import AbstractSet, Optional, Union
 from ..faults import Fault, Left, Reason, naming
 from ..jobs.order import MOST, jobs_of, size_of
 from ..kinds.named import is_auxiliary, is_no_mail
-from ..looks import is_surely, is_there, may_be, upwards
+from ..looks import is_surely, is_there, may_be, upwards, way_to
 from ..maildir.folders import COPIES, folder_path, on_disk
 from ..migration.outcomes import Observer, Row, Verdict, row_left
 from ..migration.servers import locations
@@ -52,7 +52,7 @@ def for_users(spool: Spool, observer: Observer) -> None:
     """Does the work of a command on the mailboxes of a spool, and on a folder of mailboxes of each home, user by
     user."""
     options = spool.options
-    spool = spool._replace(path=os.path.abspath(spool.path), program=os.path.abspath(find_program()))
+    spool = spool._replace(program=os.path.abspath(find_program()))
     if options.prepare:
         spool = spool._replace(locations=locations())
     jobs = observer.at_once = jobs_of(options.jobs, MOST)
@@ -116,8 +116,7 @@ def sums_of(counts: Mapping[str, int], not_asked: int) -> Iterator[str]:
 def list_users(spool: Spool) -> bool:
     """Prints the name of each user whom a run takes, where the name came from, and how many bytes the mailbox in the
     spool has, with tabs between them. Returns whether a list can hold all of these names."""
-    spool, can_hold = spool._replace(path=os.path.abspath(spool.path)), True
-    users = Users(spool, os.listdir(spool.path) if spool.asked is None else (), Observer())
+    can_hold, users = True, Users(spool, os.listdir(spool.path) if spool.asked is None else (), Observer())
     for name, source, account in users.looked_at():
         if isinstance(account, Left) or source == ACCOUNTS and not may_have_mail(account, spool):
             continue
@@ -139,8 +138,9 @@ def may_have_mail(account: Account, spool: Spool) -> bool:
 
 
 def want_entered(spool: bytes) -> None:
-    """Checks that users can enter a folder. Raises Fault if not."""
-    for here in upwards(spool):
+    """Checks that users can enter a folder, and those of all symbolic links that lead there. Raises Fault if not."""
+    real, links = way_to(spool)
+    for here in (above for place in (real, *map(os.path.dirname, links)) for above in upwards(place)):
         if not os.stat(here).st_mode & 0o001:
             then = run_next(Runs.LET_ENTER, operand(here))
             raise Fault("users may not enter %s" % named(here), Reason.NOT_OWN, then)
@@ -222,10 +222,12 @@ class Users:
         command, words, says = spool.work.command, spool.words(), "a system account"
         mailbox = operand(os.path.join(spool.path, account.name))
         if account.uid == 0:
-            then = run_next(command, *words, operand(os.path.join(account.home, b"Maildir")), mailbox)
+            then = run_next(command, *words, operand(os.path.join(account.home, spool.maildir)), mailbox)
         elif account.uid not in NOBODY and not why_no_home(account):
             says += ", which must be named"
-            then = run_next(command, "--users", *words, operand(spool.path), operand(account.name))
+            then = run_next(
+                command, "--users", *words, *spool.words_of_homes(), operand(spool.path), operand(account.name)
+            )
         else:
             # whatever is at that place, it is no place for mail
             says += " without a home of its own"
@@ -299,7 +301,7 @@ class Users:
         """The other name of an account whose mailbox goes into its Maildir: the one that the system gives its number,
         if the spool has that, or mail may go back there; otherwise the first one."""
         own = self.accounts.of_number(key[0])
-        if own and own.name != name and own.home == key[1]:
+        if own and own.name != name and own.key == key:
             # on the way back, an account has its place under its own name, even if no mailbox is there
             if own.name in self.names or self.spool.work.is_back and own.name in self.sources:
                 return own.name
