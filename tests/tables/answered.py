@@ -21,6 +21,7 @@ LINES = A + b"\n>From x\nFrom the first\nhello\n\n" + B + b"\n"
 QUOTED = A + b"\n>>From x\n\n" + TWO
 OTHER_WORDS = "!sed -i 's/\\tmbox\\(rd\\|cl2\\)\\t/\\tnone\\1\\t/' M/mbox2maildir-messages"
 ASKED, AGAIN = "a: left (unclear): ...", "as it was answered before"
+OTHERWISE = "b: left (another-reading): it was read as ... when it was migrated, and 1 message of that reading ..."
 GREW = "a: done: as the messages show that it brought; it grew by 1 message"
 
 
@@ -183,6 +184,27 @@ STORIES: dict[str, list[Step]] = {
             (">", "a: done..."),
         ),
         *(("a", HALF + UNDATED), ("migrate M a", f"a: done: {AGAIN}; it grew by 2 messages; ...")),
+    ],
+    # no run has seen it between
+    "an_answer_and_then_it_was_moved": [
+        *(("a", NOTED), ("migrate M a", ASKED), (">", "a: done..."), "!mv a b", ("b", NOTED + ONE)),
+        *(("migrate --as mboxrd M b", OTHERWISE), ("migrate M b", f"b: done: {AGAIN}; it grew by 1 message")),
+        *("= one one", "!mv b c", "migrate M c", ("c", MORE)),
+        ("migrate M c", "c: left (unclear): line 21: it came since the others were decided, and may begin a message"),
+    ],
+    "what_it_has_brought_and_then_it_was_moved": [
+        *(("a", MEASURED), "migrate M a", "!mv a b", ("b", MEASURED + NEW), ("migrate --as mboxrd M b", OTHERWISE)),
+        ("migrate M b", GREW.replace("a:", "b:")),
+    ],
+    # it has another inode, and other bytes
+    "an_answer_and_then_it_was_copied": [
+        *(("a", NOTED), ("migrate M a", ASKED), (">", "a: done..."), "!cp a b; rm a", ("b", NOTED + ONE)),
+        ("migrate M b", "b: left (unclear): ..."),
+    ],
+    # the file is another mailbox, which has the message in question
+    "an_answer_and_then_another_mailbox_in_its_file": [
+        *(("a", TWO + NOTED), ("migrate M a", ASKED), (">", "a: done..."), "!mv a b", ("b", NOTED + ONE)),
+        ("migrate --as mboxrd M b", "b: done: ..."),
     ],
     "an_answer_and_another_line": [*(("a", NOTED), "migrate --as unquoted M a", ("a", MORE)), ("migrate M a", ASKED)],
 }

@@ -7,7 +7,7 @@ from ..faults import Fault, Left, Reason
 from ..kinds.starts import ends_in_cr, text_start
 from ..mbox.inventory import Inventory
 from ..mbox.mailbox import Mailbox
-from ..migration.known import Known, moved_in
+from ..migration.known import Known
 from ..program import Program
 from ..readings.plans import plan_of
 from ..readings.reading import MBOXCL2, MBOXRD, UNDECIDED, Reading
@@ -95,11 +95,9 @@ def styles_of(known: Known, disk: bytes, is_dovecots: bool) -> Iterator[Style]:
         return
     if text_start(mailbox) is None or form_of(mailbox) or ends_in_cr(mailbox):
         return
-    now, paths = reading_now(mailbox), [known.path]
-    if known.path not in ledger.paths():
-        # whether it has all that one had, its messages show once they are read
-        paths = moved_in(ledger, mailbox)
-    last = [ledger.last_read(one).words for one in paths[:1]]
+    now = reading_now(mailbox)
+    # whether it has all that one had which was moved, its messages show once they are read
+    last = [ledger.last_read(one).words for one in known.paths()[:1]]
     for words in dict.fromkeys([*last, now]):
         dialect = Dialect.of_words(words)
         if not dialect:

@@ -3,7 +3,7 @@ before; and what it has brought, if each line in question is in that, so that th
 what contradicts that."""
 import bisect
 import collections
-from collections.abc import Iterable
+from collections.abc import Iterable, Sequence
 from typing import NamedTuple, Optional
 
 from ..faults import Fault, Left, Reason
@@ -53,27 +53,35 @@ def note_answer(record: Record, opened: Opened, plan: Plan) -> None:
         record.add(Note.ANSWERED, opened.about, plan.messages, mailbox.path, plan.answer.words())
 
 
-def answers_for(record: Record, opened: Opened) -> list[RecordLine]:
-    """The answers that were noted for a mailbox, first those for the path from which its folder was prepared."""
-    prepared, path = record.prepared(opened.name), opened.mailbox.path
-    paths = dict.fromkeys([unspelled(prepared.path), path] if prepared else [path])
-    return [entry for one in paths for entry in record.noting(Note.ANSWERED, opened.name, one)]
+def answers_for(record: Record, opened: Opened, moved: Iterable[str] = ()) -> list[RecordLine]:
+    """The answers that were noted for a mailbox, first those for the paths from which it may have been moved, and for
+    the one from which its folder was prepared."""
+    prepared = record.prepared(opened.name)
+    paths = [*map(unspelled, [*moved, *([prepared.path] if prepared else [])]), opened.mailbox.path]
+    return [entry for one in dict.fromkeys(paths) for entry in record.noting(Note.ANSWERED, opened.name, one)]
 
 
-def noted_last(record: Record, opened: Opened, given: Reading) -> Optional[Reading]:
-    """What was decided last about a mailbox, with its lines by their order among those that were doubtful. Beside what
-    is given now for several mailboxes, it counts if it was decided about this one, and otherwise."""
-    several = answers_for(record, opened)
+def answers_of(known: Known) -> list[RecordLine]:
+    """The same of one that may have been moved within its folder, if any answer was noted there: the mailbox is read to
+    find that out."""
+    record, opened = known.record, known.opened
+    return answers_for(record, opened, known.paths()) if record.notes(Note.ANSWERED, opened.name) else []
+
+
+def noted_last(several: Sequence[RecordLine], given: Reading) -> Optional[Reading]:
+    """What was decided last about a mailbox by its answers, with its lines by their order among those that were
+    doubtful. Beside what is given now for several mailboxes, it counts if it was decided about this one, and
+    otherwise."""
     last = Reading.of_words(several[-1].words) if several else UNDECIDED
     is_other = last.alone and last._replace(of=given.of, alone=False) != given
     return last if last != UNDECIDED and (given == UNDECIDED or not given.alone and is_other) else None
 
 
-def answer_to(record: Record, opened: Opened, question: Question) -> Optional[Reading]:
-    """The last answer that was noted to what is asked about a mailbox, for its lines as they are now."""
+def answer_to(several: Sequence[RecordLine], question: Question) -> Optional[Reading]:
+    """The last of its answers to what is asked about a mailbox, for its lines as they are now."""
     tie = question.tied(UNDECIDED).of
     lines = {LineNumber(number): line for number, line in enumerate(question.doubtful, 1)}
-    for entry in reversed(answers_for(record, opened)):
+    for entry in reversed(several):
         answer = Reading.of_words(entry.words)
         names = answer.text | answer.begin
         is_whole = answer._replace(alone=True) == answer.decided and (answer.word or answer.drop and not names)
@@ -145,8 +153,10 @@ def contradicts(options: Options, opened: Opened, line: RecordLine) -> bool:
 
 
 class Before(NamedTuple):
-    """How a mailbox was read before, what it has brought, and the batch that has not ended."""
+    """The path by which the ledger has a mailbox, perhaps another one from which it was moved; how it was read before,
+    what it has brought, and the batch that has not ended."""
 
+    path: str
     reading: Reading
     source: Optional[Source]
     batch: Optional[Batch]
@@ -155,11 +165,17 @@ class Before(NamedTuple):
     def of(cls, known: Known, reading: Reading) -> "Before":
         """What the ledger knows of a mailbox; this reading if it does not know it. What that leaves out, all do: so
         no mail comes twice."""
-        ledger, path = known.ledger, known.path
+        ledger = known.ledger
+        path = next((one for one in known.paths() if one not in ledger.leaving), known.path)
         source, batch = ledger.sources.get(path), ledger.open.get(ledger.pending(path) or 0)
         words = batch.head.words if batch else source.words if source else None
         then = reading if words is None else Reading.of_words(words)
-        return cls(then._replace(drop=reading.drop, dropped=reading.dropped), source, batch)
+        return cls(path, then._replace(drop=reading.drop, dropped=reading.dropped), source, batch)
+
+    def is_of(self, known: Known, then: Inventory) -> bool:
+        """Whether a mailbox, which has these messages as it was read before, is the one that was: one that was moved
+        has all that it had."""
+        return self.path == known.path or known.ledger.is_in(self.path, cores_of(then))
 
     def counts(self, decision: Reading, then: Inventory, contents: Contents) -> list[int]:
         """How much of what it has brought is among the messages that it had then, and among those that it has now. A
@@ -195,7 +211,7 @@ def want_same_reading(options: Options, known: Known, choice: Choice, contents: 
             return
         inventory = text.messages()
     then, now = before.counts(options.decision, inventory, contents)
-    if then <= now:
+    if then <= now or not before.is_of(known, inventory):
         return
     if before.batch:
         says = BEGUN_OTHERWISE % (then, len(inventory), now, len(contents.inventory))

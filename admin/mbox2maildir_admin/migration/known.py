@@ -14,6 +14,7 @@ from ..maildir.folders import INBOX, folder_path
 from ..maildir.making import SyncNames, make_maildir
 from ..mbox.inventory import Inventory
 from ..mbox.mailbox import Mailbox
+from ..terminal import spelled
 
 
 # of what is known, more than one in so many is much if it is gone
@@ -148,6 +149,10 @@ class Known:
         others = (unspelled(path) for path in self.ledger.paths() if path != self.path)
         return list(filter(is_there, others))
 
+    def paths(self) -> list[str]:
+        """The path by which the ledger has the mailbox or, if it has none, those from which it may have been moved."""
+        return [self.path] if self.path in self.ledger.paths() else moved_in(self.ledger, self.opened.mailbox)
+
     def take_place_by_bytes(self) -> None:
         """Takes the place of a mailbox of the folder that is done and gone from its path, if this one has its bytes: it
         was moved."""
@@ -164,7 +169,7 @@ class Known:
         ledger = self.ledger
         if self.path in ledger.paths():
             return
-        moved = [path for path in moved_in(ledger, self.opened.mailbox) if path not in ledger.leaving]
+        moved = [path for path in self.paths() if path not in ledger.leaving]
         cores = cores_of(inventory) if moved else collections.Counter[bytes]()
         path = next((path for path in moved if ledger.is_in(path, cores) or self.has_bytes_without_mail(path)), None)
         if path is not None:
@@ -176,11 +181,12 @@ class Known:
         return mailbox.size > 0 and not count_in(ledger, path) and ledger.last_read(path).key == mailbox.key()
 
     def move(self, path: str) -> None:
-        """Notes that what the mailbox of a path brought, and the UIDs that the folder has from it, are this one's."""
-        numbered = self.record.numbered(self.opened.name)
-        # a run that is killed after the ledger says it would never say whose the UIDs are
-        if numbered and numbered.path == path:
-            self.record.add(Note.NUMBERED, numbered.about, numbered.messages, self.opened.mailbox.path)
+        """Notes that what the mailbox of a path brought, the UIDs that the folder has from it, and what was decided
+        about it, are this one's."""
+        record, name, now = self.record, self.opened.name, spelled(self.opened.mailbox.path)
+        # a run that is killed after the ledger says it would never say whose these are
+        several = [*record.notes(Note.NUMBERED, name)[-1:], *record.notes(Note.ANSWERED, name)]
+        record.add_lines(*(one._replace(path=now) for one in several if one.path == path))
         self.ledger.move(path, self.path)
 
 

@@ -40,6 +40,7 @@ from ..units import Say, counted, silent
 from .answers import (
     answer_shown,
     answer_to,
+    answers_of,
     as_before,
     contradicted,
     is_passed_over,
@@ -263,7 +264,7 @@ class Transfer:
         """Has the mailbox read by the answer to a question that was given before, or that what it has brought shows.
         Returns whether there is one."""
         given = question.by_tie(self.options.answer)
-        answer = given or answer_to(self.record, self.opened, question)
+        answer = given or answer_to(answers_of(self.known), question)
         # what is decided about several does not decide what was asked about one
         is_kept = not self.options.decision.alone and answer is not None and answer.alone
         if self.options.decision != UNDECIDED and not is_kept:
@@ -284,7 +285,7 @@ class Transfer:
             yield part
             return
         mailbox, is_bare, given = self.opened.mailbox, self.options.extra.IS_BARE, self.options.decision
-        decision = given._replace(noted=noted_last(self.record, self.opened, given))
+        decision = given._replace(noted=noted_last(answers_of(self.known), given))
         with choice_at_once(self.program, mailbox, self.disk, decision, is_bare) as choice:
             self.remarks += [Says.AS_ANSWERED.of()] * (given == UNDECIDED and choice.plan.answer is not None)
             yield Part(choice, functools.partial(self.read, choice), mailbox.size)

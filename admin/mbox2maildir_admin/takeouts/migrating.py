@@ -22,7 +22,7 @@ from ..maildir.making import real_place
 from ..maildir.disk import Need, Syncs
 from ..mbox.fields import headers_at
 from ..mbox.inventory import Inventory
-from ..migration.answers import answer_to
+from ..migration.answers import answer_to, answers_for
 from ..migration.mailbox import Migration
 from ..migration.outcomes import Observer, Outcome, row_left, seen
 from ..migration.preparing import Preparation
@@ -200,7 +200,7 @@ class Takeouts(Migration):
                 choice = stack.enter_context(choice_at_once(*its, self.options.decision))
             except Question as question:
                 several = (opened._replace(name=name) for name in noted.folders)
-                answers = (answer_to(self.record, one, question) for one in several)
+                answers = (answer_to(answers_for(self.record, one), question) for one in several)
                 given = question.by_tie(self.options.answer)
                 answer = given or next(filter(None, answers), None)
                 if not answer or self.options.decision != UNDECIDED:
