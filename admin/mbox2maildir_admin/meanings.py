@@ -67,7 +67,8 @@ TO_DO = {
     Reason.ANOTHER_READING: (
         "Its command, which goes on as before, or undoes the mailbox. After an undo, migrate it as you meant to"
     ),
-    Reason.CUT: "Its command, which removes the file of the incomplete message. Then run `migrate` again",
+    Reason.CUT: "Its command, which removes the file of the incomplete message: the complete one has its flags. Then "
+    "run `migrate` again",
     Reason.NUMBERED: "Its command, which migrates without `--dovecot`",
     Reason.PREPARED: "Its command. [A table](LARGE.md#prepare) has what can be prepared",
     Reason.SUBSCRIPTIONS: "Its command, which adds the missing lines",

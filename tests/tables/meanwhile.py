@@ -10,6 +10,9 @@ from tests.support.stories import RESTORED, SYNC_FAILS, Step, killed, run_storie
 
 FIRST, RECORD, LEDGER = "migrate --prepare --unread M a", "M/mbox2maildir-record", "M/mbox2maildir-messages"
 NUMBERED = ONE.replace(b"\n\n", b"\nX-IMAPbase: 1700000000 0000000009\nX-UID: 3\n\n", 1)
+# a message that is complete later, and how it goes on then
+TORN = B + b"\nlast line without its en"
+WHOLE, RUN_BOTH = TORN + b"d\n\n", (">", "migrate M a")
 FOUR = C.replace(b"three", b"four") + b"\n"
 BEGIN_ANEW = (
     "a: left (sync-failed): its sync failed: read the system's log and mount the disk again before you believe "
@@ -217,7 +220,7 @@ STORIES: dict[str, list[Step]] = {
     # a name that this program gives only to very many equal messages
     "a_file_with_a_large_number": [
         *(("a", NUMBERED), "!mbox2maildir convert M a; a=$(echo M/new/*); mv $a ${a%.1}.4294967296"),
-        *(("migrate --dovecot --again M a", "a: done: placed 0 messages; ..."), "= one"),
+        *(("migrate --dovecot --again M a", "a: done: ..."), "= one"),
     ],
     # the folder has another name by now, and only its ledger could say so
     "the_record_is_lost_and_a_ledger_cannot_be_read": [
@@ -379,6 +382,28 @@ STORIES: dict[str, list[Step]] = {
         *(f"!flock {RECORD} true", ("more", b"llo\n\n" + THREE), "!cat more >>a; touch -d '2 hours ago' a"),
         *(("migrate M a", "a: left (cut): ..."), ">", "migrate M a", "= four one three two"),
     ],
+    # what a person said of its beginning holds for the message, but that it was deleted
+    "a_message_was_cut_and_marked": [
+        *(("a", ONE + TORN), "migrate M a", "!for a in M/new/*; do mv $a M/cur/${a##*/}:2,FS; done"),
+        *(("a", ONE + WHOLE + THREE), ("migrate M a", "a: left (cut): ..."), *RUN_BOTH, "= one:FS three two:FS"),
+    ],
+    "a_message_was_cut_and_deleted": [
+        *(("a", ONE + TORN), "migrate M a", "!a=$(grep -l two M/new/*); mv $a M/cur/${a##*/}:2,ST"),
+        *(("a", ONE + WHOLE + THREE), ("migrate M a", "a: left (cut): ..."), *RUN_BOTH, "= one three two:S"),
+    ],
+    # the last one that has the beginning removes it
+    **{
+        f"a_message_was_cut_that_another_mailbox_has_{number}": [
+            *(("a", ONE + TORN), ("b", ONE + TORN), "migrate M a b", (first, ONE + WHOLE + THREE)),
+            (
+                f"migrate M {first}",
+                f"{first}: done: kept 1 message that {last} has too; it grew by 2 messages; 1 message gone from it ...",
+            ),
+            *((f"verify M {last}", f"{last}: whole..."), "= one three two two", (last, ONE + WHOLE + THREE)),
+            *((f"migrate M {last}", f"{last}: left (cut): ..."), ">", f"migrate M {last}", "= one three two"),
+        ]
+        for number, (first, last) in enumerate((("a", "b"), ("b", "a")), 1)
+    },
     # nobody knows why only some of it is there
     "it_was_converted_by_hand": [
         *(("a", ONE + TWO), "!mbox2maildir convert M a", ("migrate M a", OF_NOBODY), DATED, ("migrate M a", BEFORE)),

@@ -4,27 +4,29 @@ disk was synced, it is noted what became of mailboxes.
 
 A message may be cut. Programs append to a mailbox, and whoever reads meanwhile gets a last message that is not
 complete. Its file holds the beginning of a message, and the complete message gets a file of another name. So the
-mailbox is left until the first file is gone.
+mailbox is left until the first file is gone, unless another mailbox has that too.
 """
 import collections
 import contextlib
 import os
 import re
+import string
 import time
 from collections.abc import Container, Iterator, Sequence
 from typing import Optional
 
 from ..faults import Fault, Left, Reason, fault_of
+from ..flags.renaming import add_flags
 from ..ledger.gone import times_of
 from ..ledger.history import Note
-from ..ledger.lines import END_LINE, FAILED_LINE, PLACED, PLACED_LINE, BatchHead, append
+from ..ledger.lines import END_LINE, FAILED_LINE, PLACED, PLACED_LINE, SHARED, BatchHead, State, append
 from ..ledger.match import Files, Match
 from ..ledger.prepared import FAILED, WHOLE, finish_list, remove_list
 from ..ledger.record import unspelled
 from ..maildir.checking import DOUBLE, DOUBTFUL_LINE, Check
 from ..maildir.dating import Dating
 from ..maildir.disk import what_fails, why_not_listed
-from ..maildir.files import mail_in
+from ..maildir.files import letters_of, mail_in
 from ..maildir.making import PREPARED, TMP
 from ..mbox.bases import base_in, before_info, is_own, own_base_in
 from ..mbox.core import beginning_of
@@ -34,7 +36,7 @@ from ..nexts import Runs, run_next
 from ..program import Converted, Failed, Program
 from ..readings.copies import copy_of_some
 from ..remarks import Remark, Says
-from ..terminal import operand
+from ..terminal import first_of, operand
 from ..units import Offset, Place
 from .known import Known
 from .outcomes import Outcome, Row, Verdict
@@ -60,6 +62,8 @@ CUT = "a message was read before it was complete, and the complete one is there 
 # at the end of a beginning: line ends, and a From_ line that has just begun; and how much of an end is looked at
 UNFINISHED = re.compile(rb"(?:\n+(?:F(?:r(?:om?)?)?)?)?\Z")
 END = 64
+# the flags that a complete message gets from its beginning
+STAYING = frozenset(string.ascii_letters) - {"T"}
 ONCE = "the system reported an error, but the same works now: read the system's log, and run this again"
 
 
@@ -86,7 +90,7 @@ def carry_out(steps: Steps, row: Row, program: Program) -> Outcome:
                 batch = begin(steps, own, more)
             said += steps.extra.apply(steps)
             said += date_and_verify(steps, own.back + more)
-            want_none_cut(steps, own.may_be_cut)
+            said += want_none_cut(steps, own.may_be_cut)
     row, its = row._replace(remarks=(*row.remarks, *said)), (unspelled(steps.known.path), opened.mailbox.state)
     return Outcome(row, opened.folder, batch, ends_list, *its)
 
@@ -270,16 +274,16 @@ def leaving(rows: list[Row], *places: int) -> Iterator[None]:
 
 def names_that_may_be_cut(known: Known, match: Match) -> set[bytes]:
     """The names of files that may hold the beginning of a message: those that the mailbox placed last when it was read,
-    and that stand for no message of it any more; and those that no line has. The mailbox was written to, so a run that
-    was killed may have read more of it than the lines that it had begun have."""
+    or that another one had placed, and that stand for no message of it any more; and those that no line has. The
+    mailbox was written to, so a run that was killed may have read more of it than the lines that it had begun have."""
     ledger, path, begun_at = known.ledger, known.path, known.ledger.begun.get(known.path, 0)
     lost = {one.name for one in [*match.lost_lines, *ledger.intended(path)]}
     lost.difference_update(one.name for one in match.found.values())
     numbers = {number for number, its in ledger.ended.items() if its == path}
     numbers.update(number for number, batch in ledger.open.items() if batch.path == path)
-    # of each batch
-    last = {number: one for number, one in ledger.messages(numbers if lost else ()) if one.word == PLACED}
-    several = [one for one in last.values() if one.name in lost]
+    # of each batch, by their words
+    last = {(number, one.word): one for number, one in ledger.messages(numbers if lost else ())}
+    several = [one for (_, word), one in last.items() if word in (PLACED, SHARED) and one.name in lost]
     cores = set(map(match.inventory.core, range(len(match.inventory)))) if several else set()
     names: set[bytes] = set()
     for name, file in mail_in(ledger.folder) if known.is_begun else ():
@@ -292,21 +296,49 @@ def names_that_may_be_cut(known: Known, match: Match) -> set[bytes]:
     return names | {one.name for one in several if one.core not in cores}
 
 
-def want_none_cut(one: Steps, names: Container[bytes]) -> None:
-    """Raises Left if a file of one of these names holds the beginning of a new message, whoever has rewritten it."""
+def want_none_cut(one: Steps, names: Container[bytes]) -> list[Remark]:
+    """Raises Left if a file of one of these names holds the beginning of a new message, whoever has rewritten it. One
+    that another mailbox has too stays, as is said then."""
+    kept, holders = set[bytes](), dict[str, None]()
+    for path, place in beginnings_in(one, names):
+        others = others_with(one.known, before_info(os.path.basename(path)))
+        if not others:
+            hand_flags_over(one, path, place)
+            raise Left(CUT, Reason.CUT, run_next(Runs.REMOVE, operand(path)))
+        kept.add(path)
+        holders.update(others)
+    has = "have" if len(holders) > 1 else "has"
+    return Says.KEPT_SHARED.of_any(len(kept), first_of([*map(unspelled, holders)], most=1), has)
+
+
+def beginnings_in(one: Steps, names: Container[bytes]) -> Iterator[tuple[bytes, Place]]:
+    """The files of these names that hold the beginnings of new messages, with the places of these in the text."""
     listed = mail_in(one.opened.folder) if names else ()
     found = (path for name, path in listed if before_info(name) in names)
     paths = {beginning_in(path): path for path in found}
     text, inventory = one.contents.text.mailbox, one.contents.inventory
-    for place in one.placing.match.new if paths else ():
+    for place in map(Place, one.placing.match.new if paths else ()):
         digest = Digest({size for size, _ in paths})
         start = text.at(inventory.offsets[place], BLOCK).find(b"\n") + 1
         reader = Reader(text.number, Offset(inventory.offsets[place] + start), inventory.offsets[place + 1])
         for piece in beginning_of(reader.read) if start else ():
             digest.update(piece)
-        for beginning in digest.beginnings.items():
-            if beginning in paths:
-                raise Left(CUT, Reason.CUT, run_next(Runs.REMOVE, operand(paths[beginning])))
+        yield from ((paths[its], place) for its in digest.beginnings.items() if its in paths)
+
+
+def others_with(known: Known, name: bytes) -> dict[str, None]:
+    """The paths of the other mailboxes that have the file of this name, or may have it."""
+    lines = (line for line in known.ledger.message_lines(None) if line.message.name == name and line.path != known.path)
+    return dict.fromkeys(line.path for line in lines if line.state in (State.HELD, State.OPEN))
+
+
+def hand_flags_over(one: Steps, path: bytes, place: int) -> None:
+    """Adds the flags of a file to those of a message that this program has placed, at its place in the text. That it
+    was deleted was said of the beginning alone. A server's own flags are those of the mailbox."""
+    letters = {*letters_of(os.path.basename(path))} & STAYING
+    if letters and not one.contents.is_bare:
+        its = ["".join(letters) if other == place else "" for other in one.places]
+        add_flags(one.opened.folder, one.files, its, one.is_unread)
 
 
 def beginning_in(path: bytes) -> tuple[int, str]:
