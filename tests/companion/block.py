@@ -38,6 +38,18 @@ def one_mailbox(home: Path) -> None:
     equal("two questions", shown[1:15], [*map(str, range(2, 9)), "..", *map(str, range(15, 21))])
 
 
+def what_again_brings_back(home: Path) -> None:
+    """A single row of --again says how many messages are placed, even deleted ones, also if they would be."""
+    mailbox(home / "box", ONE + TWO)
+    expect("migrate M box", home, 0, None)
+    next(mail_in(home / "M")).unlink()
+    row = "box -> INBOX: mboxrd or mboxo, messages 2: {}\n1 mailbox: 1 {}\n".format
+    again = "migrate --again M box"
+    expect("migrate --dry-run --again M box", home, 0, row("would be done, would place 1 message", "would be done"))
+    expect(again, home, 0, row("done, placed 1 message", "done"))
+    expect(again, home, 0, row("done", "done"))
+
+
 def one_of_a_kind(home: Path) -> None:
     """What stands alone in a group has its own command, and none for all of them."""
     for name, text in (("sound", ONE), ("notes", b"milk\nbread\n")):

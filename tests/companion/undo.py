@@ -167,7 +167,7 @@ def half_done_by_mb2md(home: Path) -> None:
     expect([*again[:2], "--dry-run", *again[2:]], home, 0, line.format(f"would be done, {says}", "would be done"))
     expect(again, home, 0, line.format(f"done, {says.replace('would place', 'placed')}", "done"))
     equal("each once", subjects(home / "M"), [str(number) for number in range(8)])
-    expect(again, home, 0, line.format(f"done, placed 0 messages; {others}", "done"))
+    expect(again, home, 0, line.format(f"done, {others}", "done"))
     expect(UNDO, home, 0, rows("undone", "removed 4 messages; kept 4 messages that were nobody's", 8))
     equal("what mb2md did stays", subjects(home / "M"), [str(number) for number in range(4)])
 

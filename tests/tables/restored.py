@@ -59,7 +59,7 @@ STORIES: dict[str, list[Step]] = {
     ],
     "the_maildir": [*came_back("M"), (MIGRATE, GREW), "= A/one A/two"],
     "a_folder_from_before_an_undo": [
-        *(*undone("M/.A"), (MIGRATE, "a: done: placed 0 messages"), "= A/one A/two"),
+        *(*undone("M/.A"), (MIGRATE, "a: done"), "= A/one A/two"),
         *((UNDO, "a: undone: removed 2 messages"), "="),
     ],
     "a_record_from_before_an_undo": [*(*undone(RECORD), (UNDO, NOT_THERE), (MIGRATE, "a: done"), "= A/one A/two")],
@@ -81,7 +81,7 @@ STORIES: dict[str, list[Step]] = {
         (UNDO, "a: undone: removed 1 message; kept 2 messages that were nobody's"),
     ],
     "no_ledger_and_nothing_is_nowhere": [
-        *done(f"!rm {LEDGER}", ("a", TWO), (MIGRATE, "a: done: placed 0 messages; 1 message there already, by ...")),
+        *done(f"!rm {LEDGER}", ("a", TWO), (MIGRATE, "a: done: 1 message there already, by ...")),
         *("= A/one A/two", (UNDO, "a: undone: removed 0 messages; kept 1 message that was nobody's"), "= A/one A/two"),
     ],
     "no_record": [

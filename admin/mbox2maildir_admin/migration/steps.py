@@ -26,7 +26,7 @@ from ..readings.reading import Reading
 from ..readings.texts import Choice, Text
 from ..remarks import Remark, Says, Sentence
 from ..terminal import first_of, named
-from ..units import Offset, Place, counted
+from ..units import Offset, Place
 from .known import Known, Opened
 
 
@@ -212,7 +212,7 @@ def remarks_on_match(one: Steps, dry: bool) -> Iterator[Remark]:
     """What is to be said of what is new, what is there, and what is gone."""
     match, ledger = one.placing.match, one.known.ledger
     if isinstance(one.own, OtherPass) and one.own.is_again:
-        yield Says.PLACED.of(counted(match.count(Stand.NOWHERE), "message"), dry=dry)
+        yield from Says.PLACED.of_any(match.count(Stand.NOWHERE), dry=dry)
     else:
         yield from remarks_on_lost(match)
         others = [unspelled(path) for path, source in ledger.sources.items() if source.count()]

@@ -96,11 +96,10 @@ class BroughtAgain(Deleted):
         return made
 
     def words(self, at: str, mailboxes: Sequence[Made]) -> list[str]:
-        # with --all, the row says how many messages were placed
         return [self.tools.admin, "migrate", "--again", "--all", "--now", self.folder(at), self.mailboxes[0].path]
 
     def did_something(self, said: str) -> bool:
-        return "placed 0 messages" not in said
+        return ", placed " in said
 
     def owed(self, at: str, marks: Sequence[str]) -> Owed:
         return self.without_deleted(self.all_owed(at))
