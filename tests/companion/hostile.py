@@ -290,6 +290,18 @@ def ends(home: Path) -> None:
         assert most < 1 << 17, f"{most} kB"
 
 
+def an_internal_error(home: Path) -> None:
+    """It leaves each mailbox of a user."""
+    fails = "import os; os.register_at_fork(after_in_child=lambda: setattr(os, 'scandir', None))"
+    with one_user(home):
+        theirs(mailbox(home / f"homes/{NAME}/mail/a", ONE), NAME)
+        program, *words = started(home, fails)
+        found = [
+            (row["path"], row["reason"]) for row in rows_of([program, words[0], "--tree", "mail", *words[1:]], home)
+        ]
+        equal("rows", found, [("", "defect"), ("mail", "defect")])
+
+
 def nonsense(home: Path) -> None:
     """Each line that can't be read may have been the row of a mailbox. It is heard to the last."""
     with one_user(home):
@@ -506,4 +518,6 @@ def root_is_killed(home: Path) -> None:
 
 
 if __name__ == "__main__":
-    check_all(ends, nonsense, printed, what_it_started, rights, asks, a_sync_that_fails, root_is_killed)
+    check_all(
+        ends, an_internal_error, nonsense, printed, what_it_started, rights, asks, a_sync_that_fails, root_is_killed
+    )
