@@ -103,6 +103,10 @@ FORMS = [
     ("a@b", None),
     ("", None),
 ]
+# dates of files begin in 1901, as ext4 has them
+FROM_1901 = """import os
+utime = os.utime
+os.utime = lambda path, times=None, **more: utime(path, times and tuple(max(one, -1 << 31) for one in times), **more)"""
 NEW_YORK = "EST5EDT,M3.2.0,M11.1.0"
 # headers Date, which count where a From_ line has no date: without a zone, or with an unknown one, some are in UTC
 HEADERS = [
@@ -271,6 +275,10 @@ def dates_that_stay(home: Path) -> None:
         )
     else:
         equal("a date of 1900", path.stat().st_mtime, datetime.fromisoformat("1900-01-01T00:00:00+00:00").timestamp())
+    os.utime(path, ns=(moment, moment))
+    says = "mbox2maildir-admin: old: message 1 (line 1): the file system cannot store its date\n"
+    expect([doing_first(FROM_1901, home / "bin"), "dates", "Old", "old"], home, 1, "old: messages 1, dated 0\n", says)
+    equal("where dates begin in 1901", path.stat().st_mtime_ns, moment)
 
 
 def many_dates(home: Path) -> None:
