@@ -61,6 +61,7 @@ class Runs:
     LIST = Template("list", "ls")
     LIST_ITSELF = Template("list-itself", "ls -ld")
     MAKE_FOLDERS = Template("make-folders", "mkdir -p")
+    MAKE_OWN_FOLDERS = Template("make-own-folders", "mkdir -pm 700")
     LET_ENTER = Template("let-enter", "chmod 711")
     MOVE = Template("move", "mv -nT")
     REMOVE = Template("remove", "rm")

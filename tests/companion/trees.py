@@ -105,7 +105,8 @@ def folders_of_messages(home: Path) -> None:
     out = run("migrate --all M tree", home)[1]
     next_of = {row.name[5:]: row.command for row in rows_in(out) if row.commands}
     wanted = (
-        f"tree/lists: left (maildir): it is a Maildir\n{RUN}mv -nT tree/lists M/.lists\n"
+        "tree/lists: left (maildir): it is a Maildir\n"
+        f"{RUN}mkdir -pm 700 M M/tmp M/new M/cur && mv -nT tree/lists M/.lists\n"
         f"tree/mh/sheds -> mh/sheds: mboxrd or mboxo, messages 1: done\n"
         f"tree/mh: an MH folder, messages 12: left (mh)\n{RUN}{next_of['mh']}\n    then move tree/mh out of here\n"
         "tree/p/garden -> p/garden: mboxrd or mboxo, messages 1: done\n"
@@ -156,6 +157,38 @@ def folders_of_messages(home: Path) -> None:
     mailbox(home / "whole/box", ONE)
     expect("migrate --all whole/M whole", home, 0, "whole/box -> box: ...: done\n1 mailbox: 1 done\n")
     expect("migrate --all whole/M whole", home, 0, "1 mailbox: 1 done before\n")
+
+
+def maildirs_alone(home: Path) -> None:
+    """The printed commands bring Maildirs over, also if nothing else makes the one that they go into, and if they lack
+    empty folders, which copies may leave out. Two never get one place. Mailboxes beside each other are no Maildir."""
+    names = {"Old/cur/1741.M1.h:2,FS", "Old/cur/1742.M1.h:2,RS", "late/new/1743.M1.h", "late/new/1744.M1.h"}
+    for name in names:
+        mailbox(home / "tree" / name, b"Subject: a\n\nFrom here on.\n")
+    (home / "tree/Old/new").mkdir()
+    expect("kind tree/Old", home, 1, "tree/Old: a Maildir\n    leave it as it is\n")
+    for name in ("y.d", "y-d"):
+        make_maildir(home / "twice" / name)
+    for maildir, tree, count in (("M", "tree", 2), ("N", "twice", 1)):
+        ran = by_json(["migrate", maildir, tree], home)
+        equal(f"{tree}: what is left", [row["reason"] for row in ran.rows], ["maildir"] * 2)
+        commands = [command for row in ran.rows for command in row.commands]
+        equal(f"{tree}: commands", len(commands), count)
+        for command in commands:
+            equal(command, run_printed(command, home).status, 0)
+    equal("their mail", {str(one.relative_to(home / "M"))[1:] for one in (home / "M").rglob("17*")}, names)
+    made = [home / "M" / name for name in (".", "cur", "new", "tmp", ".Old/tmp", ".late/cur", ".late/tmp")]
+    equal("what was made", {oct(one.stat().st_mode & 0o777) for one in made}, {"0o700"})
+    for name in ("new/2005.archive.mbox", "cur/2006.archive.mbox"):
+        mailbox(home / "kmail" / name, ONE)
+    expect("migrate --all N kmail", home, 0, "...\n...\n2 mailboxes: 2 done\n")
+    expect(
+        "migrate P M/.Old",
+        home,
+        1,
+        "",
+        f"mbox2maildir-admin: M/.Old: it is a Maildir, not a mailbox\n{RUN}mv -nT M/.Old P\n",
+    )
 
 
 # a pattern, what is migrated, a file below that, and whether it is passed over

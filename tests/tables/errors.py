@@ -117,10 +117,12 @@ ERRORS = [
     ),
     ("migrate box/x two", "box/x: Not a directory", RUN + "ls .\n"),
     (
-        "migrate --dry-run N There",
+        "migrate --dry-run N There box",
         "There: it is a Maildir, not a mailbox: the Maildir comes first",
-        RUN + "mbox2maildir-admin migrate --dry-run There N\n",
+        RUN + "mbox2maildir-admin migrate --dry-run There N box\n",
     ),
+    # nothing is there that could go into it
+    ("migrate N There", "There: it is a Maildir, not a mailbox", RUN + "mv -nT There N\n"),
     ("migrate old box", "old: it is neither a Maildir nor empty", "    name a Maildir, or ..., such as old/Maildir\n"),
     ("migrate none/M box", "none/M: the folder that it is to be made in is not there", RUN + "mkdir -p {home}/none\n"),
     ("dates M mistyped", "mistyped: No such file or directory", RUN + "ls .\n"),

@@ -3,13 +3,12 @@ as one name each; and Thunderbird's profiles, with the places of their mailboxes
 import collections
 import os
 import re
-import stat
 from typing import NamedTuple, Optional
 
 from ..faults import Fault
-from ..looks import is_below, is_file, is_folder, may_be, type_at, upwards
+from ..looks import is_below, is_file, is_folder, may_be, upwards
 from ..maildir.folders import INBOX, folder_on_disk
-from ..maildir.making import GOES_BACK, GOES_BACK_NEW, SUBFOLDERS
+from ..maildir.making import GOES_BACK, GOES_BACK_NEW, SUBFOLDERS, WITH_MAIL
 from ..mbox.files import is_empty, open_file
 from ..mbox.pieces import FROM
 from ..nexts import Next, Template, Todo, run_next, task
@@ -27,6 +26,8 @@ OF_MAILDIR = pattern(
     rb"|mbox2maildir-.*",
     re.DOTALL,
 )
+# the name of a message in a Maildir: a time, what is unique to it, and a host; or any name with flags behind it
+OF_MESSAGE = pattern(rb"[0-9]+\.[^.]+\..+|.+:2,[^.]*", re.DOTALL)
 KEYWORDS_OF_COURIER = b"courierimapkeywords"
 # Apple Mail exports the mailbox NAME as a folder NAME.mbox, in which a file of this name has the mail
 MBOX = b"mbox"
@@ -48,13 +49,35 @@ PROFILES = b"Profiles"
 
 
 def is_maildir(path: bytes) -> bool:
-    """Whether a folder is a Maildir: it has the three folders, and none of them is a symbolic link."""
-    return all(type_at(os.path.join(path, sub), False) == stat.S_IFDIR for sub in SUBFOLDERS)
+    """Whether there is a folder that is a Maildir."""
+    if not is_folder(path):
+        return False
+    with os.scandir(path) as found:
+        return has_maildir([*found])
 
 
 def has_maildir(entries: list[DirEntry]) -> bool:
-    """Whether a folder with these entries is a Maildir."""
-    return {*SUBFOLDERS} <= {entry.name for entry in entries if entry.is_dir(follow_symlinks=False)}
+    """Whether a folder with these entries is a Maildir: it has the three folders, and none of them is a symbolic link.
+    What packs or copies files may leave out empty folders: then one of messages is enough."""
+    lacking = lacking_in(entries)
+    return not lacking or any(has_messages(one.path) for one in entries if one.name in {*WITH_MAIL} - lacking)
+
+
+def lacking_in(entries: list[DirEntry]) -> set[bytes]:
+    """The folders of a Maildir that are not among these entries."""
+    return {*SUBFOLDERS} - {entry.name for entry in entries if entry.is_dir(follow_symlinks=False)}
+
+
+def has_messages(folder: bytes) -> bool:
+    """Whether each name in a folder is one that a Maildir gives to a message, and the first one is of mail. If the
+    folder can't be read, it is left for that reason later."""
+    try:
+        with os.scandir(folder) as found:
+            entries = sorted(found, key=lambda entry: entry.name)
+    except OSError:
+        return False
+    are_named = all(OF_MESSAGE.fullmatch(one.name) and one.is_file(follow_symlinks=False) for one in entries)
+    return are_named and any(OPENING.match(head_of(one.path)) for one in entries[:1])
 
 
 def is_of_maildir(entry: DirEntry) -> bool:

@@ -8,7 +8,7 @@ from ..faults import Fault, Left, Reason
 from ..jobs.order import InOrder, SameFolder, in_groups, jobs_of, largest_first
 from ..kinds.folders import is_maildir
 from ..ledger.record import Record
-from ..looks import is_below, is_file, is_folder, is_link, is_surely, is_there, real_path, type_at
+from ..looks import is_below, is_file, is_folder, is_link, is_surely, is_there, may_be, real_path, type_at
 from ..maildir.folders import INBOX
 from ..maildir.making import real_place, want_maildir, want_own, want_roots, want_roots_alone
 from ..maildir.disk import Syncs
@@ -72,12 +72,14 @@ def refuse(root: bytes, names: Sequence[bytes], options: Options = Options()) ->
 
 
 def not_in_order(why: str, first: bytes, names: Sequence[bytes], options: Options) -> Fault:
-    """Why names are refused, and the command that names the Maildir first, unless one is there already; if no name is
-    the Maildir's, a human names it."""
+    """Why names are refused, and the command that names the Maildir first, unless one is there already, or that moves
+    it if nothing is there that could go into it; if no name is the Maildir's, a human names it."""
     then = task(Todo.OTHER_MAILDIR, os.path.join(os.path.dirname(text_of(names[0])), "Maildir"))
+    rest = [name for name in names if name != first]
+    if not any(may_be(is_there, name) for name in rest):
+        return Fault(why, Reason.MAILDIR, run_next(Runs.MOVE, operand(first), operand(names[0])))
     if first != names[0]:
-        rest = [operand(name) for name in names if name != first]
-        then = run_next(Runs.MIGRATE, *options.words(), operand(first), *rest)
+        then = run_next(Runs.MIGRATE, *options.words(), operand(first), *map(operand, rest))
     return Fault(why + ": the Maildir comes first", Reason.MAILDIR, NOTHING if is_maildir(names[0]) else then)
 
 

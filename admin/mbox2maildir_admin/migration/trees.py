@@ -1,7 +1,7 @@
 """The names below a folder of mailboxes, and the mailboxes among them."""
 import os
 import stat
-from collections.abc import Callable, Container
+from collections.abc import Callable, Collection, Sequence
 from typing import NamedTuple, Optional, Union
 
 from ..faults import Fault, Left, Reason
@@ -15,6 +15,7 @@ from ..kinds.folders import (
     has_maildir,
     is_export,
     is_of_maildir,
+    lacking_in,
     messages_of_mh,
     next_of_mh,
 )
@@ -24,7 +25,8 @@ from ..ledger.history import History
 from ..looks import is_folder, is_surely, is_there, may_be, real_path, state_at, type_at
 from ..maildir.disk import PREFIX
 from ..maildir.folders import INBOX, LONGEST, folder_on_disk, folder_path, name_before
-from ..nexts import Runs, Todo, run_next, task
+from ..maildir.making import SUBFOLDERS
+from ..nexts import NOTHING, Answer, Command, Next, Runs, Single, Todo, task
 from ..remarks import Remark, Says
 from ..terminal import is_text, named, operand, text_of
 from .outcomes import Row, Verdict, row_left
@@ -38,25 +40,42 @@ NamesMet = dict[Identity, dict[bytes, bytes]]
 
 
 class Maildir(NamedTuple):
-    """A Maildir in a tree, the name on the disk of the folder that it would be, if it has one, and whether other names
-    are in it."""
+    """A Maildir in a tree, the name on the disk of the folder that it would be, if it has one, whether other names are
+    in it, and which of its folders it lacks."""
 
     path: bytes
     folder: bytes
     has_more: bool
+    lacking: Collection[bytes]
 
-    def row(self, maildir: bytes, taken: Container[bytes]) -> Row:
-        """Its row, with the command that moves it into the place of a folder of a Maildir, if that is free."""
-        place = folder_path(maildir, self.folder)
+    def row(self, maildir: bytes, taken: set[bytes]) -> Row:
+        """Its row, with the command that moves it into the place of a folder of a Maildir, if that is free, which is
+        taken then. The command makes what is missing of both."""
+        place, missing = folder_path(maildir, self.folder), folders_of(self.path, self.lacking)
         if not self.folder:
-            then = task(Todo.MOVE_TO, text_of(os.path.join(maildir, b".NAME")))
+            then = making(missing) + task(Todo.MOVE_TO, text_of(os.path.join(maildir, b".NAME")))
         elif self.folder == INBOX or self.folder in taken or may_be(is_there, place):
             then = task(Todo.MOVE_FILES, text_of(place))
         elif self.has_more:
-            then = task(Todo.MOVE_OTHERS)
+            then = making(missing) + task(Todo.MOVE_OTHERS)
         else:
-            then = run_next(Runs.MOVE, operand(self.path), operand(place))
+            taken.add(self.folder)
+            if not may_be(is_there, maildir):
+                # it may be that no mailbox goes there
+                missing = [operand(maildir), *folders_of(maildir, SUBFOLDERS), *missing]
+            then = making(missing, Single(Runs.MOVE, (operand(self.path), operand(place))))
         return row_left(self.path, b"", Left(MAILDIR, Reason.MAILDIR, then))
+
+
+def folders_of(maildir: bytes, subs: Collection[bytes]) -> list[str]:
+    """Some of a Maildir's folders, as operands."""
+    return [operand(os.path.join(maildir, sub)) for sub in SUBFOLDERS if sub in subs]
+
+
+def making(folders: Sequence[str], *rest: Single) -> Next:
+    """The command that makes folders that are missing, and does the rest; nothing if there is nothing to do."""
+    singles = (*[Single(Runs.MAKE_OWN_FOLDERS, tuple(folders))] * bool(folders), *rest)
+    return (Answer(Command(singles)),) if singles else NOTHING
 
 
 class Tree:
@@ -125,7 +144,7 @@ class Tree:
         """The entries of a folder without those that count as one name: the parts of a Maildir, and the messages of
         MH."""
         if has_maildir(entries):
-            entries = [entry for entry in entries if not is_of_maildir(entry)]
+            lacking, entries = lacking_in(entries), [entry for entry in entries if not is_of_maildir(entry)]
             above = next((one for one in self.maildirs if one.path == os.path.dirname(folder)), None)
             name = os.path.basename(folder)
             if above and above.folder and name.startswith(b"."):
@@ -134,7 +153,7 @@ class Tree:
             else:
                 below = os.path.relpath(folder, self.top)
                 place = folder_on_disk(below) if folder != self.old and is_text(below) else b""
-            self.maildirs.append(Maildir(folder, place, bool(entries)))
+            self.maildirs.append(Maildir(folder, place, bool(entries), lacking))
         mails = messages_of_mh(entries)
         if not mails:
             return entries
