@@ -63,6 +63,10 @@ def each_minute(home: Path) -> None:
     ran = Hasty(home).run(["verify", "M", "box", "copy"])
     whom = re.findall("(?m)^mbox2maildir-admin: (.+?): ", ran.err)
     equal("who is at work, one after the other", list(dict.fromkeys(whom)), ["1/2 box", "2/2 copy"])
+    for name in "ab":
+        shutil.copy2(home / "box", mailbox(home / "old" / name, b""))
+    ran = Hasty(home).run(["migrate", "--now", "--jobs", "2", "N", "old"])
+    match_in(r"(?m)^mbox2maildir-admin: \d/2 old/[ab]: reading \d\.\d of 4\.8 MB, ", ran.err)
 
 
 def on_a_terminal(home: Path) -> None:

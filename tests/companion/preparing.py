@@ -16,6 +16,7 @@ from tests.support import accounts
 from tests.support.checks import LATER, equal, match_in, matches
 from tests.support.homes import ADMIN, by_json, check_all, checks_in, expect, fake, mail_in, mailbox, run, run_printed
 from tests.support.homes import script, subjects, want_strace, want_users
+from tests.support.ledgers import PREPARED
 from tests.support.mail import A, B, ONE, THREE, TWO
 from tests.support.printed import row_in, rows_in
 from tests.support.running import Desk
@@ -56,6 +57,10 @@ def printed(home: Path) -> None:
     equal("their sum", (status, objects[2]["verdicts"]["prepared"]), (0, 2))
     # one pass takes no longer than all of these, however busy the machine is
     equal("an estimate is in it", 0 < objects[2]["last_pass_seconds"] < 10 + 10 * (time.monotonic() - began), True)
+    # it took ten minutes to read each
+    for path in (home / "M").rglob(PREPARED):
+        path.write_text(re.sub("(?m)^t\t.*", "t\t600000", path.read_text()))
+    assert 600 < by_json("migrate --prepare M old", home).objects[-1]["last_pass_seconds"] < 2000
     expect("migrate --all --undo M old/b", home, 0, "old/b -> b: messages 1: undone, removed 1 message\n...\n")
     (home / "old").rename(home / "older")
     last = row.replace("old/", "older/") % ("a", "a", 2) + "done, 2 prepared before\n"

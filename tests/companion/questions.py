@@ -135,6 +135,7 @@ def nobody_is_asked(home: Path) -> None:
         f"{command} M box 2>&1 | cat",
         f"{command} M box 2>/dev/null",
         f"{command} M box </dev/null",
+        f"setsid --wait {command} M box",
         f"set -m; {command} M box & wait $!",
         f"set -m; {command} M box </dev/tty & wait $!",
         f"{command} --no-questions M box",

@@ -166,6 +166,12 @@ STORIES: dict[str, list[Step]] = {
         *(("a", ONE + ONE), "migrate M a", "!rm $(ls M/new/* | head -n 1)", ("a", ONE)),
         *(("migrate --undo M a", "a: undone: removed 1 message; 1 message already gone"), "="),
     ],
+    # what may be written holds each message, but not the ledger of all
+    "the_ledger_cannot_grow": [
+        ("a", numbered("first", 20)),
+        f"!(ulimit -f 1; mbox2maildir-admin migrate --now M a) | grep 'left (ledger): {LEDGER}: File too large$'",
+        *(("migrate M a", "a: done"), "!test $(ls M/new | wc -l) = 20"),
+    ],
     # a rehearsal takes no lock
     "another_run_is_at_work": [
         *(("a", ONE), "migrate M a", f"!flock {RECORD} mbox2maildir-admin migrate --now --dry-run M a"),

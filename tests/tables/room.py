@@ -12,6 +12,7 @@ from tests.support.running import OWNER, Desk
 COPIES = " (--dry-run and kind make copies there or where TMPDIR says, other runs on the Maildir's disk)"
 # a text of which a copy is made
 CRLF = (A + b"\n" + b"x" * 74 + b"\n").replace(b"\n", b"\r\n") + b"y\r\n" * 500_000
+LABELLED = CRLF.replace(b"\r\n", b"\r\nX-GM-THRID: 1\r\nX-Gmail-Labels: Inbox\r\n", 1)
 PACKED = gzip.compress(A + b"\n" + bytes(5 << 20) + b"\n")
 
 
@@ -28,6 +29,7 @@ class Short(NamedTuple):
 ROWS = [
     Short(numbered("one", 300), "migrate --now disk/M box", "1m", "space in disk/M: it needs 1.3 MB, and ..."),
     Short(CRLF, "migrate --now disk/M box", "1m", "space in disk: it needs 1.5 MB, and 1.0 MB are free"),
+    Short(LABELLED, "migrate --now --labels disk/M box", "1m", "space in disk: it needs 1.5 MB, and 1.0 MB are free"),
     Short(CRLF, "migrate --now --dovecot disk/M box", "2m", "space in disk: it needs 3.0 MB, and 2.1 MB are free"),
     Short(CRLF, "migrate --now --dry-run M box", "1m", f"space in disk: it needs 1.5 MB, and 1.0 MB are free{COPIES}"),
     # what is packed is counted first
