@@ -150,6 +150,14 @@ def begun(home: Path) -> None:
     equal("without", [one["says"] for one in row["remarks"]][-1], f"without its UIDs, because {LOOKED}")
 
 
+def brought_by_another_program(home: Path) -> None:
+    """The first message is there under a name that another program gave it: the second one keeps its UID."""
+    mailbox(make_maildir(home / "M") / "cur/1.host:2,S", b"Subject: 0\n\nhello\n")
+    mailbox(home / "box", text_of("X-UID: 5\n", "X-UID: 7\n"))
+    equal("its status", by_json([*MIGRATE[:1], "--again", *MIGRATE[1:], "box"], home).status, 0)
+    equal("the list", listed(home), ("3 V222 N10", ["7"]))
+
+
 def another_list(home: Path) -> None:
     """A list that comes meanwhile stays, and so do the UIDs of another mailbox."""
     path = home / "M/dovecot-uidlist"

@@ -67,6 +67,11 @@ SWEEPS = {
         "another converter is at work",
         "another converter is at work; 1 of 1 messages are there",
     ),
+    "a_name_is_garbled_once_all_is_there": (
+        ": >$(printf 'cur/caf\\351'); ",
+        "folder call 3 failed",
+        "folder call 3 failed, which lists cur; a name is not UTF-8: M/cur/caf\\xe9; 1 of 1 messages are there",
+    ),
     "the_first_call_after_the_listings": ("", "folder call 4 failed", SYNC_FAILED),
 }
 

@@ -12,12 +12,13 @@ from pathlib import Path
 
 from tests.support.cases import LeftOut
 from tests.support.checks import equal, matches
-from tests.support.homes import by_json, check_all, checks_in, expect, latin_locale, mailbox, make_maildir, run
-from tests.support.homes import run_printed, subjects, want_users
+from tests.support.homes import by_json, check_all, checks_in, expect, hand_over, latin_locale, mailbox, make_maildir
+from tests.support.homes import run, run_printed, subjects, want_users
 from tests.support.ledgers import RECORD
 from tests.support.mail import ONE
 from tests.support.mounts import small_disk
 from tests.support.printed import groups_in, row_in
+from tests.support.running import OWNER, Desk
 from tests.support.terminals import Terminal
 
 LABELS = ["migrate", "--all", "--labels", "M", "t.mbox"]
@@ -632,6 +633,18 @@ def a_folder_that_people_removed(home: Path) -> None:
     equal("what is there", folders_in(home / "M"), {})
     expect("migrate --labels one M t.mbox", home, 0, None)
     equal("the folders then", folders_in(home / "M"), {"": ["one"], ".Work.A": ["two"]})
+
+
+def a_folder_that_its_owner_may_not_change(home: Path) -> None:
+    """An undo leaves this folder, and takes what went into the others."""
+    takeout(home, RESERVED[:2])
+    expect(LABELS, home, 0, None)
+    hand_over(home)
+    (home / "M/.Sent/new").chmod(0o500)
+    ran = Desk(home, user=OWNER).run("migrate --json --undo M t.mbox".split())
+    wanted = {"INBOX": "undone", "Sent": "left", "Work/A": "undone"}
+    equal("what is undone", {row["folder"]: row["verdict"] for row in ran.rows}, wanted)
+    equal("what is there", folders_in(home / "M"), {".Sent": ["two"]})
 
 
 def a_line_of_the_record_is_gone(home: Path) -> None:
