@@ -267,6 +267,19 @@ STORIES: dict[str, list[Step]] = {
         ),
         *(("back --dry-run M b", "b: would go back"), f"!cat {LEDGER} {RECORD} | cmp - kept"),
     ],
+    # each has the folder that it had, also if it is named itself; nobody knows which of two with the same bytes it is
+    "a_tree_was_moved_and_some_of_it_is_named": [
+        *(("old/a", ONE), ("old/b", ONE), ("old/c", TWO), "migrate M old", "!mv old new; mv new/c new/d; cp -a M kept"),
+        *(
+            ("verify M new/a new/b new/d", "new/a: whole\nnew/b: whole\nnew/d: whole"),
+            "!mbox2maildir-admin dates M new/d",
+        ),
+        *(("migrate --dry-run --undo M new/d", "new/d: would be undone: would remove 1 message"), "!mv new/b new/x"),
+        *(("migrate --dry-run --undo M new/x", "new/x: left (undo): ...in several folders: a, b"), "!mv new/x new/b"),
+        ("migrate M new/a new/b new/d", "new/a: done before\nnew/b: done before\nnew/d: done before"),
+        *("= a/one b/one c/two", "!rm -r M; mv kept M", ("migrate --undo M new/b", "new/b: undone: removed 1 message")),
+        *("= a/one c/two", "!printf 'Subject: new\\n\\n' >M/.c/new/1.host", ("back M new/d", "new/d: back")),
+    ],
     # the index knows the bytes that the first one had, though it has others by now
     "a_mailbox_was_moved_and_another_one_has_its_path": [
         *(("old/a", ONE + TWO), "migrate M old", "!mv old/a old/b; touch old/b.lock", ("old/a", THREE)),

@@ -19,7 +19,7 @@ from ..mbox.files import is_empty
 from ..mbox.mailbox import Mailbox
 from ..migration.answers import is_passed_over
 from ..migration.outcomes import Observer, Row, Verdict
-from ..migration.places import Planned, recorded
+from ..migration.places import Planned, recorded_or_moved
 from ..migration.trees import Tree
 from ..nexts import Does, Runs, Task, Todo, run_next
 from ..progress import say_of
@@ -172,7 +172,7 @@ def for_mailboxes(maildir: bytes, path: bytes, task: Doing, observer: Observer) 
     # what was named may be a folder of a Maildir: then that is the one that has its mail; an empty mailbox may have
     # none any more
     is_root = root == maildir and not is_empty(path)
-    folder = recorded(Planned(path, INBOX), record).folder_in(maildir) if is_root else maildir
+    folder = recorded_or_moved(Planned(path, INBOX), record).folder_in(maildir) if is_root else maildir
     task(Migrated(path, folder, root, record, (maildir, path)))
 
 

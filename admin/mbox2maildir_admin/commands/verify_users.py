@@ -5,7 +5,7 @@ from collections.abc import Iterator
 from ..ledger.record import Record
 from ..looks import is_folder, is_link
 from ..maildir.folders import INBOX
-from ..migration.places import Pairs, Planned, recorded
+from ..migration.places import Pairs, Planned, recorded_or_moved
 from ..migration.options import Options
 from ..migration.trees import Tree, link_left
 from ..nexts import Runs
@@ -49,7 +49,7 @@ class Verifier(UserWork):
         if is_link(name):
             relay.leave(name, link_left(name))
             return
-        one = pairs.judged(recorded(Planned(name, INBOX), pairs.record))
+        one = pairs.judged(recorded_or_moved(Planned(name, INBOX), pairs.record))
         if one.why:
             relay.leave(name, one.why)
         else:

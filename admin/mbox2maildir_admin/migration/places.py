@@ -10,11 +10,12 @@ from ..faults import Fault, Left, Reason, fault_of
 from ..kinds.folders import Profiles
 from ..kinds.named import is_no_mail, name_of_folder
 from ..ledger.history import Event, History, Note
-from ..ledger.record import Record, unspelled
+from ..ledger.record import Record, is_gone, unspelled
 from ..looks import is_file
 from ..maildir.files import mail_in
 from ..maildir.folders import COPIES, COPY, INBOX, folder_on_disk, folder_path, folder_shown, words_of
 from ..maildir.disk import SyncOne
+from ..mbox.mailbox import Mailbox
 from ..nexts import Answer, Command, Does, Next, Runs, Single, Todo, run_next, task
 from ..readings.reading import UNDECIDED, Reading
 from ..terminal import is_text, named, operand, option
@@ -67,6 +68,31 @@ def recorded(one: Planned, record: History) -> Planned:
     if not folders or folders[-1] == one.folder:
         return one
     return one._replace(folder=folders[-1], before="", why=None)
+
+
+def recorded_or_moved(one: Planned, record: History) -> Planned:
+    """The same of a file for which no folder was named. One that was moved has the folder that it had."""
+    found = recorded(one, record)
+    folders = [] if found.why or record.folders_given(one.path) else folders_of_moved(one.path, record)
+    return found._replace(folder=folders[-1]) if folders else found
+
+
+def folders_of_moved(path: bytes, record: History) -> list[bytes]:
+    """The folders of mailboxes that had the bytes of a file and are gone: it is one of them, moved, if the record does
+    not have its path. Of several, those count that had its name. It is not read if none had its size."""
+    try:
+        mailbox = Mailbox.open(path) if is_file(path) else None
+    except (Fault, OSError):
+        # whoever needs it says why it can't be opened
+        mailbox = None
+    if not mailbox:
+        return []
+    with mailbox:
+        lines = [one for one in record.lines_of(mailbox) if mailbox.size and is_gone(one.path)]
+    # the mail of a Takeout is in the folders of its labels
+    lines = [one for one in lines if not Reading.of_words(one.words).part]
+    named_so = [one for one in lines if os.path.basename(unspelled(one.path)) == os.path.basename(path)]
+    return list(dict.fromkeys(one.about.folder for one in named_so or lines))
 
 
 def as_named(one: Planned, record: Record, options: Options) -> Planned:

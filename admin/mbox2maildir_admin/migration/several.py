@@ -23,7 +23,7 @@ from .dovecot import OLD_SUBSCRIPTIONS, SUBSCRIPTIONS, Dovecot, subscribe
 from .carrying import rows_once_synced
 from .mailbox import Migration
 from .outcomes import Observer, Outcome, Row, Verdict, row_left, seen
-from .places import Pairs, Planned, UserHome, as_inbox, as_named, into_inbox, recorded
+from .places import Pairs, Planned, UserHome, as_inbox, as_named, into_inbox, recorded_or_moved
 from .preparing import Leftovers
 from .servers import locations, want_unread
 from .options import Options
@@ -249,7 +249,7 @@ class Several:
             else:
                 one = Planned(name, INBOX if folder is None else folder)
                 if folder is None:
-                    one = self.pairs.judged(recorded(one, record))
+                    one = self.pairs.judged(recorded_or_moved(one, record))
                 else:
                     one = as_named(one, self.migration.record, self.migration.options.of_next())
                 self.taken.add(one.folder)

@@ -34,6 +34,7 @@ from ..mbox.mailbox import CHANGED_MEANWHILE, Mailbox, is_unchanged
 from ..migration.dovecot import Dovecot, remove_lists
 from ..migration.known import Known, Opened, moved_in
 from ..migration.outcomes import Observer, Row, Verdict, row_left
+from ..migration.places import folders_of_moved
 from ..migration.preparing import other_in, remove_prepared
 from ..migration.several import refuse
 from ..migration.options import Options
@@ -107,7 +108,7 @@ class Undo:
         name = folder or b""
         try:
             if folder is None:
-                names = sorted(self.record.folders_of(path))
+                names = sorted(self.record.folders_of(path) or folders_of_moved(path, self.record))
                 if len(names) > 1:
                     # which folder is not asked about what is not there
                     os.stat(path)
