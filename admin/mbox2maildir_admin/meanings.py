@@ -36,8 +36,7 @@ TO_DO = {
     Reason.LEFT_BEHIND: "Remove it",
     Reason.LINK: (
         "[Migrate what it leads to](FORMATS.md#symbolic-links). If it leads nowhere, remove it. In the spool, "
-        "replace it by its file. If the link stands for a Maildir or a folder of mailboxes, name the real one by "
-        "`--maildir` or `--tree`"
+        "replace it by its file. If it stands for a Maildir, name the real one by `--maildir`"
     ),
     Reason.MISSING: "Correct the name. For `back`, put back what the line names",
     Reason.WORDS: "Put the path in quotes. To name the files `a` and `b` beside a file `a b`, write `./a ./b`",

@@ -146,6 +146,9 @@ class Todo:
     MOVE_OTHERS = OfFiles("move-others", "move out of it what is not part of a Maildir, and run this again")
     MOVE_AWAY = OfFiles("move-away", "then move {} out of here")
     BRING_BACK = Phrase("bring-back", "mount or bring back {}, and run this again")
+    ONE_NAME = Phrase(
+        "one-name", "find out whose mail it is, and let the file have one name: to give it away changes its other names"
+    )
     COPY_AWAY = OfFiles("move-copy", "if one is a copy, move it out of here")
     NAME_FOLDER = Phrase("name-folder", "run this again with --folder NAME")
     NAME_PRINTED = Phrase("name-printed", "then run this again, with the mailboxes that it printed last in place of {}")

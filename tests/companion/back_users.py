@@ -286,9 +286,9 @@ def another_spool(home: Path) -> None:
             equal("its reason", left[name][0], "no-mailbox")
             match_in(f"its mailbox is {box}, which was not named", left[name][1])
         equal("how many there are", len(left), len(boxes))
-        after = state_of(home)
-        changed = {path for path in after if after[path] != before.get(path) and "Maildir" not in path.parts}
-        equal("the mailboxes that are new, or others than before", changed, set())
+        changed = {path for path, state in state_of(home).items() if state != before.get(path)}
+        outside = {path for path in changed if "Maildir" not in path.parts}
+        equal("the mailboxes that are new, or others than before", outside, set())
         out = run([*words, "mail", "spool", "m61two"], home)[1]
         equal("with the tree", [json.loads(line)["verdict"] for line in out.splitlines()[:-1]].count("back"), 1)
         expect([*words, "mail", "old"], home, 0, None)

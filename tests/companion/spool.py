@@ -13,7 +13,19 @@ from pathlib import Path
 
 from tests.support import accounts
 from tests.support.checks import TOP, equal, match_in, matches, text_of, without_progress
-from tests.support.homes import ADMIN, by_json, check_all, doing_first, expect, mailbox, run, subjects, want_users
+from tests.support.homes import (
+    ADMIN,
+    by_json,
+    check_all,
+    doing_first,
+    expect,
+    fake,
+    mailbox,
+    restore,
+    run,
+    subjects,
+    want_users,
+)
 from tests.support.ledgers import RECORD
 from tests.support.mail import ONE, THREE, TWO, numbered
 from tests.support.printed import Printed, row_in, rows_in
@@ -219,7 +231,10 @@ def listing(home: Path) -> None:
 def lists_of_names(home: Path, words: list[str], old: Path) -> None:
     """A list may be long, and have names of nobody. A name of an account may be one that no list can hold."""
     (home / "many").write_bytes(b"".join(b"nobody-%d\n" % number for number in range(1001)) + b"a\0b\nm61one\n")
-    expect([*words, "--list", "--names", "many", old], home, 0, f"m61one\tfrom many\t{len(ONE)}\n")
+    says = (
+        "mbox2maildir-admin: no user has these names: nobody-0, nobody-1, nobody-2, nobody-3, nobody-4 and 997 more\n"
+    )
+    expect([*words, "--list", "--names", "many", old], home, 0, f"m61one\tfrom many\t{len(ONE)}\n", says)
     os.truncate(mailbox(home / "long", b"m61one\n"), (1 << 24) + 1)
     says = "long: it is longer than 16 MB, so it is not a list of names"
     expect([*words, "--list", "--names", "long", old], home, 1, "", f"mbox2maildir-admin: {says}\n")
@@ -324,14 +339,14 @@ def by_a_link(home: Path, words: list[str]) -> None:
     """A further mailbox is prepared and done by the commands that a link to the spool gives, and is not left after that
     by the spool's own path."""
     (home / "link").symlink_to("spool")
-    for more in (["--prepare", "--unread"], []):
+    for more in (["--prepare", "--unread"], list[str]()):
         left = row_in(run([*words, *more, "link", "m61one", "m61sales"], home)[1], "m61sales")
         if more:
             given = left.command.replace("--folder NAME", "--folder Sales").split()
             equal("its command", run(["/usr/bin/env", *given], home)[0], 0)
-        for spool in ("spool", "link"):
-            status, out, _ = run([*words, *more, spool, "m61one", "m61sales"], home)
-            equal(f"{spool} {more}: {out}", (status, "same-user" in out), (0, False))
+        for place in ("spool", "link"):
+            status, out, _ = run([*words, *more, place, "m61one", "m61sales"], home)
+            equal(f"{place} {more}: {out}", (status, "same-user" in out), (0, False))
     equal("what is there", subjects(home / "homes/m61one/Maildir/.Sales"), ["two"])
     (home / "link").unlink()
 
@@ -532,19 +547,10 @@ def whose(home: Path) -> None:
         equal("of the system", {name: system[name].line for name in OF_SYSTEM}, lines(OF_SYSTEM))
         commands = {name: command.format(spool=here) for name, command in NAMED.items()}
         equal("what migrates them", {name: system[name].command for name in NAMED}, commands)
-        # what a trial takes stays a trial
-        trial = "--maildir Trial --tree mail"
-        with own_settings("UID_MIN 99999"):
-            out = run([*words[:-1], *trial.split(), "spool"], home)[1]
-        command = commands["m61one"].replace(" --dry-run --as mboxcl2 ", f" --dry-run --as mboxcl2 {trial} ")
-        equal("of a trial", row_in(out, "m61one").command, command)
-        theirs(mailbox(here / "root", ONE), "root")
-        command = f"mbox2maildir-admin migrate --dry-run --as mboxcl2 {pwd.getpwnam('root').pw_dir}/Trial {here}/root"
-        equal(
-            "root's of a trial", row_in(run([*words[:-1], *trial.split(), "spool"], home)[1], "root").command, command
-        )
+        of_a_trial(home, words, commands["m61one"])
         for name in ("m61one.gz", "m61three", "root"):
             (here / name).unlink()
+        several_names(home, words)
         says = [row.line for row in rows("UID_MIN 99999", "m61one", "nobody").values()][:2]
         equal("if they are named", sorted(says), [
             "m61one -> INBOX: mboxcl2 by --as, messages 1: would be done", lines(WHOSE)["nobody"]
@@ -589,6 +595,107 @@ def spelled_otherwise(home: Path) -> None:
                 theirs(mailbox(home / "deep/spool/m61info", TWO), "m61one")
                 out = run(["migrate", "--all", "--users", "deep/spool"], home)[1]
                 equal(f"{own}: {out}", "m61info: left (same-user): m61one is the same user, and" in out, True)
+
+
+def odd_names(home: Path) -> None:
+    """An account may have a name that is not UTF-8, or one that a copy of another user's mailbox would have."""
+    want_users()
+    names = ["m61\udce4", "m61one.gz"]
+    with users(home), accounts.users_at_home({name: home / "homes" / name for name in names}):
+        for number, name in enumerate((*USERS, *names)):
+            theirs(mailbox(home / "spool" / name, numbered(f"of-{number}-", 1)), name)
+        with Path("/etc/group").open("ab") as file:
+            file.write(b"m61more:x:60999:m61\xe4,m61one.gz\n")
+        fake(home, 'id -G >"$HOME/groups"\nexec "$real" "$@"', "")
+        for words in ("migrate --users --now spool", "verify --users spool", "back --users --now spool"):
+            status, out, err = run(words, home)
+            equal(f"{words}: {out}", (status, err, "5 mailboxes: 5 " in out), (0, "", True))
+        for number, name in enumerate((*USERS, *names)):
+            equal(name, subjects(home / "homes" / name / "Maildir"), [f"of-{number}-0"])
+            groups = {int(one) for one in text_of(home / "homes" / name / "groups").split()}
+            equal(f"{name}: groups", groups, {pwd.getpwnam(name).pw_gid, *([60999] if name in names else [])})
+
+
+def linked_tree(home: Path) -> None:
+    """A link in place of a home's folder of mailboxes is left until its user has migrated what it leads to. Then it is
+    followed, for what is new there too. One that leads to the home is not."""
+    want_users()
+    with users(home):
+        maildir, disk = home / "homes/m61one/Maildir", home / "disk/homes/m61one/mail"
+        for path, text in ((home / "spool/m61one", ONE), (disk / "sent", TWO)):
+            mailbox(path, text)
+        for path in (home / "spool/m61one", disk, disk / "sent"):
+            shutil.chown(path, "m61one")
+        (home / "homes/m61one/mail").symlink_to(disk)
+        words = ["migrate", "--users", "--now", "--tree", "mail", "spool", "m61one"]
+        several = [words, ["verify", *words[1:2], *words[3:]]]
+        for each in several:
+            status, out, _ = run(each, home)
+            equal(f"{each}: {out}", (status, "link: 1 mailbox: " in out), (1, True))
+        own = [
+            "/usr/bin/env",
+            "runuser",
+            "-u",
+            "m61one",
+            "--",
+            str(home / "bin/mbox2maildir-admin"),
+            "migrate",
+            "--now",
+        ]
+        equal("its user", run([*own, maildir, disk], home)[0], 0)
+        mailbox(disk / "new", THREE)
+        shutil.chown(disk / "new", "m61one")
+        for each, sums in zip(several, ("1 done, 2 done before", "3 whole")):
+            status, out, _ = run(each, home)
+            equal(f"{each}: {out}", (status, f"3 mailboxes: {sums}" in out), (0, True))
+        equal("what is new", subjects(maildir / ".new"), ["three"])
+        (home / "homes/m61one/mail").unlink()
+        mailbox(home / "homes/m61one/box", THREE)
+        shutil.chown(home / "homes/m61one/box", "m61one")
+        equal("its user", run([*own, "--folder", "box", maildir, home / "homes/m61one/box"], home)[0], 0)
+        (home / "homes/m61one/mail").symlink_to(".")
+        status, out, _ = run(words, home)
+        equal(f"a link to the home: {out}", (status, "link: 1 mailbox: " in out), (1, True))
+
+
+def gone_meanwhile(home: Path) -> None:
+    """A home that goes away during a run, or the Maildir in it, is said to be gone: no ledger is lost."""
+    want_users()
+    with users(home):
+        (home / "homes").chmod(0o777)
+        own = home / "homes/m61one"
+        for gone, wanted in ((own, "the home of its user"), (own / "Maildir", "the Maildir of its user")):
+            theirs(mailbox(home / "spool/m61one", TWO), "m61one")
+            fake(home, f'"$real" "$@"\nmv {gone} {gone}.away')
+            status, out, _ = run("migrate --all --users --now spool m61one", home)
+            row = row_in(out, "m61one")
+            equal(f"{gone}: {out}", status, 1)
+            matches("what is said", row.line, f"m61one...: left (home): {wanted} is missing: {gone}")
+            restore(home)
+            Path(f"{gone}.away").rename(gone)
+            expect("migrate --users --now spool m61one", home, 0, None)
+            shutil.rmtree(own / "Maildir")
+
+
+def of_a_trial(home: Path, words: list[str], command: str) -> None:
+    """What a trial takes stays a trial in the commands for accounts of the system."""
+    trial = "--maildir Trial --tree mail"
+    theirs(mailbox(home / "spool/root", ONE), "root")
+    with own_settings("UID_MIN 99999"):
+        rows = {row.name: row for row in rows_in(run([*words[:-1], *trial.split(), "spool"], home)[1])}
+    own = command.replace(" --dry-run --as mboxcl2 ", f" --dry-run --as mboxcl2 {trial} ")
+    equal("a command", rows["m61one"].command, own)
+    roots = f"{pwd.getpwnam('root').pw_dir}/Trial {home}/spool/root"
+    equal("root's", rows["root"].command, f"mbox2maildir-admin migrate --dry-run --as mboxcl2 {roots}")
+
+
+def several_names(home: Path, words: list[str]) -> None:
+    """A file that is a mailbox under another user's name too is not to be given away."""
+    os.link(home / "spool/m61one", home / "spool/m61three")
+    row = row_in(run([*words, "m61three"], home)[1], "m61three")
+    equal("the row", row.line, "m61three: left (other-owner): it belongs to m61one, and has other names")
+    equal("what is to be done with it", "let the file have one name" in " ".join(row.below), True)
+    (home / "spool/m61three").unlink()
 
 
 @contextlib.contextmanager
@@ -695,4 +802,14 @@ def people_of_the_machine(home: Path) -> None:
 
 
 if __name__ == "__main__":
-    check_all(spool, whose, spelled_otherwise, where_users_read_no_module, nobodys, people_of_the_machine)
+    check_all(
+        spool,
+        whose,
+        spelled_otherwise,
+        odd_names,
+        linked_tree,
+        gone_meanwhile,
+        where_users_read_no_module,
+        nobodys,
+        people_of_the_machine,
+    )

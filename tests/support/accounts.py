@@ -86,7 +86,7 @@ def users(homes: Mapping[str, Path], like: str = "") -> Iterator[None]:
                 f"{name}:!::::::\n",
             )
             for file, line in zip(files, lines):
-                with file.open("a") as added:
+                with file.open("a", errors="surrogateescape") as added:
                     added.write(line)
         yield
     finally:

@@ -125,11 +125,11 @@ class Places:
         here = [path for path in paths if not is_gone(path)]
         if paths and not here:
             raise Left(GONE % named(unspelled(paths[0])), Reason.MISSING)
+        if folder == INBOX and not found:
+            raise Left(self.names.no_inbox, Reason.NO_MAILBOX)
         # a Takeout is named without being in each folder of its labels
         if here and self.paths_named.isdisjoint(here):
             raise Left(NOT_NAMED % named(unspelled(here[0])), Reason.NO_MAILBOX)
-        if folder == INBOX and not found:
-            raise Left(self.names.no_inbox, Reason.NO_MAILBOX)
         return [found[0] if folder == INBOX else self.new(folder)]
 
     @functools.cached_property

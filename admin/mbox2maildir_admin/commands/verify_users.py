@@ -38,7 +38,7 @@ class Verifier(UserWork):
         with Record.open(root, False) as record:
             pairs = Pairs(record, root, own=names)
             for name in names:
-                is_tree = is_folder(name) and not is_link(name)
+                is_tree = is_folder(name) and (not is_link(name) or record.has_below(name))
                 tree = Tree(name, root, options=self.options).read() if is_tree else None
                 plan = tree.plan(record, root) if tree else list(self.planned(name, pairs, relay))
                 for_planned(root, name, (plan, tree.rows if tree else ()), record, verify, relay)

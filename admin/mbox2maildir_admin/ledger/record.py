@@ -17,7 +17,7 @@ from collections.abc import Callable, Container, Iterator, Sequence
 from typing import Optional, Union
 
 from ..faults import Fault, Reason, fault_of
-from ..looks import is_there, may_be, real_path
+from ..looks import is_below, is_there, may_be, real_path
 from ..maildir.folders import folder_path, folders_in, name_of
 from ..maildir.making import LEDGER, RECORD, SyncNames, is_partly_there, make_alone, sync_folder, synced_once
 from ..terminal import named, spelled
@@ -138,6 +138,13 @@ class Record(History):
         real, name = os.path.split(names[-1])
         others = (os.path.join(folder, name) for folder in self.places_of(name) if real_folder(folder) == real)
         return *names, *(other for other in others if other not in names)
+
+    def has_below(self, folder: bytes) -> bool:
+        """Whether it has a mailbox below the folder that a path leads to, unless the Maildir itself is below that.
+        Raises OSError if the path can't be looked at."""
+        real = real_path(folder)
+        found = any(line.path.startswith(spelled(real) + "/") for line in self.lines())
+        return found and not is_below(real_path(self.maildir), real)
 
     def make(self, *more: Callable[[SyncNames], object]) -> None:
         """Makes the Maildir and its file, if that has not been done, and more by functions that take what syncs the

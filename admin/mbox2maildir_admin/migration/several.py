@@ -217,8 +217,9 @@ class Several:
         self.say(who, doing, place, size)
 
     def is_tree(self, name: bytes) -> bool:
-        """Whether a name is that of a folder of mailboxes. A symbolic link is not one if none is followed."""
-        return is_folder(name) and not (self.is_of_home and is_link(name))
+        """Whether a name is that of a folder of mailboxes. If no symbolic link is followed, one is not one unless its
+        user has migrated what it leads to."""
+        return is_folder(name) and not (self.is_of_home and is_link(name) and not self.migration.record.has_below(name))
 
     def plan(self) -> Iterator[Planned]:
         """The mailboxes in their order, with their folders. Reports the rows of what is not migrated."""

@@ -8,6 +8,7 @@ from typing import NamedTuple, Optional
 
 from ..faults import Left, Reason
 from ..looks import straight
+from ..nexts import Todo, task
 from ..terminal import named
 
 # the first user's number if login.defs names none, and the numbers of nobody
@@ -77,6 +78,13 @@ class Accounts:
         except KeyError:
             return None
 
+    def has(self, name: bytes) -> bool:
+        """Whether a name is that of an account."""
+        try:
+            return bool(self.of_name(name))
+        except Left:
+            return False
+
     def is_users(self, account: Account) -> bool:
         """Whether an account is a user's."""
         return account.uid >= self.first and account.uid not in NOBODY
@@ -102,7 +110,11 @@ def size_of_mailbox(mailbox: bytes, account: Account) -> Optional[int]:
     if not stat.S_ISREG(state.st_mode):
         raise Left("it is not a regular file", Reason.NO_FILE)
     if state.st_uid != account.uid:
-        raise Left("it belongs to %s" % name_of(state.st_uid), Reason.OTHER_OWNER)
+        says = "it belongs to %s" % name_of(state.st_uid)
+        if state.st_nlink > 1:
+            # whoever gets the file gets it under each name
+            raise Left(says + ", and has other names", Reason.OTHER_OWNER, task(Todo.ONE_NAME))
+        raise Left(says, Reason.OTHER_OWNER)
     return state.st_size
 
 

@@ -19,7 +19,7 @@ from ..migration.telling import LONGEST, next_of, number_of, row_of
 from ..nexts import Todo, task
 from ..patterns import compile_all
 from ..signals import ENDING, INTERRUPTS
-from ..terminal import named, shown
+from ..terminal import is_text, named, shown, text_of
 from .clerks import SYNC, Disks
 from .homes import Relay, UserWork
 
@@ -90,8 +90,10 @@ class UsersChild(Child):
     def __init__(self, user_work: UserWork) -> None:
         super().__init__()
         self.whose, self.account, self.clerk = user_work.whose(), user_work.account, user_work.clerk()
-        # a system may read much to find them, and each child would do that anew
-        self.groups = os.getgrouplist(os.fsdecode(self.account.name), self.account.gid)
+        # a system may read much to find them, and each child would do that anew. None for a name that is not UTF-8,
+        # by which Python can only set them
+        name = self.account.name
+        self.groups = os.getgrouplist(text_of(name), self.account.gid) if is_text(name) else None
         # how many rows came, how often it told what is next, and how many rows it says it told: -1 before it ends
         self.rows, self.then, self.rows_told = 0, 0, -1
         # why it was killed, and when it must have ended, if it was told to
@@ -167,13 +169,17 @@ class Children(Crew):
         os.setsid()
         self.join()
         nothing, account = os.open(os.devnull, os.O_RDWR), child.account
+        # before descriptors are closed, since this may leave one open
+        if child.groups is None:
+            os.initgroups(account.name, account.gid)  # type: ignore[arg-type]
+        else:
+            os.setgroups(child.groups)
         for number in range(3):
             os.dup2(nothing, number)
         close_all_but({parent.told, parent.alive})
         resource.setrlimit(resource.RLIMIT_CORE, (0, 0))
         os.chdir("/")
         os.umask(0o077)
-        os.setgroups(child.groups)
         os.setgid(account.gid)
         os.setuid(account.uid)
         name, zone = os.fsdecode(account.name), {"TZ": os.environ["TZ"]} if "TZ" in os.environ else {}

@@ -10,10 +10,10 @@ from ..faults import Fault, Left, Reason
 from ..jobs.crew import Parent
 from ..ledger.prepared import has_list
 from ..ledger.record import Record
-from ..looks import may_be
+from ..looks import is_there, may_be
 from ..maildir.folders import MAILDIR, folders_in
 from ..maildir.making import want_own
-from ..migration.outcomes import Observer, Row
+from ..migration.outcomes import Observer, Row, row_left
 from ..migration.places import UserHome
 from ..migration.servers import want_unread
 from ..migration.several import refuse, run_all
@@ -86,7 +86,7 @@ class UserWork:
 
     def work(self, relay: "Relay") -> None:
         """Does the work of a child: the same as the command if its user runs it."""
-        relay.user, left = self.user, why_no_home(self.account)
+        relay.user, relay.root, left = self.user, self.root, why_no_home(self.account)
         if left:
             # the home belongs to what is left of the spool; otherwise it is the user that has one row
             of_home = self.tree if self.user.is_left and self.tree else self.account.home
@@ -200,6 +200,7 @@ class Relay(Parent, Observer):
     the home, otherwise a name below the home."""
 
     user: SpoolUser
+    root: bytes
 
     def __init__(self, pipe: int, alive: int) -> None:
         super().__init__(pipe, alive)
@@ -209,12 +210,23 @@ class Relay(Parent, Observer):
 
     def row(self, row: Row) -> None:
         """Tells a row. The mailbox of a row may be gone from the spool."""
+        gone = self.why_gone(row) if row.reason else None
+        if gone:
+            row = row_left(row.path, row.folder, gone)
         home = self.user.account.home
         path = b"" if row.path in (self.user.place, home) else os.path.relpath(row.path, home)
         path = row.path if row.path in self.user.copies or path.startswith(b"../") else path
         self.with_rows.add(row.path)
         self.rows += 1
         self.tell("row", told(row._replace(path=path)))
+
+    def why_gone(self, row: Row) -> Optional[Left]:
+        """Why a row is left if its user's home went away meanwhile, or the Maildir in it, which a row could take for a
+        ledger that is lost. None if neither is so."""
+        left = why_no_home(self.user.account)
+        if not left and row.reason in (Reason.LEDGER, Reason.RECORD) and not may_be(is_there, self.root):
+            left = Left("the Maildir of its user is missing: %s" % named(self.root), Reason.HOME)
+        return left
 
     def leave_rest(self, names: list[bytes], fault: Union[Fault, OSError]) -> None:
         """Tells that each path without a row is left or, if all have one, the last."""

@@ -13,7 +13,7 @@ from ..migration.outcomes import Observer, Row, Verdict, row_left
 from ..migration.servers import locations
 from ..nexts import Answer, Command, Runs, run_next
 from ..program import find_program
-from ..terminal import INPUT, complain, named, operand, put, shown, text_of
+from ..terminal import INPUT, complain, first_of, named, operand, put, shown, text_of
 from ..units import counted
 from .accounts import MANY, NOBODY, Account, AccountKey, Accounts, size_of_mailbox, why_no_home
 from .children import Children, load_for_children
@@ -116,15 +116,21 @@ def sums_of(counts: Mapping[str, int], not_asked: int) -> Iterator[str]:
 def list_users(spool: Spool) -> bool:
     """Prints the name of each user whom a run takes, where the name came from, and how many bytes the mailbox in the
     spool has, with tabs between them. Returns whether a list can hold all of these names."""
-    can_hold, users = True, Users(spool, os.listdir(spool.path) if spool.asked is None else (), Observer())
+    can_hold, nobodys = True, list[bytes]()
+    users = Users(spool, os.listdir(spool.path) if spool.asked is None else (), Observer())
     for name, source, account in users.looked_at():
-        if isinstance(account, Left) or source == ACCOUNTS and not may_have_mail(account, spool):
+        if isinstance(account, Left):
+            nobodys.append(name)
+            continue
+        if source == ACCOUNTS and not may_have_mail(account, spool):
             continue
         if ENDS & {*name}:
             complain("%s: a list cannot hold this name" % named(name))
             can_hold = False
         else:
             put("%s\t%s\t%d" % (text_of(name), source, size_of(os.path.join(spool.path, name))))
+    if spool.asked is not None and nobodys:
+        complain("no user has %s: %s" % ("this name" if len(nobodys) == 1 else "these names", first_of(nobodys)))
     return can_hold
 
 
@@ -140,7 +146,7 @@ def may_have_mail(account: Account, spool: Spool) -> bool:
 def want_entered(spool: bytes) -> None:
     """Checks that users can enter a folder, and those of all symbolic links that lead there. Raises Fault if not."""
     real, links = way_to(spool)
-    for here in (above for place in (real, *map(os.path.dirname, links)) for above in upwards(place)):
+    for here in (above for place in (real, *[os.path.dirname(link) for link in links]) for above in upwards(place)):
         if not os.stat(here).st_mode & 0o001:
             then = run_next(Runs.LET_ENTER, operand(here))
             raise Fault("users may not enter %s" % named(here), Reason.NOT_OWN, then)
@@ -191,7 +197,8 @@ class Users:
         found: dict[bytes, str] = {}
         for name in sorted(self.names):
             stem = stem_of(name, self.names)
-            if stem == name:
+            # an account may have such a name
+            if stem == name or self.accounts.has(name):
                 found[name] = SPOOL
             else:
                 self.copies.setdefault(stem, []).append(name)

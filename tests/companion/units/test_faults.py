@@ -5,7 +5,7 @@ import unittest
 from typing import Union
 
 from mbox2maildir_admin.faults import REASONS, Fault, Left, Reason, fault_of
-from mbox2maildir_admin.nexts import Phrase
+from mbox2maildir_admin.nexts import Answer, Phrase
 
 OF_BOX = FileNotFoundError(2, "No such file or directory", b"box")
 # a fault; its word if it came up with the file `box`; and what is said of it
@@ -27,6 +27,13 @@ class FaultsTest(unittest.TestCase):
         for error, reason, says in FAULTS:
             fault = fault_of(error, b"box")
             self.assertEqual((fault.reason, str(fault)), (reason, says), error)
+
+    def test_what_could_not_be_made(self) -> None:
+        # nothing is at its path that could be listed
+        for path, listed in ((b"/dev/null", "/dev/null"), (b"/dev/box", "/dev"), (b"gone", ".")):
+            (answer,) = fault_of(PermissionError(13, "denied", path), path).next
+            assert isinstance(answer, Answer)
+            self.assertEqual(answer.command.line(), "ls -ld " + listed)
 
     def test_each_reason_has_a_word_and_a_sentence(self) -> None:
         self.assertEqual([one for name, one in vars(Reason).items() if name.isupper()], list(REASONS.values()))
