@@ -405,6 +405,9 @@ STORIES: dict[str, list[Step]] = {
     "a_message_was_cut_and_marked": [
         *(("a", ONE + TORN), "migrate M a", "!for a in M/new/*; do mv $a M/cur/${a##*/}:2,FS; done"),
         *(("a", ONE + WHOLE + THREE), ("migrate M a", "a: left (cut): ..."), *RUN_BOTH, "= one:FS three two:FS"),
+        # it was asked to be removed, and what a person removes is said
+        *(("migrate M a", "a: done before"), "!rm $(grep -l three M/*/*:2,* M/new/*)"),
+        ("migrate M a", "a: done before: 1 of the 3 messages that were placed in its folder are gone, or another ..."),
     ],
     "a_message_was_cut_and_deleted": [
         *(("a", ONE + TORN), "migrate M a", "!a=$(grep -l two M/new/*); mv $a M/cur/${a##*/}:2,ST"),

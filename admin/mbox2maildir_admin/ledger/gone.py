@@ -12,7 +12,7 @@ import array
 import collections
 import contextlib
 import os
-from collections.abc import Iterator, Sequence
+from collections.abc import Container, Iterator, Sequence
 
 from ..faults import Fault
 from ..maildir.files import mail_in, names_in
@@ -74,13 +74,13 @@ def is_untouched(changes: Sequence[int], before: tuple[int, ...], times: tuple[i
     return is_last and all(one <= other for one, other in zip(changes, changes[1:]))
 
 
-def gone_from(ledger: Ledger) -> list[Remark]:
-    """What is to be said of the names in a ledger that its folder no longer has. The folder is listed once, until a
-    name changes there or in the ledger."""
+def gone_from(ledger: Ledger, to_be_removed: Container[bytes]) -> list[Remark]:
+    """What is to be said of the names in a ledger that its folder no longer has, but for those that were to be removed.
+    The folder is listed once, until a name changes there or in the ledger."""
     state = len(ledger.ended), ledger.size, times_of(ledger.folder)
     if state != ledger.looked_at:
         # names would take much memory
-        brought = array.array("q", set(map(hash, ledger.names())))
+        brought = array.array("q", {hash(name) for name in ledger.names() if name not in to_be_removed})
         there = {hash(before_info(name)) for name, _ in mail_in(ledger.folder)} if brought else set()
         ledger.gone = sum(one not in there for one in brought), len(brought)
         ledger.looked_at = state

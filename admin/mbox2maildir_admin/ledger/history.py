@@ -54,6 +54,8 @@ class Note(enum.Enum):
     # a mailbox that was prepared in a folder; and that nothing is prepared there any more, or done without mail
     PREPARED = "prepared"
     UNPREPARED = "unprepared"
+    # the name of a file that a human was asked to remove: it holds the beginning of a message that is there
+    CUT = "cut"
 
 
 What = Union[Event, Note]
@@ -273,6 +275,10 @@ class History:
         """The line of the mailbox whose numbers a folder has, if it has any."""
         notes = self.notes(Note.NUMBERED, folder)
         return notes[-1] if notes else None
+
+    def to_be_removed(self, folder: bytes) -> set[bytes]:
+        """The names of the files of a folder that a human was asked to remove."""
+        return {(one.words or "").encode() for one in self.notes(Note.CUT, folder)}
 
     def has_numbered(self, paths: Container[str]) -> bool:
         """Whether any folder got the numbers of a mailbox at one of these paths."""

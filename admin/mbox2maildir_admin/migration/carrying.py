@@ -301,9 +301,12 @@ def want_none_cut(one: Steps, names: Container[bytes]) -> list[Remark]:
     that another mailbox has too stays, as is said then."""
     kept, holders = set[bytes](), dict[str, None]()
     for path, place in beginnings_in(one, names):
-        others = others_with(one.known, before_info(os.path.basename(path)))
+        name, record = before_info(os.path.basename(path)), one.known.record
+        others = others_with(one.known, name)
         if not others:
             hand_flags_over(one, path, place)
+            if name not in record.to_be_removed(one.opened.name):
+                record.add(Note.CUT, one.opened.about, 0, one.opened.mailbox.path, name.decode("latin-1"))
             raise Left(CUT, Reason.CUT, run_next(Runs.REMOVE, operand(path)))
         kept.add(path)
         holders.update(others)

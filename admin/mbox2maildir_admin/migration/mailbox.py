@@ -250,7 +250,7 @@ class Transfer:
         mailbox, name = self.opened.mailbox, self.opened.name
         has_no_uids = self.options.dovecot and mailbox.size > 0 and not self.record.numbered(name)
         dropped = Says.DELETED_LEFT_OUT.of_any(Reading.of_words(words).dropped)
-        of_folder = back_in(self.ledger) + gone_from(self.ledger)
+        of_folder = back_in(self.ledger) + gone_from(self.ledger, self.record.to_be_removed(name))
         by_index = self.known.by_index
         if by_index and self.known.is_cut:
             missing = max(0, by_index.messages - count_in(self.ledger, self.path))
