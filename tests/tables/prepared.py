@@ -259,6 +259,10 @@ STORIES: dict[str, list[Step]] = {
         *steps(("a", ONE), FIRST, ("a", ONE + THREE), *KILLED, ("b", TWO), *killed("migrate --again M b")),
         *("= one three two M+", ("migrate --undo M a", "a: undone: removed ..."), "="),
     ],
+    "killed_by_again_and_undone": [
+        *steps(("a", ONE), FIRST, ("a", ONE + TWO), *killed("migrate --again M a")),
+        *("= one two M+", ("migrate --undo M a", "a: undone: removed ..."), "="),
+    ],
     "undone_without_its_mailbox": [
         *(
             ("a", ONE + TWO),

@@ -134,8 +134,8 @@ class Preparation:
 
     def take_begun(self) -> None:
         """Takes the files that a killed `migrate` was to place there, for whichever mailbox."""
-        ledger, is_begun = self.ledger, self.prepared.batch
-        begun = {number for number, batch in ledger.open.items() if is_begun and batch.is_whole}
+        ledger = self.ledger
+        begun = {number for number, batch in ledger.open.items() if batch.is_whole}
         for _, one in ledger.messages(begun):
             base = own_base_in(one.name)
             if one.word == PLACED and base is not None:
@@ -216,7 +216,8 @@ def mend(
     if not (options.prepare or record.has_prepared or has_list(opened.folder)):
         return None
     one = Preparation(record, opened.name, ledger)
-    one.take_begun()
+    if one.prepared.batch:
+        one.take_begun()
     stage = one.stage
     if stage is Stage.OVER:
         if one.prepared.batch not in verified and ledger.sources and not options.dry:
@@ -334,7 +335,8 @@ def remove_prepared(record: Record, path: bytes, name: bytes, dry: bool, say: Sa
     if not one.is_open:
         return None
     prepared = one.prepared
-    if prepared.batch:
+    if one.ledger.paths():
+        # with --again, the list does not have the batch that was begun
         one.take_back()
     prepared.look(say)
     count = len(prepared.unwanted())
