@@ -349,6 +349,12 @@ def by_a_link(home: Path, words: list[str]) -> None:
             equal(f"{place} {more}: {out}", (status, "same-user" in out), (0, False))
     equal("what is there", subjects(home / "homes/m61one/Maildir/.Sales"), ["two"])
     (home / "link").unlink()
+    # the mailboxes are moved aside
+    (home / "spool").rename(home / "aside")
+    for each in ([*words, "aside"], ["verify", "--users", "aside"], ["back", "--users", "--dry-run", "aside"]):
+        status, out, _ = run([*each, "m61one", "m61sales"], home)
+        equal(f"{each}: {out}", (status, "2 mailboxes: " in out), (0, True))
+    (home / "aside").rename(home / "spool")
 
 
 def as_objects(home: Path) -> None:

@@ -14,7 +14,7 @@ from ..looks import is_there, may_be
 from ..maildir.folders import MAILDIR, folders_in
 from ..maildir.making import want_own
 from ..migration.outcomes import Observer, Row, row_left
-from ..migration.places import UserHome
+from ..migration.places import UserHome, folders_of_moved
 from ..migration.servers import want_unread
 from ..migration.several import refuse, run_all
 from ..migration.options import Options
@@ -189,10 +189,11 @@ class Spool(NamedTuple):
 
 
 def is_recorded(maildir: bytes, mailbox: bytes) -> bool:
-    """Whether the record of a Maildir has a mailbox by its path, or what was prepared from it."""
+    """Whether the record of a Maildir has a mailbox, which may have been moved, or what was prepared from its path."""
     with Record.open(maildir, False) as record:
         names = record.names_of(mailbox)
-        return bool(record.folders_with(names) or record.prepared_from(names))
+        is_known = record.folders_with(names) or record.prepared_from(names)
+        return bool(is_known or folders_of_moved(mailbox, record))
 
 
 class Relay(Parent, Observer):
