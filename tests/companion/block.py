@@ -50,6 +50,18 @@ def what_again_brings_back(home: Path) -> None:
     expect(again, home, 0, row("done", "done"))
 
 
+def more_than_a_command_takes(home: Path) -> None:
+    """Files that are to be passed over are in several commands if a shell would refuse a single one."""
+    mailbox(home / "old/box", ONE)
+    for number in range(600):
+        mailbox(home / "old" / f"{number:03}{'x' * 240}", b"milk\n")
+    (group,) = groups_in(run("migrate --now M old", home)[1])
+    equal("commands", ["--no-mail" in one for one in group.commands], [True] * 3)
+    for command in group.commands:
+        equal("a shell takes it", len(run_printed(command, home).err), 0)
+    expect("migrate M old", home, 0, "1 mailbox: 1 done before; 600 other files: no mail\n")
+
+
 def one_of_a_kind(home: Path) -> None:
     """What stands alone in a group has its own command, and none for all of them."""
     for name, text in (("sound", ONE), ("notes", b"milk\nbread\n")):

@@ -35,8 +35,9 @@ WORK, PLANS = (
     text.replace(b"\n", b"\nX-GM-THRID: 1\nX-Gmail-Labels: " + labels + b"\n", 1)
     for text, labels in ((ONE, b"Inbox,Work"), (TWO, b"Sent,Plans"))
 )
-# the statuses of what was done, as the manual has them: what is left, and no mailbox, have 1
-STATUSES = [0, 0, 1, 0, 1, 0, 0, 0, 0, 0, 0, 0, 1, 0, 0, 0, 0, 0, 0]
+# the statuses of what was done, as the manual has them: what is left, and nothing to be done, have 1; a file that is
+# passed over has 0
+STATUSES = [0, 0, 1, 0, 0, 0, 0, 0, 0, 0, 0, 0, 1, 0, 0, 0, 0, 0, 0]
 # what a killed `back` was going to append
 BACK = "mbox2maildir-back"
 # each book, with a mailbox and the commands that read the book for it

@@ -218,7 +218,8 @@ def no_maildir_without_a_mailbox(home: Path) -> None:
         "M unclear notes --jobs 2",
     ):
         status, out, _ = run(["migrate", "--all", "--now", *words.split()], home)
-        equal(f"{words}: status, and what is there", (status, sorted(path.name for path in home.iterdir())), (1, there))
+        wanted = 0 if "--no-mail" in words else 1, there
+        equal(f"{words}: status, and what is there", (status, sorted(path.name for path in home.iterdir())), wanted)
         equal(f"{words}: what is in the folder", list((home / "There").iterdir()), [])
         assert out, f"{words}: nothing was said"
 
@@ -263,6 +264,16 @@ def what_is_missing(home: Path) -> None:
     wanted = [("none", "left", "missing"), ("box/x", "left", "missing"), ("box", "done", None)]
     equal("rows", (status, found), (1, wanted))
     expect("migrate --all M folder", home, 1, "no mailboxes\n")
+    # whoever passes over all that is there has nothing left to do; another path to a mailbox is no other file
+    mailbox(home / "folder/notes", b"hello\n")
+    passed = "no mailboxes; 1 other file: no mail\n"
+    for words in ("--no-mail notes M folder", "M folder"):
+        expect(f"migrate {words}", home, 0, passed)
+    (home / "folder/notes").unlink()
+    mailbox(home / "folder/box", ONE)
+    os.symlink("folder", home / "linked")
+    says = "folder/box -> box: mboxrd or mboxo, messages 1: done\n1 mailbox: 1 done\n"
+    expect("migrate --now N folder linked", home, 0, says)
     left = "none -> INBOX: left (missing): ...\n...\n...\n1 mailbox: 1 left\n"
     expect("migrate --all --undo M none", home, 1, left)
 

@@ -66,7 +66,9 @@ OTHERS = re.compile(
     r"    message \d+ .*|    a .*"
 )
 # what a command may begin with
-FIRST = re.compile(r"(?:mbox2maildir(?:-admin)? |rm |mv |ls |file |printf |d=\$\(mktemp |\(cd |gzip -dc |runuser -u )")
+FIRST = re.compile(
+    r"(?:mbox2maildir(?:-admin)? |rm |mv |mkdir |ls |file |printf |d=\$\(mktemp |\(cd |gzip -dc |runuser -u )"
+)
 # programs that do nothing in place of those that commands name, and those that are what they are
 NOTHING = "mbox2maildir mbox2maildir-admin rm mv file printf mkdir readpst tail cat gzip ls sort head".split()
 REAL = "sh sed touch grep".split()

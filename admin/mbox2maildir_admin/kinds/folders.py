@@ -59,8 +59,9 @@ def is_maildir(path: bytes) -> bool:
 def has_maildir(entries: list[DirEntry]) -> bool:
     """Whether a folder with these entries is a Maildir: it has the three folders, and none of them is a symbolic link.
     What packs or copies files may leave out empty folders: then one of messages is enough."""
-    lacking = lacking_in(entries)
-    return not lacking or any(has_messages(one.path) for one in entries if one.name in {*WITH_MAIL} - lacking)
+    lacking, subs = lacking_in(entries), [one for one in entries if one.name in SUBFOLDERS]
+    are_missing = not any(one.name in lacking for one in subs)
+    return not lacking or are_missing and any(has_messages(one.path) for one in subs if one.name in WITH_MAIL)
 
 
 def lacking_in(entries: list[DirEntry]) -> set[bytes]:

@@ -1,6 +1,7 @@
 """The last block of what is printed: what is left, and what asks for a look, in groups, each command once."""
 import glob
 import itertools
+import os
 from collections.abc import Iterable, Iterator, Sequence
 from typing import NamedTuple, Optional
 
@@ -18,6 +19,7 @@ from ..nexts import (
     Step,
     Task,
     Todo,
+    line_of,
     lines_below,
     lines_of,
     summed,
@@ -35,6 +37,8 @@ LETTERS = "abcdefghijk"
 # answers that are about lines, and those that are about folders and not about what a text is
 ON_LINES = Does.BEGINS, Does.BELONGS, Does.BEGINS_DROP, Does.BELONGS_DROP
 FOLDERS = Does.OWN_FOLDER, Does.JOINS_INBOX, Does.LABEL_NONE, Does.LABEL_FOLDER, Does.LABEL_READ, Does.ALL, Does.ONE
+# how many bytes of options a command has at most: Linux takes 131,072 in a word
+MOST_BYTES = 1 << 16
 PASS_OVER_ALL = Phrase("", "if none of them holds mail, pass over all of them")
 WITHIN = "  "
 
@@ -129,8 +133,8 @@ class Group:
         if self.rows[0].reason is Reason.NOT_KNOWN and Task(Todo.PASS_OVER) in self.rows[0].next:
             # of many users they are patterns for paths below the home
             paths = dict.fromkeys(one.path if one.user is None else glob.escape(one.path) for one in self.rows)
-            no_mail = [word for path in paths for word in option("--no-mail", path)]
-            steps.append([Answer(typed.command(no_mail), PASS_OVER_ALL)])
+            parts = parted([option("--no-mail", path) for path in paths])
+            steps.append([Answer(typed.command(no_mail), PASS_OVER_ALL) for no_mail in parts])
         if all(decided(one)[2] for several in answers for one in several):
             users = [one.user for one in self.rows if one.user is not None]
             for several in answers:
@@ -139,6 +143,20 @@ class Group:
                 words = ["--as", word] * bool(word) + ["--drop-deleted"] * drop + ["--of", ties]
                 steps.append([summed(several)._replace(command=typed.command(words, users))])
         return steps
+
+
+def parted(several: Iterable[Sequence[str]]) -> Iterator[list[str]]:
+    """Options in parts, of which a command has each: neither a line of a command nor a word for a shell is too long."""
+    part, size = list[str](), 0
+    for words in several:
+        its = len(os.fsencode(line_of(words))) + 1
+        if part and size + its > MOST_BYTES:
+            yield part
+            part, size = [], 0
+        part += words
+        size += its
+    if part:
+        yield part
 
 
 def says_of(row: Row) -> str:

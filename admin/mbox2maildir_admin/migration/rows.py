@@ -11,6 +11,7 @@ from .. import ADMIN
 from ..faults import Status
 from ..meanings import COUNTED, LOOK
 from ..nexts import COMMAND, Phrase, lines_of
+from ..remarks import Says
 from ..progress import Actor, Doing, Estimate, Progress, duration, length, together
 from ..terminal import LINE, complain, flush, named, put
 from ..units import WAITING, counted
@@ -75,6 +76,8 @@ class Reporter(Observer):
         self.reasons: collections.Counter[Phrase] = collections.Counter()
         # how many mailboxes are not whole, by the words for why
         self.faults: collections.Counter[str] = collections.Counter()
+        # how many paths have no mail of their own, by the words for why, if one is said
+        self.passed: collections.Counter[str] = collections.Counter()
         # how many messages and bytes the mailboxes have, by what became of these; and how many messages were there
         # already
         self.messages: collections.Counter[str] = collections.Counter()
@@ -126,6 +129,8 @@ class Reporter(Observer):
             self.reasons[row.left_for] += 1
         if row.verdict == Verdict.NOT_WHOLE:
             self.faults.update(one.word for one in row.remarks if one.word in LOOK)
+        if row.verdict == Verdict.NO_MAIL:
+            self.passed.update(one.word for one in row.remarks)
         for remark in row.remarks:
             self.stand[remark.word] += remark.stands
         self.messages[row.verdict] += row.messages or 0
@@ -183,9 +188,9 @@ class Reporter(Observer):
 
     def end(self, *more: str) -> int:
         """Prints the sums, and what else is to be said with them. Returns the status: all is well if there was a
-        mailbox, and nothing is left."""
+        mailbox, or a file that a human passes over, and nothing is left."""
         LINE.clear()
-        sums = sums_of(self.counts, self.faults)
+        sums = sums_of(self.counts, self.faults, self.passed[Says.SAME_FILE.word])
         users = {one.user for one in self.kept.rows if one.user is not None and one.verdict in WRONG}
         sums[0] += ", of %s" % counted(len(users), "user") if users else ""
         if INTERRUPTED in more and self.total and not sum(self.counts.values()):
@@ -195,8 +200,8 @@ class Reporter(Observer):
             self.print_sums(line)
         # a report is last: it has its sums once, even if the output takes no more
         written = [one.end(self, line) for one in reversed(self.objects)]
-        has_mailbox = sum(self.counts.values()) > self.counts[Verdict.NO_MAIL]
-        if not (has_mailbox and all(written)) or self.counts[Verdict.NOT_WHOLE]:
+        others = self.counts[Verdict.NO_MAIL] - self.passed[Says.BY_NO_MAIL.word] - self.passed[Says.NO_MAIL_NOTED.word]
+        if not (sum(self.counts.values()) > others and all(written)) or self.counts[Verdict.NOT_WHOLE]:
             return Status.LEFT
         return Status.after(self.reasons)
 
@@ -244,12 +249,15 @@ class Reporter(Observer):
         flush()
 
 
-def sums_of(counts: collections.Counter[str], faults: Mapping[str, int] = MappingProxyType({})) -> list[str]:
-    """How many mailboxes there are, by their verdicts and by why they are not whole, and how many other files."""
-    others = counts[Verdict.NO_MAIL]
+def sums_of(
+    counts: collections.Counter[str], faults: Mapping[str, int] = MappingProxyType({}), same: int = 0
+) -> list[str]:
+    """How many mailboxes there are, by their verdicts and by why they are not whole, and how many other files. Other
+    paths to the same files are no files."""
+    others = counts[Verdict.NO_MAIL] - same
     whys = {Verdict.NOT_WHOLE: " (%s)" % ", ".join("%d %s" % (count, word) for word, count in sorted(faults.items()))}
     mail = [verdict for verdict in VERDICTS if counts[verdict] and verdict != Verdict.NO_MAIL]
     parts = ["%d %s%s" % (counts[verdict], verdict, whys.get(verdict, "")) for verdict in mail]
-    total = sum(counts.values()) - others
+    total = sum(counts.values()) - counts[Verdict.NO_MAIL]
     sums = ["%s: %s" % (counted(total, "mailbox", "es"), ", ".join(parts)) if total else "no mailboxes"]
     return sums + ["%s: no mail" % counted(others, "other file")] * bool(others)

@@ -48,9 +48,10 @@ class Comparison:
             yield from self.wrong_choice(choice)
         yield from self.wrong_sum()
         left, done = self.world.count(Fate.LEFT), self.world.count(Fate.DONE)
-        # another run settles what is locked, and nothing is well where there was no mailbox
+        # another run settles what is locked, and nothing is well where there was no mailbox, nor a file passed over
+        is_some = done or any(thing.is_spared for thing in self.rows)
         is_later = {row["reason"] for row in self.ran.rows if row["verdict"] == "left"} == {"locked"}
-        if self.ran.status != (0 if done and not left else LATER if is_later else 1):
+        if self.ran.status != (0 if is_some and not left else LATER if is_later else 1):
             yield f"status {self.ran.status}, where {left} are left, and {done} done"
 
     def wrong_choice(self, choice: Choice) -> list[str]:

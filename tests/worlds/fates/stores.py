@@ -39,17 +39,18 @@ def letters(made: Branch, sub: str, mails: Sequence[bytes]) -> list[Name]:
 
 
 def broken_maildir(branch: Branch, one: Name, mails: Sequence[bytes], lacks: str) -> Branch:
-    """Makes something that is no Maildir, since a folder of it is missing, or is a symbolic link. Each message has a
-    fate of its own."""
+    """Makes a Maildir that lacks an empty folder; or something that is none since a folder is a symbolic link: there
+    each message has a fate of its own."""
     made = branch.folder(one)
     for sub in ("cur", "new", "tmp"):
         if sub != lacks:
             made.folder(name(sub))
     if lacks == "cur":
         made.link(name("cur"), "new")
-    sub = "new" if lacks == "cur" else "cur"
-    for letter in letters(made, sub, mails):
-        made.folder(name(sub)).leave(letter)
+        for letter in letters(made, "new", mails):
+            made.folder(name("new")).leave(letter)
+    elif letters(made, "cur", mails):
+        made.leave(None, "a Maildir")
     return made
 
 
