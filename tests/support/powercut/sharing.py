@@ -2,6 +2,7 @@
 disk whose power is cut. It notes messages in a file of each folder, and mailboxes in the record: after any cut the two
 must say what the folders hold."""
 import os
+import re
 import subprocess
 from collections.abc import Sequence
 
@@ -99,7 +100,7 @@ class BroughtAgain(Deleted):
         return [self.tools.admin, "migrate", "--again", "--all", "--now", self.folder(at), self.mailboxes[0].path]
 
     def did_something(self, said: str) -> bool:
-        return ", placed " in said
+        return re.search(r"\bplaced \d", said) is not None
 
     def owed(self, at: str, marks: Sequence[str]) -> Owed:
         return self.without_deleted(self.all_owed(at))
