@@ -15,7 +15,7 @@ from ..ledger.lines import RETURNED, Line, State
 from ..ledger.ledger import Ledger
 from ..ledger.prepared import has_list
 from ..looks import is_link, state_at
-from ..maildir.files import listings_of
+from ..maildir.files import changed_at, listings_of
 from ..maildir.folders import folder_shown, folders_in, name_of
 from ..mbox.bases import BASE, before_info
 from ..mbox.core import forms_of
@@ -184,7 +184,7 @@ def mails_of(root: bytes, places: Iterable[bytes], say: Say) -> Iterator[Mail]:
     for place in places:
         # what was met, by its name and its inode, which may change on a network disk; or by its name and its core
         folder, met = name_of(root, place), set[tuple[bytes, object]]()
-        listings = (enumerate(listing, 1) for listing in listings_of(place))
+        listings = (enumerate(listing, 1) for listing in (listings_of(place) if any(changed_at(place)) else ()))
         for number, (name, path) in itertools.chain.from_iterable(listings):
             say("looking at file %d of %s" % (number, folder_shown(folder)))
             try:

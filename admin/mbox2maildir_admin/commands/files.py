@@ -2,7 +2,7 @@
 import contextlib
 import functools
 import os
-from collections.abc import Callable, Iterable
+from collections.abc import Callable, Iterable, Iterator
 from typing import NamedTuple, Optional, Union
 
 from ..faults import Fault, Reason, complain_of
@@ -116,8 +116,7 @@ class Migrated(NamedTuple):
         observer.begin()
         say, noted = observer.say(self.file), noted_of(self.record, self.file)
         if not noted:
-            self.want_folder()
-            with open_text(self.file, self.folder, say, self.reading) as text:
+            with self.missing(), open_text(self.file, self.folder, say, self.reading) as text:
                 task(self, text)
             return
         from ..labels.parts import parts_of
@@ -129,26 +128,29 @@ class Migrated(NamedTuple):
                     observer.begin()
                 one = self._replace(folder=folder_path(self.root, name), is_part=True)
                 try:
-                    one.want_folder()
-                    with part as text:
+                    with one.missing(), part as text:
                         task(one, text)
                 except (Fault, OSError) as fault:
                     observer.leave(self.file, fault)
 
-    def want_folder(self) -> None:
-        """Raises Fault if its folder is missing, with the command that migrates what was named as the Maildir's other
-        mailboxes were: with --dovecot if one of them was. If it was done, the command brings back its mail."""
-        maildir, path = self.given
-        if not type_at(path) or any(is_folder(os.path.join(self.folder, sub)) for sub in WITH_MAIL):
-            return
-        last = self.record.last_of(self.name, self.record.names_of(self.file))
-        words = ["--dovecot"] * any(Reading.of_words(line.words).bare for line in self.record.lines())
-        if last and last.what is Event.DONE:
-            why, path, words, does = "its folder is gone", self.file, ["--again", *words], Does.BRINGS_BACK
-        else:
-            why, does = "it was not migrated", Does.RUN
-        then = run_next(Runs.MIGRATE, *words, operand(maildir), operand(path), does=does)
-        raise Fault("%s: %s is no Maildir" % (why, named(self.folder)), Reason.NO_MAILDIR, then)
+    @contextlib.contextmanager
+    def missing(self) -> Iterator[None]:
+        """If its folder is missed in here, raises Fault, with the command that migrates what was named as the Maildir's
+        other mailboxes were: with --dovecot if one of them was. If it was done, the command brings back its mail."""
+        try:
+            yield
+        except FileNotFoundError as fault:
+            maildir, path = self.given
+            if not type_at(path) or any(is_folder(os.path.join(self.folder, sub)) for sub in WITH_MAIL):
+                raise
+            last = self.record.last_of(self.name, self.record.names_of(self.file))
+            words = ["--dovecot"] * any(Reading.of_words(line.words).bare for line in self.record.lines())
+            if last and last.what is Event.DONE:
+                why, path, words, does = "its folder is gone", self.file, ["--again", *words], Does.BRINGS_BACK
+            else:
+                why, does = "it was not migrated", Does.RUN
+            then = run_next(Runs.MIGRATE, *words, operand(maildir), operand(path), does=does)
+            raise Fault("%s: %s is no Maildir" % (why, named(self.folder)), Reason.NO_MAILDIR, then) from fault
 
 
 # does something for a mailbox

@@ -67,9 +67,11 @@ def letters_of(name: bytes) -> str:
 
 def listings_of(folder: bytes) -> Iterator[Iterator[Named]]:
     """Lists the mail of a folder, and lists it again if a mail program renames files meanwhile, which a listing may
-    miss."""
+    miss. Raises FileNotFoundError if it has neither `new` nor `cur`."""
     for _ in range(PASSES):
         began, before = time.time(), changed_at(folder)
+        if not any(before):
+            raise FileNotFoundError(errno.ENOENT, os.strerror(errno.ENOENT), folder)
         yield mail_in(folder)
         # the clock of a file system has ticks
         if changed_at(folder) == before and max(before) < began - CLOCK_TICK:
