@@ -661,7 +661,7 @@ def linked_tree(home: Path) -> None:
         equal("its user", run([*own, "--folder", "box", maildir, home / "homes/m61one/box"], home)[0], 0)
         (home / "homes/m61one/mail").symlink_to(".")
         status, out, _ = run(words, home)
-        equal(f"a link to the home: {out}", (status, "link: 1 mailbox: " in out), (1, True))
+        equal(f"a link to the home: {out}", (status, "\n2 mailboxes: 1 done before, 1 left" in out), (1, True))
 
 
 def gone_meanwhile(home: Path) -> None:
