@@ -50,7 +50,7 @@ class Mail(NamedTuple):
 def in_order(mails: Iterable[Mail], uid: Callable[[Mail], int] = lambda mail: 0) -> list[Mail]:
     """Mail in the order in which it is appended: by the UIDs that it keeps in its mailbox, once that is known; then by
     time and name."""
-    return sorted(mails, key=lambda mail: (uid(mail), mail.time, mail.name, mail.folder))
+    return sorted(mails, key=lambda mail: (uid(mail), mail.time, mail.name))
 
 
 class Target(NamedTuple):
