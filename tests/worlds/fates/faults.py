@@ -79,13 +79,15 @@ class Right(NamedTuple):
 
 # a file of the small tree that holds no mail, or what would stand beside it
 NO_MAIL = r"cards\.sqlite|dovecot\.index\.log|\.imap|\.hidden|y\.lock"
+# the look by which a Maildir is no mailbox
+REFUSAL = "kinds.folders.is_maildir in looks.is_surely in migration.several.refuse"
 RIGHT = (
     Right("version.version", "", "a path is taken as it is where it cannot be looked at"),
     Right("program.listing in readings.texts.read", "", "what the program does not list at once, it is asked again"),
     Right("mbox.inventory.read in readings.texts.read", "", "what cannot be read at once is read anew"),
     Right("readings.copies.unnamed", "b'M'", "where no file without a name can be made, a name is removed at once"),
     Right("commands.migrate.joined", "b'M tree'", "the words are looked at one by one"),
-    Right("migration.several.refuse", "b'tree/tmp'", "whoever reads the tree sees whether it is a Maildir"),
+    Right(REFUSAL, "b'tree'", "whoever reads the tree sees whether it is a Maildir"),
     Right("migration.places.recorded", "", "no folder is wanted for what holds no mail"),
     Right("migration.places.paired_with", NO_MAIL, "what holds no mail is no copy, and has none"),
     Right("ledger.record.look", "", "a ledger that cannot be read is said where it is needed"),
