@@ -60,6 +60,18 @@ def rule_6_after_a_killed_run(home: Home) -> None:
         home.has()
 
 
+def rule_6_a_name_that_another_has_placed_since(home: Home) -> None:
+    """A run is killed before it has placed a message, and a mailbox that has it twice places it under the same name.
+    That file is not the first one's, which shares that of a third: the undo of the other leaves no second file."""
+    for call in home.each(range(6, 12)):
+        home.killed(Kill(call=call), OLD=letter(2))
+        home.bring(THIRD=letter(2, RO))
+        home.bring(TWICE=letter(2, RO) + letter(2))
+        home.bring(OLD=letter(2))
+        home.undo("TWICE")
+        home.has(2)
+
+
 def rule_6_nothing_is_gone_after_a_killed_run(home: Home) -> None:
     """Whatever a killed run was to bring, the next one has brought it, and an undo says nothing of it. So it is if a
     program rewrote the mailbox between the two, so that its files have other names."""

@@ -377,6 +377,13 @@ class Ledger(Told):
         numbers = {number for number, batch in self.open.items() if batch.path == path and number > after}
         return (one for _, one in self.messages(numbers, was_nowhere))
 
+    def placed_since(self, path: str) -> Iterator[bytes]:
+        """The names of messages that other mailboxes were to place since the last batch of this one, if that has no
+        end."""
+        last = self.pending(path)
+        numbers = {number for number in (*self.ended, *self.open) if last is not None and number > last}
+        return (one.name for _, one in self.messages(numbers, was_nowhere=True))
+
     def names(self, more: Iterable[int] = ()) -> Iterator[bytes]:
         """The names of the files that mailboxes have placed, or share, in batches that have ended, and in more with
         these numbers."""

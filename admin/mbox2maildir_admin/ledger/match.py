@@ -186,12 +186,13 @@ class Match:
             self.stands, self.lost = source.known(self.inventory)
 
     def find_mine(self) -> None:
-        """Finds what a run that was killed has placed under the bases of this text. Most of it needs no more
-        looking."""
+        """Finds what a run that was killed has placed under the bases of this text. Most of it needs no more looking. A
+        name that another mailbox has placed since is that of another file."""
         table, there = self.inventory.table, self.files.there
+        theirs = Hashes(self.ledger.placed_since(self.path))
         for one in self.ledger.intended(self.path, was_nowhere=True):
             place = table.own_place(one.name)
-            if place is None or not there[place] or self.stands[place] != Stand.NOWHERE:
+            if place is None or not there[place] or self.stands[place] != Stand.NOWHERE or one.name in theirs:
                 continue
             if self.may_count(one.name, place):
                 self.stands[place] = Stand.MINE
