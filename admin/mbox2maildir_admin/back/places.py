@@ -127,8 +127,9 @@ class Places:
             raise Left(GONE % named(unspelled(paths[0])), Reason.MISSING)
         if folder == INBOX and not found:
             raise Left(self.names.no_inbox, Reason.NO_MAILBOX)
-        # a Takeout is named without being in each folder of its labels
-        if here and self.paths_named.isdisjoint(here):
+        # a Takeout is named without being in each folder of its labels; and this run may have made a mailbox
+        is_new = any(is_below(unspelled(path), os.path.abspath(tree)) for path in here for tree in self.trees)
+        if here and not is_new and self.paths_named.isdisjoint(here):
             raise Left(NOT_NAMED % named(unspelled(here[0])), Reason.NO_MAILBOX)
         return [found[0] if folder == INBOX else self.new(folder)]
 
