@@ -234,7 +234,7 @@ STORIES: dict[str, list[Step]] = {
     ],
     "killed_before_it_was_prepared_and_the_record_is_lost": [
         *(("y", ONE), "migrate --folder y M y", ("x", ONE), "migrate --prepare --unread --folder x M x"),
-        *(f"!rm {RECORD}", ("a", TWO), *KILLED, ("a", TWO + THREE)),
+        *steps(f"!rm {RECORD}", ("a", TWO), *KILLED, ("a", TWO + THREE)),
         *((FIRST, "a: prepared"), "= three two x/one y/one .x+ M+"),
     ],
     "killed_and_its_ledger_is_gone": [
