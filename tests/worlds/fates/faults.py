@@ -93,11 +93,13 @@ RIGHT = (
     Right("ledger.record.look", "", "a ledger that cannot be read is said where it is needed"),
     Right("ledger.record.changes", "", "what the index lacks is found in the ledgers"),
 )
+# the same of users, of whom not each call is tried
+OF_USERS = (Right("users.accounts.key", "", "a home counts by its path where it cannot be looked at"),)
 
 
 def rights_of(call: Call) -> list[Right]:
     """Why all may be well though this call failed."""
-    return [right for right in RIGHT if right.is_for(call)]
+    return [right for right in (*RIGHT, *OF_USERS) if right.is_for(call)]
 
 
 def of_kind(word: str) -> texts.Content:
