@@ -5,3 +5,5 @@ is read in blocks: of a mailbox of any size, only one header and what is known o
 """
 PROGRAM = "mbox2maildir"
 ADMIN = "mbox2maildir-admin"
+# the name of the Maildir in a home, unless another one is named
+MAILDIR = "Maildir"

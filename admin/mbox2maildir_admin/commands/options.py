@@ -4,10 +4,9 @@ import os
 from types import SimpleNamespace
 from typing import Any, NamedTuple, Optional
 
-from .. import ADMIN
+from .. import ADMIN, MAILDIR
 from ..labels.choosing import EACH, GIVES, WORDS as WORDS_OF_LABELS, Choosing
 from ..looks import is_folder
-from ..maildir.folders import MAILDIR
 from ..readings.reading import UNDECIDED, WORDS, Reading, lines_named
 from ..terminal import named, shown
 

@@ -7,8 +7,6 @@ from typing import Optional
 from ..patterns import pattern
 from ..terminal import is_text, named, option, shown, text_of
 
-# the name of the Maildir in a home, unless another one is named
-MAILDIR = "Maildir"
 # the name of the Maildir itself among its folders
 INBOX = b"."
 # how long a name may be on a disk, in bytes

@@ -6,12 +6,13 @@ import stat
 from collections.abc import Iterator, Mapping, Sequence
 from typing import Any, NamedTuple, Optional, Union
 
+from .. import MAILDIR
 from ..faults import Fault, Left, Reason
 from ..jobs.crew import Parent
 from ..ledger.prepared import has_list
 from ..ledger.record import Record
 from ..looks import is_there, may_be
-from ..maildir.folders import MAILDIR, folders_in
+from ..maildir.folders import folders_in
 from ..maildir.making import want_own
 from ..migration.outcomes import Observer, Row, row_left
 from ..migration.places import UserHome, folders_of_moved
