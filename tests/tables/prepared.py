@@ -263,6 +263,12 @@ STORIES: dict[str, list[Step]] = {
         *steps(("a", ONE), FIRST, ("a", ONE + TWO), *killed("migrate --again M a")),
         *("= one two M+", ("migrate --undo M a", "a: undone: removed ..."), "="),
     ],
+    # what is converted by hand then is nobody's
+    "killed_before_its_list_was_removed_and_undone": [
+        *steps(("a", ONE + TWO), FIRST, ("a", ONE + THREE), '@cp mbox2maildir-prepared ../kept; exec "$real" "$@"', LAST),
+        *(RESTORED, f"!cp kept {LIST}", ("migrate --undo M a", "a: undone: removed 2 messages"), "="),
+        *("!mbox2maildir convert M a", ("b", TWO), ("migrate M b", "b: done"), "= one three two"),
+    ],
     "undone_without_its_mailbox": [
         *(
             ("a", ONE + TWO),

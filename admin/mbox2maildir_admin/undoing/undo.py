@@ -22,7 +22,7 @@ from ..ledger.match import cores_of
 from ..ledger.gone import without_line
 from ..ledger.history import Event
 from ..ledger.ledger import Ledger, count_in
-from ..ledger.prepared import Prepared, has_list
+from ..ledger.prepared import Prepared, has_list, remove_list
 from ..ledger.record import Record, unspelled
 from ..looks import is_there
 from ..maildir.files import digest_of, forms_in, mail_in
@@ -172,6 +172,9 @@ class Undo:
         """Removes the files that go, and notes that before and afterwards. Returns what became of the messages."""
         with alone_in(opened.folder):
             want_same(opened.mailbox)
+            if ledger.sources and has_list(opened.folder):
+                # the list of a last pass that was killed at its end would count again once nothing is there
+                remove_list(opened.folder)
             if path not in ledger.leaving:
                 ledger.note(b"<\t%s\n" % path.encode())
             hand_over(ledger, plan)
