@@ -635,6 +635,23 @@ def a_folder_that_people_removed(home: Path) -> None:
     equal("the folders then", folders_in(home / "M"), {"": ["one"], ".Work.A": ["two"]})
 
 
+def a_folder_that_people_renamed(home: Path) -> None:
+    """It stays the folder of its label: nothing comes a second time, or comes back."""
+    messages = [*RESERVED[:2], ("ten", "Sent,Work/A"), *((word, "Inbox") for word in "abc")]
+    takeout(home, messages)
+    expect(LABELS, home, 0, None)
+    (home / "M/.Work.A").rename(home / "M/.Play")
+    for path in [*home.glob("M/.Play/cur/*"), *home.glob("M/.Play/new/*")]:
+        if b"Subject: ten" in path.read_bytes():
+            path.unlink()
+    for more in (), [("eleven", "Work/A")]:
+        takeout(home, [*messages, *more])
+        expect(LABELS, home, 0, None)
+        its = sorted(["two", *(subject for subject, _ in more)])
+        wanted = {"": ["a", "b", "c", "one"], ".Play": its, ".Sent": ["ten", "two"]}
+        equal("the folders", folders_in(home / "M"), wanted)
+
+
 def a_folder_that_its_owner_may_not_change(home: Path) -> None:
     """An undo leaves this folder, and takes what went into the others."""
     takeout(home, RESERVED[:2])

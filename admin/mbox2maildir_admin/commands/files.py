@@ -126,7 +126,8 @@ class Migrated(NamedTuple):
             for number, (name, part) in enumerate(parts.items()):
                 if number:
                     observer.begin()
-                one = self._replace(folder=folder_path(self.root, name), is_part=True)
+                folder = folder_path(self.root, self.record.name_now(name, self.file))
+                one = self._replace(folder=folder, is_part=True)
                 try:
                     with one.missing(), part as text:
                         task(one, text)

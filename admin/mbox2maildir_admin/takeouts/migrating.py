@@ -227,9 +227,10 @@ class Takeouts(Migration):
             yield Takeout(choice, text, inventory, sorting.folders())
 
     def bring_into(self, folder: bytes, takeout: Takeout, opened: Opened) -> Outcome:
-        """Brings the messages of one folder."""
+        """Brings the messages of one folder, which people may have given another name."""
         try:
-            return self.transfer(Opened.into(self.record.maildir, folder, opened.mailbox), self.part(folder, takeout))
+            name = self.record.name_now(folder, opened.mailbox.path)
+            return self.transfer(Opened.into(self.record.maildir, name, opened.mailbox), self.part(folder, takeout))
         except (Fault, OSError) as fault:
             return Outcome(row_left(opened.mailbox.path, folder, fault))
 
