@@ -299,6 +299,14 @@ STORIES: dict[str, list[Step]] = {
         *(("a", ONE), FIRST, f"!cp {LIST} kept", LAST, f"!cp -p kept {LIST}"),
         *(("migrate --undo M a", "a: undone: removed 1 message"), "="),
     ],
+    # the command that is printed undoes it: another one would double the mail
+    "it_went_into_another_folder": [
+        *steps(("a", ONE), "migrate --prepare --unread --folder x M a"),
+        ("migrate --folder y M a", f"a: done\na: {NOT_MET}"),
+        "!mbox2maildir-admin migrate --now --folder y M a >said; test $(grep -c -e '--folder x' said) = 1",
+        *("!grep -q -e '--undo.* --folder x' said", "= x/one y/one .x+"),
+        *(("migrate --undo --folder x M a", "a: undone: removed 1 message"), "= y/one"),
+    ],
     "undone_in_the_folder_that_is_named": [
         *(("a", ONE), FIRST, "!mv a b", ("migrate --undo --folder INBOX M b", "b: undone: removed 1 message"), "="),
     ],

@@ -443,9 +443,10 @@ class Leftovers:
             now[tree] = top_above(path, self.trees)
         absent = [one for one in left if now.get(one.tree) and not is_there(one.path_in(now[one.tree]))]
         many, all_of = (collections.Counter(one.tree for one in several) for several in (absent, self.listed))
+        elsewhere = {*map(real_path, went.values())}
         for one in left:
             if one not in absent:
-                yield self.left(one, NOT_MET, unspelled(one.path))
+                yield self.left(one, NOT_MET, unspelled(one.path), real_path(unspelled(one.path)) in elsewhere)
             elif many[one.tree] * ONE_IN <= all_of[one.tree]:
                 row = remove_prepared(self.record, unspelled(one.path), one.name, self.options.dry)
                 if row:
@@ -453,13 +454,16 @@ class Leftovers:
             else:
                 yield self.left(one, MANY_GONE % (many[one.tree], all_of[one.tree]), one.path_in(now[one.tree]))
 
-    def left(self, one: PreparedBefore, why: str, place: bytes) -> Row:
-        """The row of a folder that stays only prepared, whose mailbox is to be at this place: that is migrated or, if
-        it is not there, brought back first. What is not wanted any more is undone."""
+    def left(self, one: PreparedBefore, why: str, place: bytes, went_elsewhere: bool = False) -> Row:
+        """The row of a folder that stays only prepared, whose mailbox is to be at this place: that is migrated, unless
+        it went into another folder, or, if it is not there, brought back first. What is not wanted any more is
+        undone."""
         path, options = unspelled(one.path), self.options.of_next()
         folder = [*([] if one.name == INBOX else words_of(one.name)), operand(self.root)]
         then = task(Todo.BRING_BACK, text_of(place))
-        if may_be(is_there, place):
+        if went_elsewhere:
+            then = NOTHING
+        elif may_be(is_there, place):
             then = run_next(Runs.MIGRATE, *options.words(), *folder, operand(place))
         undo = [*Options(dry=options.dry, now=options.now, undo=True).words(), *folder, operand(path)]
         then += run_next(Runs.MIGRATE, *undo, does=Does.UNDO_PREPARED)
