@@ -443,10 +443,10 @@ class Leftovers:
             now[tree] = top_above(path, self.trees)
         absent = [one for one in left if now.get(one.tree) and not is_there(one.path_in(now[one.tree]))]
         many, all_of = (collections.Counter(one.tree for one in several) for several in (absent, self.listed))
-        elsewhere = {*map(real_path, went.values())}
         for one in left:
             if one not in absent:
-                yield self.left(one, NOT_MET, unspelled(one.path), real_path(unspelled(one.path)) in elsewhere)
+                path = unspelled(one.path)
+                yield self.left(one, NOT_MET, path, real_path(path) in map(real_path, went.values()))
             elif many[one.tree] * ONE_IN <= all_of[one.tree]:
                 row = remove_prepared(self.record, unspelled(one.path), one.name, self.options.dry)
                 if row:
