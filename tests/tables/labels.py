@@ -76,6 +76,19 @@ LANGUAGES = (
     "Caixa de entrada,Enviados,Rascunhos,Spam,Lixeira",
 )
 GMAILS = ["", ".Sent", ".Drafts", ".Junk", ".Trash"]
+# the labels of a Takeout, those of messages that come later, and the folders then
+GROWN = (
+    (
+        ["Posteingang", "Wichtig", "Garten"],
+        ["Inbox", "Gesendet"],
+        {"": ["Inbox", "Posteingang"], ".Archive": ["Wichtig"], ".Garten": ["Garten"], ".Sent": ["Gesendet"]},
+    ),
+    (
+        ["Concepten", "Spam"],
+        ["Posteingang", "Inbox", "Papierkorb"],
+        {"": ["Inbox", "Posteingang"], ".Drafts": ["Concepten"], ".Junk": ["Spam"], ".Trash": ["Papierkorb"]},
+    ),
+)
 # what was said about labels, what messages have, and the flags that they get
 SAID = (
     ("", ["Inbox,Opened,Unread", "Inbox,Opened", "Inbox,Starred"], ["", "S", "F"]),
@@ -229,6 +242,19 @@ def a_label_keeps_its_folder(home: Path) -> None:
     expect("migrate --undo M t.mbox", home, 0, None)
     expect(LABELS, home, 0, None)
     equal("after an undo", folders_in(home / "M").get(".Sent"), ["one", "three"])
+
+
+def a_language_that_was_found(home: Path) -> None:
+    """Its names stay Gmail's in later Takeouts, whatever language these show: what is in INBOX does not come a second
+    time. A language that is found later counts too."""
+    for number, (first, more, wanted) in enumerate(GROWN):
+        takeout(home, [(label, label) for label in first])
+        expect(f"migrate --labels M{number} t.mbox", home, 0, None)
+        for count in range(1, len(more) + 1):
+            takeout(home, [(label, label) for label in [*first, *more[:count]]])
+            expect(f"migrate --labels M{number} t.mbox", home, 0, None)
+        equal(f"{first}, and {more}", folders_in(home / f"M{number}"), wanted)
+        equal("verify", run(f"verify M{number} t.mbox", home).status, 0)
 
 
 def flags_by_what_was_said(home: Path) -> None:

@@ -145,22 +145,26 @@ class Model:
     is_german: bool
     said: dict[str, str] = field(default_factory=dict)
 
-    def own(self, messages: Sequence[Message], before: Container[str]) -> Mapping[str, Optional[str]]:
-        """What Gmail's own labels give in a Takeout that has had these folders before."""
-        names = {**OWN, **{label: gives for label, gives in language_of(messages).items() if label not in OWN}}
+    def own(self, names: Mapping[str, Optional[str]], before: Container[str]) -> Mapping[str, Optional[str]]:
+        """What Gmail's own labels give in a Takeout that has had these folders before, by their names in the languages
+        that were found."""
         kept = [label for label in names if label not in OWN and {**PEOPLE, **UNKNOWN}[label] in before]
         return {one: gives for one, gives in names.items() if one not in kept and self.said.get(one) != "folder"}
 
-    def asked(self, messages: Sequence[Message], before: Container[str]) -> list[str]:
+    def asked(
+        self, messages: Sequence[Message], names: Mapping[str, Optional[str]], before: Container[str]
+    ) -> list[str]:
         """The labels about which a human is asked: one that has its folder keeps it."""
         counts = Counter(label for message in messages for label in set(message.labels))
-        known = {*self.own(messages, before), *self.said}
+        known = {*self.own(names, before), *self.said}
         new = [one for one in counts if one not in known and {**PEOPLE, **UNKNOWN}[one] not in before]
         return [one for one in new if 2 * counts[one] > len(messages)]
 
-    def folders(self, messages: Sequence[Message], before: Container[str]) -> dict[str, list[int]]:
+    def folders(
+        self, messages: Sequence[Message], names: Mapping[str, Optional[str]], before: Container[str]
+    ) -> dict[str, list[int]]:
         """The folders of a Takeout, each with the places of its messages."""
-        own = self.own(messages, before)
+        own = self.own(names, before)
         found: collections.defaultdict[str, list[int]] = collections.defaultdict(list)
         for place, message in enumerate(messages):
             labels = [one for one in message.labels if self.said.get(one) != "none"]
@@ -210,6 +214,8 @@ class Labels(History):
         self.model = Model(self.draw.choice(["", "", "all", "one"]), self.draw.random() < 0.3)
         # what each Takeout has for each folder
         self.parted: dict[Box, dict[str, Reading]] = {}
+        # what names give in the languages that were found in it, and in English
+        self.names: collections.defaultdict[Box, dict[str, Optional[str]]] = collections.defaultdict(OWN.copy)
         # the Message-IDs that each has ever had for each folder
         self.ids: collections.defaultdict[tuple[Box, str], Counts] = collections.defaultdict(Counter)
 
@@ -255,12 +261,14 @@ class Labels(History):
         self.place.write(box.path, b"".join(texts))
         self.steps.append(f"{box.path} has {[(one.number, one.labels) for one in messages]}")
         before = ["." + name.replace("/", ".") for name in self.parted.pop(box, {})]
-        asked = self.model.asked(messages, before)
+        names = self.names[box]
+        names.update(language_of(messages))
+        asked = self.model.asked(messages, names, before)
         if asked:
             self.ends(1, box, *self.options())
             self.model.said.update({label: self.draw.choice(["none", "folder"]) for label in asked})
         mails = [split(text, "mboxrd")[0] for text in texts]
-        folders = self.model.folders(messages, before).items()
+        folders = self.model.folders(messages, names, before).items()
         self.parted[box] = {name: reading_of([mails[place] for place in places]) for name, places in folders}
         for _ in range(self.draw.choice([0, 1, 1, 2])):
             self.killed(box, *self.options())

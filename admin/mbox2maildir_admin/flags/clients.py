@@ -141,8 +141,9 @@ def kept_in(mailbox: Mailbox, inventory: Inventory) -> Optional[KeptFlags]:
             letters = [one or "" for one in several]
             if program != GMAIL:
                 return KeptFlags(program, letters)
-            from .gmail import letters_by, own_names
+            from .gmail import language_of, letters_by, own_names
 
             known = {one: labels_in(one.encode("latin-1")) or () for one in set(letters)}
-            return KeptFlags(program, *letters_by([known[one] for one in letters], own_names(known.values())))
+            own = own_names([language_of(known.values())])
+            return KeptFlags(program, *letters_by([known[one] for one in letters], own))
     return None

@@ -63,24 +63,29 @@ ENGLISH, *OTHERS = (
     )
 )
 ENGLISH.update({"Draft": Own.DRAFTS, **{name: Own.NONE for name in MARKS}})
-# a name that several of them have stands for the same in each
-LANGUAGES: Sequence[Roles] = (ENGLISH, *OTHERS)
-KNOWN = frozenset[str]().union(*LANGUAGES)
+# each language by its word for Inbox; a name that several of them have stands for the same in each
+LANGUAGES: Mapping[str, Roles] = {next(iter(names)): names for names in (ENGLISH, *OTHERS)}
+KNOWN = frozenset[str]().union(*LANGUAGES.values())
 
 
-def own_names(several: Iterable[Iterable[str]]) -> Roles:
-    """The names of Gmail's own labels in a mailbox whose messages have these labels. Those of another language than
-    English count if its word for Inbox is among them, and no label `Inbox`: what is a folder of Gmail's in one language
-    may be somebody's label in another. In a mailbox without a word for Inbox they count if each message has one of
-    them, since Gmail says of each where it is, and none has one that only other languages have."""
+def language_of(several: Iterable[Iterable[str]]) -> str:
+    """The language of Gmail's own labels in a mailbox whose messages have these labels, by its word for Inbox. It is
+    another one than English if its word is among them, and no label `Inbox`: what is a folder of Gmail's in one
+    language may be somebody's label in another. In a mailbox without a word for Inbox it is one of which each message
+    has a name, since Gmail says of each where it is, if none has a name that only others have."""
     messages = {frozenset(labels) for labels in several}
     there = frozenset[str]().union(*messages)
-    languages = [names for names in LANGUAGES if next(iter(names)) in there]
+    languages = [inbox for inbox in LANGUAGES if inbox in there]
     if not languages:
         gmails = there & KNOWN
-        whole = [names for names in LANGUAGES if gmails <= names.keys()]
-        languages = [names for names in whole if all(names.keys() & labels for labels in messages)]
-    return {**ENGLISH, **next(iter(languages), ENGLISH)}
+        whole = [inbox for inbox, names in LANGUAGES.items() if gmails <= names.keys()]
+        languages = [inbox for inbox in whole if all(LANGUAGES[inbox].keys() & labels for labels in messages)]
+    return next(iter(languages), "Inbox")
+
+
+def own_names(languages: Iterable[str]) -> Roles:
+    """The names of Gmail's own labels in English and in some languages."""
+    return {name: role for inbox in ("Inbox", *languages) for name, role in LANGUAGES.get(inbox, {}).items()}
 
 
 def letters_by(several: Sequence[tuple[str, ...]], roles: Roles) -> tuple[list[str], bytes]:

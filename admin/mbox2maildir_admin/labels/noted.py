@@ -1,5 +1,6 @@
-"""What the record notes of a mailbox that goes into the folders of its labels: what was said about labels, and which
-folders these are. It is noted before the first message is placed, and that it is undone after the last one is gone."""
+"""What the record notes of a mailbox that goes into the folders of its labels: what was said about labels, which
+folders these are, and in which languages Gmail's own labels were. It is noted before the first message is placed, and
+that it is undone after the last one is gone."""
 import itertools
 from typing import NamedTuple, Optional
 
@@ -16,14 +17,17 @@ NOTHING = "nothing"
 
 
 class Noted(NamedTuple):
-    """What was said about labels, and the folders by their names on the disk."""
+    """What was said about labels; the folders by their names on the disk; and the languages other than English in which
+    Gmail's own labels were: a name that stood for a folder of Gmail's does so in later runs too."""
 
     choosing: Choosing
     folders: tuple[bytes, ...]
+    languages: tuple[str, ...] = ()
 
     def words(self) -> str:
         """The words by which the record has it."""
         labels = ["%s=%s" % (gives, encoded(bytes_of(label))) for label, gives in self.choosing.given]
+        labels += ["language=%s" % encoded(bytes_of(inbox)) for inbox in self.languages]
         return " ".join(["word=%s" % self.choosing.word, *labels, *("in=%s" % encoded(one) for one in self.folders)])
 
     @classmethod
@@ -31,10 +35,12 @@ class Noted(NamedTuple):
         """Reads the words of a line; without one, nothing was noted."""
         from urllib.parse import unquote_to_bytes
 
-        pairs = [word.partition("=")[::2] for word in (line.words or "" if line else "").split(" ")]
-        given = tuple((text_of(unquote_to_bytes(label)), gives) for gives, label in pairs if gives in GIVES)
-        folders = tuple(unquote_to_bytes(name) for what, name in pairs if what == "in")
-        return cls(Choosing(dict(pairs).get("word", ""), given), folders)
+        words = (word.partition("=")[::2] for word in (line.words or "" if line else "").split(" "))
+        pairs = [(what, unquote_to_bytes(name)) for what, name in words]
+        given = tuple((text_of(label), what) for what, label in pairs if what in GIVES)
+        folders = tuple(name for what, name in pairs if what == "in")
+        languages = tuple(text_of(inbox) for what, inbox in pairs if what == "language")
+        return cls(Choosing(text_of(dict(pairs).get("word", b"")), given), folders, languages)
 
 
 def encoded(name: bytes) -> str:

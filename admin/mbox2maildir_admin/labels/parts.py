@@ -44,6 +44,6 @@ def parts_of(
     recorded, and made once it is entered."""
     with open_text(file, maildir, say, recorded) as text:
         inventory = text.messages(with_cores=False)
-        found = Sorting(headers_at(text.mailbox, inventory.offsets[:-1]), noted.choosing, noted.folders).folders()
+        found = Sorting(headers_at(text.mailbox, inventory.offsets[:-1]), noted.choosing, noted).folders()
         where = folder_for_copies(maildir)
         yield {name: part_of(text, inventory, places, where) for name, places in found.places.items()}

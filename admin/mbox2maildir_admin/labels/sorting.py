@@ -3,18 +3,19 @@ import array
 import collections
 import functools
 import re
-from collections.abc import Container, Iterable, Mapping, Sequence
+from collections.abc import Iterable, Mapping, Sequence
 from typing import NamedTuple, Optional
 
 from ..faults import Left, Reason
 from ..flags.clients import GMAIL, KeptFlags, labels_in
-from ..flags.gmail import ARCHIVE, ENGLISH, ORDER, Own, Roles, letters_by, own_names
+from ..flags.gmail import ARCHIVE, ENGLISH, ORDER, Own, Roles, language_of, letters_by, own_names
 from ..maildir.folders import INBOX, folder_of, on_disk, why_no_folder
 from ..mbox.fields import VALUE
 from ..nexts import Does, Phrase
 from ..remarks import Remark, Says
 from ..terminal import is_text, named
 from .choosing import EACH, FOLDER, NONE, ONE, READ, Choosing
+from .noted import Noted
 
 # Google writes both fields before those that were sent; what a sender writes comes after them
 FIELD = re.compile(rb"(X-GM-THRID|X-Gmail-Labels)" + VALUE + rb"(?:\n|\Z)", re.I)
@@ -40,7 +41,7 @@ def field_of(header: bytes) -> Optional[bytes]:
 def remarks_on_labels(headers: Iterable[bytes]) -> list[Remark]:
     """How many of some messages have labels of Gmail's folders that are not INBOX."""
     several = [set(labels_in(field_of(header) or b"") or ()) for header in headers]
-    own = own_names(several)
+    own = own_names([language_of(several)])
     roles = collections.Counter(role for labels in several for role in {own.get(label) for label in labels})
     counts = ["%s %d" % (name, roles[role]) for role, name in SAID.items() if roles[role]]
     return [Says.LABELLED.of(", ".join(counts))] if counts else []
@@ -74,10 +75,10 @@ class LabelFolders(NamedTuple):
 class Sorting:
     """The labels of the messages of a Takeout."""
 
-    def __init__(self, headers: Iterable[bytes], choosing: Choosing, before: Container[bytes]) -> None:
-        """Takes the headers of the messages, and the folders that have mail of them since an earlier run. Raises
+    def __init__(self, headers: Iterable[bytes], choosing: Choosing, noted: Noted) -> None:
+        """Takes the headers of the messages, what is said of labels, and what an earlier run has noted. Raises
         LabelsLeft if one has no labels, or if they cannot be read."""
-        self.choosing, self.before = choosing, before
+        self.choosing, self.before = choosing, noted.folders
         self.messages: list[tuple[str, ...]] = []
         # how many messages have each label
         self.counts: collections.Counter[str] = collections.Counter()
@@ -93,7 +94,9 @@ class Sorting:
                 known[field] = labels
             self.messages.append(known[field])
             self.counts.update(known[field])
-        self.names = own_names(known.values())
+        found = language_of(known.values())
+        self.languages = *noted.languages, *(() if found in ("Inbox", *noted.languages) else (found,))
+        self.names = own_names(self.languages)
         self.roles = self.roles_by(choosing)
 
     def roles_by(self, choosing: Choosing) -> Roles:

@@ -64,12 +64,14 @@ def migrate_takeouts(root: bytes, names: Sequence[bytes], options: Options, obse
 
 @dataclass(frozen=True)
 class Takeout:
-    """A Takeout that was read: what stands for it, its text and messages, and which of these go into which folder."""
+    """A Takeout that was read: what stands for it, its text and messages, which of these go into which folder, and the
+    languages of Gmail's own labels."""
 
     choice: Choice
     text: Text
     inventory: Inventory
     folders: LabelFolders
+    languages: tuple[str, ...]
 
     @functools.cached_property
     def cores(self) -> collections.Counter[bytes]:
@@ -141,7 +143,8 @@ class Takeouts(Migration):
                 # each folder wants room for its text again, and for its messages
                 self.want_room(Need.of(self.disk, [], max(map(takeout.size, folders))))
                 self.record.make()
-                note(self.record, opened.mailbox, Noted(choosing, folders), len(takeout.inventory))
+                now = Noted(choosing, folders, takeout.languages)
+                note(self.record, opened.mailbox, now, len(takeout.inventory))
                 self.observer.total += len(folders) - 1
                 for folder in folders[:-1]:
                     self.tell_once_synced(self.bring_into(folder, takeout, opened))
@@ -220,11 +223,11 @@ class Takeouts(Migration):
             if len(inventory) == 0:
                 raise LabelsLeft(NO_MESSAGE)
             headers = headers_at(text.mailbox, inventory.offsets[:-1])
-            sorting = Sorting(headers, choosing, noted.folders)
+            sorting = Sorting(headers, choosing, noted)
             self.labels.update(sorting.counts)
             if noted.folders and sorting.contradicts(noted.choosing):
                 raise self.said_otherwise(opened, noted.choosing)
-            yield Takeout(choice, text, inventory, sorting.folders())
+            yield Takeout(choice, text, inventory, sorting.folders(), sorting.languages)
 
     def bring_into(self, folder: bytes, takeout: Takeout, opened: Opened) -> Outcome:
         """Brings the messages of one folder, which people may have given another name."""

@@ -2,7 +2,7 @@
 that have the same name."""
 import unittest
 
-from mbox2maildir_admin.flags.gmail import LANGUAGES, own_names
+from mbox2maildir_admin.flags.gmail import LANGUAGES, language_of, own_names
 
 
 class Names(unittest.TestCase):
@@ -10,14 +10,14 @@ class Names(unittest.TestCase):
 
     def test_shared(self) -> None:
         """A name that several have stands for the same in each."""
-        for name in {name for names in LANGUAGES for name in names}:
+        for name in {name for names in LANGUAGES.values() for name in names}:
             with self.subTest(name):
-                self.assertEqual(len({names[name] for names in LANGUAGES if name in names}), 1)
+                self.assertEqual(len({names[name] for names in LANGUAGES.values() if name in names}), 1)
 
     def test_alone(self) -> None:
         """Each is found by itself, and no other name beside it counts that only others have."""
-        for names in LANGUAGES:
+        for names in LANGUAGES.values():
             for name in names:
                 with self.subTest(name):
-                    self.assertEqual(own_names([[name]])[name], names[name])
-        self.assertNotIn("Gesendet", own_names([["Gesendet"], ["Enviados"]]))
+                    self.assertEqual(own_names([language_of([[name]])])[name], names[name])
+        self.assertEqual(language_of([["Gesendet"], ["Enviados"]]), "Inbox")
