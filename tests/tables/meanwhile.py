@@ -29,6 +29,7 @@ NO_MORE = "\nold/%d: left (record): M/mbox2maildir-record: it is full: ..."
 SPOILT = '@case $PWD in */.c) chmod 620 ../mbox*messages;; esac; "$real" "$@"'
 UNNOTED = '@"$real" "$@"; chmod 620 mbox*messages; echo "mbox2maildir: folder call 9 failed" >&2; exit 1'
 UNDO_KILLED = "a: left (undo): its undo was interrupted"
+MOVED = UNDO_KILLED.replace("a", "b", 1)
 NOT_SYNCED = "left (sync-failed): its sync failed: ..."
 # the date that a message has, by its From_ line, and a program that ends with the first message
 DATED = "!test $(($(stat -c %Y $(grep -l two M/new/*)) % 60)) = 2"
@@ -94,6 +95,14 @@ STORIES: dict[str, list[Step]] = {
         *(("a", ONE + TWO), "migrate M a", f"!printf '<\\t%s\\n' $PWD/a >>{LEDGER}"),
         *("!rm $(grep -l two M/new/*)", ("b", TWO), ("migrate M b", "b: done: INBOX has the mail of a too")),
         *("= one two", "migrate --undo M a", "= two"),
+    ],
+    # of one that grew since, nothing but its inode shows it; a first pass looks at bytes alone
+    "the_undo_of_a_mailbox_was_killed_that_is_moved_then": [
+        *(("a", ONE + TWO), "migrate M a", f"!printf '<\\t%s\\n' $PWD/a >>{LEDGER}; rm $(grep -l one M/new/*)"),
+        *(("c", THREE), "!mv a b", ("migrate --prepare --unread M b", MOVED), "!cat c >>b"),
+        *((words, MOVED) for words in ("migrate --dry-run M b", "migrate --again M b", "migrate M b")),
+        *("= two", (">", "b: undone: removed 1 message; 1 message already gone"), "="),
+        *(("migrate M b", "b: done"), "= one three two", ("back M b", "b: nothing new")),
     ],
     # the next command for it names that
     "the_undo_of_an_equal_mailbox_was_killed": [

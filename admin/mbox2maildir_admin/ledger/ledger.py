@@ -283,6 +283,7 @@ class Ledger(Told):
         if old in self.begun:
             self.begun[new] = self.begun.pop(old)
         self.lasts[new] = max(self.lasts.get(name, 0) for name in (old, new))
+        self.leaving = {new if path == old else path for path in self.leaving}
         self.ended = {number: new if path == old else path for number, path in self.ended.items()}
         for batch in self.open.values():
             batch.path = new if batch.path == old else batch.path

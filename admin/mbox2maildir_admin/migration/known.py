@@ -169,7 +169,7 @@ class Known:
         ledger = self.ledger
         if self.path in ledger.paths():
             return
-        moved = [path for path in self.paths() if path not in ledger.leaving]
+        moved = self.paths()
         cores = cores_of(inventory) if moved else collections.Counter[bytes]()
         path = next((path for path in moved if ledger.is_in(path, cores) or self.has_bytes_without_mail(path)), None)
         if path is not None:

@@ -242,6 +242,7 @@ class Transfer:
             return True
         if self.ledger.sources and self.path not in self.ledger.paths() and not self.opened.mailbox.size:
             return False
+        self.want_not_leaving(*self.known.paths())
         want_free(self.preparation, self.known)
         return True
 
@@ -310,9 +311,7 @@ class Transfer:
         keeps it from being done."""
         if self.preparation and not again:
             want_usable(self.preparation, self.options, self.opened)
-        if self.path in self.ledger.leaving:
-            undo = self.options.undo_command(self.opened)
-            raise Left("its undo was interrupted", Reason.UNDO, (Answer(undo),))
+        self.want_not_leaving(self.path)
         if self.has_failed() and not again:
             raise Left(SYNC_FAILED, Reason.SYNC_FAILED)
         if part.choice.plan.is_empty:
@@ -324,6 +323,12 @@ class Transfer:
                 return Outcome(row)
             ended = carry_out(steps, row, self.program)
             return ended._replace(row=ended.row._replace(spent=row.spent and self.spent()))
+
+    def want_not_leaving(self, *paths: str) -> None:
+        """Raises Left if its undo was killed, which the ledger says of one of these paths."""
+        if not self.ledger.leaving.isdisjoint(paths):
+            undo = self.options.undo_command(self.opened)
+            raise Left("its undo was interrupted", Reason.UNDO, (Answer(undo),))
 
     def bring_nothing(self, part: Part, again: bool) -> Row:
         """Brings a mailbox without mail, which only gets its folder, from which everything is removed that is prepared.
@@ -368,8 +373,8 @@ class Transfer:
         known, again = self.known, self.go_by_ledger(contents, again)
         options = self.options._replace(again=again)
         want_same_reading(options, known, part.choice, contents)
-        if not again:
-            known.take_place_by_cores(contents.inventory)
+        known.take_place_by_cores(contents.inventory)
+        self.want_not_leaving(self.path)
         match, prepared = self.matched(part, contents, again), None if again else self.prepared
         self.note_answer(part)
         ends_list = again or prepared is not None

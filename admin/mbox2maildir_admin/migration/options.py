@@ -122,4 +122,4 @@ class Options(NamedTuple):
     def undo_command(self, opened: Opened, path: bytes = b"") -> Command:
         """The command that undoes a mailbox, or the one at a path."""
         given = {"decision": UNDECIDED, "dovecot": False, "no_mail": (), "any_disk": False, "labels": None}
-        return self.command(opened, path, undo=True, **given)
+        return self.command(opened, path, undo=True, prepare=False, unread=False, **given)
