@@ -358,6 +358,22 @@ def all_mail_deleted(home: Path) -> None:
     equal("the answers", drops(["migrate", "M", "box"], home), [(True, 0), (False, 2)])
 
 
+def by_another_path(home: Path) -> None:
+    """What is decided about a file counts for each path that leads to it, and after an undo for none."""
+    (home / "link").symlink_to("old")
+    for number, path in enumerate(("--now M old/box", "--drop-deleted M link/box", "--now M old/box")):
+        mailbox(home / "old/box", marked(*["one", "-two", "three"][: number + 1]))
+        expect(f"migrate {path}", home, 0, None)
+    equal("the mail", subjects(home / "M"), ["one", "three"])
+    expect("migrate --undo M old/box", home, 0, None)
+    for path in ("link/box", "old/box"):
+        equal(f"{path}: the answers", drops(["migrate", "M", path], home), [(True, 2), (False, 3)])
+    mailbox(home / "old/notes", b"milk\n")
+    expect("migrate --no-mail notes M link/notes", home, 0, None)
+    for command in ("migrate", "verify"):
+        expect(f"{command} M old/notes", home, 0, "no mailboxes; 1 other file: no mail\n")
+
+
 def by_what_it_brought(home: Path) -> None:
     """A line is not asked about that is in a message which the mailbox brought without a question, and no run notes an
     answer. If new mail has such a line too, a human is asked."""

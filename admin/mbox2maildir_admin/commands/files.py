@@ -168,7 +168,8 @@ def for_mailboxes(maildir: bytes, path: bytes, task: Doing, observer: Observer) 
     if tree:
         for_planned(maildir, path, (plan, tree.rows), record, task, observer)
         return
-    left = left_out(path, maildir, record, observer) if record.noting(Note.NO_MAIL, INBOX, path) else None
+    is_noted = record.noting(Note.NO_MAIL, INBOX, record.names_of(path))
+    left = left_out(path, maildir, record, observer) if is_noted else None
     if left:
         observer.row(left)
         return

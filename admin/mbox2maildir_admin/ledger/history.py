@@ -285,10 +285,9 @@ class History:
         notes = (notes for (note, _), notes in self._notes.items() if note is Note.NUMBERED)
         return any(one.path in paths for several in notes for one in several)
 
-    def noting(self, note: Note, folder: bytes, path: bytes) -> list[RecordLine]:
-        """The lines that note this with a path, in their order."""
-        name = spelled(path)
-        return [line for line in self.notes(note, folder) if line.path == name]
+    def noting(self, note: Note, folder: bytes, paths: Container[str]) -> list[RecordLine]:
+        """The lines that note this with one of some paths, in their order."""
+        return [line for line in self.notes(note, folder) if line.path in paths]
 
     def labelled(self) -> dict[str, RecordLine]:
         """The last lines that name the folders of mailboxes by their labels, by the paths of these mailboxes."""

@@ -42,23 +42,23 @@ def note_empty(known: Known, reading: Reading, lost: Iterable[Brought]) -> None:
         known.record.add(Note.EMPTY, known.opened.about, 0, mailbox.path)
 
 
-def note_answer(record: Record, opened: Opened, plan: Plan) -> None:
+def note_answer(known: Known, plan: Plan) -> None:
     """Notes what was decided about a mailbox, with what it was given for, unless that is noted last of the mailbox
     anyhow."""
-    name, mailbox = opened.name, opened.mailbox
-    before = record.noting(Note.ANSWERED, name, mailbox.path)
+    record, about = known.record, known.opened.about
+    before = record.noting(Note.ANSWERED, about.folder, known.names)
     last = Reading.of_words(before[-1].words) if before else UNDECIDED
     # an answer for several mailboxes that says the same takes nothing away
     if plan.answer and plan.answer not in (last, last._replace(alone=False)):
-        record.add(Note.ANSWERED, opened.about, plan.messages, mailbox.path, plan.answer.words())
+        record.add(Note.ANSWERED, about, plan.messages, unspelled(known.path), plan.answer.words())
 
 
 def answers_for(record: Record, opened: Opened, moved: Iterable[str] = ()) -> list[RecordLine]:
     """The answers that were noted for a mailbox, first those for the paths from which it may have been moved, and for
     the one from which its folder was prepared."""
     prepared = record.prepared(opened.name)
-    paths = [*map(unspelled, [*moved, *([prepared.path] if prepared else [])]), opened.mailbox.path]
-    return [entry for one in dict.fromkeys(paths) for entry in record.noting(Note.ANSWERED, opened.name, one)]
+    several = [*moved, *([prepared.path] if prepared else [])], record.names_of(opened.mailbox.path)
+    return [entry for paths in several for entry in record.noting(Note.ANSWERED, opened.name, paths)]
 
 
 def answers_of(known: Known) -> list[RecordLine]:
@@ -92,7 +92,7 @@ def answer_to(several: Sequence[RecordLine], question: Question) -> Optional[Rea
 
 def is_passed_over(record: History, mailbox: Mailbox) -> bool:
     """Whether it is noted that a file holds no mail, as long as it has its path and its bytes."""
-    noted = {entry.about for entry in record.noting(Note.NO_MAIL, INBOX, mailbox.path)}
+    noted = {entry.about for entry in record.noting(Note.NO_MAIL, INBOX, record.names_of(mailbox.path))}
     return bool(noted) and About(INBOX, *mailbox.key()) in noted
 
 

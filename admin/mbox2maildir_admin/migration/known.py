@@ -98,7 +98,7 @@ class Known:
         mailbox = self.opened.mailbox
         if not mailbox.size:
             source = self.ledger.sources.get(self.path)
-            notes = self.record.noting(Note.EMPTY, self.opened.name, mailbox.path)
+            notes = self.record.noting(Note.EMPTY, self.opened.name, self.names)
             is_open = self.path in self.ledger.leaving or source and source.count()
             return None if is_open else next((one for one in notes if one.about == self.opened.about), None)
         if self.by_index:

@@ -446,7 +446,7 @@ class Transfer:
     def note_answer(self, part: Part) -> None:
         """Notes the answer by which the mailbox was read, unless what it has brought gave that."""
         if Says.AS_BROUGHT.of() not in self.remarks:
-            note_answer(self.record, self.opened, part.choice.plan)
+            note_answer(self.known, part.choice.plan)
 
     def matched_again(self, ledger: Ledger, contents: Contents) -> Match:
         """The messages of the text, with what is there of them, if all that is nowhere is placed."""

@@ -211,7 +211,7 @@ def as_inbox(one: Planned) -> Planned:
 
 def into_inbox(one: Planned, folder: bytes, options: Options, record: Record) -> Next:
     """The command that puts one of several Inboxes, which has this folder, into INBOX instead, as it was answered."""
-    noted = record.noting(Note.ANSWERED, folder, one.path)
+    noted = record.noting(Note.ANSWERED, folder, record.names_of(one.path))
     answer = Reading.of_words(noted[-1].words).decided if noted else UNDECIDED
     # the record does not have the numbers of lines, about which a human is asked again
     decision = UNDECIDED if answer.text or answer.begin else answer
