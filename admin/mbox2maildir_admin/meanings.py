@@ -146,7 +146,7 @@ LOOK = {
     "power-cut": "On this disk, a power cut could take mail away.",
     "removed": "Messages were removed.",
     "unread": "Messages came unread, because no known label says that they were read. --label NAME=read says so.",
-    "uids-not-raised": "Clients could miss new mail. Run its command while Dovecot still has its old settings.",
+    "uids-not-raised": "Clients could miss new mail. Run it with --dovecot.",
 }
 COUNTED = {
     "after-nulls": "NUL bytes before its text, as after a crash, were left out.",

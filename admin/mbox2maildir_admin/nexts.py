@@ -67,7 +67,6 @@ class Runs:
     REMOVE = Template("remove", "rm")
     BUILD = Template("build", "make -C")
     DOVECONF = Template("doveconf", "doveconf -n")
-    UPDATE_MAILBOX = Template("update-mailbox", "doveadm mailbox update")
     ADD_FLAGS = Template("add-flags", "doveadm flags add")
     # by these root runs the other names with the rights of an account, and with those of a number without one
     AS_USER = Template("as-user", RUNUSER + " -u {} -- {rest}")

@@ -138,10 +138,6 @@ class Says:
     FIELDS_LEFT_OUT = Sentence("fields-left-out", "fields left out of {}: {}")
     UIDS_RAISED = Sentence("uids-raised", "its next UID is {} now")
     UIDS_ANEW = Sentence("uids-anew", "its UIDs start anew, because {}")
-    UIDS_NOT_RAISED = Sentence(
-        "uids-not-raised",
-        "its first message has no room for its next UID: run the command below before a mail program looks at it",
-    )
     UIDS_UNKNOWN = Sentence("uids-not-raised", "without --dovecot, Dovecot may give a UID twice")
     KEYWORDS_LOST = Sentence("keywords-lost", "only {} keywords are kept; lost: {}")
     KEYWORDS_ADDED = Sentence("keywords-added", "Dovecot is to add keywords, because {}: {}")

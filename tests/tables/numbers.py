@@ -32,6 +32,7 @@ WITH_OTHER = WITH_OTHER.replace(b"X-UID: 1    \n", b"X-UID: 1    \nX-Keywords: G
 BARE = FROM + b"Subject: a\n\na\n\n"
 # the line of a mailbox whose UIDs go up to a number, and that of another program
 UP_TO_9, UP_TO_12, OF_ANOTHER = b"X-IMAPbase: 1700000000 9", b"X-IMAPbase: 1700000000 12", b"X-IMAP: 1700000000 %010d"
+SHORT_9 = b"X-IMAPbase: 999 9"
 EMPTY = INTERNAL.replace(b"1795694136 0000000002", b"1700000000 0000000003")
 # stands for a UIDVALIDITY that is the time of the run
 NOW = b"1800000000"
@@ -61,7 +62,6 @@ def listed(following: int, files: bytes = b"", validity: int = 1700000000) -> by
 
 USER = f"-u {pwd.getpwuid(os.geteuid()).pw_name if os.geteuid() else OWNER}"
 FLAGS = f"doveadm flags add {USER} "
-UPDATE = f"doveadm mailbox update {USER} "
 # the system has no name for a user, as within a container
 NO_NAME = "import pwd; pwd.getpwuid = lambda number: {}[number]"
 CASES = {
@@ -154,13 +154,22 @@ CASES = {
     ),
     "no room for the next UID": Case(
         first(UP_TO_9, b"X-UID: 9\n"),
-        listed(12, b"10 :1.a\n"),
+        listed(12, b"11 :1.a\n"),
         b"0 later\n",
         ["1.a:2,a"],
-        first(UP_TO_9, b"X-UID: 9\n"),
-        [b"X-UID: 10\n"],
-        ["uids-not-raised", "keywords-added"],
-        [f"{UPDATE}--min-next-uid 12 a", f"{FLAGS}later mailbox a uid 10"],
+        first(UP_TO_9, b"X-UID: 9\n").replace(b"1700000000", NOW),
+        [b""],
+        ["uids-anew", "keywords-added"],
+        [f"{FLAGS}later mailbox a uid 10"],
+    ),
+    "no room for the next UID, nor for the time": Case(
+        first(SHORT_9, b"X-UID: 9\n"),
+        listed(12, b"11 :1.a\n", 999),
+        b"",
+        ["1.a:2,"],
+        first(SHORT_9.replace(b"999", b"998"), b"X-UID: 9\n"),
+        [b""],
+        ["uids-anew"],
     ),
     **{
         f"the next UID is raised: {where}": Case(before, listed(13), b"", [], then, [], ["uids-raised"])
@@ -175,10 +184,9 @@ CASES = {
         listed(13),
         b"",
         [],
-        first(UP_TO_9, b"A: b  \n"),
+        first(UP_TO_9, b"A: b  \n").replace(b"1700000000", NOW),
         [],
-        ["uids-not-raised"],
-        [f"{UPDATE}--min-next-uid 13 a"],
+        ["uids-anew"],
     ),
     "a mailbox that Dovecot keeps empty by a message of its own": Case(
         EMPTY,

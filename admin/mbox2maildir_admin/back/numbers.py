@@ -2,12 +2,13 @@
 
 Dovecot 2.3 takes over a higher last UID in `X-IMAPbase`, with its index and without, and keeps an `X-UID` that is not
 higher. If a Maildir goes on with the UIDs of its mailbox, the messages that go back keep theirs. If it was to, and no
-longer does, UIDVALIDITY is new. Dovecot takes a keyword of a message only if the first message names it. Those that
-have no room there, Dovecot adds by commands, once it serves the mailbox.
+longer does, or if the mailbox has no room for the last one, UIDVALIDITY is new. Dovecot takes a keyword of a message
+only if the first message names it. Those that have no room there, Dovecot adds by commands, once it serves the mailbox.
 """
 import collections
 import fcntl
 import io
+import itertools
 import os
 import pwd
 import re
@@ -211,37 +212,35 @@ class Numbering:
     def raise_uids(self, mailbox: Mailbox, line: UidLine, names: Sequence[bytes], is_dry: bool) -> list[bytes]:
         """Has the first message say all that it has room for; of the rest, says what has Dovecot write it. Returns the
         keywords among these for which there is room."""
-        wanted, head = self.wanted(line.head), line.head
-        header, new = line.header_with(wanted, []), list[bytes]()
+        head, new = line.head, list[bytes]()
+        several = ((one, line.header_with(one, [])) for one in self.heads_wanted(head))
+        wanted, header = next(pair for pair in several if pair[1])
         for name in names:
             longer = line.header_with(wanted, [*new, name])
             if longer:
                 header, new = longer, [*new, name]
         self.is_same, self.given = self.listed is not None and self.listed.validity == wanted.validity, wanted.last
-        more: list[str] = []
         if wanted.last > head.last:
             self.remarks.append(Says.UIDS_RAISED.of(wanted.last + 1))
-            more += ["--min-next-uid", str(wanted.last + 1)]
         if wanted.validity != head.validity:
             self.remarks.append(Says.UIDS_ANEW.of("its UIDVALIDITY is %d now" % wanted.validity))
-            more += ["--uid-validity", str(wanted.validity)]
-        if more and not header:
-            self.remarks = [Says.UIDS_NOT_RAISED.of()]
-            self.next = run_next(Runs.UPDATE_MAILBOX, *of_this_user(), *more, self.name)
         if header and header != line.header and not is_dry:
             line.write(mailbox, header)
         return new
 
-    def wanted(self, head: MailboxHead) -> MailboxHead:
-        """What a mailbox with this head is to say."""
-        is_same = self.listed is not None and self.listed.validity == head.validity
-        if self.listed and is_same and self.is_numbered:
-            return head._replace(last=max(head.last, self.listed.following - 1))
-        if is_same or self.is_numbered:
-            moment, used = int(time.time()), max(head.validity, self.listed.validity if self.listed else 0)
-            validity = max(moment, used + 1)
-            return head._replace(validity=validity if validity <= MOST_VALIDITY else moment)
-        return head
+    def heads_wanted(self, head: MailboxHead) -> Iterator[MailboxHead]:
+        """What a mailbox with this head is to say: the first of these for which it has room. There always is some for
+        another UIDVALIDITY of as many digits."""
+        listed = self.listed.validity if self.listed else 0
+        if self.listed and listed == head.validity and self.is_numbered:
+            yield head._replace(last=max(head.last, self.listed.following - 1))
+        elif listed != head.validity and not self.is_numbered:
+            yield head
+        moment, above = int(time.time()), max(head.validity, listed) + 1
+        below = range(10 ** len(str(head.validity)) - 1, 0, -1)
+        for one in itertools.chain([max(moment, above), moment, above], below):
+            if one not in (head.validity, listed) and one <= MOST_VALIDITY:
+                yield head._replace(validity=one)
 
     def keywords(self, mail: Mail) -> list[bytes]:
         """The keywords of a file."""
