@@ -678,6 +678,24 @@ def a_folder_that_people_renamed(home: Path) -> None:
         equal("the folders", folders_in(home / "M"), wanted)
 
 
+def two_labels_of_one_folder(home: Path) -> None:
+    """None of them takes mail of the other for its own: both are left while a link leads from one to the other, which
+    may lead there only once that one is made. The other folders are done."""
+    takeout(home, [("one", "Inbox"), ("two", "Garden"), ("three", "Shed")])
+    make_maildir(home / "M")
+    (home / "M/.Shed").symlink_to(".Garden")
+    for left in ["Shed"], ["Garden", "Shed"]:
+        rows = by_json("migrate --labels M t.mbox", home).rows
+        equal("what is left", [row["folder"] for row in rows if row["reason"] == "no-folder"], left)
+        equal("whether others are done", [row["reason"] for row in rows].count(None), 3 - len(left))
+        equal("what is there", [len(subjects(home / f"M/{name}")) for name in (".", ".Garden")], [1, 1])
+    equal("what is printed", run_printed(rows[1].command, home).out.count("M/.Shed -> .Garden"), 1)
+    (home / "M/.Shed").unlink()
+    expect("migrate --labels M t.mbox", home, 0, None)
+    equal("without the link", folders_in(home / "M"), {"": ["one"], ".Garden": ["two"], ".Shed": ["three"]})
+    equal("verify", run("verify M t.mbox", home).status, 0)
+
+
 def a_folder_that_its_owner_may_not_change(home: Path) -> None:
     """An undo leaves this folder, and takes what went into the others."""
     takeout(home, RESERVED[:2])

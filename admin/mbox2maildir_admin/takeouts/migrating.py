@@ -6,7 +6,7 @@ import functools
 import os
 from collections.abc import Iterator, Sequence
 from dataclasses import dataclass
-from typing import Any
+from typing import Any, Optional
 
 from ..faults import Fault, Left, Reason
 from ..labels.choosing import ONE, Choosing
@@ -17,7 +17,7 @@ from ..ledger.ledger import Ledger
 from ..ledger.match import cores_of
 from ..ledger.prepared import has_list
 from ..ledger.record import Record, is_gone, unspelled
-from ..maildir.folders import folders_in, name_of
+from ..maildir.folders import folder_shown, folders_in, name_of
 from ..maildir.making import real_place
 from ..maildir.disk import Need, Syncs
 from ..mbox.fields import headers_at
@@ -30,19 +30,22 @@ from ..migration.several import Several, refuse
 from ..migration.steps import Contents, Part
 from ..migration.options import Options
 from ..migration.known import Opened
-from ..nexts import Answer
+from ..migration.trees import Identity, identity
+from ..nexts import Answer, Runs, run_next
 from ..program import Program, find_program
 from ..readings.plans import Question
 from ..readings.reading import UNDECIDED
 from ..readings.texts import Choice, Text, choice_at_once, read_messages
 from ..remarks import Says
-from ..terminal import complain, named, quoted
+from ..terminal import complain, named, operand, quoted
 
 NO_MESSAGE = "it has no message, and so no labels"
 WITHOUT_LABELS = "it was migrated without --labels, so all of its mail is in one folder"
 OTHERWISE = "it was migrated with other words about its labels: %s"
 # what is said of a label that is named and that no message has; and of those that are spelled alike
 NOT_THERE, ALIKE = "--label %s=%s: no message that was read has this label", "; spelled alike: %s"
+# each would take the mail of the other for its own
+ONE_PLACE = "its folder is that of %s too: a link leads there, or this disk has one name for both"
 # nothing of it would be finished or removed
 ONLY_PREPARED = "mail is only prepared in %s, and --labels is for a Maildir without such mail"
 
@@ -91,6 +94,8 @@ class Takeouts(Migration):
         self.observer, self.syncs = observer, Syncs(Several.tell_synced)
         # the labels of the messages that were read
         self.labels: set[str] = set()
+        # the folders of the Takeout at work that are there, and their paths, by what shows which folder is at a path
+        self.placed: collections.defaultdict[Optional[Identity], dict[bytes, bytes]] = collections.defaultdict(dict)
         # the tie of the answer for several mailboxes that decided about the Takeout at work, if one did
         self.tie = ""
 
@@ -146,6 +151,9 @@ class Takeouts(Migration):
                 now = Noted(choosing, folders, takeout.languages)
                 note(self.record, opened.mailbox, now, len(takeout.inventory))
                 self.observer.total += len(folders) - 1
+                self.placed.clear()
+                for folder in folders:
+                    self.into(folder, opened)
                 for folder in folders[:-1]:
                     self.tell_once_synced(self.bring_into(folder, takeout, opened))
                     self.observer.begin()
@@ -229,11 +237,28 @@ class Takeouts(Migration):
                 raise self.said_otherwise(opened, noted.choosing)
             yield Takeout(choice, text, inventory, sorting.folders(), sorting.languages)
 
+    def into(self, folder: bytes, opened: Opened) -> Opened:
+        """The Takeout in a folder of labels, which people may have given another name. Notes where that is."""
+        name = self.record.name_now(folder, opened.mailbox.path)
+        one = Opened.into(self.record.maildir, name, opened.mailbox)
+        key = identity(one.folder)
+        if key:
+            self.placed[key][folder] = one.folder
+        return one
+
     def bring_into(self, folder: bytes, takeout: Takeout, opened: Opened) -> Outcome:
-        """Brings the messages of one folder, which people may have given another name."""
+        """Brings the messages of one folder. It is left if another one is at its place, as may be known only once that
+        is made."""
         try:
-            name = self.record.name_now(folder, opened.mailbox.path)
-            return self.transfer(Opened.into(self.record.maildir, name, opened.mailbox), self.part(folder, takeout))
+            one = self.into(folder, opened)
+            several = self.placed[identity(one.folder)]
+            others = [name for name in several if name != folder]
+            if others:
+                then = run_next(Runs.LIST_ITSELF, *map(operand, several.values()))
+                raise Left(ONE_PLACE % folder_shown(others[0]), Reason.NO_FOLDER, then)
+            ended = self.transfer(one, self.part(folder, takeout))
+            self.into(folder, opened)
+            return ended
         except (Fault, OSError) as fault:
             return Outcome(row_left(opened.mailbox.path, folder, fault))
 
