@@ -151,11 +151,11 @@ def fault_of(error: Union[Fault, OSError], path: bytes) -> Fault:
         # the folder above shows why it could not be made
         then = run_next(Runs.LIST_ITSELF, operand(place if may_be(is_there, place) else os.path.dirname(place) or b"."))
     elif is_absent:
-        # the folder above shows what is there
+        # the folder above shows what is there, and what stands in place of a folder shows itself
         above = place
-        while above and not may_be(is_folder, above):
+        while above and not may_be(is_there, above):
             above = os.path.dirname(above)
-        then = run_next(Runs.LIST, operand(above or b"."))
+        then = run_next(Runs.LIST if may_be(is_folder, above or b".") else Runs.LIST_ITSELF, operand(above or b"."))
     if place != path:
         return Fault(why, Reason.ERROR, then, place=place)
     return Left(why, Reason.MISSING if is_absent else Reason.ERROR, then)

@@ -115,7 +115,7 @@ ERRORS = [
         "box: it is a file, not a Maildir: the Maildir comes first",
         "    name a Maildir, or ..., such as Maildir\n",
     ),
-    ("migrate box/x two", "box/x: Not a directory", RUN + "ls .\n"),
+    ("migrate box/x two", "box/x: Not a directory", RUN + "ls -ld box\n"),
     (
         "migrate --dry-run N There box",
         "There: it is a Maildir, not a mailbox: the Maildir comes first",
@@ -162,7 +162,7 @@ def words_and_files(home: Path) -> None:
         ("verify There There", "There: left (maildir): it is a Maildir, not a mailbox\n    leave it as it is\n"),
         ("kind mistyped", "mistyped: left (missing): No such file or directory\n" + RUN + "ls .\n"),
         ("kind old/mistyped", "old/mistyped: left (missing): No such file or directory\n" + RUN + "ls old\n"),
-        ("kind box/x", "box/x: left (missing): Not a directory\n" + RUN + "ls .\n"),
+        ("kind box/x", "box/x: left (missing): Not a directory\n" + RUN + "ls -ld box\n"),
         ("kind pipe", "pipe: left (no-file): it is not a regular file\n    leave it: only a regular file, or ...\n"),
         ("kind empty", "empty: left (no-mailbox): it contains no mailbox\n    there is nothing to be done\n"),
     ):
