@@ -24,6 +24,10 @@ NOT_MET = "left (prepared): it is only prepared, and no mailbox of this command 
 SYNC_FAILED = "a: left (sync-failed): its sync failed: read the system's log and mount the disk again before you ..."
 # a last pass that is killed once all is placed
 KILLED = killed(LAST)
+# into which folders a command says that mailboxes may go
+BRINGS = (
+    "printed() { mbox2maildir-admin migrate --now \"$@\" | grep -v -e --undo | grep -o -e '--folder [a-z]'; }; printed"
+)
 TEN: list[Step] = [*((f"old/{number}", ONE) for number in range(10)), FIRST_OF_TREE]
 ALL_TEN = " ".join(f"{number}/one" for number in range(10))
 # of a mailbox that is not met, the path is given that it has without a link
@@ -306,6 +310,14 @@ STORIES: dict[str, list[Step]] = {
         "!mbox2maildir-admin migrate --now --folder y M a >said; test $(grep -c -e '--folder x' said) = 1",
         *("!grep -q -e '--undo.* --folder x' said", "= x/one y/one .x+"),
         *(("migrate --undo --folder x M a", "a: undone: removed 1 message"), "= y/one"),
+    ],
+    # what is printed brings the mailbox into one folder at most, and asks for no tree that has another name now
+    "its_folder_was_renamed": [
+        *steps(("old/a", ONE), ("old/b", TWO), FIRST_OF_TREE, "!mv M/.a M/.x", FIRST_OF_TREE),
+        f"!test \"$({BRINGS} M old/b)\" = '--folder a'",
+        "!mv old older; mbox2maildir-admin migrate --now M older >said; grep -q -e '--undo.* --folder x' said",
+        f'!test -z "$(grep bring said; {BRINGS} M older; {BRINGS} M older/b)"',
+        "= a/one b/two x/one .x+",
     ],
     "undone_in_the_folder_that_is_named": [
         *(("a", ONE), FIRST, "!mv a b", ("migrate --undo --folder INBOX M b", "b: undone: removed 1 message"), "="),

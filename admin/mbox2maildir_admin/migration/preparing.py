@@ -32,7 +32,7 @@ import enum
 import functools
 import os
 import time
-from collections.abc import Container, Iterable, Iterator, Sequence
+from collections.abc import Container, Iterable, Iterator, Mapping, Sequence
 from typing import NamedTuple, Optional
 
 from ..faults import Fault, Left, Reason
@@ -403,9 +403,9 @@ class PreparedBefore(NamedTuple):
     path: str
     tree: str
 
-    def path_in(self, tree: bytes) -> bytes:
-        """The path of the mailbox in the tree as it is named now."""
-        return os.path.join(tree, unspelled(self.path[len(self.tree) + 1 :]))
+    def path_in(self, tree: Optional[bytes]) -> bytes:
+        """The path of the mailbox, in the tree as it is named now, if that is known."""
+        return os.path.join(tree, unspelled(self.path[len(self.tree) + 1 :])) if tree else unspelled(self.path)
 
 
 class Leftovers:
@@ -437,22 +437,32 @@ class Leftovers:
                     left += [one] * Preparation(self.record, one.name, ledger).is_open
             except (Fault, OSError) as fault:
                 yield row_left(unspelled(one.path), one.name, fault)
-        now = {tree: unspelled(tree) for tree in map(spelled, self.trees)}
-        met = {one.tree: real_path(went[one.name]) for one in self.listed if one.tree and one.name in went}
-        for tree, path in met.items():
-            now[tree] = top_above(path, self.trees)
+        now = self.trees_now(went)
         absent = [one for one in left if now.get(one.tree) and not is_there(one.path_in(now[one.tree]))]
         many, all_of = (collections.Counter(one.tree for one in several) for several in (absent, self.listed))
         for one in left:
+            place = one.path_in(now.get(one.tree))
             if one not in absent:
-                path = unspelled(one.path)
-                yield self.left(one, NOT_MET, path, real_path(path) in map(real_path, went.values()))
+                yield self.left(one, NOT_MET, place, self.is_elsewhere(one, place, went.values()))
             elif many[one.tree] * ONE_IN <= all_of[one.tree]:
                 row = remove_prepared(self.record, unspelled(one.path), one.name, self.options.dry)
                 if row:
                     yield row._replace(remarks=(Says.MAILBOX_GONE.of(), *row.remarks))
             else:
-                yield self.left(one, MANY_GONE % (many[one.tree], all_of[one.tree]), one.path_in(now[one.tree]))
+                yield self.left(one, MANY_GONE % (many[one.tree], all_of[one.tree]), place)
+
+    def trees_now(self, went: Mapping[bytes, bytes]) -> dict[str, bytes]:
+        """The paths that trees have now, by those that they had when a folder was prepared."""
+        now = {tree: unspelled(tree) for tree in map(spelled, self.trees)}
+        met = {one.tree: real_path(went[one.name]) for one in self.listed if one.tree and one.name in went}
+        return {**now, **{tree: top_above(path, self.trees) for tree, path in met.items()}}
+
+    def is_elsewhere(self, one: PreparedBefore, place: bytes, went: Iterable[bytes]) -> bool:
+        """Whether the mailbox of a folder, which is to be at this place, is one of those that went into others, or has
+        another one, which people may have renamed: its mail would come a second time."""
+        given = (self.record.folders_given(path)[-1:] for path in (place, unspelled(one.path)))
+        others = {name for name, in filter(None, given) if may_be(is_there, folder_path(self.root, name))}
+        return real_path(place) in map(real_path, went) or not others <= {one.name}
 
     def left(self, one: PreparedBefore, why: str, place: bytes, went_elsewhere: bool = False) -> Row:
         """The row of a folder that stays only prepared, whose mailbox is to be at this place: that is migrated, unless
