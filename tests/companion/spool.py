@@ -354,7 +354,11 @@ def by_a_link(home: Path, words: list[str]) -> None:
     for each in ([*words, "aside"], ["verify", "--users", "aside"], ["back", "--users", "--dry-run", "aside"]):
         status, out, _ = run([*each, "m61one", "m61sales"], home)
         equal(f"{each}: {out}", (status, "2 mailboxes: " in out), (0, True))
-    (home / "aside").rename(home / "spool")
+    (home / "aside").rename(home / "older")
+    mailbox(home / "older/m61sales", TWO + THREE)
+    equal("one that has grown", run([*words, "older", "m61one", "m61sales"], home)[0], 0)
+    equal("and what is there", subjects(home / "homes/m61one/Maildir/.Sales"), ["three", "two"])
+    (home / "older").rename(home / "spool")
 
 
 def as_objects(home: Path) -> None:

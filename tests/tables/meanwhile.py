@@ -289,6 +289,14 @@ STORIES: dict[str, list[Step]] = {
         *("= a/one b/one c/two", "!rm -r M; mv kept M", ("migrate --undo M new/b", "new/b: undone: removed 1 message")),
         *("= a/one c/two", "!printf 'Subject: new\\n\\n' >M/.c/new/1.host", ("back M new/d", "new/d: back")),
     ],
+    # of two mailboxes with which one begins, the larger one counts; mail of an empty one, and other mail, is new
+    "a_tree_was_moved_and_some_of_it_has_grown": [
+        *(("old/a", ONE + TWO), ("old/b", ONE), ("old/c", b""), "migrate M old", "!mv old new; mv new/a new/d"),
+        *(("new/d", ONE + TWO + THREE), ("verify M new/d", "new/d: not whole: nowhere 1"), ("new/b", ONE + FOUR)),
+        ("migrate M new/b new/d", "new/b: done: it grew by 1 message\nnew/d: done: it grew by 1 message"),
+        *("= a/one a/three a/two b/four b/one", "migrate --undo M new/b", "= a/one a/three a/two"),
+        *(("new/e", FOUR), ("migrate M new/e", "new/e: done"), "= a/one a/three a/two four"),
+    ],
     # the index knows the bytes that the first one had, though it has others by now
     "a_mailbox_was_moved_and_another_one_has_its_path": [
         *(("old/a", ONE + TWO), "migrate M old", "!mv old/a old/b; touch old/b.lock", ("old/a", THREE)),

@@ -2,7 +2,7 @@
 read by `pread`, since the offset of its descriptor belongs to mbox2maildir alone."""
 import hashlib
 import os
-from collections.abc import Iterable, Iterator
+from collections.abc import Collection, Iterable, Iterator
 from typing import Optional, Union
 
 from ..faults import Fault, Reason
@@ -187,6 +187,13 @@ class Mailbox:
         while self.file.read(BLOCK):
             pass
         return self.size, self.digest.hexdigest()
+
+    def beginnings(self, sizes: Collection[int]) -> dict[int, str]:
+        """The SHA-256 of the beginnings of the text that have these sizes, by these."""
+        digest = Digest(sizes)
+        for block in Reader(self.number, end=max(sizes, default=0)).blocks():
+            digest.update(block)
+        return digest.beginnings
 
     def has_changed(self) -> bool:
         """Whether the text has changed since it was opened."""
