@@ -1,6 +1,7 @@
 """mbox2maildir-admin back --dovecot: what a mailbox says of UIDs and keywords then, by the lists that Dovecot wrote
 beside its folder, and the list of subscriptions. The texts were worked out by hand, by what Dovecot 2.3 was seen to do
 with them."""
+import itertools
 import os
 import pwd
 import re
@@ -256,6 +257,52 @@ def numbers(home: Home) -> None:
         equal(f"{what}: the commands", commands, [*case.commands])
 
 
+# what came into a mailbox whose UIDs went up to 3, the list of its folder then, and what is said if the new mail there
+# goes back, and if it is gone
+NEW, TAIL = b"Subject: new\n%s\na\n\n", b"Subject: tail\n%s\ntail\n\n"
+ANEW, RAISE = ["uids-anew"], ["uids-raised"]
+GREW = {
+    "the UID of the new mail": (TAIL % b"X-UID: 4\n", listed(5, b"4 :1.a\n"), ANEW, ANEW),
+    "a UID below it": (TAIL % b"X-UID: 4\n", listed(6, b"5 :1.a\n"), ANEW, ANEW),
+    "none of the folder": (TAIL % b"X-UID: 5\n", listed(5, b"4 :1.a\n"), [], []),
+    "none yet": (TAIL % b"", listed(5, b"4 :1.a\n"), RAISE, RAISE),
+    "it is the new mail": (NEW % b"X-UID: 4\n", listed(5, b"4 :1.a\n"), ["there-already"], ANEW),
+    "it is that by another UID": (NEW % b"X-UID: 4\n", listed(6, b"5 :1.a\n"), ["there-already", *ANEW], ANEW),
+}
+
+
+def uids_of_two_servers(home: Home) -> None:
+    """A server has given UIDs to what came into the mailbox, and another one to what came into the Maildir: no UID
+    means two messages."""
+    for (what, (text, its, *says)), is_gone in itertools.product(GREW.items(), (0, 1)):
+        home.begin("--jobs", "1", *DOVECOT)
+        home.write("mail/a", KEPT)
+        home.done("mail")
+        last = re.search(rb"X-UID: (\d)\n", text)
+        home.write("mail/a", KEPT.replace(b"0000000003", b"%010d" % int(last[1] if last else 3)) + FROM + text)
+        if not is_gone:
+            home.place_file("1.a:2,", NEW[:-1] % b"", "a")
+        home.place_file("../dovecot-uidlist", its, "a")
+        row = home.place.run(["back", "--json", "--now", *DOVECOT, "M", "mail"]).rows[0]
+        equal(f"{what}, {is_gone}: the remarks", words_of(row), says[is_gone])
+        uids = re.findall(rb"X-UID: (\d)\n", (home.path / "mail/a").read_bytes())
+        equal(f"{what}, {is_gone}: no UID twice", sorted(set(uids)), sorted(uids))
+
+
+def a_uid_of_two_servers_once_migrated(home: Home) -> None:
+    """The same if that came to the Maildir too, under another UID, before the way back."""
+    home.begin("--jobs", "1", *DOVECOT)
+    home.write("mail/a", KEPT)
+    home.done("mail")
+    home.place_file("1.a:2,", NEW[:-1] % b"", "a")
+    home.write("mail/a", KEPT.replace(b"0000000003", b"0000000004") + FROM + TAIL % b"X-UID: 4\n")
+    home.done("mail")
+    tail = next(path.name for path in home.files("a") if b"tail" in path.read_bytes())
+    home.place_file("../dovecot-uidlist", listed(6, b"4 :1.a\n5 :%s\n" % tail.partition(":")[0].encode()), "a")
+    row = home.place.run(["back", "--json", "--now", *DOVECOT, "M", "mail"]).rows[0]
+    equal("the remarks", words_of(row), ANEW)
+
+
 def keywords_until_they_are_there(home: Home) -> None:
     """Each run prints the commands, by the name that the mailbox has for Dovecot, until the mailbox names a keyword."""
     home.begin("--jobs", "1", *DOVECOT)
@@ -360,6 +407,8 @@ def no_list_that_can_be_written(home: Home) -> None:
 if __name__ == "__main__":
     cases = (
         numbers,
+        uids_of_two_servers,
+        a_uid_of_two_servers_once_migrated,
         keywords_until_they_are_there,
         keywords_of_another_folder,
         subscriptions,

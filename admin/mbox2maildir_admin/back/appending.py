@@ -81,14 +81,29 @@ class Way(NamedTuple):
         ledger = Ledger(opened.folder, dry=self.options.dry)
         # the UIDs of its folder, whatever the names of both are now
         is_numbered = self.record.has_numbered({*filter(is_gone, ledger.paths()), *self.record.names_of(mailbox.path)})
+        known = Known(self.record, ledger, opened)
         if self.options.dovecot:
             name = self.places.name_of(target.path, target.folder)
             numbering = Numbering(name, Listed.of(opened.folder), is_numbered)
+            # of the size that it had then, it has got no UIDs since
+            then = self.record.numbered(target.folder)
+            if numbering.goes_on(mailbox) and not (then and then.about.size == mailbox.size):
+                self.look(numbering, known)
+                source = ledger.sources.get(next(iter(known.paths()), known.path), Source())
+                numbering.compare(ledger, target, source.known(numbering.inventory)[0])
             numbering.say(mailbox, target, self.options.dry)
         else:
             numbering = Numbering()
             numbering.remarks += [Says.UIDS_UNKNOWN.of()] * is_numbered
-        return numbering, Known(self.record, ledger, opened)
+        return numbering, known
+
+    def look(self, numbering: Numbering, known: Known) -> None:
+        """Has the UIDs taken of a mailbox to which nothing is appended yet. What cannot be read as it was is said once
+        mail goes back."""
+        with contextlib.suppress(Left):
+            style = next(styles_of(known, self.disk, self.options.dovecot), None)
+            if style:
+                style.messages(known.opened.mailbox, look=numbering.take)
 
     @contextlib.contextmanager
     def mailbox_at(self, path: bytes) -> Iterator[Mailbox]:
@@ -135,11 +150,7 @@ class Way(NamedTuple):
         with self.mailbox_at(target.path) as mailbox:
             numbering, known = self.say_uids(target, mailbox)
             if numbering.is_incomplete:
-                # what cannot be read as it was is said once mail goes back
-                with contextlib.suppress(Left):
-                    style = next(styles_of(known, self.disk, self.options.dovecot), None)
-                    if style:
-                        style.messages(mailbox, look=numbering.take)
+                self.look(numbering, known)
                 numbering.add_keywords(target.returned, self.options.dry)
         return row._replace(remarks=(*numbering.remarks, *row.remarks), next=numbering.next)
 

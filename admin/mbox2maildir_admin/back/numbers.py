@@ -2,8 +2,9 @@
 
 Dovecot 2.3 takes over a higher last UID in `X-IMAPbase`, with its index and without, and keeps an `X-UID` that is not
 higher. If a Maildir goes on with the UIDs of its mailbox, the messages that go back keep theirs. If it was to, and no
-longer does, or if the mailbox has no room for the last one, UIDVALIDITY is new. Dovecot takes a keyword of a message
-only if the first message names it. Those that have no room there, Dovecot adds by commands, once it serves the mailbox.
+longer does, if both have given a UID to different messages, or if the mailbox has no room for the last UID, UIDVALIDITY
+is new. Dovecot takes a keyword of a message only if the first message names it. Those that have no room there, Dovecot
+adds by commands, once it serves the mailbox.
 """
 import collections
 import fcntl
@@ -30,6 +31,7 @@ from ..flags.dovecot_headers import (
     internal_head,
 )
 from ..kinds.starts import text_start
+from ..ledger.ledger import Ledger
 from ..maildir.files import letters_of
 from ..mbox.bases import before_info
 from ..mbox.fields import Header, headers_at
@@ -156,6 +158,7 @@ class UidLine(NamedTuple):
         finally:
             fcntl.fcntl(mailbox.number, fcntl.F_SETFL, flags)
         os.fsync(mailbox.number)
+        mailbox.digest = None
         mailbox.take_state()
         if mailbox.at(self.offset, len(header)) != header:
             raise Left(NOT_KEPT, Reason.CHANGED)
@@ -193,6 +196,27 @@ class Numbering:
         self.is_incomplete = False
         self.inventory = Inventory()
         self.uids: Sequence[int] = ()
+
+    def goes_on(self, mailbox: Mailbox) -> bool:
+        """Whether the Maildir goes on with the UIDs of an open mailbox."""
+        line = UidLine.of(mailbox) if mailbox.size and self.is_numbered else None
+        if line and self.listed and self.listed.validity == line.head.validity:
+            self.is_same, self.given = True, max(line.head.last, self.listed.following - 1)
+        return self.is_same
+
+    def compare(self, ledger: Ledger, target: Target, are_known: Sequence[int]) -> None:
+        """Has the Maildir go on no longer if a message of the text that was looked at has a UID that the Maildir may
+        have given to another one: it has a different one there, or did not come from the mailbox."""
+        assert self.listed, "the Maildir goes on"
+        names = [(line.message.name, line.message.core) for line in ledger.message_lines(None)]
+        names += [(mail.before, mail.core) for mail in (*target.returned, *target.mails)]
+        uids: collections.defaultdict[bytes, set[int]] = collections.defaultdict(set)
+        for name, core in names:
+            uids[core] |= {self.listed.uids[name]} if name in self.listed.uids else set()
+        for place, uid in enumerate(self.uids):
+            its = uids[self.inventory.core(place)]
+            if 0 < uid < self.listed.following and (uid not in its if its else not are_known[place]):
+                self.is_numbered = False
 
     def say(self, mailbox: Mailbox, target: Target, is_dry: bool) -> None:
         """Has the mailbox say what it is to say of its UIDs and keywords, before mail is appended: if that is
