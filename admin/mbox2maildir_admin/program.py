@@ -14,7 +14,7 @@ from . import PROGRAM
 from .faults import Fault, Left, Reason
 from .looks import is_file, is_folder, real_path
 from .nexts import Runs, Todo, run_next, task
-from .signals import INTERRUPTS, Process, running, status_of
+from .signals import INTERRUPTS, Process, failure_of, running
 from .terminal import named
 from .units import Offset
 
@@ -72,13 +72,11 @@ class Program:
             stdout=subprocess.PIPE,
             stderr=subprocess.PIPE,
         ) as child, INTERRUPTS.let_through():
-            said = self.wait_for(child, number, say_offset)
+            failure = self.wait_for(child, number, say_offset)
             assert child.stdout is not None, "it is a pipe"
             line = os.read(child.stdout.fileno(), MOST_SAID)
-        if child.returncode:
-            is_killed = child.returncode < 0
-            ended = "was killed by signal %d" if is_killed else "said nothing, and ended with status %d"
-            raise Failed(said or "convert %s" % ended % abs(child.returncode))
+        if failure:
+            raise Failed(failure)
         placed = PLACED.search(line)
         return Converted(Offset(os.lseek(number, 0, os.SEEK_CUR)), int(placed[1]) if placed else 0)
 
@@ -94,8 +92,8 @@ class Program:
                 yield listing
 
     def wait_for(self, child: Process, number: int, say_offset: Callable[[Offset], None]) -> str:
-        """Waits for the end of the program, and returns what it said. A program that was stopped says nothing
-        meanwhile."""
+        """Waits for the end of the program, and returns what it said if it failed. A program that was stopped says
+        nothing meanwhile."""
         assert child.stderr is not None, "it is a pipe"
         said, last, poll = b"", None, select.poll()
         poll.register(child.stderr, select.POLLIN)
@@ -108,8 +106,8 @@ class Program:
             if ready:
                 piece = os.read(child.stderr.fileno(), MOST_SAID)
                 if not piece:
-                    status_of(child)
-                    return said.decode("utf-8", "replace").strip()
+                    failure = failure_of(child)
+                    return failure and (said.decode("utf-8", "replace").strip() or "convert " + failure)
                 said = (said + piece)[:MOST_SAID]
             place = Offset(os.lseek(number, 0, os.SEEK_CUR))
             if place != last:
@@ -164,8 +162,8 @@ class Listing:
         """Checks that the program, which prints no more lines, did not fail. Raises Fault with what it said, such as
         that the system lacks a library that it needs."""
         assert self.child.stderr is not None, "it is a pipe"
-        status = status_of(self.child)
-        if status:
+        failure = failure_of(self.child)
+        if failure:
             said = os.read(self.child.stderr.fileno(), MOST_SAID).decode("utf-8", "replace").strip()
-            why = said.split("\n")[0] or "it ended with %d" % status
+            why = said.split("\n")[0] or "it " + failure
             raise Fault("`%s list` failed: %s" % (PROGRAM, why), Reason.CONVERT_FAILED)

@@ -99,7 +99,9 @@ def running(words: Sequence[bytes], **settings: Any) -> Iterator[Process]:
                 stream.close()
 
 
-def status_of(child: Process) -> int:
-    """Waits for the end of a program, and returns its status, or the signal that ended it. The process stays in the
-    table of processes, so that a signal that comes meanwhile cannot lose its end."""
-    return os.waitid(os.P_PID, child.pid, os.WEXITED | os.WNOWAIT).si_status
+def failure_of(child: Process) -> str:
+    """Waits for the end of a program, and returns how it failed, or nothing. The process stays in the table of
+    processes, so that a signal that comes meanwhile cannot lose its end."""
+    end = os.waitid(os.P_PID, child.pid, os.WEXITED | os.WNOWAIT)
+    how = "ended with status %d" if end.si_code == os.CLD_EXITED else "was killed by signal %d"
+    return how % end.si_status if end.si_status else ""

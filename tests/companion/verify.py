@@ -221,7 +221,7 @@ def verified_by_others(home: Path) -> None:
         ("echo 1 abc.1", "line 1: message 1 differs from what `mbox2maildir list` gave"),
         (f"{home}/real list; echo more", "`mbox2maildir list` gave more messages than were read here"),
         ("echo no library >&2; exit 1", "`mbox2maildir list` failed: no library"),
-        (f"{home}/real list; exit 1", "`mbox2maildir list` failed: it ended with 1"),
+        (f"{home}/real list; exit 1", "`mbox2maildir list` failed: it ended with status 1"),
     ):
         if not (home / "real").exists():
             os.rename(home / "bin/mbox2maildir", home / "real")

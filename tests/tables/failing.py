@@ -10,7 +10,7 @@ EMPTY = "!rmdir M/tmp"
 ALL_IS_THERE: list[Step] = [("a", TWO), *killed("migrate M a")]
 # programs that say nothing
 SILENT = {
-    "exit 3": "a: left (convert-failed): convert said nothing, and ended with status 3; 1 of 2 messages are there",
+    "exit 3": "a: left (convert-failed): convert ended with status 3; 1 of 2 messages are there",
     "kill -9 $$": "a: left (convert-failed): convert was killed by signal 9; 1 of 2 messages are there",
 }
 ALL = '"$real" "$@"; '

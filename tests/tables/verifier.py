@@ -49,8 +49,8 @@ LISTS = {
     r"REAL | sed -E '2s/([^ ]+ [^ ]+ [^ ]+ [^ ]+) [0-9]+/\1 1/'": "line 7: message 2 differs from what ...",
     "echo no library >&2; echo more >&2; exit 1": "`mbox2maildir list` failed: no library",
     "REAL; echo late >&2; exit 1": "`mbox2maildir list` failed: late",
-    "exit 3": "`mbox2maildir list` failed: it ended with 3",
-    "kill -9 $$": "`mbox2maildir list` failed: it ended with 9",
+    "exit 3": "`mbox2maildir list` failed: it ended with status 3",
+    "kill -9 $$": "`mbox2maildir list` failed: it was killed by signal 9",
 }
 
 

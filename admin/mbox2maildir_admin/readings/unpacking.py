@@ -19,7 +19,7 @@ from ..mbox.files import BLOCK, Reader
 from ..mbox.lines import Said
 from ..mbox.mailbox import Mailbox
 from ..progress import length
-from ..signals import INTERRUPTS, running, status_of
+from ..signals import INTERRUPTS, failure_of, running
 from ..units import LineNumber, Offset
 from .copies import copy_of
 from .plans import OtherKind
@@ -142,9 +142,9 @@ def given_by(name: str, mailbox: Mailbox) -> Iterator[bytes]:
         assert child.stdout is not None, "it is a pipe"
         pipe = child.stdout.fileno()
         yield from iter(lambda: os.read(pipe, BLOCK), b"")
-        status = status_of(child)
-    if status:
-        raise Left("it is damaged or incomplete: `%s -dc` ended with status %d" % (name, status), Reason.PACKED)
+        failure = failure_of(child)
+    if failure:
+        raise Left("it is damaged or incomplete: `%s -dc` %s" % (name, failure), Reason.PACKED)
 
 
 def unpacked(mailbox: Mailbox, form: Form, folder: bytes) -> Mailbox:
