@@ -568,6 +568,17 @@ STORIES: dict[str, list[Step]] = {
         *(("migrate --folder B M box", "box: done before"), f"!mbox2maildir-admin {UNDO_IN_A}", "= B/one B/two"),
         *("!rm -r M/.B", ("box", ONE + TWO + THREE), ("migrate --folder C M box", "box: done")),
     ],
+    # what is printed undoes it where it was, also in INBOX
+    "out_of_inbox": [
+        *(("tree/inbox", ONE), "migrate M tree", "!mv tree/inbox tree/box", "!mbox2maildir-admin migrate M tree >says"),
+        *("= box/one one", "!$(grep -o 'mbox2maildir-admin migrate --undo.*' says)", "= box/one"),
+    ],
+    # a printed answer goes into INBOX if that was named
+    "answered_in_inbox": [
+        *(("box", ONE), "migrate --folder A M box", ("box", ONE + MAY)),
+        "!mbox2maildir-admin migrate --folder INBOX M box >says; true",
+        *("!$(grep -o -m 1 'mbox2maildir-admin migrate --as.*' says)", "= A/one one"),
+    ],
 }
 
 

@@ -412,7 +412,8 @@ class Transfer:
                 Says.ELSEWHERE_FROM.of(*its, named(unspelled(line.path))) if is_other else Says.ELSEWHERE.of(*its)
             )
             if is_moved:
-                undo = self.options.undo_command(self.opened._replace(name=line.about.folder))
+                there = self.options._replace(folder=its[1])
+                undo = there.undo_command(self.opened._replace(name=line.about.folder))
                 then += (Answer(undo, Does.UNDO_THERE),)
         joined = self.known.joined(self.options.names)
         if joined:

@@ -110,8 +110,9 @@ class Options(NamedTuple):
         """The command for a mailbox, or for the one at a path, with the options that were given, and their changes."""
         given: dict[str, Any] = {"decision": self.decision, **changes}
         options = self.of_next()._replace(**given)
-        # with labels, a mailbox has all of its folders
-        folder = [] if self.is_labelled or opened.name == INBOX else words_of(opened.name)
+        # with labels, a mailbox has all of its folders; without a name, one of another run
+        is_default = opened.name == INBOX and self.folder is None
+        folder = [] if self.is_labelled or is_default else words_of(opened.name)
         paths = operand(opened.root), operand(path or opened.mailbox.path)
         return Command.of(Runs.MIGRATE, *options.words(), *folder, *paths)
 
