@@ -1,20 +1,9 @@
 """The command `verify`: whether each message is in the Maildir, or in the Maildirs of many users."""
-import array
-import collections
-import importlib
 import functools
-from itertools import compress, islice
 
-from ..maildir.checking import DOUBTFUL_LINE, NOWHERE, SORTS, THERE, WITHOUT_FIELDS, Check
-from ..maildir.either import Either
-from ..maildir.files import forms_in, paths_of
-from ..mbox.inventory import IN_MEMORY
-from ..migration.outcomes import Detail, Observer, Row, Verdict
 from ..migration.rows import Reporter, Shows
-from ..program import Program, find_program
-from ..readings.texts import Text
-from ..terminal import NAMED
-from ..units import Place, Say
+from ..program import find_program
+from .comparing import compare_mailbox
 from .files import Migrated, each, for_mailboxes
 from .options import Given
 from .running import Telling, reporter_of, run_reported
@@ -27,7 +16,9 @@ def do_verify(given: Given) -> int:
     task: Telling = functools.partial(verify_named, given)
     if given.users:
         # only this one needs what migrates
-        task = importlib.import_module("%s.verify_users" % __package__).verifying_users(given)
+        from .verify_users import verifying_users
+
+        task = verifying_users(given)
     return run_reported(task, reporter, given.report, "run the same command again")
 
 
@@ -36,65 +27,7 @@ def verify_named(given: Given, reporter: Reporter) -> None:
     maildir, *files = given.operands
 
     def verify(one: Migrated) -> None:
-        verify_mailbox(find_program(), reporter, one)
+        compare_mailbox(find_program(), reporter, one)
 
     reporter.total = len(files)
     each(files, lambda path: for_mailboxes(maildir, path, verify, reporter), reporter)
-
-
-def verify_mailbox(program: bytes, observer: Observer, one: Migrated) -> None:
-    """Compares one mailbox with its folder of a Maildir, or with each folder of its labels."""
-
-    def compare(one: Migrated, text: Text) -> None:
-        check = check_of(program, one.folder, text, observer.say(one.file))
-        if text.is_recorded:
-            # it was decided then that no mail is in its From_ lines
-            del check.besides[DOUBTFUL_LINE]
-        observer.row(row_of(one.file, one.name, check))
-
-    one.for_texts(compare, observer)
-
-
-def row_of(path: bytes, folder: bytes, check: Check) -> Row:
-    """The row of a mailbox that was compared with its folder, with the first messages, files and lines of each sort
-    that are named."""
-    sizes, verdict = check.inventory.sizes, Verdict.WHOLE if check.is_right() else Verdict.NOT_WHOLE
-    counts = {sort: check.count(sort) for sort in SORTS}
-    remarks = tuple(sort.remark.of(count) for sort, count in counts.items() if count and sort is not THERE)
-    row = Row(path, folder, "", len(sizes), verdict, size=sum(sizes), remarks=remarks)
-    named = ((sort, islice(check.where(sort), NAMED)) for sort in SORTS if sort.each)
-    details = tuple(Detail(sort.each, sort.remark.word, *where) for sort, several in named for where in several)
-    return row._replace(counts=tuple((sort.remark.word, count) for sort, count in counts.items()), details=details)
-
-
-def check_of(program: bytes, maildir: bytes, text: Text, say: Say) -> Check:
-    """What a look into a Maildir shows of the messages of a text. Raises Fault unless `mbox2maildir list` has the same
-    messages."""
-    with Program(program).listing(text.mailbox.number, text.start) as listing:
-        inventory = text.messages(listing, with_cores=False)
-    either = Either.of(maildir, inventory, text.mailbox, text.start)
-    check = Check(either.inventory, say, either.others())
-    if not either.chosen and text.mailbox.size <= IN_MEMORY:
-        # all files have what is in the text
-        check.look_first = functools.partial(either.inventory.digest_by, text.mailbox)
-    check.look(maildir)
-    check.besides[WITHOUT_FIELDS] = array.array("Q", compress(range(len(inventory)), either.are_bare(check.digests())))
-    take_alike(maildir, text, check)
-    return check
-
-
-def take_alike(maildir: bytes, text: Text, check: Check) -> None:
-    """Takes a file for each message that is nowhere if they differ only in header fields that mail programs write for
-    themselves: another mailbox has brought it. `offers_of` in `ledger/assign.py` has the same rule, by lines of a
-    ledger."""
-    if not check.count(NOWHERE):
-        return
-    inventory, taken = text.messages(), {*check.paths.values()}
-    wanted: collections.defaultdict[bytes, list[Place]] = collections.defaultdict(list)
-    for place in check.places(NOWHERE):
-        wanted[inventory.bare(place)].append(place)
-    for name, path in paths_of(maildir):
-        forms = forms_in(path) if check.inventory.table.own_place(name) is None and path not in taken else None
-        places = wanted.get(forms[1]) if forms else None
-        if places:
-            check.take_alike(places.pop(0), path)

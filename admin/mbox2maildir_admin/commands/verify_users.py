@@ -11,10 +11,10 @@ from ..migration.trees import Tree, link_left
 from ..nexts import Runs
 from ..users.homes import Relay, UserWork
 from ..users.spool import for_users
+from .comparing import compare_mailbox
 from .files import for_planned
 from .options import Given, jobs_in
 from .running import Telling, spool_of
-from .verify import verify_mailbox
 
 
 def verifying_users(given: Given) -> Telling:
@@ -34,7 +34,7 @@ class Verifier(UserWork):
 
     def run(self, names: list[bytes], relay: Relay) -> None:
         """Compares the mailboxes at these paths with the Maildir."""
-        root, verify = self.root, functools.partial(verify_mailbox, self.spool.program, relay)
+        root, verify = self.root, functools.partial(compare_mailbox, self.spool.program, relay)
         with Record.open(root, False) as record:
             pairs = Pairs(record, root, own=names)
             for name in names:
