@@ -535,16 +535,24 @@ def only_a_takeout_has_labels(home: Path) -> None:
 
 
 def a_line_is_asked_about(home: Path) -> None:
-    """What is answered about a line of mail holds for later Takeouts at this path too."""
+    """What is answered about a line of mail holds for later Takeouts at this path too. That a mail begins there is no
+    answer unless it would have labels."""
     doubtful = "".join([message("one", "Inbox"), message("two", "Sent", body="hello\nFrom the shed\n")])
     mailbox(home / "t.mbox", doubtful.encode())
     (row,) = by_json(["migrate", "--labels", "M", "t.mbox"], home).rows
-    equal("the question", (row["verdict"], row["reason"], sorted(row.answers.values())), ("left", "unclear", [2, 3]))
+    equal("the question", (row["verdict"], row["reason"], sorted(row.answers.values())), ("left", "unclear", [2]))
     run_printed(min(row.answers, key=row.answers.__getitem__), home)
     equal("the folders", folders_in(home / "M"), {"": ["one"], ".Sent": ["two"]})
     mailbox(home / "t.mbox", (doubtful + message("three", "Sent")).encode())
     expect("migrate --all --labels M t.mbox", home, 0, None)
     equal("the folders then", folders_in(home / "M"), {"": ["one"], ".Sent": ["three", "two"]})
+    body = "hello\n\n" + message("five", "Sent").rstrip("\n") + "\n"
+    four = message("four", "Inbox", f"Content-Length: {len(body)}\n", body)
+    mailbox(home / "u.mbox", (four + message("six", "Sent", "Content-Length: 6\n")).encode())
+    (row,) = by_json(["migrate", "--labels", "N", "u.mbox"], home).rows
+    equal("of lengths", sorted(row.answers.values()), [2, 3])
+    run_printed(max(row.answers, key=row.answers.__getitem__), home)
+    equal("the folders of these", folders_in(home / "N"), {"": ["four"], ".Sent": ["five", "six"]})
 
 
 def a_line_of_two_is_asked_about(home: Path) -> None:

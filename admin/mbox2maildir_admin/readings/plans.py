@@ -4,9 +4,11 @@ from collections.abc import Callable, Sequence
 from typing import NamedTuple, Optional
 
 from ..faults import Fault, Left, Reason
+from ..flags.clients import gmail_thread
 from ..kinds.look import HowFar, Look
 from ..kinds.making import Recipe, Where
 from ..kinds.others import Holds
+from ..mbox.fields import headers_at
 from ..mbox.lines import AskedAbout, Lines, Said, cut, lines_around
 from ..mbox.mailbox import Mailbox
 from ..nexts import Answer, Command, Does, Phrase, Quote
@@ -109,8 +111,17 @@ class Question(Left):
         self.kind, self.messages, self.most = diagnosis.kind, diagnosis.messages, diagnosis.most
         self.is_takeout = diagnosis.is_takeout
         self.answers, self.doubtful, self.is_on_lines = answers, diagnosis.doubtful(), diagnosis.is_on_lines
+        # whether a line that may begin a message has a header of a Takeout after it
+        offsets = (offset for _, offset in diagnosis.look.doubts.after(0))
+        headers = headers_at(diagnosis.look.mailbox, offsets if self.is_takeout else ())
+        self.may_have_labels = any(map(gmail_thread, headers))
         # returns a decision that is tied to this question
         self.tied: Callable[[Reading], Reading] = lambda decision: decision
+
+    def want_labels(self) -> None:
+        """Drops the answer that a mail begins where it would have no labels, although each mail is to have some."""
+        if not self.may_have_labels:
+            self.answers = [one for one in self.answers if one.does not in (Does.BEGINS, Does.BEGINS_DROP)]
 
     def put(self, command: Callable[[Reading], Command]) -> None:
         """Sets what is next: each answer, with what it says of the mail, and with the command that decides it."""

@@ -163,6 +163,7 @@ class Takeouts(Migration):
             left.next = tuple(Answer(command(labels=choosing), does) for choosing, does in left.says)
             raise
         except Question as question:
+            question.want_labels()
             self.options.put_commands(opened, question)
             raise
 
