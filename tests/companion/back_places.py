@@ -130,6 +130,22 @@ def not_named(home: Home) -> None:
     equal("the mail", {box: subjects_in(box) for box in boxes}, {box: [*its, "new"] for box, its in boxes.items()})
 
 
+def gone_since(home: Home) -> None:
+    """The only mailbox that has mail which went back is gone, as if its disk was not mounted then. That is said until
+    it is there again."""
+    begun(home, {"a": letters(1)})
+    deliver(home, ".n/new/17000.M1.host", new("new"))
+    back(home, "mail")
+    (home.path / "mail/n").rename(home.path / "n")
+    ran = back(home, "mail", status=1)
+    (left,) = (row for row in ran.rows if row["verdict"] == "left")
+    equal("what is said", (left["reason"], left["says"]), ("missing", f"its mailbox is gone: {home.path}/mail/n"))
+    equal("what is to be run", ran.sums.commands, [])
+    (home.path / "n").rename(home.path / "mail/n")
+    back(home, "mail")
+    equal("the mail", subjects_in(home.path / "mail/n"), ["new"])
+
+
 def without_new_or_cur(home: Home) -> None:
     """A copy of the Maildir left out what is empty. What is there goes back, and nothing else was deleted."""
     for gone, there in ("new", "cur/17000.M1.host:2,"), ("cur", "new/17000.M1.host"):
@@ -260,6 +276,7 @@ RULES = (
         through_a_link,
         past_a_link,
         not_named,
+        gone_since,
         without_new_or_cur,
         a_link_between_folders,
         two_files_of_a_name,

@@ -133,6 +133,11 @@ class Places:
             raise Left(NOT_NAMED % named(unspelled(here[0])), Reason.NO_MAILBOX)
         return [found[0] if folder == INBOX else self.new(folder)]
 
+    def are_gone(self, folder: bytes) -> bool:
+        """Whether all mailboxes of a folder are gone."""
+        paths = Ledger(folder_path(self.record.maildir, folder)).paths()
+        return not any(map(is_there, self.found.get(folder, ()))) and all(map(is_gone, paths))
+
     @functools.cached_property
     def paths_named(self) -> set[str]:
         """The paths, as ledgers spell them, of all mailboxes that were named."""

@@ -110,6 +110,8 @@ class Folders:
     def folders(self, found: Findings) -> Iterator[bytes]:
         """The folders with mail that goes back, or with a mailbox, and those about which something is to be said."""
         wanted = {*found.new, *found.moved, *found.changed, *found.deleted, *self.places.found}
+        # what went back may be on a disk that is not mounted now, or was not then
+        wanted.update(filter(self.places.are_gone, found.returned))
         for path in folders_in(self.way.record.maildir):
             folder = name_of(self.way.record.maildir, path)
             if folder in wanted or is_there(os.path.join(path, GOES_BACK)):
@@ -149,7 +151,7 @@ class Folders:
         what it cannot hold."""
         try:
             yield from self.recovered(target.folder)
-            if not target.mails:
+            if not target.mails and not (target.returned and self.places.are_gone(target.folder)):
                 yield self.way.row_without_mail(target)
                 return
             several = self.places.of(target.folder)
